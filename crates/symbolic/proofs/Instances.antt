@@ -1,0 +1,29 @@
+-- Document 01's instances (specs/Cases.antt): each side computes to the other. Only here are whole factors unfolded. Assumes nothing.
+use mathlib.Core.Path.{refl}
+use Rattle.lists.specs.Lists.{any, among}
+use Rattle.symbolic.specs.Columns.{startingWith}
+use Rattle.symbolic.specs.Factor.{childrenWith, countsFrom, firstAbove, buildFrom, patternFrom, nonZero, pathFrom, sizeSum}
+use Rattle.symbolic.specs.Batch.{touchedFrom, labelFrom, labelsOf, entriesOf}
+use Rattle.symbolic.specs.Change.{without, columnOf, columnsOf}
+use Rattle.symbolic.specs.Cases.{Cases}
+
+pub instances : Cases
+unfolding any among startingWith childrenWith countsFrom firstAbove buildFrom patternFrom nonZero pathFrom sizeSum touchedFrom labelFrom labelsOf entriesOf without columnOf columnsOf
+instances = record {
+  fresh = refl;
+  state = refl;
+  first-rows = refl;
+  first-counts = refl;
+  batch-touched = refl;
+  batch-labels = refl;
+  batch-entries = refl;
+  removal-touched = refl;
+  removal-entries = refl;
+  removal-state = refl;
+  twice = refl;
+  alone = refl;
+  batch-size = refl;
+  grade-one = refl;
+  grade-two = refl;
+  path = refl;
+}

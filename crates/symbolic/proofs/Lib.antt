@@ -1,0 +1,16 @@
+pub mod Laws
+pub mod Walks
+pub mod Two
+pub mod Steps
+pub mod Build
+pub mod Columns
+pub mod Patterns
+pub mod Paths
+pub mod Touched
+pub mod Locality
+pub mod Labels
+pub mod Bags
+pub mod Order
+pub mod Sizes
+pub mod Theorems
+pub mod Instances

@@ -1,0 +1,151 @@
+-- Sizes of patterns: as counts of rows; a child's against its parent's (`parent-size`), and where they allow it the two patterns are one but for the
+-- child (`same-by-size`); the sum of all sizes grows with the columns, and changes by the touched columns alone. Assumes nothing.
+use mathlib.Core.Path.{_≡_, refl, sym, ap, _∙_, subst}
+use mathlib.Core.Logic.{inl, inr, _≢_}
+use mathlib.Core.Bool.{Bool, true, false, _&&_, not}
+use mathlib.Core.List.{List, [], _∷_, _++_}
+use Prim.Native.Nat.{ℕ, zero, suc, _+_, _-_, _≤_, _<_}
+use native.Mathlib.Omega.{arith}
+use lib.Dec.{eqb}
+use lib.ListN.{length, getD}
+use borrow.Author.Tests.{eqb-false, eq-eqb, ne-eqb, not-true}
+use Rattle.lists.specs.Lists.{one, count, sumOf, upFrom}
+use Rattle.lists.proofs.Tests.{cases, and-both}
+use Rattle.lists.proofs.Count.{count-ext, count-sub, count-full, count-at, count-shift}
+use Rattle.lists.proofs.Sum.{sum-le, sum-places}
+use Rattle.lists.proofs.Rising.{from-up}
+use Rattle.symbolic.specs.Columns.{Column}
+use Rattle.symbolic.specs.Factor.{FactorColumn, factorOf, noColumn, columnAt, multiplicity, parentOf, inPattern, patternFrom, sizeOf, sizeSum}
+use Rattle.symbolic.specs.Batch.{isTouched, touchedFrom, touched, entriesOf}
+use Rattle.symbolic.proofs.Laws.{diagonal-in, row-above, parent-contains}
+use Rattle.symbolic.proofs.Build.{laws, factor-length, counts-length}
+use Rattle.symbolic.proofs.Patterns.{in-pattern, pattern-in}
+use Rattle.symbolic.proofs.Locality.{multiplicity-stays, untouched-column}
+
+-- ---- a size is a count of rows
+
+pub pattern-count : (a : ℕ) (ns : List ℕ) → length (patternFrom a ns) ≡ count (λ i. not (eqb (getD ns (i - 1) 0) 0)) (length ns)
+unfolding count patternFrom
+pattern-count a [] = refl
+pattern-count a (x ∷ ns) =
+    let f : ℕ → Bool = λ i. not (eqb (getD (x ∷ ns) (i - 1) 0) 0) in
+    let g : ℕ → Bool = λ i. not (eqb (getD ns (i - 1) 0) 0) in
+    let h : count (λ i. f (suc i)) (length ns) ≡ count g (length ns) =
+    count-ext (λ i. f (suc i)) g (length ns) (λ i a b.
+    let q : suc i - 1 ≡ suc (i - 1) = omega arith in ap (λ (k : ℕ). not (eqb (getD (x ∷ ns) k 0) 0)) q) in
+    elim (cases (eqb x 0)) [
+      | inl e ↦ rw e (omega (arith, pattern-count (suc a) ns, count-shift f (length ns), ap (λ (b : Bool). one (not b)) e))
+      | inr e ↦ rw e (omega (arith, pattern-count (suc a) ns, count-shift f (length ns), ap (λ (b : Bool). one (not b)) e))
+    ]
+
+pub size-is : (m : ℕ) (cs : List Column) (j : ℕ) → 1 ≤ j → j ≤ m →
+    sizeOf (columnAt (factorOf m cs) j) ≡ count (λ i. inPattern (factorOf m cs) i j) m
+size-is m cs j a b =
+    pattern-count 1 (columnAt (factorOf m cs) j .counts) ∙ ap (λ (n : ℕ). count (λ i. inPattern (factorOf m cs) i j) n) (counts-length m cs j a b)
+
+-- ---- a child and its parent: the parent's pattern is the child's without the child exactly if it is one smaller
+
+module _ (m : ℕ) (cs : List Column) (c : ℕ) (a : 1 ≤ c) (b : c ≤ m) (p : 0 < parentOf (factorOf m cs) c) where
+  rest-size : count (λ i. inPattern (factorOf m cs) i c && not (eqb i c)) m + 1 ≡ sizeOf (columnAt (factorOf m cs) c)
+  rest-size =
+      let d : inPattern (factorOf m cs) c c ≡ true = in-pattern (factorOf m cs) c c (diagonal-in (laws m cs) c a b) in
+      let e : (inPattern (factorOf m cs) c c && not (eqb c c)) ≡ false = rw (d, eq-eqb c c refl) in
+      omega (
+        arith,
+        size-is m cs c a b,
+        ap one d,
+        ap one e,
+        count-at (λ i. inPattern (factorOf m cs) i c && not (eqb i c)) (λ i. inPattern (factorOf m cs) i c) m c a b
+            (λ i x y n. unmark (inPattern (factorOf m cs) i c) (eqb i c) (ne-eqb i c n)),
+      )
+    where
+      unmark : (x y : Bool) → y ≡ false → (x && not y) ≡ x
+      unmark true y e = rw e
+      unmark false y e = refl
+
+  rest-in : (i : ℕ) → 1 ≤ i → i ≤ m → (inPattern (factorOf m cs) i c && not (eqb i c)) ≡ true →
+      inPattern (factorOf m cs) i (parentOf (factorOf m cs) c) ≡ true
+  rest-in i x y h =
+      let t : (inPattern (factorOf m cs) i c ≡ true) × (not (eqb i c) ≡ true) = and-both (inPattern (factorOf m cs) i c) (not (eqb i c)) h in
+      let n : i ≢ c = eqb-false i c (not-true (eqb i c) (t .1)) in
+      let q : c ≤ i = row-above (laws m cs) i c x b (pattern-in (factorOf m cs) i c (t .0)) in
+      in-pattern (factorOf m cs) i (parentOf (factorOf m cs) c)
+      (parent-contains (laws m cs) i c a (omega arith) y (pattern-in (factorOf m cs) i c (t .0)) .2)
+
+  pub parent-size : sizeOf (columnAt (factorOf m cs) c) ≤ suc (sizeOf (columnAt (factorOf m cs) (parentOf (factorOf m cs) c)))
+  parent-size =
+      let v : (c < parentOf (factorOf m cs) c) × (parentOf (factorOf m cs) c ≤ m) × (0 < multiplicity (factorOf m cs) (parentOf (factorOf m cs) c) c) =
+      laws m cs .parent-in c a b p in
+      omega (
+        arith,
+        rest-size,
+        size-is m cs (parentOf (factorOf m cs) c) p (v .1),
+        count-sub (λ i. inPattern (factorOf m cs) i c && not (eqb i c)) (λ i. inPattern (factorOf m cs) i (parentOf (factorOf m cs) c)) m rest-in,
+      )
+
+  pub same-by-size : sizeOf (columnAt (factorOf m cs) c) ≡ suc (sizeOf (columnAt (factorOf m cs) (parentOf (factorOf m cs) c))) →
+      (i : ℕ) → 1 ≤ i → i ≤ m → inPattern (factorOf m cs) i (parentOf (factorOf m cs) c) ≡ true → inPattern (factorOf m cs) i c ≡ true
+  same-by-size e i x y h =
+      let v : (c < parentOf (factorOf m cs) c) × (parentOf (factorOf m cs) c ≤ m) × (0 < multiplicity (factorOf m cs) (parentOf (factorOf m cs) c) c) =
+      laws m cs .parent-in c a b p in
+      and-both (inPattern (factorOf m cs) i c) (not (eqb i c))
+      (count-full (λ i. inPattern (factorOf m cs) i c && not (eqb i c)) (λ i. inPattern (factorOf m cs) i (parentOf (factorOf m cs) c)) m rest-in
+      (omega (arith, rest-size, size-is m cs (parentOf (factorOf m cs) c) p (v .1))) i x y h) .0
+
+-- ---- sums of sizes
+
+-- the sizes of n columns from i on
+abbrev sizesFrom : List FactorColumn → (i n : ℕ) → ℕ
+sizesFrom fs i n = sumOf (λ j. sizeOf (columnAt fs j)) (upFrom i n)
+
+sizes-flat : (fs : List FactorColumn) → sizeSum fs ≡ sumOf (λ f. sizeOf f) fs
+unfolding sizeSum sumOf
+sizes-flat [] = refl
+sizes-flat (f ∷ fs) = ap (λ (n : ℕ). sizeOf f + n) (sizes-flat fs)
+
+pub size-sum : (fs : List FactorColumn) → sizeSum fs ≡ sumOf (λ j. sizeOf (columnAt fs j)) (upFrom 1 (length fs))
+size-sum fs = sizes-flat fs ∙ sum-places (λ f. sizeOf f) fs noColumn 1
+
+pub size-sum-of : (m : ℕ) (cs : List Column) → sizeSum (factorOf m cs) ≡ sizesFrom (factorOf m cs) 1 m
+size-sum-of m cs = size-sum (factorOf m cs) ∙ ap (λ (n : ℕ). sizesFrom (factorOf m cs) 1 n) (factor-length m cs)
+
+module _ (m : ℕ) (R W : List Column) where
+  pub size-grows : (j : ℕ) → 1 ≤ j → j ≤ m → sizeOf (columnAt (factorOf m R) j) ≤ sizeOf (columnAt (factorOf m (R ++ W)) j)
+  size-grows j a b =
+      omega (
+        arith,
+        size-is m R j a b,
+        size-is m (R ++ W) j a b,
+        count-sub (λ i. inPattern (factorOf m R) i j) (λ i. inPattern (factorOf m (R ++ W)) i j) m (λ i x y h.
+            in-pattern (factorOf m (R ++ W)) i j (multiplicity-stays m R W i j x y a b (pattern-in (factorOf m R) i j h))),
+      )
+
+  pub sizes-grow-sum : sizeSum (factorOf m R) ≤ sizeSum (factorOf m (R ++ W))
+  sizes-grow-sum =
+      omega (
+        arith,
+        size-sum-of m R,
+        size-sum-of m (R ++ W),
+        sum-le (λ j. sizeOf (columnAt (factorOf m R) j)) (λ j. sizeOf (columnAt (factorOf m (R ++ W)) j)) (upFrom 1 m) (λ j n.
+            let u : (1 ≤ j) × (j < 1 + m) = from-up 1 m n in size-grows j (u .0) (omega arith)),
+      )
+
+  -- untouched columns count the same on both sides
+  local-from : (i n : ℕ) → 1 ≤ i → i + n ≤ suc m →
+      sizesFrom (factorOf m (R ++ W)) i n + entriesOf (factorOf m R) (touchedFrom (factorOf m (R ++ W)) W i n) ≡
+      sizesFrom (factorOf m R) i n + entriesOf (factorOf m (R ++ W)) (touchedFrom (factorOf m (R ++ W)) W i n)
+  unfolding touchedFrom entriesOf sumOf upFrom
+  local-from i zero a b = omega arith
+  local-from i (suc n) a b =
+      elim (cases (isTouched (factorOf m (R ++ W)) W i)) [
+        | inl e ↦ rw e (omega (arith, local-from (suc i) n (omega arith) (omega arith)))
+        | inr e ↦ rw e (omega (arith, local-from (suc i) n (omega arith) (omega arith), ap sizeOf (untouched-column m R W i a (omega arith) e)))
+      ]
+
+  pub sizes-local-sum : sizeSum (factorOf m (R ++ W)) + entriesOf (factorOf m R) (touched (factorOf m (R ++ W)) W) ≡
+      sizeSum (factorOf m R) + entriesOf (factorOf m (R ++ W)) (touched (factorOf m (R ++ W)) W)
+  sizes-local-sum =
+      rw (size-sum-of m R, size-sum-of m (R ++ W))
+      (subst (λ (n : ℕ). sizesFrom (factorOf m (R ++ W)) 1 m + entriesOf (factorOf m R) (touchedFrom (factorOf m (R ++ W)) W 1 n) ≡
+      sizesFrom (factorOf m R) 1 m + entriesOf (factorOf m (R ++ W)) (touchedFrom (factorOf m (R ++ W)) W 1 n)) (sym (factor-length m (R ++ W)))
+      (local-from 1 m (omega arith) (omega arith)))

@@ -1,0 +1,52 @@
+-- A batch's touched columns, labels, entries and grade in a given tree: "in the tree after the call when adding, before it when removing".
+-- Assumes nothing: these are definitions.
+use mathlib.Core.Bool.{Bool}
+use mathlib.Core.List.{List, [], _∷_}
+use Prim.Native.Nat.{ℕ, zero, suc, _+_, _-_}
+use lib.Dec.{ltb, eqb}
+use lib.ListN.{length, getD}
+use Rattle.lists.specs.Lists.{pick, any, among}
+use Rattle.symbolic.specs.Columns.{Column, smallest}
+use Rattle.symbolic.specs.Factor.{FactorColumn, columnAt, pathOf, sizeOf}
+
+-- "A batch has positions 1 to r": the column at one
+abbrev pub atPosition : (batch : List Column) → (position : ℕ) → Column
+atPosition cs k = getD cs (k - 1) (record { id = 0; rows = [] })
+
+-- j is on the path of the smallest row of c
+abbrev pub passes : List FactorColumn → (j : ℕ) → Column → Bool
+passes fs j c = among j (pathOf fs (smallest c))
+
+-- "Its touched columns are those on the path of the smallest row of at least one column in it"
+abbrev pub isTouched : List FactorColumn → (batch : List Column) → (j : ℕ) → Bool
+isTouched fs cs j = any (passes fs j) cs
+
+unfoldable pub touchedFrom : List FactorColumn → (batch : List Column) → (j : ℕ) → ℕ → List ℕ
+touchedFrom fs cs j zero = []
+touchedFrom fs cs j (suc n) = pick (isTouched fs cs j) (j ∷ touchedFrom fs cs (suc j) n) (touchedFrom fs cs (suc j) n)
+
+-- "the touched columns ascending"
+abbrev pub touched : List FactorColumn → (batch : List Column) → List ℕ
+touched fs cs = touchedFrom fs cs 1 (length fs)
+
+-- "The label of a touched column is the largest position whose path passes through it", positions from 1; 0 where none does
+unfoldable pub labelFrom : List FactorColumn → (j position : ℕ) → List Column → ℕ
+labelFrom fs j i [] = 0
+labelFrom fs j i (c ∷ cs) = pick (eqb (labelFrom fs j (suc i) cs) 0) (pick (passes fs j c) i 0) (labelFrom fs j (suc i) cs)
+
+abbrev pub labelOf : List FactorColumn → (batch : List Column) → (j : ℕ) → ℕ
+labelOf fs cs j = labelFrom fs j 1 cs
+
+-- "a label for each"
+unfoldable pub labelsOf : List FactorColumn → (batch : List Column) → (columns : List ℕ) → List ℕ
+labelsOf fs cs [] = []
+labelsOf fs cs (j ∷ js) = labelOf fs cs j ∷ labelsOf fs cs js
+
+-- "the entries: the sum of the sizes of the touched columns' patterns after the call"
+unfoldable pub entriesOf : List FactorColumn → (columns : List ℕ) → ℕ
+entriesOf fs [] = 0
+entriesOf fs (j ∷ js) = sizeOf (columnAt fs j) + entriesOf fs js
+
+-- "Grade 1 is for 1 to 255 entries, 2 for 256 to 4,095, 3 for 4,096 to 65,535, 4 for more"; 0 for no entry
+abbrev pub gradeOf : (entries : ℕ) → ℕ
+gradeOf n = pick (eqb n 0) 0 (pick (ltb n 256) 1 (pick (ltb n 4096) 2 (pick (ltb n 65536) 3 4)))

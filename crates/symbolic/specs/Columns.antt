@@ -1,0 +1,37 @@
+-- Columns of A and the plain register, as document 01's "What the factor means" has them. Assumes nothing: these are definitions.
+use mathlib.Core.Bool.{Bool, _&&_}
+use mathlib.Core.List.{List, [], _∷_}
+use Prim.Native.Nat.{ℕ, _+_}
+use lib.Dec.{eqb}
+use lib.ListN.{getD}
+use Rattle.lists.specs.Lists.{one, among, rises}
+
+-- "A column of A is a set of rows under an id": its rows rise
+pub record Column : Type 0 where
+  pub id : ℕ
+  pub rows : List ℕ
+
+-- its smallest row; 0 for a column with no row, which starts nowhere
+abbrev pub smallest : Column → ℕ
+smallest c = getD (c .rows) 0 0
+
+abbrev pub holds : Column → (row : ℕ) → Bool
+holds c i = among i (c .rows)
+
+-- "Rows are 1 to m"
+abbrev pub fitsRows : (m : ℕ) → Column → Bool
+fitsRows m c = rises 1 m (c .rows)
+
+-- "the number of live columns with smallest row j that hold i"
+unfoldable pub startingWith : (j row : ℕ) → List Column → ℕ
+startingWith j i [] = 0
+startingWith j i (c ∷ cs) = one (eqb (smallest c) j && holds c i) + startingWith j i cs
+
+-- the plain register: m and the columns
+pub record Register : Type 0 where
+  pub m : ℕ
+  pub columns : List Column
+
+-- the columns that count; what a later rule leaves out or shortens is left out or shortened here, and nowhere else
+abbrev pub live : Register → List Column
+live r = r .columns

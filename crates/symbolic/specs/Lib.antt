@@ -1,0 +1,9 @@
+pub mod Columns
+pub mod Factor
+pub mod Definition
+pub mod Batch
+pub mod Chains
+pub mod Change
+pub mod Steps
+pub mod Statements
+pub mod Cases

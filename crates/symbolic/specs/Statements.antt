@@ -1,0 +1,152 @@
+-- The theorems of the factor, each a type with the sentence that it renders; proofs/Theorems.antt has a term of each. That rows lie within 1 to m and
+-- rise (fitsRows) is a premise only where a statement needs it. Assumes nothing.
+use mathlib.Core.Path.{_≡_}
+use mathlib.Core.Logic.{_⊎_, _≢_, _↔_}
+use mathlib.Core.Bool.{true, false}
+use mathlib.Core.List.{List, _++_}
+use Prim.Native.Nat.{ℕ, _+_, _≤_, _<_}
+use lib.ListN.{length}
+use Rattle.lists.specs.Lists.{Mem, all, among, noRepeats, rises}
+use Rattle.symbolic.specs.Columns.{Column, smallest, holds, fitsRows, startingWith}
+use Rattle.symbolic.specs.Factor.{factorOf, columnAt, multiplicity, parentOf, inPattern, isChild, pathOf, sizeSum}
+use Rattle.symbolic.specs.Definition.{IsFactor, OnPath}
+use Rattle.symbolic.specs.Batch.{atPosition, passes, isTouched, touched, labelOf, entriesOf}
+use Rattle.symbolic.specs.Chains.{ChainTo, Closed}
+use Rattle.symbolic.specs.Change.{idsOf, without, columnsOf, Bag}
+use Rattle.symbolic.specs.Steps.{StepsAt}
+
+-- ---- the definition: what is computed is what document 01 says, and nothing else is
+
+abbrev pub Defined : Type 0
+Defined = (m : ℕ) (cs : List Column) → IsFactor m (λ j i. startingWith j i cs) (multiplicity (factorOf m cs)) (parentOf (factorOf m cs))
+
+abbrev pub Unique : Type 0
+Unique =
+    (m : ℕ) (cs : List Column) (M : ℕ → ℕ → ℕ) (P : ℕ → ℕ) → IsFactor m (λ j i. startingWith j i cs) M P →
+    (i j : ℕ) → 1 ≤ i → i ≤ m → 1 ≤ j → j ≤ m → (M i j ≡ multiplicity (factorOf m cs) i j) × (P j ≡ parentOf (factorOf m cs) j)
+
+-- ---- 1. diagonal and parents
+
+abbrev pub DiagonalStands : Type 0
+DiagonalStands = (m : ℕ) (cs : List Column) (j : ℕ) → 1 ≤ j → j ≤ m → inPattern (factorOf m cs) j j ≡ true
+
+-- a parent is 0, or lies above j and within m
+abbrev pub ParentAbove : Type 0
+ParentAbove =
+    (m : ℕ) (cs : List Column) (j : ℕ) → 1 ≤ j → j ≤ m →
+    (parentOf (factorOf m cs) j ≡ 0) ⊎ ((j < parentOf (factorOf m cs) j) × (parentOf (factorOf m cs) j ≤ m))
+
+-- a row above j in L_j is in L of j's parent
+abbrev pub ParentHolds : Type 0
+ParentHolds =
+    (m : ℕ) (cs : List Column) (i j : ℕ) → 1 ≤ j → j < i → i ≤ m → inPattern (factorOf m cs) i j ≡ true →
+    inPattern (factorOf m cs) i (parentOf (factorOf m cs) j) ≡ true
+
+-- ---- 2. equation 3.1: "L_j .. is the union of {j}, of L_c without c for every child c of j, and of every live column whose smallest row is j"
+
+abbrev pub Equation31 : Type 0
+Equation31 =
+    (m : ℕ) (cs : List Column) → all (fitsRows m) cs ≡ true → (i j : ℕ) → 1 ≤ i → i ≤ m → 1 ≤ j → j ≤ m →
+    (inPattern (factorOf m cs) i j ≡ true) ↔
+    ((i ≡ j) ⊎
+    (((c : ℕ) × (1 ≤ c) × (c ≤ m) × (isChild (factorOf m cs) c j ≡ true) × (i ≢ c) × (inPattern (factorOf m cs) i c ≡ true)) ⊎
+    ((c : Column) × Mem c cs × (smallest c ≡ j) × (holds c i ≡ true))))
+
+-- ---- 3. growth and locality, of a batch W beside the columns R: adding goes from R to R ++ W, removing from R ++ W to R
+
+abbrev pub Growth : Type 0
+Growth =
+    (m : ℕ) (R W : List Column) (i j : ℕ) → 1 ≤ i → i ≤ m → 1 ≤ j → j ≤ m → inPattern (factorOf m R) i j ≡ true →
+    inPattern (factorOf m (R ++ W)) i j ≡ true
+
+-- a column off the paths of W in the tree of R ++ W is the same with and without W
+abbrev pub Locality : Type 0
+Locality =
+    (m : ℕ) (R W : List Column) (j : ℕ) → 1 ≤ j → j ≤ m → isTouched (factorOf m (R ++ W)) W j ≡ false →
+    columnAt (factorOf m R) j ≡ columnAt (factorOf m (R ++ W)) j
+
+-- ---- 4. the steps of Algorithm 3 (update) and Algorithm 4 (downdate) at a column, over touched children
+
+abbrev pub UpdateSteps : Type 0
+UpdateSteps =
+    (m : ℕ) (R W : List Column) (i j : ℕ) → 1 ≤ j → j ≤ i → i ≤ m →
+    StepsAt m (λ j i. startingWith j i R) (multiplicity (factorOf m R)) (parentOf (factorOf m R))
+    (λ j i. startingWith j i (R ++ W)) (multiplicity (factorOf m (R ++ W))) (parentOf (factorOf m (R ++ W))) (isTouched (factorOf m (R ++ W)) W) i j
+
+abbrev pub DowndateSteps : Type 0
+DowndateSteps =
+    (m : ℕ) (R W : List Column) (i j : ℕ) → 1 ≤ j → j ≤ i → i ≤ m →
+    StepsAt m (λ j i. startingWith j i (R ++ W)) (multiplicity (factorOf m (R ++ W))) (parentOf (factorOf m (R ++ W)))
+    (λ j i. startingWith j i R) (multiplicity (factorOf m R)) (parentOf (factorOf m R)) (isTouched (factorOf m (R ++ W)) W) i j
+
+-- ---- 5. order and bound
+
+abbrev pub OrderFree : Type 0
+OrderFree = (m : ℕ) (cs ds : List Column) → Bag cs ds → factorOf m cs ≡ factorOf m ds
+
+-- a removal leaves the columns that, with the batch, are those there were
+abbrev pub RemovalSplits : Type 0
+RemovalSplits =
+    (cs : List Column) (ids : List ℕ) → noRepeats (idsOf cs) ≡ true → noRepeats ids ≡ true → all (λ (i : ℕ). among i (idsOf cs)) ids ≡ true →
+    Bag cs (without ids cs ++ columnsOf ids cs)
+
+-- with n columns a multiplicity in column j is at most n + j, so with m rows at most n + m
+abbrev pub MultiplicityBound : Type 0
+MultiplicityBound = (m : ℕ) (cs : List Column) (i j : ℕ) → 1 ≤ i → i ≤ m → 1 ≤ j → j ≤ m → multiplicity (factorOf m cs) i j ≤ length cs + j
+
+-- ---- 6. "row i in column j exactly if a chain of rows leads there"; the pattern is closed, and the least that is
+
+abbrev pub ChainRule : Type 0
+ChainRule =
+    (m : ℕ) (cs : List Column) → all (fitsRows m) cs ≡ true → (i j : ℕ) → 1 ≤ j → j < i → i ≤ m →
+    (inPattern (factorOf m cs) i j ≡ true) ↔ ChainTo m cs i j
+
+abbrev pub PatternClosed : Type 0
+PatternClosed = (m : ℕ) (cs : List Column) → all (fitsRows m) cs ≡ true → Closed m cs (λ i j. inPattern (factorOf m cs) i j ≡ true)
+
+abbrev pub PatternLeast : Type 1
+PatternLeast =
+    (m : ℕ) (cs : List Column) (C : ℕ → ℕ → Type 0) → Closed m cs C → (i j : ℕ) → 1 ≤ j → j ≤ i → i ≤ m → inPattern (factorOf m cs) i j ≡ true → C i j
+
+-- ---- 7. touched columns and labels
+
+-- the path as a list holds what the parents lead to
+abbrev pub PathIs : Type 0
+PathIs =
+    (m : ℕ) (cs : List Column) (j k : ℕ) → 1 ≤ j → j ≤ m →
+    (among k (pathOf (factorOf m cs) j) ≡ true) ↔ OnPath (parentOf (factorOf m cs)) j k
+
+abbrev pub TouchedIs : Type 0
+TouchedIs =
+    (m : ℕ) (cs batch : List Column) (j : ℕ) →
+    (among j (touched (factorOf m cs) batch) ≡ true) ↔ ((1 ≤ j) × (j ≤ m) × (isTouched (factorOf m cs) batch j ≡ true))
+
+abbrev pub TouchedRises : Type 0
+TouchedRises = (m : ℕ) (cs batch : List Column) → rises 1 m (touched (factorOf m cs) batch) ≡ true
+
+-- a label is a position whose path passes through, and the largest
+abbrev pub LabelIs : Type 0
+LabelIs =
+    (m : ℕ) (cs batch : List Column) (j : ℕ) → isTouched (factorOf m cs) batch j ≡ true →
+    (1 ≤ labelOf (factorOf m cs) batch j) × (labelOf (factorOf m cs) batch j ≤ length batch) ×
+    (passes (factorOf m cs) j (atPosition batch (labelOf (factorOf m cs) batch j)) ≡ true) ×
+    ((k : ℕ) → 1 ≤ k → k ≤ length batch → passes (factorOf m cs) j (atPosition batch k) ≡ true → k ≤ labelOf (factorOf m cs) batch j)
+
+-- "the columns of one label follow one another up the tree": two of one label lie on one path, and the parent of the lower has that label too
+abbrev pub LabelsFollow : Type 0
+LabelsFollow =
+    (m : ℕ) (cs batch : List Column) (a b : ℕ) → 1 ≤ a → a < b → b ≤ m → isTouched (factorOf m cs) batch a ≡ true →
+    isTouched (factorOf m cs) batch b ≡ true → labelOf (factorOf m cs) batch a ≡ labelOf (factorOf m cs) batch b →
+    OnPath (parentOf (factorOf m cs)) a b × (labelOf (factorOf m cs) batch (parentOf (factorOf m cs) a) ≡ labelOf (factorOf m cs) batch a)
+
+-- ---- 8. sizes
+
+abbrev pub SizesGrow : Type 0
+SizesGrow = (m : ℕ) (R W : List Column) → sizeSum (factorOf m R) ≤ sizeSum (factorOf m (R ++ W))
+
+-- the sum of sizes changes by the touched columns alone
+abbrev pub SizesLocal : Type 0
+SizesLocal =
+    (m : ℕ) (R W : List Column) →
+    sizeSum (factorOf m (R ++ W)) + entriesOf (factorOf m R) (touched (factorOf m (R ++ W)) W) ≡
+    sizeSum (factorOf m R) + entriesOf (factorOf m (R ++ W)) (touched (factorOf m (R ++ W)) W)

@@ -1,0 +1,96 @@
+-- Where each region of the work table starts, by the sizes m, n, F and C; W is document 01's. A region has m places where nothing else is said.
+-- A batch and the read-through use the same table at different times, so each has its own regions. That they follow one another and fill no more
+-- than W places: proofs/Starts.antt. Assumes nothing: these are definitions.
+use Prim.Native.Nat.{ℕ, _+_, _*_}
+
+-- "W = 8 × m + 4 × F + C + n + 1,024"
+abbrev pub workNeed : (m n f c : ℕ) → ℕ
+workNeed m n f c = 8 * m + 4 * f + c + n + 1024
+
+-- ---- a batch
+
+-- per row: 2^30 + (new − old) multiplicity of the column at hand, 0 if untouched
+abbrev pub difference : ℕ
+difference = 0
+
+-- the touched rows, rising
+abbrev pub rowList : (m : ℕ) → ℕ
+rowList m = m
+
+-- the row list while it is merged with a child's
+abbrev pub mergeBuffer : (m : ℕ) → ℕ
+mergeBuffer m = 2 * m
+
+-- per column: mark, label and new parent, packed
+abbrev pub marks : (m : ℕ) → ℕ
+marks m = 3 * m
+
+-- per column: where its planned entries begin
+abbrev pub planStart : (m : ℕ) → ℕ
+planStart m = 4 * m
+
+-- per column: its first touched child, the head of a queue
+abbrev pub firstChild : (m : ℕ) → ℕ
+firstChild m = 5 * m
+
+-- per column: its first lost child, the head of a queue
+abbrev pub firstLost : (m : ℕ) → ℕ
+firstLost m = 6 * m
+
+-- per column: the next in the one queue that it is in
+abbrev pub link : (m : ℕ) → ℕ
+link m = 7 * m
+
+-- the planned entries, F places
+abbrev pub plan : (m : ℕ) → ℕ
+plan m = 8 * m
+
+-- free in the base, 3F places
+abbrev pub spare : (m f : ℕ) → ℕ
+spare m f = 8 * m + f
+
+-- counts of marked columns by block of 64, smallest rows of the batch, rows copied out: 1,024 places
+abbrev pub small : (m f : ℕ) → ℕ
+small m f = 8 * m + 4 * f
+
+-- left to the read-through, C + n places
+abbrev pub readThrough : (m f : ℕ) → ℕ
+readThrough m f = 8 * m + 4 * f + 1024
+
+-- ---- the read-through
+
+-- per row: what the local equation gives for the column at hand
+abbrev pub counters : ℕ
+counters = 0
+
+-- per column: the first of its children
+abbrev pub childHead : (m : ℕ) → ℕ
+childHead m = m
+
+-- per column: the next child of the same parent
+abbrev pub childNext : (m : ℕ) → ℕ
+childNext m = 2 * m
+
+-- per row: the first book column whose smallest row it is
+abbrev pub columnHead : (m : ℕ) → ℕ
+columnHead m = 3 * m
+
+-- per column: where its rows begin in the row stash, and the end of the last; m + 1 places, one of them in the next m
+abbrev pub stashStart : (m : ℕ) → ℕ
+stashStart m = 4 * m
+
+-- per record of the columns of L: met or not, F places
+abbrev pub factorMarks : (m : ℕ) → ℕ
+factorMarks m = 8 * m
+
+-- the rows met, column by column, F places
+abbrev pub rowStash : (m f : ℕ) → ℕ
+rowStash m f = 8 * m + f
+
+-- per record of the book: met or not, C places
+abbrev pub bookMarks : (m f : ℕ) → ℕ
+bookMarks m f = 8 * m + 4 * f + 1024
+
+-- per book column: the next with the same smallest row, n places
+abbrev pub columnNext : (m f c : ℕ) → ℕ
+columnNext m f c = 8 * m + 4 * f + 1024 + c

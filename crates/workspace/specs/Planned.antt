@@ -1,0 +1,24 @@
+-- A planned entry in one place of the work table: row − 1 in 12 bits, multiplicity in 18 bits, kind in 2 bits, from the lowest bit up; packed by
+-- weights and read by `/` and `%`, no masks. Laws: proofs/Planned.antt.
+-- Assumes nothing: these are definitions.
+use mathlib.Core.Path.{_≡_}
+use Prim.Native.Nat.{ℕ, _+_, _*_, _-_, _/_, _%_, _≤_, _<_}
+
+abbrev pub packed : (row multiplicity kind : ℕ) → ℕ
+packed i n k = i - 1 + 4096 * n + 1073741824 * k
+
+abbrev pub rowOf : (entry : ℕ) → ℕ
+rowOf x = x % 4096 + 1
+
+abbrev pub multiplicityOf : (entry : ℕ) → ℕ
+multiplicityOf x = x / 4096 % 262144
+
+abbrev pub kindOf : (entry : ℕ) → ℕ
+kindOf x = x / 1073741824
+
+-- what one place can hold
+pub record FitsEntry (row multiplicity kind : ℕ) : Type 0 where
+  pub row-low : 1 ≤ row
+  pub row-high : row ≤ 4096
+  pub multiplicity-fits : multiplicity < 262144
+  pub kind-fits : kind < 4

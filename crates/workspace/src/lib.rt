@@ -1,0 +1,73 @@
+// The work table: one table of 32-bit places that is lent whole, with regions in it by start and length. A store in one region leaves the others, a
+// region that was cleared is zero, and a planned entry takes one place. Where the regions start is in specs/Layout.antt; functions take the whole
+// table and a start, since two parts of one table cannot be lent at once.
+ghost use mathlib.Core.Path.{_≡_};
+ghost use Prim.Native.Nat.{_+_, _*_, _≤_, _<_};
+ghost use lib.ListN.{length, set};
+ghost use Rattle.workspace.specs.Regions.{cell, cleared};
+ghost use Rattle.workspace.specs.Layout.{workNeed};
+ghost use Rattle.workspace.specs.Planned.{packed, FitsEntry, rowOf, multiplicityOf, kindOf};
+
+// How many places of the work table the sizes m, n, f and c need: W of document 01. It is summed in 64 bits, so that no sizes are too large for it.
+pub fn work_need(m: u32, n: u32, f: u32, c: u32) -> usize
+    ensures { λ r. ⌜ r ≡ workNeed m n f c ⌝ }
+{
+    8 * (m as usize) + 4 * (f as usize) + (c as usize) + (n as usize) + 1024
+}
+
+// The place i of the region that starts at a.
+pub fn read(work: &[u32], a: usize, i: usize) -> u32
+    requires { ⌜ a + i < length (now work) ⌝ }
+    ensures { λ r. ⌜ r ≡ cell (now (work .entry)) a i ⌝ }
+{
+    work[a + i]
+}
+
+// Stores v at place i of the region that starts at a.
+pub fn store(work: &mut [u32], a: usize, i: usize, v: u32)
+    requires { ⌜ a + i < length (now work) ⌝ }
+    ensures { λ _. ⌜ now (work .exit) ≡ set (now (work .entry)) (a + i) v ⌝ }
+{
+    work[a + i] = v;
+}
+
+// Clears the n places from a on.
+pub fn clear(work: &mut [u32], a: usize, n: usize)
+    requires { ⌜ a + n ≤ length (now work) ⌝ }
+    ensures { λ _. ⌜ now (work .exit) ≡ cleared (now (work .entry)) a n ⌝ }
+{
+    let mut i: usize = 0;
+    while i < n {
+        work[a + i] = 0;
+        i += 1;
+    }
+}
+
+// A planned entry in one place: row - 1 in 12 bits, multiplicity in 18, kind in 2.
+pub fn pack(row: u32, multiplicity: u32, kind: u32) -> u32
+    requires { ⌜ FitsEntry row multiplicity kind ⌝ }
+    ensures { λ r. ⌜ r ≡ packed row multiplicity kind ⌝ }
+{
+    row - 1 + 4096 * multiplicity + 1073741824 * kind
+}
+
+// The row of a planned entry.
+pub fn row_of(entry: u32) -> u32
+    ensures { λ r. ⌜ r ≡ rowOf entry ⌝ }
+{
+    entry % 4096 + 1
+}
+
+// The multiplicity of a planned entry.
+pub fn multiplicity_of(entry: u32) -> u32
+    ensures { λ r. ⌜ r ≡ multiplicityOf entry ⌝ }
+{
+    entry / 4096 % 262144
+}
+
+// The kind of a planned entry.
+pub fn kind_of(entry: u32) -> u32
+    ensures { λ r. ⌜ r ≡ kindOf entry ⌝ }
+{
+    entry / 1073741824
+}
