@@ -5,3 +5,4 @@ pub mod Sum
 pub mod Times
 pub mod Place
 pub mod Rising
+pub mod Over

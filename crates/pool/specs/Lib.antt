@@ -1,0 +1,5 @@
+pub mod Chains
+pub mod Whole
+pub mod Walks
+pub mod Changes
+pub mod Opening

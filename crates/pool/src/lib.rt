@@ -1,0 +1,186 @@
+// Records linked by one `next` table, with chains from heads and one free chain. For any contents of the table it is decided whether each record stands
+// once, in a chain or free; a record taken, given back, inserted or unlinked leaves every other chain.
+ghost use mathlib.Core.Path.{_≡_};
+ghost use Prim.Native.Nat.{_≤_, _<_, min};
+ghost use lib.ListN.{length};
+ghost use Rattle.lists.specs.Lists.{at, put};
+ghost use Rattle.pool.specs.Chains.{chain, Linked};
+ghost use Rattle.pool.specs.Whole.{isWhole};
+ghost use Rattle.pool.specs.Walks.{Visited, Walked, NoMarks};
+ghost use Rattle.pool.specs.Changes.{Has, insertAfter, unlinkAfter};
+ghost use Rattle.pool.specs.Opening.{freeHead, openedNexts};
+
+// A record number, from 1; 0 is none.
+pub struct Rec(pub u32);
+
+// What a visit finds: the record after this one, or a record that cannot be met.
+pub enum Visit {
+    Next(Rec),
+    Broken,
+}
+
+// What a walk finds: its end, with the number of records met, or a chain that does not end in the pool with fresh records.
+pub enum Walk {
+    Ended(usize),
+    Cut,
+}
+
+// Meets record r, which is not 0: it must be in the pool, have no mark, and fewer records than there are were met. Marks it.
+pub fn meet(next: &[u32], marks: &mut [u32], met: usize, r: Rec) -> Visit
+    requires { ⌜ (1 ≤ r .0) × (length (now next) ≤ length (now marks)) ⌝ }
+    ensures { λ a. ⌜ Visited (now (next .entry)) (now (marks .entry)) (now (marks .exit)) met (r .0) a ⌝ }
+{
+    let k = r.0;
+    if next.len() <= met {
+        return Visit::Broken;
+    }
+    if next.len() < k as usize {
+        return Visit::Broken;
+    }
+    let i = (k - 1) as usize;
+    let after = next[i];
+    if marks[i] != 0 {
+        return Visit::Broken;
+    }
+    marks[i] = 1;
+    Visit::Next(Rec(after))
+}
+
+// Walks the chain from head with marks, after met records.
+pub fn walk_chain(next: &[u32], marks: &mut [u32], met: usize, head: Rec) -> Walk
+    requires { ⌜ (length (now next) ≤ length (now marks)) × (met ≤ length (now next)) ⌝ }
+    ensures { λ a. ⌜ Walked (now (next .entry)) (now (marks .entry)) (now (marks .exit)) met (head .0) a ⌝ }
+{
+    let mut r = head;
+    let mut n = met;
+    while r.0 != 0 {
+        match meet(next, marks, n, r) {
+            Visit::Broken => {
+                return Walk::Cut;
+            }
+            Visit::Next(after) => {
+                r = after;
+                n += 1;
+            }
+        }
+    }
+    Walk::Ended(n)
+}
+
+// Whether every record stands once, in the chain of a head or in the free chain.
+pub fn read_through(next: &[u32], heads: &[u32], free: Rec, marks: &mut [u32]) -> bool
+    requires { ⌜ NoMarks (now next) (now marks) ⌝ }
+    ensures { λ a. ⌜ a ≡ isWhole (now (next .entry)) (now (heads .entry)) (free .0) ⌝ }
+{
+    let Walk::Ended(first) = walk_chain(next, marks, 0, free) else {
+        return false;
+    };
+    let mut n = first;
+    let mut h: usize = 0;
+    while h < heads.len() {
+        match walk_chain(next, marks, n, Rec(heads[h])) {
+            Walk::Cut => {
+                return false;
+            }
+            Walk::Ended(met) => {
+                n = met;
+                h += 1;
+            }
+        }
+    }
+    n == next.len()
+}
+
+// The number of records in the chain from head, counted up to a bound.
+pub fn count(next: &[u32], head: Rec, bound: u32) -> u32
+    requires { ⌜ Linked (now next) (head .0) (chain (now next) (head .0)) ⌝ }
+    ensures { λ n. ⌜ n ≡ min (length (chain (now (next .entry)) (head .0))) bound ⌝ }
+{
+    let mut r = head.0;
+    let mut n: u32 = 0;
+    while n < bound {
+        if r == 0 {
+            return n;
+        }
+        r = next[(r - 1) as usize];
+        n += 1;
+    }
+    n
+}
+
+// Ends a chain after p, and gives the record that followed. Cut after the first free record it takes that record.
+pub fn cut_after(next: &mut [u32], p: Rec) -> Rec
+    requires { ⌜ Has (now next) (p .0) ⌝ }
+    ensures after { λ q. ⌜ q .0 ≡ at (now (next .entry)) (p .0) ⌝ }
+    ensures next { λ q. ⌜ now (next .exit) ≡ put (now (next .entry)) (p .0) 0 ⌝ }
+{
+    let k = p.0;
+    let i = (k - 1) as usize;
+    let q = next[i];
+    next[i] = 0;
+    Rec(q)
+}
+
+// Joins the chain from head on after p, the last of its own. Joined on before the free chain it gives records back.
+pub fn join_after(next: &mut [u32], p: Rec, head: Rec)
+    requires { ⌜ Has (now next) (p .0) ⌝ }
+    ensures { λ _. ⌜ now (next .exit) ≡ put (now (next .entry)) (p .0) (head .0) ⌝ }
+{
+    let k = p.0;
+    next[(k - 1) as usize] = head.0;
+}
+
+// Takes the free record q in after p, and gives the next free record.
+pub fn insert_after(next: &mut [u32], p: Rec, q: Rec) -> Rec
+    requires { ⌜ (Has (now next) (p .0)) × (Has (now next) (q .0)) ⌝ }
+    ensures free { λ z. ⌜ z .0 ≡ at (now (next .entry)) (q .0) ⌝ }
+    ensures next { λ z. ⌜ now (next .exit) ≡ insertAfter (now (next .entry)) (p .0) (q .0) ⌝ }
+{
+    let a = p.0;
+    let b = q.0;
+    let i = (a - 1) as usize;
+    let j = (b - 1) as usize;
+    let free = next[j];
+    next[j] = next[i];
+    next[i] = b;
+    Rec(free)
+}
+
+// Gives the record q after p back to the free chain.
+pub fn unlink_after(next: &mut [u32], p: Rec, q: Rec, free: Rec)
+    requires { ⌜ (Has (now next) (p .0)) × (Has (now next) (q .0)) ⌝ }
+    ensures { λ _. ⌜ now (next .exit) ≡ unlinkAfter (now (next .entry)) (p .0) (q .0) (free .0) ⌝ }
+{
+    let a = p.0;
+    let b = q.0;
+    let i = (a - 1) as usize;
+    let j = (b - 1) as usize;
+    next[i] = next[j];
+    next[j] = free.0;
+}
+
+// Writes the nexts of an opened pool: the first `used` records end a chain each, the rest are free. Gives the free head.
+pub fn link_free(next: &mut [u32], used: u32) -> Rec
+    requires { ⌜ (used ≤ length (now next)) × (length (now next) < 4294967295) ⌝ }
+    ensures free { λ f. ⌜ f .0 ≡ freeHead used (length (now (next .entry))) ⌝ }
+    ensures next { λ f. ⌜ now (next .exit) ≡ openedNexts used (length (now (next .entry))) ⌝ }
+{
+    let k = next.len();
+    let a = used as usize;
+    let mut i: usize = 0;
+    while i < k {
+        if i < a {
+            next[i] = 0;
+            i += 1;
+        } else {
+            if i + 1 < k {
+                next[i] = (i + 2) as u32;
+                i += 1;
+            } else {
+                next[i] = 0;
+                i += 1;
+            }
+        }
+    }
+    if a < k { Rec(used + 1) } else { Rec(0) }
+}
