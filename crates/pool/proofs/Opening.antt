@@ -172,16 +172,18 @@ module _ (a k : ℕ) (h : a ≤ k) where
   used-all zero i p q = (all-nil (openedNexts a k), chains-nil (openedNexts a k))
   used-all (suc n) i p q =
       let l : Linked (openedNexts a k) i (i ∷ []) = used-linked i p (omega arith) in
-      let r : AllLinked (openedNexts a k) (upFrom (suc i) n) × (chains (openedNexts a k) (upFrom (suc i) n) ≡ upFrom (suc i) n) = used-all n (suc i) (omega arith) (omega arith) in
-      (all-cons (openedNexts a k) i (upFrom (suc i) n) (linked-self (openedNexts a k) i (i ∷ []) l) (r .0),
-      chains-cons (openedNexts a k) i (upFrom (suc i) n) ∙ rw (linked-chain (openedNexts a k) i (i ∷ []) l, r .1) refl)
+      let r : AllLinked (openedNexts a k) (upFrom (suc i) n) × (chains (openedNexts a k) (upFrom (suc i) n) ≡ upFrom (suc i) n) = used-all n (suc i) (omega arith) (omega arith) in (
+        all-cons (openedNexts a k) i (upFrom (suc i) n) (linked-self (openedNexts a k) i (i ∷ []) l) (r .0),
+        chains-cons (openedNexts a k) i (upFrom (suc i) n) ∙ rw (linked-chain (openedNexts a k) i (i ∷ []) l, r .1) refl,
+      )
 
   zeros-all : (n : ℕ) → AllLinked (openedNexts a k) (replicate n 0) × (chains (openedNexts a k) (replicate n 0) ≡ [])
   zeros-all zero = (all-nil (openedNexts a k), chains-nil (openedNexts a k))
   zeros-all (suc n) =
-      let r : AllLinked (openedNexts a k) (replicate n 0) × (chains (openedNexts a k) (replicate n 0) ≡ []) = zeros-all n in
-      (all-cons (openedNexts a k) 0 (replicate n 0) zero-linked (r .0),
-      chains-cons (openedNexts a k) 0 (replicate n 0) ∙ rw (linked-chain (openedNexts a k) 0 [] (linked-nil (openedNexts a k)), r .1) refl)
+      let r : AllLinked (openedNexts a k) (replicate n 0) × (chains (openedNexts a k) (replicate n 0) ≡ []) = zeros-all n in (
+        all-cons (openedNexts a k) 0 (replicate n 0) zero-linked (r .0),
+        chains-cons (openedNexts a k) 0 (replicate n 0) ∙ rw (linked-chain (openedNexts a k) 0 [] (linked-nil (openedNexts a k)), r .1) refl,
+      )
 
   -- WHOLE, with n further heads 0
   pub pool-opened : (n : ℕ) → Pool (openedNexts a k) (upFrom 1 a ++ replicate n 0) (freeHead a k)
