@@ -10,6 +10,12 @@ use lib.Seq.{getD-set-same, getD-set-other, set-getD, drop-cons, set-at, take-su
 use Rattle.lists.specs.Lists.{at, put, valuesAt, over, times}
 use Rattle.lists.proofs.Times.{times-self, times-cons, differs}
 
+-- a place within the list has the same value whatever stands for the places past it
+pub getD-any : {A : Type 0} (xs : List A) (k : ℕ) (d e : A) → k < length xs → getD xs k d ≡ getD xs k e
+getD-any [] k d e h = absurd (omega arith)
+getD-any (x ∷ xs) zero d e h = refl
+getD-any (x ∷ xs) (suc k) d e h = getD-any xs k d e (omega arith)
+
 -- ---- a value put at a number
 
 pub put-length : (xs : List ℕ) (k v : ℕ) → length (put xs k v) ≡ length xs

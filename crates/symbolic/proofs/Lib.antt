@@ -14,3 +14,4 @@ pub mod Order
 pub mod Sizes
 pub mod Theorems
 pub mod Instances
+pub mod Fresh

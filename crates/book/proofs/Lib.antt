@@ -1,0 +1,11 @@
+pub mod Columns
+pub mod Sound
+pub mod Writing
+pub mod Copying
+pub mod Staying
+pub mod Adding
+pub mod Removing
+pub mod Changed
+pub mod Testing
+pub mod Through
+pub mod Opened

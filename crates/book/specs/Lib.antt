@@ -1,0 +1,4 @@
+pub mod Book
+pub mod Records
+pub mod Walks
+pub mod Entries

@@ -1,0 +1,271 @@
+// The book of columns by id: a head for each id, chains of row and next, one free chain. In order: opening; reading the tables through, for any
+// contents; questions; a column added or removed, which leaves every other id's column and a sound book.
+// Other crates know the book by these promises alone.
+ghost use mathlib.Core.Path.{_≡_};
+ghost use mathlib.Core.Logic.{_≢_};
+ghost use Prim.Native.Nat.{_≤_, _<_};
+ghost use lib.Dec.{leb};
+ghost use lib.ListN.{length, getD, replicate};
+ghost use Rattle.lists.specs.Lists.{over};
+ghost use Rattle.pool.specs.Chains.{chain, Linked};
+ghost use Rattle.pool.specs.Walks.{NoMarks};
+ghost use Rattle.book.specs.Book.{bookOf, tablesOf, isBooked, columnFor, isSound};
+ghost use Rattle.book.specs.Records.{HasChain, CanWrite, Written, Cleared};
+ghost use Rattle.book.specs.Walks.{CanWalk, FreeWalked, ColumnWalked};
+ghost use Rattle.book.specs.Entries.{opened, CanAdd, Added, CanRemove, Removed, CanCopy};
+use pool::Rec;
+use pool::Visit;
+use pool::Walk;
+
+// A row number, from 1.
+pub struct Row(pub u32);
+
+// A column's id, from 1.
+pub struct Id(pub u32);
+
+// Writes a book with no column, and gives the free head.
+pub fn open(heads: &mut [u32], rows: &mut [u16], next: &mut [u32]) -> Rec
+    requires { ⌜ (length (now rows) ≡ length (now next)) × (length (now next) < 4294967295) ⌝ }
+    ensures { λ f. ⌜ bookOf (now (heads .exit)) (now (rows .exit)) (now (next .exit)) (f .0) ≡ opened (length (now (heads .entry))) (length (now (next .entry))) ⌝ }
+{
+    zero_heads(heads);
+    zero_rows(rows);
+    pool::link_free(next, 0)
+}
+
+// Writes no head for any id.
+fn zero_heads(heads: &mut [u32])
+    ensures { λ _. ⌜ now (heads .exit) ≡ replicate (length (now (heads .entry))) 0 ⌝ }
+{
+    let mut i: usize = 0;
+    while i < heads.len() {
+        heads[i] = 0;
+        i += 1;
+    }
+}
+
+// Writes row 0 for every record.
+fn zero_rows(rows: &mut [u16])
+    ensures { λ _. ⌜ now (rows .exit) ≡ replicate (length (now (rows .entry))) 0 ⌝ }
+{
+    let mut k: usize = 0;
+    while k < rows.len() {
+        rows[k] = 0;
+        k += 1;
+    }
+}
+
+// Walks the free chain with marks: every record of it must have row 0.
+fn walk_free(rows: &[u16], next: &[u32], marks: &mut [u32], free: Rec) -> Walk
+    requires { ⌜ CanWalk (now rows) (now next) (now marks) 0 ⌝ }
+    ensures { λ a. ⌜ FreeWalked (now (rows .entry)) (now (next .entry)) (now (marks .entry)) (now (marks .exit)) (free .0) a ⌝ }
+{
+    let mut r = free;
+    let mut n: usize = 0;
+    while r.0 != 0 {
+        match pool::meet(next, marks, n, r) {
+            Visit::Broken => {
+                return Walk::Cut;
+            }
+            Visit::Next(after) => {
+                let k = r.0;
+                let row = rows[(k - 1) as usize];
+                if row != 0 {
+                    return Walk::Cut;
+                }
+                r = after;
+                n += 1;
+            }
+        }
+    }
+    Walk::Ended(n)
+}
+
+// The most rows that a column can have.
+const MOST: usize = 256;
+
+// Walks the chain of the head at place i with marks, after met records: its rows must rise within 1 to m, and be at most MOST.
+fn walk_column(
+    heads: &[u32],
+    rows: &[u16],
+    next: &[u32],
+    marks: &mut [u32],
+    i: usize,
+    met: usize,
+    m: u32,
+) -> Walk
+    requires { ⌜ CanWalk (now rows) (now next) (now marks) met × (i < length (now heads)) × (getD (now heads) i 0 ≢ 0) ⌝ }
+    ensures { λ a. ⌜ ColumnWalked (now (heads .entry)) (now (rows .entry)) (now (next .entry)) (now (marks .entry)) (now (marks .exit)) i met m a ⌝ }
+{
+    let mut r = Rec(heads[i]);
+    let mut n = met;
+    let mut above: u32 = 0;
+    while r.0 != 0 {
+        match pool::meet(next, marks, n, r) {
+            Visit::Broken => {
+                return Walk::Cut;
+            }
+            Visit::Next(after) => {
+                let k = r.0;
+                let row = rows[(k - 1) as usize] as u32;
+                if row <= above {
+                    return Walk::Cut;
+                }
+                if m < row {
+                    return Walk::Cut;
+                }
+                above = row;
+                r = after;
+                n += 1;
+            }
+        }
+    }
+    if n - met <= MOST {
+        Walk::Ended(n)
+    } else {
+        Walk::Cut
+    }
+}
+
+// Whether the book is sound, for any contents.
+pub fn read_through(
+    heads: &[u32],
+    rows: &[u16],
+    next: &[u32],
+    marks: &mut [u32],
+    free: Rec,
+    m: u32,
+) -> bool
+    requires { ⌜ (length (now rows) ≡ length (now next)) × NoMarks (now next) (now marks) ⌝ }
+    ensures { λ a. ⌜ a ≡ isSound m (bookOf (now (heads .entry)) (now (rows .entry)) (now (next .entry)) (free .0)) ⌝ }
+{
+    let Walk::Ended(first) = walk_free(rows, next, marks, free) else {
+        return false;
+    };
+    let mut n = first;
+    let mut i: usize = 0;
+    while i < heads.len() {
+        if heads[i] == 0 {
+            i += 1;
+        } else {
+            match walk_column(heads, rows, next, marks, i, n, m) {
+                Walk::Cut => {
+                    return false;
+                }
+                Walk::Ended(met) => {
+                    n = met;
+                    i += 1;
+                }
+            }
+        }
+    }
+    n == next.len()
+}
+
+// Whether k more rows fit into the free records.
+pub fn fits(next: &[u32], free: Rec, k: u32) -> bool
+    requires { ⌜ Linked (now next) (free .0) (chain (now next) (free .0)) ⌝ }
+    ensures { λ a. ⌜ a ≡ leb k (length (chain (now (next .entry)) (free .0))) ⌝ }
+{
+    k <= pool::count(next, free, k)
+}
+
+// Whether an id is booked.
+pub fn is_booked(heads: &[u32], id: Id) -> bool
+    requires { ⌜ (1 ≤ id .0) × (id .0 ≤ length (now heads)) ⌝ }
+    ensures { λ a. ⌜ a ≡ isBooked (now (heads .entry)) (id .0) ⌝ }
+{
+    let k = id.0;
+    heads[(k - 1) as usize] != 0
+}
+
+// Writes the rows of an id's column to the front of list, and gives their number.
+pub fn copy_rows(heads: &[u32], rows: &[u16], next: &[u32], list: &mut [u32], id: Id) -> u32
+    requires { ⌜ CanCopy (now heads) (now rows) (now next) (id .0) (length (now list)) ⌝ }
+    ensures number { λ n. ⌜ n ≡ length (columnFor (tablesOf (now (heads .entry)) (now (rows .entry)) (now (next .entry))) (id .0) .rows) ⌝ }
+    ensures written { λ n. ⌜ now (list .exit) ≡ over (columnFor (tablesOf (now (heads .entry)) (now (rows .entry)) (now (next .entry))) (id .0) .rows) (now (list .entry)) ⌝ }
+{
+    let k = id.0;
+    let mut r = heads[(k - 1) as usize];
+    let mut n: u32 = 0;
+    while r != 0 {
+        let i = (r - 1) as usize;
+        list[n as usize] = rows[i] as u32;
+        r = next[i];
+        n += 1;
+    }
+    n
+}
+
+// Writes the rows of list along the chain from head, and gives the last record written.
+fn write_rows(rows: &mut [u16], next: &[u32], list: &[u32], head: Rec) -> Rec
+    requires { ⌜ CanWrite (now rows) (now next) (now list) (head .0) ⌝ }
+    ensures { λ p. ⌜ Written (now (rows .entry)) (now (rows .exit)) (now (next .entry)) (now (list .entry)) (head .0) (p .0) ⌝ }
+{
+    let mut r = head.0;
+    let mut last = head.0;
+    let mut k: usize = 0;
+    while k < list.len() {
+        let i = (r - 1) as usize;
+        rows[i] = list[k] as u16;
+        last = r;
+        r = next[i];
+        k += 1;
+    }
+    Rec(last)
+}
+
+// Writes row 0 along the whole chain from head, and gives its last record.
+fn clear_rows(rows: &mut [u16], next: &[u32], head: Rec) -> Rec
+    requires { ⌜ HasChain (now rows) (now next) (head .0) × (head .0 ≢ 0) ⌝ }
+    ensures { λ p. ⌜ Cleared (now (rows .entry)) (now (rows .exit)) (now (next .entry)) (head .0) (p .0) ⌝ }
+{
+    let mut r = head.0;
+    let mut last = head.0;
+    while r != 0 {
+        let i = (r - 1) as usize;
+        rows[i] = 0;
+        last = r;
+        r = next[i];
+    }
+    Rec(last)
+}
+
+// Books the rows of list under an id, in the first free records. Gives the free head.
+pub fn add_column(
+    heads: &mut [u32],
+    rows: &mut [u16],
+    next: &mut [u32],
+    list: &[u32],
+    free: Rec,
+    id: Id,
+) -> Rec
+    requires { ⌜ CanAdd (bookOf (now heads) (now rows) (now next) (free .0)) (id .0) (now list) ⌝ }
+    ensures { λ f. ⌜ Added (bookOf (now (heads .entry)) (now (rows .entry)) (now (next .entry)) (free .0)) (id .0) (now (list .entry)) (bookOf (now (heads .exit)) (now (rows .exit)) (now (next .exit)) (f .0)) ⌝ }
+{
+    let last = write_rows(rows, next, list, free);
+    let rest = pool::cut_after(next, last);
+    let k = id.0;
+    heads[(k - 1) as usize] = free.0;
+    rest
+}
+
+// Gives the records of an id's column back, before the free chain. Gives the free head.
+pub fn remove_column(
+    heads: &mut [u32],
+    rows: &mut [u16],
+    next: &mut [u32],
+    free: Rec,
+    id: Id,
+) -> Rec
+    requires { ⌜ CanRemove (bookOf (now heads) (now rows) (now next) (free .0)) (id .0) ⌝ }
+    ensures { λ f. ⌜ Removed (bookOf (now (heads .entry)) (now (rows .entry)) (now (next .entry)) (free .0)) (id .0) (bookOf (now (heads .exit)) (now (rows .exit)) (now (next .exit)) (f .0)) ⌝ }
+{
+    let k = id.0;
+    let i = (k - 1) as usize;
+    let h = heads[i];
+    let last = clear_rows(rows, next, Rec(h));
+    pool::join_after(next, last, free);
+    heads[i] = 0;
+    Rec(h)
+}

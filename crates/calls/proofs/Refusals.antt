@@ -1,0 +1,256 @@
+-- What an accepted call has met, group by group: sizes in range (`InRange`), tables and lists long enough, an addition's columns (`ColumnsFit`, `AddFits`),
+-- a removal's ids (`IdsFit`, `RemoveFits`), a question's rows and room. Numbers.antt has the numbers that the groups give.
+-- Assumes nothing.
+use mathlib.Core.Path.{_≡_, refl, sym, ap, _∙_}
+use mathlib.Core.Logic.{inl, inr}
+use mathlib.Core.Bool.{Bool, true, false, _&&_, _||_, not}
+use mathlib.Core.List.{List, [], _∷_, _++_}
+use Prim.Native.Nat.{ℕ, suc, _+_, _≤_, _<_}
+use native.Mathlib.Omega.{arith}
+use lib.Dec.{ltb, leb, eqb}
+use lib.ListN.{length, take, drop, length-drop}
+use lib.Seq.{length-take-le}
+use borrow.Author.Tests.{ltb-true, leb-true, le-leb, eqb-true, eq-eqb, ne-eqb, not-true}
+use Rattle.lists.specs.Lists.{one, isIn, Mem, all, among, noRepeats, times, sumOf, rises}
+use Rattle.lists.proofs.Tests.{eq-or-ne, and-both, both-and, in-range, range-in, one-le, or-right, refute}
+use Rattle.lists.proofs.Times.{times-nil, times-self, times-other, mem-times, of-once}
+use Rattle.symbolic.specs.Columns.{Register}
+use Rattle.symbolic.specs.Factor.{factorFor, sizeSum}
+use Rattle.symbolic.specs.Change.{idsOf, added}
+use Rattle.book.specs.Book.{columnFits}
+use Rattle.tables.specs.Tables.{Tables, Limits, longEnough}
+use Rattle.calls.specs.Refusals.{Refusal, accepted, isAccepted, orElse, unless, bounds, sizesRefusal, workFor, shortRefusal, shortBatch, batchOf, isLive, rowsRefusal, columnsRefusal, rowSum, roomRefusal, addRefusal, idsRefusal, removeRefusal, rowRefusal, roomFor}
+use Rattle.calls.proofs.Choices.{or-both, unless-holds, Whole, unless-whole, or-whole}
+
+-- ---- 1 to 4: sizes
+
+pub record InRange (l : Limits) : Type 0 where
+  pub m-low : 1 ≤ l .m
+  pub m-high : l .m ≤ 4096
+  pub n-low : 1 ≤ l .n
+  pub n-high : l .n ≤ 16384
+  pub f-low : l .m ≤ l .f
+  pub f-high : l .f ≤ 1048576
+  pub c-low : 1 ≤ l .c
+  pub c-high : l .c ≤ 262144
+
+module _ (l : Limits) where
+  pub sizes-facts : isAccepted (sizesRefusal bounds l) ≡ true → InRange l
+  sizes-facts h =
+      let x : Refusal = unless (isIn 1 4096 (l .m)) 1 0 in
+      let y : Refusal = unless (isIn 1 16384 (l .n)) 2 0 in
+      let z : Refusal = unless (isIn (l .m) 1048576 (l .f)) 3 0 in
+      let w : Refusal = unless (isIn 1 262144 (l .c)) 4 0 in
+      let t : (isAccepted x ≡ true) × (isAccepted (orElse y (orElse z w)) ≡ true) = or-both x (orElse y (orElse z w)) h in
+      let u : (isAccepted y ≡ true) × (isAccepted (orElse z w) ≡ true) = or-both y (orElse z w) (t .1) in
+      let v : (isAccepted z ≡ true) × (isAccepted w ≡ true) = or-both z w (u .1) in
+      let m : (1 ≤ l .m) × (l .m ≤ 4096) = in-range 1 4096 (l .m) (unless-holds (isIn 1 4096 (l .m)) 1 0 refl (t .0)) in
+      let n : (1 ≤ l .n) × (l .n ≤ 16384) = in-range 1 16384 (l .n) (unless-holds (isIn 1 16384 (l .n)) 2 0 refl (u .0)) in
+      let f : (l .m ≤ l .f) × (l .f ≤ 1048576) = in-range (l .m) 1048576 (l .f) (unless-holds (isIn (l .m) 1048576 (l .f)) 3 0 refl (v .0)) in
+      let c : (1 ≤ l .c) × (l .c ≤ 262144) = in-range 1 262144 (l .c) (unless-holds (isIn 1 262144 (l .c)) 4 0 refl (v .1)) in
+      record { m-low = m .0; m-high = m .1; n-low = n .0; n-high = n .1; f-low = f .0; f-high = f .1; c-low = c .0; c-high = c .1 }
+
+  pub sizes-whole : Whole (sizesRefusal bounds l)
+  sizes-whole =
+      let y : Refusal = unless (isIn 1 16384 (l .n)) 2 0 in
+      let z : Refusal = unless (isIn (l .m) 1048576 (l .f)) 3 0 in
+      let w : Refusal = unless (isIn 1 262144 (l .c)) 4 0 in
+      or-whole (unless (isIn 1 4096 (l .m)) 1 0) (orElse y (orElse z w))
+      (or-whole y (orElse z w) (or-whole z w (unless-whole (isIn 1 262144 (l .c)) 4 0 refl)))
+
+  pub facts-sizes : InRange l → sizesRefusal bounds l ≡ accepted
+  facts-sizes r =
+      rw (
+        range-in 1 4096 (l .m) (r .m-low) (r .m-high),
+        range-in 1 16384 (l .n) (r .n-low) (r .n-high),
+        range-in (l .m) 1048576 (l .f) (r .f-low) (r .f-high),
+        range-in 1 262144 (l .c) (r .c-low) (r .c-high),
+      ) refl
+
+-- ---- 5: tables and lists
+
+pub record HasRoom (l : Limits) (t : Tables) (w : List ℕ) : Type 0 where
+  pub tables : longEnough l t ≡ true
+  pub work : workFor l ≤ length w
+
+pub short-facts : (l : Limits) (t : Tables) (w : List ℕ) → isAccepted (shortRefusal l t w) ≡ true → HasRoom l t w
+short-facts l t w h =
+    let u : (longEnough l t ≡ true) × (leb (workFor l) (length w) ≡ true) =
+    and-both (longEnough l t) (leb (workFor l) (length w)) (unless-holds (longEnough l t && leb (workFor l) (length w)) 5 0 refl h) in
+    record { tables = u .0; work = leb-true (workFor l) (length w) (u .1) }
+
+pub record HasLists (l : Limits) (t : Tables) (w a b : List ℕ) : Type 0 where
+  pub room : HasRoom l t w
+  pub touched : l .m ≤ length a
+  pub labels : l .m ≤ length b
+
+pub batch-facts : (l : Limits) (t : Tables) (w a b : List ℕ) → isAccepted (shortBatch l t w a b) ≡ true → HasLists l t w a b
+batch-facts l t w a b h =
+    let x : Bool = longEnough l t in
+    let y : Bool = leb (workFor l) (length w) in
+    let p : Bool = leb (l .m) (length a) in
+    let q : Bool = leb (l .m) (length b) in
+    let u : ((x && y && p) ≡ true) × (q ≡ true) = and-both (x && y && p) q (unless-holds (x && y && p && q) 5 0 refl h) in
+    let v : ((x && y) ≡ true) × (p ≡ true) = and-both (x && y) p (u .0) in
+    let z : (x ≡ true) × (y ≡ true) = and-both x y (v .0) in
+    record {
+      room = record { tables = z .0; work = leb-true (workFor l) (length w) (z .1) };
+      touched = leb-true (l .m) (length a) (v .1);
+      labels = leb-true (l .m) (length b) (u .1);
+    }
+
+-- ---- 7 to 16: an addition
+
+-- rows that pass 13 and 14 rise from above a, within m
+pub rows-rise : (m p a : ℕ) (is : List ℕ) → isAccepted (rowsRefusal m p a is) ≡ true → rises (suc a) m is ≡ true
+unfolding rowsRefusal rises
+rows-rise m p a [] h = refl
+rows-rise m p a (i ∷ is) h =
+    let t : (isAccepted (unless (isIn 1 m i) 13 p) ≡ true) × (isAccepted (orElse (unless (ltb a i) 14 p) (rowsRefusal m p i is)) ≡ true) =
+    or-both (unless (isIn 1 m i) 13 p) (orElse (unless (ltb a i) 14 p) (rowsRefusal m p i is)) h in
+    let u : (isAccepted (unless (ltb a i) 14 p) ≡ true) × (isAccepted (rowsRefusal m p i is) ≡ true) = or-both (unless (ltb a i) 14 p) (rowsRefusal m p i is) (t .1) in
+    let r : (1 ≤ i) × (i ≤ m) = in-range 1 m i (unless-holds (isIn 1 m i) 13 p refl (t .0)) in
+    let l : a < i = ltb-true a i (unless-holds (ltb a i) 14 p refl (u .0)) in
+    both-and (both-and (le-leb (suc a) i l) (le-leb i m (r .1))) (rows-rise m p i is (u .1))
+
+-- the columns of an accepted batch, where the ids before are bs
+pub record ColumnsFit (r : Register) (n : ℕ) (bs is ns rs : List ℕ) : Type 0 where
+  pub ids : idsOf (batchOf is ns rs) ≡ is
+  pub apart : (x : ℕ) → times x is + one (among x bs || isLive r x) ≤ 1
+  pub named : all (isIn 1 n) is ≡ true
+  pub fits : all (columnFits (r .m)) (batchOf is ns rs) ≡ true
+  pub used : rowSum (batchOf is ns rs) ≡ length rs
+
+-- an id that was not met before, and those after it
+apart-step : (bs is : List ℕ) (z : ℕ → Bool) (i : ℕ) → among i bs ≡ false → z i ≡ false → ((x : ℕ) → times x is + one (among x (i ∷ bs) || z x) ≤ 1) →
+    (x : ℕ) → times x (i ∷ is) + one (among x bs || z x) ≤ 1
+unfolding among
+apart-step bs is z i u v h x =
+    elim (eq-or-ne x i) [
+      | inl q ↦ rw (q, u, v) (omega (arith, times-self i is, rw (eq-eqb i i refl) at (h i)))
+      | inr q ↦ omega (arith, times-other x i is q, rw (ne-eqb x i q) at (h x))
+    ]
+
+pub columns-facts : (r : Register) (n p : ℕ) (bs is ns rs : List ℕ) → isAccepted (columnsRefusal r n p bs is ns rs) ≡ true → ColumnsFit r n bs is ns rs
+unfolding columnsRefusal batchOf idsOf all sumOf
+columns-facts r n p bs [] ns rs h =
+    record {
+      ids = refl;
+      apart = λ x. omega (arith, times-nil x, one-le (among x bs || isLive r x));
+      named = refl;
+      fits = refl;
+      used = sym (eqb-true (length rs) 0 (unless-holds (eqb (length rs) 0) 12 0 refl h));
+    }
+columns-facts r n p bs (i ∷ is) [] rs h = absurd (omega (arith, eqb-true 7 0 h))
+columns-facts r n p bs (i ∷ is) (k ∷ ns) rs h =
+    let a : Refusal = unless (isIn 1 n i) 8 p in
+    let b : Refusal = unless (not (among i bs)) 9 p in
+    let c : Refusal = unless (not (isLive r i)) 10 p in
+    let d : Refusal = unless (isIn 1 256 k && leb k (length rs)) 12 p in
+    let e : Refusal = rowsRefusal (r .m) p 0 (take k rs) in
+    let f : Refusal = columnsRefusal r n (suc p) (i ∷ bs) is ns (drop k rs) in
+    let t : (isAccepted a ≡ true) × (isAccepted (orElse b (orElse c (orElse d (orElse e f)))) ≡ true) = or-both a (orElse b (orElse c (orElse d (orElse e f)))) h in
+    let u : (isAccepted b ≡ true) × (isAccepted (orElse c (orElse d (orElse e f))) ≡ true) = or-both b (orElse c (orElse d (orElse e f))) (t .1) in
+    let v : (isAccepted c ≡ true) × (isAccepted (orElse d (orElse e f)) ≡ true) = or-both c (orElse d (orElse e f)) (u .1) in
+    let w : (isAccepted d ≡ true) × (isAccepted (orElse e f) ≡ true) = or-both d (orElse e f) (v .1) in
+    let x : (isAccepted e ≡ true) × (isAccepted f ≡ true) = or-both e f (w .1) in
+    let rest : ColumnsFit r n (i ∷ bs) is ns (drop k rs) = columns-facts r n (suc p) (i ∷ bs) is ns (drop k rs) (x .1) in
+    let s : (isIn 1 256 k ≡ true) × (leb k (length rs) ≡ true) =
+    and-both (isIn 1 256 k) (leb k (length rs)) (unless-holds (isIn 1 256 k && leb k (length rs)) 12 p refl (w .0)) in
+    let l : length (take k rs) ≡ k = length-take-le k rs (leb-true k (length rs) (s .1)) in
+    record {
+      ids = ap (λ (xs : List ℕ). i ∷ xs) (rest .ids);
+      apart = apart-step bs is (isLive r) i (not-true (among i bs) (unless-holds (not (among i bs)) 9 p refl (u .0)))
+          (not-true (isLive r i) (unless-holds (not (isLive r i)) 10 p refl (v .0))) (rest .apart);
+      named = both-and (unless-holds (isIn 1 n i) 8 p refl (t .0)) (rest .named);
+      fits = both-and (both-and (rows-rise (r .m) p 0 (take k rs) (x .0)) (ap (λ (z : ℕ). isIn 1 256 z) l ∙ s .0)) (rest .fits);
+      used = omega (arith, l, rest .used, length-drop k rs, leb-true k (length rs) (s .1));
+    }
+
+-- none of the ids comes twice, and none is live
+pub columns-once : {r : Register} {n : ℕ} {is ns rs : List ℕ} → ColumnsFit r n [] is ns rs → noRepeats is ≡ true
+columns-once {is = is} f = of-once is (λ x. omega (arith, f .apart x))
+
+pub columns-new : {r : Register} {n : ℕ} {is ns rs : List ℕ} → ColumnsFit r n [] is ns rs → {x : ℕ} → Mem x is → isLive r x ≡ false
+columns-new {r} f {x} m =
+    refute (isLive r x) (λ e. absurd (omega (arith, f .apart x, mem-times m, ap one (or-right (among x []) (isLive r x) e))))
+
+pub record AddFits (l : Limits) (r : Register) (ids counts rows : List ℕ) : Type 0 where
+  pub some : 1 ≤ length ids
+  pub few : length ids ≤ 64
+  pub counted : length counts ≡ length ids
+  pub columns : ColumnsFit r (l .n) [] ids counts rows
+  pub book-room : rowSum (r .columns ++ batchOf ids counts rows) ≤ l .c
+  pub factor-room : sizeSum (factorFor (added r (batchOf ids counts rows))) ≤ l .f
+
+pub add-facts : (l : Limits) (r : Register) (is ns rs : List ℕ) → isAccepted (addRefusal l r is ns rs) ≡ true → AddFits l r is ns rs
+add-facts l r is ns rs h =
+    let A : Register = added r (batchOf is ns rs) in
+    let x : Refusal = unless (isIn 1 64 (length is) && eqb (length ns) (length is)) 7 0 in
+    let y : Refusal = columnsRefusal r (l .n) 1 [] is ns rs in
+    let z : Refusal = roomRefusal l A in
+    let t : (isAccepted x ≡ true) × (isAccepted (orElse y z) ≡ true) = or-both x (orElse y z) h in
+    let u : (isAccepted y ≡ true) × (isAccepted z ≡ true) = or-both y z (t .1) in
+    let s : (isIn 1 64 (length is) ≡ true) × (eqb (length ns) (length is) ≡ true) =
+    and-both (isIn 1 64 (length is)) (eqb (length ns) (length is)) (unless-holds (isIn 1 64 (length is) && eqb (length ns) (length is)) 7 0 refl (t .0)) in
+    let b : (1 ≤ length is) × (length is ≤ 64) = in-range 1 64 (length is) (s .0) in
+    let v : (isAccepted (unless (leb (rowSum (A .columns)) (l .c)) 15 0) ≡ true) × (isAccepted (unless (leb (sizeSum (factorFor A)) (l .f)) 16 0) ≡ true) =
+    or-both (unless (leb (rowSum (A .columns)) (l .c)) 15 0) (unless (leb (sizeSum (factorFor A)) (l .f)) 16 0) (u .1) in
+    record {
+      some = b .0;
+      few = b .1;
+      counted = eqb-true (length ns) (length is) (s .1);
+      columns = columns-facts r (l .n) 1 [] is ns rs (u .0);
+      book-room = leb-true (rowSum (A .columns)) (l .c) (unless-holds (leb (rowSum (A .columns)) (l .c)) 15 0 refl (v .0));
+      factor-room = leb-true (sizeSum (factorFor A)) (l .f) (unless-holds (leb (sizeSum (factorFor A)) (l .f)) 16 0 refl (v .1));
+    }
+
+-- ---- a removal
+
+-- the ids of an accepted removal, where the ids before are bs
+pub record IdsFit (r : Register) (n : ℕ) (bs is : List ℕ) : Type 0 where
+  pub apart : (x : ℕ) → times x is + one (among x bs || false) ≤ 1
+  pub named : all (isIn 1 n) is ≡ true
+  pub live : all (isLive r) is ≡ true
+
+pub ids-facts : (r : Register) (n p : ℕ) (bs is : List ℕ) → isAccepted (idsRefusal r n p bs is) ≡ true → IdsFit r n bs is
+unfolding idsRefusal all
+ids-facts r n p bs [] h = record { apart = λ x. omega (arith, times-nil x, one-le (among x bs || false)); named = refl; live = refl }
+ids-facts r n p bs (i ∷ is) h =
+    let a : Refusal = unless (isIn 1 n i) 8 p in
+    let b : Refusal = unless (not (among i bs)) 9 p in
+    let c : Refusal = unless (isLive r i) 11 p in
+    let d : Refusal = idsRefusal r n (suc p) (i ∷ bs) is in
+    let t : (isAccepted a ≡ true) × (isAccepted (orElse b (orElse c d)) ≡ true) = or-both a (orElse b (orElse c d)) h in
+    let u : (isAccepted b ≡ true) × (isAccepted (orElse c d) ≡ true) = or-both b (orElse c d) (t .1) in
+    let v : (isAccepted c ≡ true) × (isAccepted d ≡ true) = or-both c d (u .1) in
+    let rest : IdsFit r n (i ∷ bs) is = ids-facts r n (suc p) (i ∷ bs) is (v .1) in
+    record {
+      apart = apart-step bs is (λ x. false) i (not-true (among i bs) (unless-holds (not (among i bs)) 9 p refl (u .0))) refl (rest .apart);
+      named = both-and (unless-holds (isIn 1 n i) 8 p refl (t .0)) (rest .named);
+      live = both-and (unless-holds (isLive r i) 11 p refl (v .0)) (rest .live);
+    }
+
+pub record RemoveFits (l : Limits) (r : Register) (ids : List ℕ) : Type 0 where
+  pub some : 1 ≤ length ids
+  pub few : length ids ≤ 64
+  pub once : noRepeats ids ≡ true
+  pub named : all (isIn 1 (l .n)) ids ≡ true
+  pub live : all (isLive r) ids ≡ true
+
+pub remove-facts : (l : Limits) (r : Register) (is : List ℕ) → isAccepted (removeRefusal l r is) ≡ true → RemoveFits l r is
+remove-facts l r is h =
+    let x : Refusal = unless (isIn 1 64 (length is)) 7 0 in
+    let y : Refusal = idsRefusal r (l .n) 1 [] is in
+    let t : (isAccepted x ≡ true) × (isAccepted y ≡ true) = or-both x y h in
+    let b : (1 ≤ length is) × (length is ≤ 64) = in-range 1 64 (length is) (unless-holds (isIn 1 64 (length is)) 7 0 refl (t .0)) in
+    let f : IdsFit r (l .n) [] is = ids-facts r (l .n) 1 [] is (t .1) in
+    record { some = b .0; few = b .1; once = of-once is (λ i. omega (arith, f .apart i)); named = f .named; live = f .live }
+
+-- ---- 17 and 18: questions
+
+pub row-facts : (m i : ℕ) → isAccepted (rowRefusal m i) ≡ true → (1 ≤ i) × (i ≤ m)
+row-facts m i h = in-range 1 m i (unless-holds (isIn 1 m i) 17 0 refl h)
+
+pub room-facts : (xs : List ℕ) (p n : ℕ) → isAccepted (roomFor xs p n) ≡ true → p + n ≤ length xs
+room-facts xs p n h = leb-true (p + n) (length xs) (unless-holds (leb (p + n) (length xs)) 18 0 refl h)

@@ -1,0 +1,122 @@
+-- Numbers 1 to 18 of document 01's "Where a call is turned down", over naturals: each group as one ordered choice, "the first that applies is given".
+-- Numbers.antt puts the groups of a call in order. Positions are from 1, and 0 where a number has none.
+-- Assumes nothing: these are definitions.
+use mathlib.Core.Bool.{Bool, _&&_, not}
+use mathlib.Core.List.{List, [], _∷_}
+use Prim.Native.Nat.{ℕ, suc, _+_}
+use lib.Dec.{ltb, leb, eqb}
+use lib.ListN.{length, take, drop}
+use Rattle.lists.specs.Lists.{pick, isIn, among, sumOf}
+use Rattle.symbolic.specs.Columns.{Column, Register}
+use Rattle.symbolic.specs.Factor.{factorFor, sizeSum}
+use Rattle.symbolic.specs.Change.{idsOf, added}
+use Rattle.workspace.specs.Layout.{workNeed}
+use Rattle.tables.specs.Tables.{Tables, Limits, longEnough}
+
+-- ---- a refusal: its number, "and the position for the column and row checks and 0 otherwise". Accepted is 0.
+
+pub record Refusal : Type 0 where
+  pub number : ℕ
+  pub position : ℕ
+
+abbrev pub refusal : (number position : ℕ) → Refusal
+refusal n p = record { number = n; position = p }
+
+abbrev pub accepted : Refusal
+accepted = refusal 0 0
+
+abbrev pub isAccepted : Refusal → Bool
+isAccepted x = eqb (x .number) 0
+
+abbrev pub orElse : Refusal → Refusal → Refusal
+orElse x y = pick (isAccepted x) y x
+
+abbrev pub unless : Bool → (number position : ℕ) → Refusal
+unless z n p = pick z accepted (refusal n p)
+
+-- ---- 1 to 4, every call: sizes
+
+-- the largest sizes
+pub record Bounds : Type 0 where
+  pub m : ℕ
+  pub n : ℕ
+  pub f : ℕ
+  pub c : ℕ
+
+abbrev pub bounds : Bounds
+bounds = record { m = 4096; n = 16384; f = 1048576; c = 262144 }
+
+abbrev pub sizesRefusal : Bounds → Limits → Refusal
+sizesRefusal b l =
+    orElse (unless (isIn 1 (b .m) (l .m)) 1 0)
+    (orElse (unless (isIn 1 (b .n) (l .n)) 2 0) (orElse (unless (isIn (l .m) (b .f) (l .f)) 3 0) (unless (isIn 1 (b .c) (l .c)) 4 0)))
+
+-- ---- 5, every call: tables
+
+-- "needs W = .. of them"
+abbrev pub workFor : Limits → ℕ
+workFor l = workNeed (l .m) (l .n) (l .f) (l .c)
+
+-- some table or list needed is too short; answers: the places that the lists for touched columns and labels must have
+abbrev pub shortRefusal : Limits → Tables → (work : List ℕ) → Refusal
+shortRefusal l t w = unless (longEnough l t && leb (workFor l) (length w)) 5 0
+
+abbrev pub shortBatch : Limits → Tables → (work touched labels : List ℕ) → Refusal
+shortBatch l t w a b = unless (longEnough l t && leb (workFor l) (length w) && leb (l .m) (length a) && leb (l .m) (length b)) 5 0
+
+-- ---- 7 to 16, batches
+
+-- the columns of an addition: "by position, each id enters with as many of the rows not yet used as its count says"
+unfoldable pub batchOf : (ids counts rows : List ℕ) → List Column
+batchOf [] ns rs = []
+batchOf (i ∷ is) [] rs = []
+batchOf (i ∷ is) (n ∷ ns) rs = record { id = i; rows = take n rs } ∷ batchOf is ns (drop n rs)
+
+abbrev pub isLive : Register → (id : ℕ) → Bool
+isLive r i = among i (idsOf (r .columns))
+
+-- 13 or 14, row by row
+unfoldable pub rowsRefusal : (m position above : ℕ) → (rows : List ℕ) → Refusal
+rowsRefusal m p a [] = accepted
+rowsRefusal m p a (i ∷ is) = orElse (unless (isIn 1 m i) 13 p) (orElse (unless (ltb a i) 14 p) (rowsRefusal m p i is))
+
+-- 8 to 14, column by column; then 12 for rows left over
+unfoldable pub columnsRefusal : Register → (n position : ℕ) → (before ids counts rows : List ℕ) → Refusal
+columnsRefusal r n p bs [] ns rs = unless (eqb (length rs) 0) 12 0
+columnsRefusal r n p bs (i ∷ is) [] rs = refusal 7 0
+columnsRefusal r n p bs (i ∷ is) (k ∷ ns) rs =
+    orElse (unless (isIn 1 n i) 8 p)
+    (orElse (unless (not (among i bs)) 9 p)
+    (orElse (unless (not (isLive r i)) 10 p)
+    (orElse (unless (isIn 1 256 k && leb k (length rs)) 12 p)
+    (orElse (rowsRefusal (r .m) p 0 (take k rs)) (columnsRefusal r n (suc p) (i ∷ bs) is ns (drop k rs))))))
+
+abbrev pub rowSum : List Column → ℕ
+rowSum cs = sumOf (λ (c : Column). length (c .rows)) cs
+
+-- 15: book rows would exceed C; 16: the sum of all pattern sizes would exceed F
+abbrev pub roomRefusal : Limits → Register → Refusal
+roomRefusal l r = orElse (unless (leb (rowSum (r .columns)) (l .c)) 15 0) (unless (leb (sizeSum (factorFor r)) (l .f)) 16 0)
+
+abbrev pub addRefusal : Limits → Register → (ids counts rows : List ℕ) → Refusal
+addRefusal l r is ns rs =
+    orElse (unless (isIn 1 64 (length is) && eqb (length ns) (length is)) 7 0)
+    (orElse (columnsRefusal r (l .n) 1 [] is ns rs) (roomRefusal l (added r (batchOf is ns rs))))
+
+unfoldable pub idsRefusal : Register → (n position : ℕ) → (before ids : List ℕ) → Refusal
+idsRefusal r n p bs [] = accepted
+idsRefusal r n p bs (i ∷ is) =
+    orElse (unless (isIn 1 n i) 8 p)
+    (orElse (unless (not (among i bs)) 9 p) (orElse (unless (isLive r i) 11 p) (idsRefusal r n (suc p) (i ∷ bs) is)))
+
+abbrev pub removeRefusal : Limits → Register → (ids : List ℕ) → Refusal
+removeRefusal l r is = orElse (unless (isIn 1 64 (length is)) 7 0) (idsRefusal r (l .n) 1 [] is)
+
+-- ---- 17 and 18, questions
+
+abbrev pub rowRefusal : (m row : ℕ) → Refusal
+rowRefusal m i = unless (isIn 1 m i) 17 0
+
+-- "the list ends before the answer does": the answer takes so many places from the given one on
+abbrev pub roomFor : (list : List ℕ) → (place places : ℕ) → Refusal
+roomFor xs p n = unless (leb (p + n) (length xs)) 18 0

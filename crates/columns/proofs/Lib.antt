@@ -1,0 +1,9 @@
+pub mod Searching
+pub mod Holding
+pub mod Surgery
+pub mod Plans
+pub mod Committing
+pub mod Turns
+pub mod Copying
+pub mod Stored
+pub mod Commits

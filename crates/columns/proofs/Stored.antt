@@ -1,0 +1,156 @@
+-- The stored columns, for callers: what a column holds, as a test and as facts (`column-holds`, `holds-column`, all columns at once); what is read of a
+-- held column (`held-count`, `held-multiplicity`, `held-pairs`) and what may be read of it; a chain that stays, and what it keeps.
+-- Assumes nothing.
+use mathlib.Core.Path.{_≡_, refl, sym, _∙_, subst}
+use mathlib.Core.Logic.{inl, inr}
+use mathlib.Core.Bool.{Bool, true, _&&_}
+use mathlib.Core.List.{List, [], _∷_}
+use Prim.Native.Nat.{ℕ, zero, suc, _+_, _*_, _-_, _≤_, _<_}
+use native.Mathlib.Omega.{arith}
+use lib.Dec.{eqb}
+use lib.ListN.{length}
+use borrow.Author.Tests.{eqb-true, eq-eqb}
+use Rattle.lists.specs.Lists.{Mem, at, valuesAt, allZero, same, times}
+use Rattle.lists.proofs.Tests.{cases, eq-or-ne, and-both, both-and}
+use Rattle.lists.proofs.Member.{same-eq, same-self, zero-at}
+use Rattle.lists.proofs.Times.{times-self, times-cons, times-mem}
+use Rattle.symbolic.specs.Factor.{FactorColumn, columnAt, multiplicity, patternFrom, nonZero, patternOf, multiplicitiesOf}
+use Rattle.pool.specs.Chains.{chain}
+use Rattle.pool.proofs.Whole.{pool-linked}
+use Rattle.tables.specs.Stored.{Stored, recordsOf, holdsColumn, holdsFrom, freeZero}
+use Rattle.tables.specs.Stays.{ColumnStays, EntriesKeep}
+use Rattle.columns.specs.Search.{countOf, entriesAt, pairs, CanSearch, CanRead, CanCount, CanCopy}
+use Rattle.columns.specs.Commit.{HoldsFrom, Holds, ZeroAt, Ready, ChainStays}
+use Rattle.columns.proofs.Holding.{values-mem, holds-length, holds-rises, holds-count, holds-pairs, holds-frame, rises-once}
+
+-- ---- what a column holds, as a test and as facts
+
+pub column-holds : (s : Stored) (j : ℕ) (f : FactorColumn) → holdsColumn s j f ≡ true → Holds s j (f .counts) × (at (s .parents) j ≡ f .parent)
+column-holds s j f h =
+    let a : Bool = same (valuesAt (s .rows) (recordsOf s j)) (patternOf f) in
+    let b : Bool = same (valuesAt (s .counts) (recordsOf s j)) (multiplicitiesOf f) in
+    let t : ((a && b) ≡ true) × (eqb (at (s .parents) j) (f .parent) ≡ true) = and-both (a && b) (eqb (at (s .parents) j) (f .parent)) h in
+    let u : (a ≡ true) × (b ≡ true) = and-both a b (t .0) in (
+      record {
+        rows = same-eq (valuesAt (s .rows) (recordsOf s j)) (patternOf f) (u .0);
+        counts = same-eq (valuesAt (s .counts) (recordsOf s j)) (multiplicitiesOf f) (u .1);
+      },
+      eqb-true (at (s .parents) j) (f .parent) (t .1),
+    )
+
+pub holds-column : (s : Stored) (j : ℕ) (f : FactorColumn) → Holds s j (f .counts) → at (s .parents) j ≡ f .parent → holdsColumn s j f ≡ true
+holds-column s j f h p =
+    let a : same (valuesAt (s .rows) (recordsOf s j)) (patternOf f) ≡ true = rw (h .rows) (same-self (patternOf f)) in
+    let b : same (valuesAt (s .counts) (recordsOf s j)) (multiplicitiesOf f) ≡ true = rw (h .counts) (same-self (multiplicitiesOf f)) in
+    both-and (both-and a b) (eq-eqb (at (s .parents) j) (f .parent) p)
+
+-- n columns from j on
+pub columns-at : (s : Stored) (fs : List FactorColumn) (j n : ℕ) → holdsFrom s fs j n ≡ true → (l : ℕ) → j ≤ l → l < j + n → holdsColumn s l (columnAt fs l) ≡ true
+unfolding holdsFrom
+columns-at s fs j zero h l a b = absurd (omega arith)
+columns-at s fs j (suc n) h l a b =
+    let t : (holdsColumn s j (columnAt fs j) ≡ true) × (holdsFrom s fs (suc j) n ≡ true) = and-both (holdsColumn s j (columnAt fs j)) (holdsFrom s fs (suc j) n) h in
+    elim (eq-or-ne j l) [
+      | inl e ↦ subst (λ (x : ℕ). holdsColumn s x (columnAt fs x) ≡ true) e (t .0)
+      | inr e ↦ columns-at s fs (suc j) n (t .1) l (omega arith) (omega arith)
+    ]
+
+pub at-columns : (s : Stored) (fs : List FactorColumn) (j n : ℕ) → ((l : ℕ) → j ≤ l → l < j + n → holdsColumn s l (columnAt fs l) ≡ true) → holdsFrom s fs j n ≡ true
+unfolding holdsFrom
+at-columns s fs j zero h = refl
+at-columns s fs j (suc n) h = both-and (h j (omega arith) (omega arith)) (at-columns s fs (suc j) n (λ l a b. h l (omega arith) (omega arith)))
+
+-- free records are zero
+pub free-zero : (s : Stored) → freeZero s ≡ true → ZeroAt (s .rows) (s .counts) (chain (s .next) (s .free))
+free-zero s h x n =
+    let rs : List ℕ = chain (s .next) (s .free) in
+    let t : (allZero (valuesAt (s .rows) rs) ≡ true) × (allZero (valuesAt (s .counts) rs) ≡ true) = and-both (allZero (valuesAt (s .rows) rs)) (allZero (valuesAt (s .counts) rs)) h in
+    (zero-at (values-mem (s .rows) (times-mem x rs n)) (t .0), zero-at (values-mem (s .counts) (times-mem x rs n)) (t .1))
+
+values-zero : (xs rs : List ℕ) → ((x : ℕ) → 1 ≤ times x rs → at xs x ≡ 0) → allZero (valuesAt xs rs) ≡ true
+unfolding valuesAt allZero
+values-zero xs [] h = refl
+values-zero xs (r ∷ rs) h = both-and (eq-eqb (at xs r) 0 (h r (omega (arith, times-self r rs)))) (values-zero xs rs (λ x n. h x (omega (arith, times-cons x r rs))))
+
+pub zero-free : (s : Stored) → ZeroAt (s .rows) (s .counts) (chain (s .next) (s .free)) → freeZero s ≡ true
+zero-free s h =
+    both-and (values-zero (s .rows) (chain (s .next) (s .free)) (λ x n. h x n .0)) (values-zero (s .counts) (chain (s .next) (s .free)) (λ x n. h x n .1))
+
+-- ---- what is read of a held column
+
+some-short : (ns : List ℕ) → length (nonZero ns) ≤ length ns
+unfolding nonZero
+some-short [] = omega arith
+some-short (n ∷ ns) = elim (cases (eqb n 0)) [ inl e ↦ rw e (omega (arith, some-short ns)) | inr e ↦ rw e (omega (arith, some-short ns)) ]
+
+module _ (s : Stored) (j : ℕ) {ns : List ℕ} (h : Holds s j ns) where
+  pub held-short : length (recordsOf s j) ≤ length ns
+  held-short = omega (arith, holds-length h, some-short ns)
+
+  -- the multiplicity of a row; past the last row both are 0
+  pub held-count : (i : ℕ) → 1 ≤ i → countOf (s .rows) (s .counts) (recordsOf s j) i ≡ at ns i
+  held-count i a = let q : 1 + (i - 1) ≡ i = omega arith in rw q at (holds-count 1 ns (recordsOf s j) (i - 1) h)
+
+  -- row and multiplicity of each record
+  pub held-pairs : entriesAt (s .rows) (s .counts) (recordsOf s j) ≡ pairs (patternFrom 1 ns) (nonZero ns)
+  held-pairs = holds-pairs h
+
+pub held-multiplicity : (s : Stored) (fs : List FactorColumn) (i j : ℕ) → 1 ≤ i → holdsColumn s j (columnAt fs j) ≡ true →
+    countOf (s .rows) (s .counts) (recordsOf s j) i ≡ multiplicity fs i j
+held-multiplicity s fs i j a h = held-count s j (column-holds s j (columnAt fs j) h .0) i a
+
+-- ---- what may be read of it
+
+module _ {s : Stored} {j : ℕ} (r : Ready s) (low : 1 ≤ j) (high : j ≤ length (s .heads)) where
+  pub can-search : CanSearch (s .rows) (s .next) (at (s .heads) j)
+  can-search = record { linked = pool-linked (r .pool) j low high; rows-long = r .sized .rows-long }
+
+  pub can-read : CanRead (s .rows) (s .counts) (s .next) (at (s .heads) j)
+  can-read = record { linked = pool-linked (r .pool) j low high; rows-long = r .sized .rows-long; counts-long = r .sized .counts-long }
+
+  module _ {ns : List ℕ} (h : Holds s j ns) (narrow : length ns < 65536) where
+    pub can-count-held : CanCount (s .rows) (s .counts) (s .next) (at (s .heads) j)
+    can-count-held = record { read = can-read; rising = holds-rises 65535 (omega arith) h }
+
+    pub can-copy-held : (list : List ℕ) → 2 * length (recordsOf s j) ≤ length list → CanCopy (s .rows) (s .counts) (s .next) list (at (s .heads) j)
+    can-copy-held list fits = record { read = can-read; fits = fits; narrow = omega (arith, held-short s j h) }
+
+-- ---- a chain that stays
+
+pub stays-self : (s : Stored) (l : ℕ) → ChainStays s s l
+stays-self s l = record { records = refl; row = λ x m. refl; count = λ x m. refl; next = λ x m. refl }
+
+module _ {s t : Stored} {l : ℕ} (c : ChainStays s t l) where
+  pub stays-trans : {u : Stored} → ChainStays t u l → ChainStays s u l
+  stays-trans d =
+      let there : (x : ℕ) → Mem x (recordsOf s l) → Mem x (recordsOf t l) = λ x m. subst (λ (rs : List ℕ). Mem x rs) (sym (c .records)) m in
+      record {
+        records = d .records ∙ c .records;
+        row = λ x m. d .row x (there x m) ∙ c .row x m;
+        count = λ x m. d .count x (there x m) ∙ c .count x m;
+        next = λ x m. d .next x (there x m) ∙ c .next x m;
+      }
+
+  -- it holds what it held
+  pub stays-holds : {ns : List ℕ} → Holds s l ns → Holds t l ns
+  stays-holds {ns} h =
+      subst (λ (rs : List ℕ). HoldsFrom (t .rows) (t .counts) 1 ns rs) (sym (c .records))
+      (holds-frame (λ x n. (c .row x (times-mem x (recordsOf s l) n), c .count x (times-mem x (recordsOf s l) n))) h)
+
+  -- with head and parent it is a column that stays
+  pub stays-column : at (t .heads) l ≡ at (s .heads) l → at (t .parents) l ≡ at (s .parents) l → ColumnStays s t l
+  stays-column a b = record { head = a; parent = b; records = c .records; row = c .row; count = c .count; next = c .next }
+
+  -- entries keep their records, also before or after a change that keeps them
+  pub keep-stays : (r : Stored) → EntriesKeep r s l → EntriesKeep r t l
+  keep-stays r k x y m n e =
+      let there : Mem y (recordsOf s l) = subst (λ (rs : List ℕ). Mem y rs) (c .records) n in
+      k x y m there (e ∙ c .row y there)
+
+  pub stays-keep : (u : Stored) → EntriesKeep t u l → EntriesKeep s u l
+  stays-keep u k x y m n e = k x y (subst (λ (rs : List ℕ). Mem x rs) (sym (c .records)) m) n (c .row x m ∙ e)
+
+  pub held-keep : {ns : List ℕ} → Holds s l ns → EntriesKeep s t l
+  held-keep {ns} h x y m n e =
+      let there : Mem y (recordsOf s l) = subst (λ (rs : List ℕ). Mem y rs) (c .records) n in
+      rises-once (s .rows) 1 (length ns) (recordsOf s l) (holds-rises (length ns) (omega arith) h) m there (e ∙ c .row y there)

@@ -1,0 +1,4 @@
+pub mod Search
+pub mod Plan
+pub mod Apply
+pub mod Commit

@@ -1,0 +1,211 @@
+-- The listed example, step by step, on tables with one place more than the sizes ask: the world after the opening and after each accepted batch, what a
+-- batch owes, and the steps, all by computing. Which free records are taken is this example's choice.
+-- Assumes nothing.
+use mathlib.Core.Path.{refl}
+use mathlib.Core.List.{List, [], _∷_, _++_}
+use Prim.Native.Nat.{ℕ}
+use lib.ListN.{replicate}
+use Rattle.lists.specs.Lists.{all, any, among, noRepeats, allZero, same, sumOf, valuesAt, rises, upFrom}
+use Rattle.symbolic.specs.Columns.{startingWith}
+use Rattle.symbolic.specs.Factor.{childrenWith, countsFrom, firstAbove, buildFrom, patternFrom, nonZero, pathFrom, sizeSum}
+use Rattle.symbolic.specs.Batch.{touchedFrom, labelFrom, labelsOf, entriesOf}
+use Rattle.symbolic.specs.Change.{idsOf, without, columnOf, columnsOf}
+use Rattle.pool.specs.Chains.{chainFrom, lastOf}
+use Rattle.pool.specs.Whole.{chains}
+use Rattle.book.specs.Book.{columnsFrom}
+use Rattle.tables.specs.Stored.{holdsFrom}
+use Rattle.calls.specs.Refusals.{batchOf, rowsRefusal, columnsRefusal, idsRefusal}
+use Rattle.calls.specs.Calls.{Call, removing, checking, askPath}
+use Rattle.calls.specs.Report.{pairsOf}
+use Rattle.calls.specs.Steps.{Answer, World, Amended, Step}
+use Rattle.calls.proofs.Amends.{amends-passed}
+use Rattle.history.specs.Runs.{Event, Run, Begun, Plain}
+use Rattle.history.specs.Example.{askedSizes, workLent, listLent, add, answered, eventCalls, eventAnswers, eventTouched, eventLabels, eventLists, shownFrom}
+use Rattle.history.specs.Statements.{ConcreteRun}
+
+-- ---- the worlds
+
+abbrev worldOf : (free bookFree : ℕ) → (heads parents rows counts next bookHeads bookRows bookNext : List ℕ) → World
+worldOf f g hs ps rs cs ns bh br bn =
+    record {
+      state = record { limits = askedSizes; free = f; bookFree = g };
+      tables = record {
+        heads = hs ++ (8 ∷ []);
+        parents = ps ++ (8 ∷ []);
+        rows = rs ++ (8 ∷ []);
+        counts = cs ++ (8 ∷ []);
+        next = ns ++ (8 ∷ []);
+        bookHeads = bh ++ (8 ∷ []);
+        bookRows = br ++ (8 ∷ []);
+        bookNext = bn ++ (8 ∷ []);
+      };
+    }
+
+-- before the opening: any content
+abbrev world0 : World
+world0 = worldOf 0 0 (replicate 5 8) (replicate 5 8) (replicate 9 8) (replicate 9 8) (replicate 9 8) (replicate 8 8) (replicate 16 8) (replicate 16 8)
+
+-- opened
+abbrev world1 : World
+world1 =
+    worldOf 6 1 (1 ∷ 2 ∷ 3 ∷ 4 ∷ 5 ∷ []) (0 ∷ 0 ∷ 0 ∷ 0 ∷ 0 ∷ [])
+    (1 ∷ 2 ∷ 3 ∷ 4 ∷ 5 ∷ 0 ∷ 0 ∷ 0 ∷ 0 ∷ []) (1 ∷ 1 ∷ 1 ∷ 1 ∷ 1 ∷ 0 ∷ 0 ∷ 0 ∷ 0 ∷ []) (0 ∷ 0 ∷ 0 ∷ 0 ∷ 0 ∷ 7 ∷ 8 ∷ 9 ∷ 0 ∷ [])
+    (0 ∷ 0 ∷ 0 ∷ 0 ∷ 0 ∷ 0 ∷ 0 ∷ 0 ∷ []) (0 ∷ 0 ∷ 0 ∷ 0 ∷ 0 ∷ 0 ∷ 0 ∷ 0 ∷ 0 ∷ 0 ∷ 0 ∷ 0 ∷ 0 ∷ 0 ∷ 0 ∷ 0 ∷ [])
+    (2 ∷ 3 ∷ 4 ∷ 5 ∷ 6 ∷ 7 ∷ 8 ∷ 9 ∷ 10 ∷ 11 ∷ 12 ∷ 13 ∷ 14 ∷ 15 ∷ 16 ∷ 0 ∷ [])
+
+-- {1,3} under id 1: record 6 is taken
+abbrev world2 : World
+world2 =
+    worldOf 7 3 (1 ∷ 2 ∷ 3 ∷ 4 ∷ 5 ∷ []) (3 ∷ 0 ∷ 0 ∷ 0 ∷ 0 ∷ [])
+    (1 ∷ 2 ∷ 3 ∷ 4 ∷ 5 ∷ 3 ∷ 0 ∷ 0 ∷ 0 ∷ []) (2 ∷ 1 ∷ 2 ∷ 1 ∷ 1 ∷ 1 ∷ 0 ∷ 0 ∷ 0 ∷ []) (6 ∷ 0 ∷ 0 ∷ 0 ∷ 0 ∷ 0 ∷ 8 ∷ 9 ∷ 0 ∷ [])
+    (1 ∷ 0 ∷ 0 ∷ 0 ∷ 0 ∷ 0 ∷ 0 ∷ 0 ∷ []) (1 ∷ 3 ∷ 0 ∷ 0 ∷ 0 ∷ 0 ∷ 0 ∷ 0 ∷ 0 ∷ 0 ∷ 0 ∷ 0 ∷ 0 ∷ 0 ∷ 0 ∷ 0 ∷ [])
+    (2 ∷ 0 ∷ 4 ∷ 5 ∷ 6 ∷ 7 ∷ 8 ∷ 9 ∷ 10 ∷ 11 ∷ 12 ∷ 13 ∷ 14 ∷ 15 ∷ 16 ∷ 0 ∷ [])
+
+-- {1,4} under id 2: records 7 and 8
+abbrev world3 : World
+world3 =
+    worldOf 9 5 (1 ∷ 2 ∷ 3 ∷ 4 ∷ 5 ∷ []) (3 ∷ 0 ∷ 4 ∷ 0 ∷ 0 ∷ [])
+    (1 ∷ 2 ∷ 3 ∷ 4 ∷ 5 ∷ 3 ∷ 4 ∷ 4 ∷ 0 ∷ []) (3 ∷ 1 ∷ 2 ∷ 2 ∷ 1 ∷ 1 ∷ 1 ∷ 1 ∷ 0 ∷ []) (6 ∷ 0 ∷ 8 ∷ 0 ∷ 0 ∷ 7 ∷ 0 ∷ 0 ∷ 0 ∷ [])
+    (1 ∷ 3 ∷ 0 ∷ 0 ∷ 0 ∷ 0 ∷ 0 ∷ 0 ∷ []) (1 ∷ 3 ∷ 1 ∷ 4 ∷ 0 ∷ 0 ∷ 0 ∷ 0 ∷ 0 ∷ 0 ∷ 0 ∷ 0 ∷ 0 ∷ 0 ∷ 0 ∷ 0 ∷ [])
+    (2 ∷ 0 ∷ 4 ∷ 0 ∷ 6 ∷ 7 ∷ 8 ∷ 9 ∷ 10 ∷ 11 ∷ 12 ∷ 13 ∷ 14 ∷ 15 ∷ 16 ∷ 0 ∷ [])
+
+-- {2,3} under id 3: record 9, the last
+abbrev world4 : World
+world4 =
+    worldOf 0 7 (1 ∷ 2 ∷ 3 ∷ 4 ∷ 5 ∷ []) (3 ∷ 3 ∷ 4 ∷ 0 ∷ 0 ∷ [])
+    (1 ∷ 2 ∷ 3 ∷ 4 ∷ 5 ∷ 3 ∷ 4 ∷ 4 ∷ 3 ∷ []) (3 ∷ 2 ∷ 3 ∷ 2 ∷ 1 ∷ 1 ∷ 1 ∷ 1 ∷ 1 ∷ []) (6 ∷ 9 ∷ 8 ∷ 0 ∷ 0 ∷ 7 ∷ 0 ∷ 0 ∷ 0 ∷ [])
+    (1 ∷ 3 ∷ 5 ∷ 0 ∷ 0 ∷ 0 ∷ 0 ∷ 0 ∷ []) (1 ∷ 3 ∷ 1 ∷ 4 ∷ 2 ∷ 3 ∷ 0 ∷ 0 ∷ 0 ∷ 0 ∷ 0 ∷ 0 ∷ 0 ∷ 0 ∷ 0 ∷ 0 ∷ [])
+    (2 ∷ 0 ∷ 4 ∷ 0 ∷ 6 ∷ 0 ∷ 8 ∷ 9 ∷ 10 ∷ 11 ∷ 12 ∷ 13 ∷ 14 ∷ 15 ∷ 16 ∷ 0 ∷ [])
+
+-- id 2 dropped: its records 7 and 8 of L, and 3 and 4 of the book, are free
+abbrev world5 : World
+world5 =
+    worldOf 7 3 (1 ∷ 2 ∷ 3 ∷ 4 ∷ 5 ∷ []) (3 ∷ 3 ∷ 0 ∷ 0 ∷ 0 ∷ [])
+    (1 ∷ 2 ∷ 3 ∷ 4 ∷ 5 ∷ 3 ∷ 0 ∷ 0 ∷ 3 ∷ []) (2 ∷ 2 ∷ 3 ∷ 1 ∷ 1 ∷ 1 ∷ 0 ∷ 0 ∷ 1 ∷ []) (6 ∷ 9 ∷ 0 ∷ 0 ∷ 0 ∷ 0 ∷ 8 ∷ 0 ∷ 0 ∷ [])
+    (1 ∷ 0 ∷ 5 ∷ 0 ∷ 0 ∷ 0 ∷ 0 ∷ 0 ∷ []) (1 ∷ 3 ∷ 0 ∷ 0 ∷ 2 ∷ 3 ∷ 0 ∷ 0 ∷ 0 ∷ 0 ∷ 0 ∷ 0 ∷ 0 ∷ 0 ∷ 0 ∷ 0 ∷ [])
+    (2 ∷ 0 ∷ 4 ∷ 7 ∷ 6 ∷ 0 ∷ 8 ∷ 9 ∷ 10 ∷ 11 ∷ 12 ∷ 13 ∷ 14 ∷ 15 ∷ 16 ∷ 0 ∷ [])
+
+-- ---- what each accepted batch owes
+
+first-owed : Amended world1 (add 1 (1 ∷ 3 ∷ [])) world2
+unfolding all any among noRepeats allZero same valuesAt rises upFrom startingWith childrenWith countsFrom firstAbove buildFrom patternFrom nonZero pathFrom touchedFrom chainFrom lastOf chains columnsFrom holdsFrom batchOf
+first-owed = amends-passed world1 (add 1 (1 ∷ 3 ∷ [])) world2 refl refl refl
+
+second-owed : Amended world2 (add 2 (1 ∷ 4 ∷ [])) world3
+unfolding all any among noRepeats allZero same valuesAt rises upFrom startingWith childrenWith countsFrom firstAbove buildFrom patternFrom nonZero pathFrom touchedFrom chainFrom lastOf chains columnsFrom holdsFrom batchOf
+second-owed = amends-passed world2 (add 2 (1 ∷ 4 ∷ [])) world3 refl refl refl
+
+third-owed : Amended world3 (add 3 (2 ∷ 3 ∷ [])) world4
+unfolding all any among noRepeats allZero same valuesAt rises upFrom startingWith childrenWith countsFrom firstAbove buildFrom patternFrom nonZero pathFrom touchedFrom chainFrom lastOf chains columnsFrom holdsFrom batchOf
+third-owed = amends-passed world3 (add 3 (2 ∷ 3 ∷ [])) world4 refl refl refl
+
+removal-owed : Amended world4 (removing (2 ∷ []) workLent listLent listLent) world5
+unfolding all any among noRepeats allZero same valuesAt rises upFrom startingWith childrenWith countsFrom firstAbove buildFrom patternFrom nonZero pathFrom touchedFrom chainFrom lastOf chains columnsFrom holdsFrom without columnOf columnsOf
+removal-owed = amends-passed world4 (removing (2 ∷ []) workLent listLent listLent) world5 refl refl refl
+
+-- ---- the run
+
+-- the first W places zero, the last as lent
+abbrev workLeft : List ℕ
+workLeft = replicate 1124 0 ++ (7 ∷ [])
+
+abbrev event : Call → Answer → (touched labels : List ℕ) → Event
+event k a ts ls = record { call = k; answer = a; left = record { work = workLeft; touched = ts; labels = ls; list = [] } }
+
+abbrev first : Event
+first = event (add 1 (1 ∷ 3 ∷ [])) (answered 0 0 2 3 1) (1 ∷ 3 ∷ 9 ∷ 9 ∷ 9 ∷ 9 ∷ []) (1 ∷ 1 ∷ 9 ∷ 9 ∷ 9 ∷ 9 ∷ [])
+
+abbrev again : Event
+again = event (add 1 (2 ∷ [])) (answered 10 1 0 0 0) listLent listLent
+
+abbrev second : Event
+second = event (add 2 (1 ∷ 4 ∷ [])) (answered 0 0 3 6 1) (1 ∷ 3 ∷ 4 ∷ 9 ∷ 9 ∷ 9 ∷ []) (1 ∷ 1 ∷ 1 ∷ 9 ∷ 9 ∷ 9 ∷ [])
+
+abbrev third : Event
+third = event (add 3 (2 ∷ 3 ∷ [])) (answered 0 0 3 5 1) (2 ∷ 3 ∷ 4 ∷ 9 ∷ 9 ∷ 9 ∷ []) (1 ∷ 1 ∷ 1 ∷ 9 ∷ 9 ∷ 9 ∷ [])
+
+abbrev checked : Event
+checked = record { call = checking workLent; answer = answered 0 0 0 0 0; left = record { work = workLeft; touched = []; labels = []; list = [] } }
+
+abbrev path : Event
+path =
+    record {
+      call = askPath 1 1 workLent listLent;
+      answer = record { number = 0; position = 0; touched = 0; entries = 0; grade = 0; value = 3 };
+      left = record { work = workLeft; touched = []; labels = []; list = 9 ∷ 1 ∷ 3 ∷ 4 ∷ 9 ∷ 9 ∷ [] };
+    }
+
+abbrev removal : Event
+removal =
+    event (removing (2 ∷ []) workLent listLent listLent) (answered 0 0 3 4 1) (1 ∷ 3 ∷ 4 ∷ 9 ∷ 9 ∷ 9 ∷ []) (1 ∷ 1 ∷ 1 ∷ 9 ∷ 9 ∷ 9 ∷ [])
+
+abbrev plain1 : Plain
+plain1 = record { limits = askedSizes; register = record { m = 5; columns = [] } }
+
+opened-begun : Begun world1 plain1
+unfolding all any among noRepeats allZero same sumOf valuesAt rises upFrom startingWith childrenWith countsFrom firstAbove buildFrom patternFrom nonZero pathFrom sizeSum touchedFrom labelFrom labelsOf entriesOf idsOf chainFrom lastOf chains columnsFrom holdsFrom batchOf rowsRefusal columnsRefusal
+opened-begun =
+    record {
+      before = world0;
+      asked = askedSizes;
+      work = workLent;
+      answer = answered 0 0 0 0 0;
+      left = record { work = workLeft; touched = []; labels = []; list = [] };
+      step = (refl, refl, (refl, refl));
+      taken = refl;
+      plain = refl;
+    }
+
+first-step : Step world1 (first .call) (first .answer) (first .left) world2
+unfolding all any among noRepeats allZero same sumOf valuesAt rises upFrom startingWith childrenWith countsFrom firstAbove buildFrom patternFrom nonZero pathFrom sizeSum touchedFrom labelFrom labelsOf entriesOf idsOf chainFrom lastOf chains columnsFrom holdsFrom batchOf rowsRefusal columnsRefusal
+first-step = (refl, refl, first-owed)
+
+again-step : Step world2 (again .call) (again .answer) (again .left) world2
+unfolding all any among noRepeats allZero same sumOf valuesAt rises upFrom startingWith childrenWith countsFrom firstAbove buildFrom patternFrom nonZero pathFrom sizeSum touchedFrom labelFrom labelsOf entriesOf idsOf chainFrom lastOf chains columnsFrom holdsFrom batchOf rowsRefusal columnsRefusal
+again-step = (refl, refl, refl)
+
+second-step : Step world2 (second .call) (second .answer) (second .left) world3
+unfolding all any among noRepeats allZero same sumOf valuesAt rises upFrom startingWith childrenWith countsFrom firstAbove buildFrom patternFrom nonZero pathFrom sizeSum touchedFrom labelFrom labelsOf entriesOf idsOf chainFrom lastOf chains columnsFrom holdsFrom batchOf rowsRefusal columnsRefusal
+second-step = (refl, refl, second-owed)
+
+third-step : Step world3 (third .call) (third .answer) (third .left) world4
+unfolding all any among noRepeats allZero same sumOf valuesAt rises upFrom startingWith childrenWith countsFrom firstAbove buildFrom patternFrom nonZero pathFrom sizeSum touchedFrom labelFrom labelsOf entriesOf idsOf chainFrom lastOf chains columnsFrom holdsFrom batchOf rowsRefusal columnsRefusal
+third-step = (refl, refl, third-owed)
+
+checked-step : Step world4 (checked .call) (checked .answer) (checked .left) world4
+unfolding all any among noRepeats allZero same sumOf valuesAt rises upFrom startingWith childrenWith countsFrom firstAbove buildFrom patternFrom nonZero pathFrom sizeSum touchedFrom labelFrom labelsOf entriesOf idsOf chainFrom lastOf chains columnsFrom holdsFrom batchOf rowsRefusal columnsRefusal
+checked-step = (refl, refl, refl)
+
+path-step : Step world4 (path .call) (path .answer) (path .left) world4
+unfolding all any among noRepeats allZero same sumOf valuesAt rises upFrom startingWith childrenWith countsFrom firstAbove buildFrom patternFrom nonZero pathFrom sizeSum touchedFrom labelFrom labelsOf entriesOf idsOf chainFrom lastOf chains columnsFrom holdsFrom batchOf rowsRefusal columnsRefusal
+path-step = (refl, refl, refl)
+
+removal-step : Step world4 (removal .call) (removal .answer) (removal .left) world5
+unfolding all any among noRepeats allZero same sumOf valuesAt rises upFrom startingWith childrenWith countsFrom firstAbove buildFrom patternFrom nonZero pathFrom sizeSum touchedFrom labelFrom labelsOf entriesOf idsOf chainFrom lastOf chains columnsFrom holdsFrom batchOf rowsRefusal columnsRefusal idsRefusal without columnOf columnsOf
+removal-step = (refl, refl, removal-owed)
+
+pub concrete-run : ConcreteRun
+unfolding Run eventCalls eventAnswers eventTouched eventLabels eventLists shownFrom chainFrom valuesAt pairsOf opened-begun
+concrete-run =
+    record {
+      start = world1;
+      plain = plain1;
+      events = first ∷ again ∷ second ∷ third ∷ [];
+      end = world4;
+      begun = opened-begun;
+      asked = refl;
+      run = (world2, (first-step, (world2, (again-step, (world3, (second-step, (world4, (third-step, refl))))))));
+      calls = refl;
+      answers = refl;
+      touched = refl;
+      labels = refl;
+      shows = refl;
+      later = checked ∷ path ∷ removal ∷ [];
+      last = world5;
+      later-run = (world4, (checked-step, (world4, (path-step, (world5, (removal-step, refl))))));
+      later-calls = refl;
+      later-answers = refl;
+      later-touched = refl;
+      later-lists = refl;
+      later-shows = refl;
+    }

@@ -1,0 +1,48 @@
+-- Document 01's instances, all by computing: each side of each line is unfolded to a number or a list. The largest is a factor of 24 columns.
+-- Nothing else is unfolded so far; elsewhere the factor stays shut.
+-- Assumes nothing.
+use mathlib.Core.Path.{refl}
+use Rattle.lists.specs.Lists.{any, among, sumOf, upFrom}
+use Rattle.symbolic.specs.Columns.{startingWith}
+use Rattle.symbolic.specs.Factor.{childrenWith, countsFrom, firstAbove, buildFrom, patternFrom, nonZero, pathFrom, sizeSum}
+use Rattle.symbolic.specs.Batch.{touchedFrom, labelFrom, labelsOf, entriesOf}
+use Rattle.symbolic.specs.Change.{idsOf, without, columnOf, columnsOf}
+use Rattle.calls.specs.Refusals.{batchOf, rowsRefusal, columnsRefusal, idsRefusal}
+use Rattle.calls.specs.Report.{pairsOf}
+use Rattle.history.specs.Instances.{StarredInstances, NinthInstance}
+
+pub starred-instances : StarredInstances
+unfolding any among sumOf upFrom startingWith childrenWith countsFrom firstAbove buildFrom patternFrom nonZero pathFrom sizeSum touchedFrom labelFrom labelsOf entriesOf idsOf without columnOf columnsOf batchOf rowsRefusal columnsRefusal pairsOf
+starred-instances =
+    record {
+      fresh = (refl, refl);
+      state-1 = (refl, refl);
+      state-2 = (refl, refl);
+      state-3 = (refl, refl);
+      state-4 = (refl, refl);
+      state-5 = (refl, refl);
+      batch-touched = refl;
+      batch-labels = refl;
+      batch-entries = refl;
+      batch-answer = refl;
+      batch-register = refl;
+      removal-touched = refl;
+      removal-entries = refl;
+      removal-answer = refl;
+      removal-1 = (refl, refl);
+      removal-3 = (refl, refl);
+      removal-4 = (refl, refl);
+      twice-1 = (refl, refl);
+      twice-3 = (refl, refl);
+      alone = (refl, refl);
+      room-9 = refl;
+      room-8 = refl;
+      grade-1 = refl;
+      grade-2 = refl;
+      answer-255 = refl;
+      answer-256 = refl;
+    }
+
+pub ninth-instance : NinthInstance
+unfolding among sumOf startingWith childrenWith countsFrom firstAbove buildFrom pathFrom idsOf without batchOf rowsRefusal columnsRefusal idsRefusal
+ninth-instance = record { emptied = refl; repeated = refl; equal-rows = refl; path = refl }

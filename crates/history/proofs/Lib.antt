@@ -1,0 +1,6 @@
+pub mod Invariant
+pub mod Steps
+pub mod Theorems
+pub mod Example
+pub mod Instances
+pub mod Corollaries

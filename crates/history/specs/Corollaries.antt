@@ -1,0 +1,55 @@
+-- Document 03's statements over these definitions, each a consequence of specs/Statements.antt and of equation 3.1: `KeepsPattern` is demand 3's first
+-- half with the numbers of any next call, `AltersOnly` its second half with what the tables hold for the register, `PatternsAre` equation 3.1 as a test.
+-- Instances.antt has the fourth. Assumes nothing: these are definitions.
+use mathlib.Core.Path.{_≡_}
+use mathlib.Core.Logic.{_⊎_, _≢_, _↔_}
+use mathlib.Core.Bool.{Bool, true, false, _&&_, _||_, not}
+use mathlib.Core.List.{List}
+use Prim.Native.Nat.{ℕ, _≤_, _<_}
+use lib.Dec.{eqb}
+use Rattle.lists.specs.Lists.{Mem, all, any, among, upFrom}
+use Rattle.symbolic.specs.Columns.{Column, smallest, holds, fitsRows, Register, live}
+use Rattle.symbolic.specs.Factor.{factorFor, inPattern, isChild}
+use Rattle.symbolic.specs.Chains.{ChainTo}
+use Rattle.tables.specs.Stored.{holdsFrom}
+use Rattle.tables.specs.Tables.{storedIn, registerOf, isSound}
+use Rattle.tables.specs.Stays.{ColumnStays}
+use Rattle.calls.specs.Calls.{Call, isOpening, isBatch}
+use Rattle.calls.specs.Report.{touchedBy}
+use Rattle.calls.specs.Numbers.{callRefusal}
+use Rattle.calls.specs.Steps.{World, Step}
+use Rattle.history.specs.Runs.{Event, Run, Plain, plainAfter, Begun}
+use Rattle.history.specs.Statements.{Stands}
+
+pub record Keeps (p : Plain) (v : World) : Type 0 where
+  pub sound : isSound (v .state) (v .tables) ≡ true
+  pub columns : (c : Column) → Mem c (registerOf (v .state) (v .tables) .columns) ↔ Mem c (p .register .columns)
+  pub means : holdsFrom (storedIn (v .state) (v .tables)) (factorFor (p .register)) 1 (p .limits .m) ≡ true
+  pub chains : (i j : ℕ) → 1 ≤ j → j < i → i ≤ p .register .m → Stands v i j ↔ ChainTo (p .register .m) (live (p .register)) i j
+  pub numbers : (k : Call) → callRefusal (v .state .limits) (registerOf (v .state) (v .tables)) k ≡ callRefusal (p .limits) (p .register) k
+
+abbrev pub KeepsPattern : Type 0
+KeepsPattern = (u : World) (p : Plain) (es : List Event) (v : World) → Begun u p → Run u es v → Keeps (plainAfter p es) v
+
+-- "a call that isn't an opening and isn't an accepted batch alters no factor column; an accepted batch only those reported"
+abbrev pub AltersOnly : Type 0
+AltersOnly =
+    (u : World) (p : Plain) (es : List Event) (v : World) (e : Event) (w : World) (j : ℕ) → Begun u p → Run u es v →
+    Step v (e .call) (e .answer) (e .left) w → isOpening (e .call) ≡ false → 1 ≤ j → j ≤ v .state .limits .m →
+    (e .answer .number ≡ 0 → isBatch (e .call) ≡ true → among j (touchedBy (registerOf (v .state) (v .tables)) (e .call)) ≡ false →
+    ColumnStays (storedIn (v .state) (v .tables)) (storedIn (w .state) (w .tables)) j) ×
+    ((e .answer .number ≢ 0) ⊎ (isBatch (e .call) ≡ false) → ColumnStays (storedIn (v .state) (v .tables)) (storedIn (w .state) (w .tables)) j)
+
+-- the pattern of j is {j}, its children's without the child, and the live columns that start at j
+abbrev pub fromChild : Register → (i j c : ℕ) → Bool
+fromChild r i j c = isChild (factorFor r) c j && inPattern (factorFor r) i c && not (eqb i c)
+
+abbrev pub startsHere : (i j : ℕ) → Column → Bool
+startsHere i j c = eqb (smallest c) j && holds c i
+
+abbrev pub isUnion : Register → (i j : ℕ) → Bool
+isUnion r i j = eqb i j || any (fromChild r i j) (upFrom 1 (r .m)) || any (startsHere i j) (live r)
+
+abbrev pub PatternsAre : Type 0
+PatternsAre =
+    (r : Register) (i j : ℕ) → all (fitsRows (r .m)) (live r) ≡ true → 1 ≤ j → j ≤ i → i ≤ r .m → inPattern (factorFor r) i j ≡ isUnion r i j

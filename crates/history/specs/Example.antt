@@ -1,0 +1,100 @@
+-- Document 01's listed example, as calls: "open 5 8 9 16", "add 1 1 3", "add 2 1 4", "add 3 2 3", with one more addition among them that is refused; then
+-- a check, the path of 1 and "drop 2", which is case 4 of the instances; and what the listing shows of record and tables. Assumes nothing: these are
+-- definitions.
+use mathlib.Core.List.{List, [], _∷_}
+use Prim.Native.Nat.{ℕ, zero, suc}
+use lib.ListN.{length, replicate}
+use Rattle.lists.specs.Lists.{at, valuesAt}
+use Rattle.tables.specs.Stored.{Stored, recordsOf}
+use Rattle.tables.specs.Tables.{Limits, storedIn}
+use Rattle.calls.specs.Calls.{Call, adding, removing, checking, askPath}
+use Rattle.calls.specs.Report.{pairsOf}
+use Rattle.calls.specs.Steps.{Answer, World}
+use Rattle.history.specs.Runs.{Event}
+
+-- "open 5 8 9 16"
+abbrev pub askedSizes : Limits
+askedSizes = record { m = 5; n = 8; f = 9; c = 16 }
+
+-- W is 1,124; one place more, and none of them zero
+abbrev pub workLent : List ℕ
+workLent = replicate 1125 7
+
+-- one place more than m
+abbrev pub listLent : List ℕ
+listLent = replicate 6 9
+
+-- "add id rows"
+abbrev pub add : (id : ℕ) → (rows : List ℕ) → Call
+add i rs = adding (i ∷ []) (length rs ∷ []) rs workLent listLent listLent
+
+-- id 1 is live when it comes a second time
+abbrev pub listedCalls : List Call
+listedCalls = add 1 (1 ∷ 3 ∷ []) ∷ add 1 (2 ∷ []) ∷ add 2 (1 ∷ 4 ∷ []) ∷ add 3 (2 ∷ 3 ∷ []) ∷ []
+
+-- check; path of 1, from place 1 on; "drop 2"
+abbrev pub laterCalls : List Call
+laterCalls = checking workLent ∷ askPath 1 1 workLent listLent ∷ removing (2 ∷ []) workLent listLent listLent ∷ []
+
+-- number, position, touched columns, entries, grade
+abbrev pub answered : (number position touched entries grade : ℕ) → Answer
+answered n p t e g = record { number = n; position = p; touched = t; entries = e; grade = g; value = 0 }
+
+-- "ok 2 3 1", "no 10 1", "ok 3 6 1", "ok 3 5 1"
+abbrev pub listedAnswers : List Answer
+listedAnswers = answered 0 0 2 3 1 ∷ answered 10 1 0 0 0 ∷ answered 0 0 3 6 1 ∷ answered 0 0 3 5 1 ∷ []
+
+-- "ok", a path of three rows, "ok 3 4 1"
+abbrev pub laterAnswers : List Answer
+laterAnswers =
+    answered 0 0 0 0 0 ∷ record { number = 0; position = 0; touched = 0; entries = 0; grade = 0; value = 3 } ∷ answered 0 0 3 4 1 ∷ []
+
+-- the lists for touched columns and for labels that each call leaves, and the lists of questions
+abbrev pub listedTouched : List (List ℕ)
+listedTouched = (1 ∷ 3 ∷ 9 ∷ 9 ∷ 9 ∷ 9 ∷ []) ∷ listLent ∷ (1 ∷ 3 ∷ 4 ∷ 9 ∷ 9 ∷ 9 ∷ []) ∷ (2 ∷ 3 ∷ 4 ∷ 9 ∷ 9 ∷ 9 ∷ []) ∷ []
+
+abbrev pub listedLabels : List (List ℕ)
+listedLabels = (1 ∷ 1 ∷ 9 ∷ 9 ∷ 9 ∷ 9 ∷ []) ∷ listLent ∷ (1 ∷ 1 ∷ 1 ∷ 9 ∷ 9 ∷ 9 ∷ []) ∷ (1 ∷ 1 ∷ 1 ∷ 9 ∷ 9 ∷ 9 ∷ []) ∷ []
+
+abbrev pub laterTouched : List (List ℕ)
+laterTouched = [] ∷ [] ∷ (1 ∷ 3 ∷ 4 ∷ 9 ∷ 9 ∷ 9 ∷ []) ∷ []
+
+abbrev pub laterLists : List (List ℕ)
+laterLists = [] ∷ (9 ∷ 1 ∷ 3 ∷ 4 ∷ 9 ∷ 9 ∷ []) ∷ [] ∷ []
+
+unfoldable pub eventCalls : List Event → List Call
+eventCalls [] = []
+eventCalls (e ∷ es) = e .call ∷ eventCalls es
+
+unfoldable pub eventAnswers : List Event → List Answer
+eventAnswers [] = []
+eventAnswers (e ∷ es) = e .answer ∷ eventAnswers es
+
+unfoldable pub eventTouched : List Event → List (List ℕ)
+eventTouched [] = []
+eventTouched (e ∷ es) = e .left .touched ∷ eventTouched es
+
+unfoldable pub eventLabels : List Event → List (List ℕ)
+eventLabels [] = []
+eventLabels (e ∷ es) = e .left .labels ∷ eventLabels es
+
+unfoldable pub eventLists : List Event → List (List ℕ)
+eventLists [] = []
+eventLists (e ∷ es) = e .left .list ∷ eventLists es
+
+-- what "show prints" from the tables: "j, parent, then row:multiplicity pairs", from column j on
+unfoldable pub shownFrom : Stored → (j : ℕ) → ℕ → List (List ℕ)
+shownFrom s j zero = []
+shownFrom s j (suc n) = (j ∷ at (s .parents) j ∷ pairsOf (valuesAt (s .rows) (recordsOf s j)) (valuesAt (s .counts) (recordsOf s j))) ∷ shownFrom s (suc j) n
+
+abbrev pub shown : World → List (List ℕ)
+shown v = shownFrom (storedIn (v .state) (v .tables)) 1 (v .state .limits .m)
+
+-- the listing, row by row
+abbrev pub listing : List (List ℕ)
+listing =
+    (1 ∷ 3 ∷ 1 ∷ 3 ∷ 3 ∷ 1 ∷ 4 ∷ 1 ∷ []) ∷ (2 ∷ 3 ∷ 2 ∷ 2 ∷ 3 ∷ 1 ∷ []) ∷ (3 ∷ 4 ∷ 3 ∷ 3 ∷ 4 ∷ 1 ∷ []) ∷ (4 ∷ 0 ∷ 4 ∷ 2 ∷ []) ∷ (5 ∷ 0 ∷ 5 ∷ 1 ∷ []) ∷ []
+
+-- and after "drop 2"
+abbrev pub laterListing : List (List ℕ)
+laterListing = (1 ∷ 3 ∷ 1 ∷ 2 ∷ 3 ∷ 1 ∷ []) ∷ (2 ∷ 3 ∷ 2 ∷ 2 ∷ 3 ∷ 1 ∷ []) ∷ (3 ∷ 0 ∷ 3 ∷ 3 ∷ []) ∷ (4 ∷ 0 ∷ 4 ∷ 1 ∷ []) ∷ (5 ∷ 0 ∷ 5 ∷ 1 ∷ []) ∷ []

@@ -1,0 +1,5 @@
+pub mod Runs
+pub mod Example
+pub mod Instances
+pub mod Statements
+pub mod Corollaries

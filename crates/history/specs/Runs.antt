@@ -1,0 +1,48 @@
+-- Lists of calls and the plain register: document 01's "What demand 3 is about". Each step of a run is the definition that the entry's contract cites.
+-- The register is computed from arguments and numbers alone; a run's worlds do not enter.
+-- Assumes nothing: these are definitions.
+use mathlib.Core.Path.{_≡_}
+use mathlib.Core.List.{List, [], _∷_}
+use Prim.Native.Nat.{ℕ}
+use lib.Dec.{eqb}
+use Rattle.lists.specs.Lists.{pick}
+use Rattle.symbolic.specs.Columns.{Register}
+use Rattle.tables.specs.Tables.{Limits}
+use Rattle.calls.specs.Calls.{Call, opening, registerAfter, limitsAfter, withDefault}
+use Rattle.calls.specs.Steps.{Answer, Lent, World, Step}
+
+-- a call with everything lent to it, the numbers it answered and the lists it left
+pub record Event : Type 0 where
+  pub call : Call
+  pub answer : Answer
+  pub left : Lent
+
+-- "Each call gets the tables, and all but an opening get the record, as the calls before it left them. .. Nobody else writes these meanwhile."
+unfoldable pub Run : World → List Event → World → Type 0
+Run u [] v = v ≡ u
+Run u (e ∷ es) v = (x : World) × (Step u (e .call) (e .answer) (e .left) x × Run x es v)
+
+-- the plain register with the limits: "It sees each call's arguments and number, never the tables."
+pub record Plain : Type 0 where
+  pub limits : Limits
+  pub register : Register
+
+abbrev pub plainNext : Plain → Event → Plain
+plainNext p e =
+    pick (eqb (e .answer .number) 0)
+    (record { limits = limitsAfter (p .limits) (e .call); register = registerAfter (p .register) (e .call) }) p
+
+unfoldable pub plainAfter : Plain → List Event → Plain
+plainAfter p [] = p
+plainAfter p (e ∷ es) = plainAfter (plainNext p e) es
+
+-- "It starts just after an accepted opening of any sizes": u is what it left, "at first the opening's m and no column"
+pub record Begun (u : World) (p : Plain) : Type 0 where
+  pub before : World
+  pub asked : Limits
+  pub work : List ℕ
+  pub answer : Answer
+  pub left : Lent
+  pub step : Step before (opening asked work) answer left u
+  pub taken : answer .number ≡ 0
+  pub plain : p ≡ record { limits = withDefault asked; register = record { m = asked .m; columns = [] } }

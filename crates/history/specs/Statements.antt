@@ -1,0 +1,130 @@
+-- The theorems about calls, each a type with the sentence that it renders: what holds of record and tables (`Kept`), what holds of one call
+-- (`Justified`), demand 3, and what stands beside it. proofs/Theorems.antt has a term of each, proofs/Example.antt the one of `ConcreteRun`.
+-- Assumes nothing: these are definitions.
+use mathlib.Core.Path.{_≡_}
+use mathlib.Core.Logic.{_⊎_, _≢_, _↔_}
+use mathlib.Core.Bool.{true, false, _||_}
+use mathlib.Core.List.{List, [], _∷_, _++_}
+use Prim.Native.Nat.{ℕ, _≤_, _<_}
+use Rattle.lists.specs.Lists.{pick, Mem, among, noRepeats, valuesAt}
+use Rattle.symbolic.specs.Columns.{Column, live}
+use Rattle.symbolic.specs.Factor.{factorFor}
+use Rattle.symbolic.specs.Chains.{ChainTo}
+use Rattle.symbolic.specs.Change.{idsOf}
+use Rattle.tables.specs.Stored.{recordsOf, holdsFrom}
+use Rattle.tables.specs.Tables.{Tables, Limits, longEnough, storedIn, registerOf, isSound}
+use Rattle.tables.specs.Stays.{ColumnStays}
+use Rattle.calls.specs.Refusals.{Refusal, accepted, isAccepted, orElse, bounds, sizesRefusal}
+use Rattle.calls.specs.Calls.{Call, opening, isOpening, isBatch}
+use Rattle.calls.specs.Report.{touchedBy}
+use Rattle.calls.specs.Numbers.{earlyRefusal, callRefusal}
+use Rattle.calls.specs.Steps.{Answer, refusedBy, acceptedBy, Lent, lentTo, listsAfter, workAfter, withWork, World, Step}
+use Rattle.history.specs.Runs.{Event, Run, Plain, plainAfter, Begun}
+use Rattle.history.specs.Example.{askedSizes, listedCalls, listedAnswers, listedTouched, listedLabels, laterCalls, laterAnswers, laterTouched, laterLists, eventCalls, eventAnswers, eventTouched, eventLabels, eventLists, shown, listing, laterListing}
+
+-- ---- what holds of record and tables against a plain register
+
+-- row i stands in factor column j: "if j's chain in the tables has a record of row i"
+abbrev pub Stands : World → (i j : ℕ) → Type 0
+Stands v i j =
+    Mem i (valuesAt (storedIn (v .state) (v .tables) .rows) (recordsOf (storedIn (v .state) (v .tables)) j))
+
+pub record Kept (p : Plain) (v : World) : Type 0 where
+  -- the sizes are in range, the record has them, and the tables are long enough for them
+  pub in-range : sizesRefusal bounds (p .limits) ≡ accepted
+  pub limits : v .state .limits ≡ p .limits
+  pub rows : p .register .m ≡ p .limits .m
+  pub long : longEnough (p .limits) (v .tables) ≡ true
+  -- "tables sound"
+  pub sound : isSound (v .state) (v .tables) ≡ true
+  -- "book = the plain register": the same columns, both ways, each id once
+  pub columns : (c : Column) → Mem c (registerOf (v .state) (v .tables) .columns) ↔ Mem c (p .register .columns)
+  pub book-once : noRepeats (idsOf (registerOf (v .state) (v .tables) .columns)) ≡ true
+  pub register-once : noRepeats (idsOf (p .register .columns)) ≡ true
+  -- "numbers justified": multiplicities and parents in the tables are the definition's for the register
+  pub numbers : holdsFrom (storedIn (v .state) (v .tables)) (factorFor (p .register)) 1 (p .limits .m) ≡ true
+  -- "row i in column j exactly if a chain of rows leads there"
+  pub chains : (i j : ℕ) → 1 ≤ j → j < i → i ≤ p .limits .m → Stands v i j ↔ ChainTo (p .limits .m) (live (p .register)) i j
+
+-- ---- what holds of one call against the plain register before it
+
+-- the number and position that table lengths, limits, register and arguments give
+abbrev pub plainRefusal : Plain → Tables → Call → Refusal
+plainRefusal p t k = orElse (earlyRefusal (p .limits) t k) (callRefusal (p .limits) (p .register) k)
+
+pub record Justified (p : Plain) (u : World) (e : Event) (v : World) : Type 0 where
+  -- number, position and every other number, from the register
+  pub answer : e .answer ≡
+      pick (isAccepted (plainRefusal p (u .tables) (e .call))) (acceptedBy (p .register) (e .call)) (refusedBy (plainRefusal p (u .tables) (e .call)))
+  -- so never 6, and 1 to 4 only at openings
+  pub never-unsound : e .answer .number ≢ 6
+  pub sizes-at-openings : isOpening (e .call) ≡ false → (e .answer .number ≡ 0) ⊎ (5 ≤ e .answer .number)
+  -- every lent list, from the register: the report, a question's list, the work table
+  pub left : e .left ≡
+      pick (isAccepted (plainRefusal p (u .tables) (e .call)))
+      (listsAfter (p .register) (e .call) (workAfter (p .limits) (u .tables) (e .call)))
+      (withWork (lentTo (e .call)) (workAfter (p .limits) (u .tables) (e .call)))
+  -- a refused call, a check or a question leaves record and tables
+  pub unchanged : (e .answer .number ≢ 0) ⊎ ((isBatch (e .call) || isOpening (e .call)) ≡ false) → v ≡ u
+  -- "each accepted batch alters no column off its paths"
+  pub others : e .answer .number ≡ 0 → isBatch (e .call) ≡ true → (j : ℕ) → 1 ≤ j → j ≤ p .limits .m →
+      among j (touchedBy (p .register) (e .call)) ≡ false → ColumnStays (storedIn (u .state) (u .tables)) (storedIn (v .state) (v .tables)) j
+
+-- ---- DEMAND 3, one claim about a list of calls from an accepted opening, refused ones among them
+
+abbrev pub Demand3 : Type 0
+Demand3 =
+    (u : World) (p : Plain) (es : List Event) (v : World) → Begun u p → Run u es v →
+    Kept (plainAfter p es) v ×
+    ((before after : List Event) (e : Event) (x y : World) → es ≡ before ++ (e ∷ after) → Run u before x →
+    Step x (e .call) (e .answer) (e .left) y → Run y after v → Justified (plainAfter p before) x e y)
+
+-- every split of a run has worlds around the call, so the second half speaks of every call
+abbrev pub RunSplits : Type 0
+RunSplits =
+    (u v : World) (before after : List Event) (e : Event) → Run u (before ++ (e ∷ after)) v →
+    (x : World) × (y : World) × (Run u before x × Step x (e .call) (e .answer) (e .left) y × Run y after v)
+
+-- ---- beside it
+
+-- what a world holds, in place of a register
+abbrev pub plainOf : World → Plain
+plainOf u = record { limits = u .state .limits; register = registerOf (u .state) (u .tables) }
+
+-- "On sound tables that no such list has left, what demand 3 says of an accepted batch holds too, with what they hold in place of the register": an
+-- accepted batch has passed 1 to 6, so that its tables are in range, long enough and sound is a conclusion here
+abbrev pub AnySound : Type 0
+AnySound =
+    (u : World) (e : Event) (v : World) → Step u (e .call) (e .answer) (e .left) v → e .answer .number ≡ 0 → isBatch (e .call) ≡ true →
+    Kept (plainOf u) u × Justified (plainOf u) u e v × Kept (plainAfter (plainOf u) (e ∷ [])) v
+
+-- every accepted opening leaves sound tables
+abbrev pub OpeningSound : Type 0
+OpeningSound =
+    (u : World) (l : Limits) (w : List ℕ) (a : Answer) (x : Lent) (v : World) → Step u (opening l w) a x v → a .number ≡ 0 →
+    isSound (v .state) (v .tables) ≡ true
+
+-- ---- a run that is, so that nothing above is empty: the listed example, with a refused addition among the others, then a check,
+-- a question and a removal
+
+pub record ConcreteRun : Type 0 where
+  pub start : World
+  pub plain : Plain
+  pub events : List Event
+  pub end : World
+  pub begun : Begun start plain
+  pub asked : begun .asked ≡ askedSizes
+  pub run : Run start events end
+  pub calls : eventCalls events ≡ listedCalls
+  pub answers : eventAnswers events ≡ listedAnswers
+  pub touched : eventTouched events ≡ listedTouched
+  pub labels : eventLabels events ≡ listedLabels
+  pub shows : shown end ≡ listing
+  pub later : List Event
+  pub last : World
+  pub later-run : Run end later last
+  pub later-calls : eventCalls later ≡ laterCalls
+  pub later-answers : eventAnswers later ≡ laterAnswers
+  pub later-touched : eventTouched later ≡ laterTouched
+  pub later-lists : eventLists later ≡ laterLists
+  pub later-shows : shown last ≡ laterListing

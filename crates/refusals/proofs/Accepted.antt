@@ -1,0 +1,178 @@
+-- For callers: how the found refusal is part of the whole one of calls, Refusals; what an addition that is not refused by 7 to 15 has (`AddReady`), with
+-- its columns by place; what a removal that is not refused has (`RemoveReady`).
+-- Assumes nothing.
+use mathlib.Core.Path.{_≡_, refl, sym, ap, subst, _∙_}
+use mathlib.Core.Bool.{Bool, true, false, _&&_, _||_, not}
+use mathlib.Core.List.{List, [], _∷_, _++_}
+use Prim.Native.Nat.{ℕ, suc, _+_, _*_, _≤_, _<_}
+use native.Mathlib.Omega.{arith}
+use lib.Dec.{leb, eqb}
+use lib.ListN.{length, getD, take, drop, length-drop}
+use lib.Seq.{length-take-le}
+use borrow.Author.Tests.{leb-true, le-leb, eqb-true}
+use Rattle.lists.specs.Lists.{isIn, all, among, noRepeats}
+use Rattle.lists.proofs.Tests.{and-both, in-range, or-right, pos-one, refute}
+use Rattle.lists.proofs.Member.{all-at, place-mem}
+use Rattle.lists.proofs.Times.{mem-times, of-once}
+use Rattle.lists.proofs.Sum.{sum-append}
+use Rattle.symbolic.specs.Columns.{Column, Register}
+use Rattle.symbolic.specs.Factor.{factorFor, sizeSum}
+use Rattle.symbolic.specs.Change.{idsOf, added}
+use Rattle.pool.specs.Chains.{chain}
+use Rattle.book.specs.Book.{Book, isBooked, columnsIn, columnFits, isSound}
+use Rattle.book.proofs.Columns.{ids-booked}
+use Rattle.book.proofs.Sound.{Fitting, fitting, rows-room}
+use Rattle.tables.specs.Tables.{Limits}
+use Rattle.calls.specs.Refusals as calls
+use Rattle.calls.specs.Refusals.{isAccepted, orElse, unless, isLive, rowsRefusal, columnsRefusal, rowSum, addRefusal, idsRefusal, removeRefusal, batchOf}
+use Rattle.calls.proofs.Choices.{or-both, unless-holds, or-assoc}
+use Rattle.calls.proofs.Refusals.{ColumnsFit, columns-facts, IdsFit, ids-facts}
+use Rattle.refusals.specs.Offsets.{offsetOf, columnAt}
+use Rattle.refusals.specs.Found.{registerIn, addFound, removeFound}
+use Rattle.refusals.proofs.Finding.{rows-few}
+use Rattle.refusals.proofs.Offsets.{offset-first, offset-rises, batch-length, batch-at}
+
+-- ---- the whole refusal
+
+-- an addition's: 7 to 15, then 16
+pub add-refusal : (l : Limits) (m : ℕ) (b : Book) (is ns rs : List ℕ) → l .n ≡ length (b .heads) → l .c ≡ length (b .next) →
+    addRefusal l (registerIn m b) is ns rs ≡
+    orElse (addFound m b is ns rs) (unless (leb (sizeSum (factorFor (added (registerIn m b) (batchOf is ns rs)))) (l .f)) 16 0)
+add-refusal l m b is ns rs e h =
+    let s : calls.Refusal = unless (isIn 1 64 (length is) && eqb (length ns) (length is)) 7 0 in
+    let p : calls.Refusal = columnsRefusal (registerIn m b) (length (b .heads)) 1 [] is ns rs in
+    let q : calls.Refusal = unless (leb (rowSum (columnsIn b ++ batchOf is ns rs)) (length (b .next))) 15 0 in
+    let t : calls.Refusal = unless (leb (sizeSum (factorFor (added (registerIn m b) (batchOf is ns rs)))) (l .f)) 16 0 in
+    ap (λ (n : ℕ). orElse s (orElse (columnsRefusal (registerIn m b) n 1 [] is ns rs) (orElse (unless (leb (rowSum (columnsIn b ++ batchOf is ns rs)) (l .c)) 15 0) t))) e ∙
+    ap (λ (c : ℕ). orElse s (orElse p (orElse (unless (leb (rowSum (columnsIn b ++ batchOf is ns rs)) c) 15 0) t))) h ∙
+    sym (or-assoc s (orElse p q) t ∙ ap (λ (x : calls.Refusal). orElse s x) (or-assoc p q t))
+
+-- a removal's is the found one
+pub remove-refusal : (l : Limits) (m : ℕ) (b : Book) (is : List ℕ) → l .n ≡ length (b .heads) → removeRefusal l (registerIn m b) is ≡ removeFound m b is
+remove-refusal l m b is e =
+    ap (λ (n : ℕ). orElse (unless (isIn 1 64 (length is)) 7 0) (idsRefusal (registerIn m b) n 1 [] is)) e
+
+-- ---- an addition
+
+-- the counts of accepted columns are as many as the rows
+columns-counts : (r : Register) (n p : ℕ) (bs is ns rs : List ℕ) → isAccepted (columnsRefusal r n p bs is ns rs) ≡ true → offsetOf ns (length is) ≡ length rs
+unfolding columnsRefusal offsetOf
+columns-counts r n p bs [] ns rs h = offset-first ns ∙ sym (eqb-true (length rs) 0 (unless-holds (eqb (length rs) 0) 12 0 refl h))
+columns-counts r n p bs (i ∷ is) [] rs h = absurd (omega (arith, eqb-true 7 0 h))
+columns-counts r n p bs (i ∷ is) (k ∷ ns) rs h =
+    let a : calls.Refusal = unless (isIn 1 n i) 8 p in
+    let b : calls.Refusal = unless (not (among i bs)) 9 p in
+    let c : calls.Refusal = unless (not (isLive r i)) 10 p in
+    let d : calls.Refusal = unless (isIn 1 256 k && leb k (length rs)) 12 p in
+    let e : calls.Refusal = rowsRefusal (r .m) p 0 (take k rs) in
+    let f : calls.Refusal = columnsRefusal r n (suc p) (i ∷ bs) is ns (drop k rs) in
+    let u : isAccepted (orElse d (orElse e f)) ≡ true =
+    or-both c (orElse d (orElse e f)) (or-both b (orElse c (orElse d (orElse e f))) (or-both a (orElse b (orElse c (orElse d (orElse e f)))) h .1) .1) .1 in
+    let v : (isAccepted d ≡ true) × (isAccepted (orElse e f) ≡ true) = or-both d (orElse e f) u in
+    let w : leb k (length rs) ≡ true = and-both (isIn 1 256 k) (leb k (length rs)) (unless-holds (isIn 1 256 k && leb k (length rs)) 12 p refl (v .0)) .1 in
+    omega (arith, columns-counts r n (suc p) (i ∷ bs) is ns (drop k rs) (or-both e f (v .1) .1), length-drop k rs, leb-true k (length rs) w)
+
+pub record AddReady (m : ℕ) (b : Book) (ids counts rows : List ℕ) : Type 0 where
+  pub some : 1 ≤ length ids
+  pub few : length ids ≤ 64
+  pub counted : length counts ≡ length ids
+  pub distinct : noRepeats ids ≡ true
+  pub named : (k : ℕ) → k < length ids → (1 ≤ getD ids k 0) × (getD ids k 0 ≤ length (b .heads))
+  pub absent : (k : ℕ) → k < length ids → isBooked (b .heads) (getD ids k 0) ≡ false
+  pub batch-ids : idsOf (batchOf ids counts rows) ≡ ids
+  pub batch-fits : all (columnFits m) (batchOf ids counts rows) ≡ true
+  pub batch-rows : rowSum (batchOf ids counts rows) ≡ length rows
+  pub used : offsetOf counts (length ids) ≡ length rows
+  pub rows-few : length rows ≤ 256 * length ids
+  pub room : rowSum (columnsIn b) + length rows ≤ length (b .next)
+
+pub add-ready : (m : ℕ) (b : Book) (is ns rs : List ℕ) → isAccepted (addFound m b is ns rs) ≡ true → AddReady m b is ns rs
+add-ready m b is ns rs h =
+    let z : Bool = isIn 1 64 (length is) && eqb (length ns) (length is) in
+    let y : Bool = leb (rowSum (columnsIn b ++ batchOf is ns rs)) (length (b .next)) in
+    let s : calls.Refusal = unless z 7 0 in
+    let p : calls.Refusal = columnsRefusal (registerIn m b) (length (b .heads)) 1 [] is ns rs in
+    let q : calls.Refusal = unless y 15 0 in
+    let t : (isAccepted s ≡ true) × (isAccepted (orElse p q) ≡ true) = or-both s (orElse p q) h in
+    let u : (isAccepted p ≡ true) × (isAccepted q ≡ true) = or-both p q (t .1) in
+    let v : (isIn 1 64 (length is) ≡ true) × (eqb (length ns) (length is) ≡ true) =
+    and-both (isIn 1 64 (length is)) (eqb (length ns) (length is)) (unless-holds z 7 0 refl (t .0)) in
+    let w : (1 ≤ length is) × (length is ≤ 64) = in-range 1 64 (length is) (v .0) in
+    let f : ColumnsFit (registerIn m b) (length (b .heads)) [] is ns rs = columns-facts (registerIn m b) (length (b .heads)) 1 [] is ns rs (u .0) in
+    let named : (k : ℕ) → k < length is → (1 ≤ getD is k 0) × (getD is k 0 ≤ length (b .heads)) =
+    λ k l. in-range 1 (length (b .heads)) (getD is k 0) (all-at (isIn 1 (length (b .heads))) (place-mem is k 0 l) (f .named)) in
+    record {
+      some = w .0;
+      few = w .1;
+      counted = eqb-true (length ns) (length is) (v .1);
+      distinct = of-once is (λ x. omega (arith, f .apart x));
+      named = named;
+      absent = λ k l.
+          sym (ids-booked b (getD is k 0) (named k l .0)) ∙
+          refute (isLive (registerIn m b) (getD is k 0)) (λ e.
+          omega (arith, f .apart (getD is k 0), mem-times (place-mem is k 0 l), pos-one (among (getD is k 0) [] || isLive (registerIn m b) (getD is k 0)) (or-right (among (getD is k 0) []) (isLive (registerIn m b) (getD is k 0)) e)));
+      batch-ids = f .ids;
+      batch-fits = f .fits;
+      batch-rows = f .used;
+      used = columns-counts (registerIn m b) (length (b .heads)) 1 [] is ns rs (u .0);
+      rows-few = rows-few (registerIn m b) (length (b .heads)) is ns rs (u .0);
+      room = omega (arith, f .used, sum-append (λ (c : Column). length (c .rows)) (columnsIn b) (batchOf is ns rs), leb-true (rowSum (columnsIn b ++ batchOf is ns rs)) (length (b .next)) (unless-holds y 15 0 refl (u .1)));
+    }
+
+module _ {m : ℕ} {b : Book} {is ns rs : List ℕ} (a : AddReady m b is ns rs) where
+  -- the rows fit into the free records
+  pub ready-room : isSound m b ≡ true → length rs ≤ length (chain (b .next) (b .free))
+  ready-room s =
+      leb-true (length rs) (length (chain (b .next) (b .free)))
+      (rows-room m b (length rs) s ∙ le-leb (rowSum (columnsIn b) + length rs) (length (b .next)) (a .room))
+
+  pub ready-length : length (batchOf is ns rs) ≡ length is
+  ready-length = batch-length is ns rs (a .counted)
+
+  module _ (k : ℕ) (h : k < length is) where
+    -- the column at a place is the batch's, and fits
+    pub ready-at : (d : Column) → getD (batchOf is ns rs) k d ≡ columnAt is ns rs k
+    ready-at d = batch-at is ns rs k d (a .counted) h
+
+    pub ready-fits : columnFits m (columnAt is ns rs k) ≡ true
+    ready-fits =
+        let d : Column = columnAt is ns rs k in
+        subst (λ (c : Column). columnFits m c ≡ true) (ready-at d) (all-at (columnFits m) (place-mem (batchOf is ns rs) k d (omega (arith, ready-length))) (a .batch-fits))
+
+    -- its rows lie within the list, and are as many as its count says: 1 to 256
+    pub ready-within : offsetOf ns k + getD ns k 0 ≤ length rs
+    ready-within = omega (arith, offset-rises ns k (length is) h (omega (arith, a .counted)), a .used)
+
+    pub ready-count : length (columnAt is ns rs k .rows) ≡ getD ns k 0
+    ready-count = length-take-le (getD ns k 0) (drop (offsetOf ns k) rs) (omega (arith, ready-within, length-drop (offsetOf ns k) rs))
+
+    pub ready-range : (1 ≤ getD ns k 0) × (getD ns k 0 ≤ 256)
+    ready-range =
+        let f : Fitting m (columnAt is ns rs k .rows) = fitting m (columnAt is ns rs k) ready-fits in
+        (omega (arith, f .some, ready-count), omega (arith, f .few, ready-count))
+
+-- ---- a removal
+
+pub record RemoveReady (b : Book) (ids : List ℕ) : Type 0 where
+  pub some : 1 ≤ length ids
+  pub few : length ids ≤ 64
+  pub distinct : noRepeats ids ≡ true
+  pub named : (k : ℕ) → k < length ids → (1 ≤ getD ids k 0) × (getD ids k 0 ≤ length (b .heads))
+  pub booked : (k : ℕ) → k < length ids → isBooked (b .heads) (getD ids k 0) ≡ true
+
+pub remove-ready : (m : ℕ) (b : Book) (is : List ℕ) → isAccepted (removeFound m b is) ≡ true → RemoveReady b is
+remove-ready m b is h =
+    let s : calls.Refusal = unless (isIn 1 64 (length is)) 7 0 in
+    let p : calls.Refusal = idsRefusal (registerIn m b) (length (b .heads)) 1 [] is in
+    let t : (isAccepted s ≡ true) × (isAccepted p ≡ true) = or-both s p h in
+    let w : (1 ≤ length is) × (length is ≤ 64) = in-range 1 64 (length is) (unless-holds (isIn 1 64 (length is)) 7 0 refl (t .0)) in
+    let f : IdsFit (registerIn m b) (length (b .heads)) [] is = ids-facts (registerIn m b) (length (b .heads)) 1 [] is (t .1) in
+    let named : (k : ℕ) → k < length is → (1 ≤ getD is k 0) × (getD is k 0 ≤ length (b .heads)) =
+    λ k l. in-range 1 (length (b .heads)) (getD is k 0) (all-at (isIn 1 (length (b .heads))) (place-mem is k 0 l) (f .named)) in
+    record {
+      some = w .0;
+      few = w .1;
+      distinct = of-once is (λ x. omega (arith, f .apart x));
+      named = named;
+      booked = λ k l. sym (ids-booked b (getD is k 0) (named k l .0)) ∙ all-at (isLive (registerIn m b)) (place-mem is k 0 l) (f .live);
+    }

@@ -1,0 +1,159 @@
+-- The numbers 1 to 5 by the tests that the code makes, in its order: each law is one return. Then, for callers, the definitions' refusals from the
+-- answers of `sizes`, `short`, `short_lists`, `row_outside` and `room_outside`, and that the default F changes no number.
+-- Assumes nothing.
+use mathlib.Core.Path.{_≡_, refl, sym, ap, _∙_}
+use mathlib.Core.Logic.{inl, inr}
+use mathlib.Core.Bool.{Bool, true, false, _&&_, not}
+use mathlib.Core.List.{List}
+use Prim.Native.Nat.{ℕ, _+_, _≤_}
+use native.Mathlib.Omega.{arith}
+use lib.Dec.{ltb, leb}
+use lib.ListN.{length}
+use borrow.Author.Tests.{le-leb}
+use Rattle.lists.specs.Lists.{isIn}
+use Rattle.lists.proofs.Tests.{lt-or-le, refute, in-range}
+use Rattle.tables.specs.Tables.{Tables, Limits, longEnough}
+use Rattle.calls.specs.Refusals.{Refusal, refusal, isAccepted, orElse, unless, bounds, sizesRefusal, workFor, shortRefusal, shortBatch, rowRefusal, roomFor}
+use Rattle.calls.specs.Calls.{withDefault}
+use Rattle.calls.proofs.Choices.{or-first}
+use Rattle.refusals.specs.Early.{limits, defaultRecords, factorLong, bookLong, listsLong, NoRoom}
+use Rattle.refusals.proofs.Tests.{below-not, is-out, is-in, unless-accepted, test-refusal}
+
+-- ---- 1 to 4
+
+-- four tests in order, each as it comes out
+in-order : {a b c d : Bool} (w x y z : Bool) → a ≡ w → b ≡ x → c ≡ y → d ≡ z →
+    orElse (unless a 1 0) (orElse (unless b 2 0) (orElse (unless c 3 0) (unless d 4 0))) ≡
+    orElse (unless w 1 0) (orElse (unless x 2 0) (orElse (unless y 3 0) (unless z 4 0)))
+in-order w x y z e f g h = rw (e, f, g, h) refl
+
+module _ (m n f c : ℕ) where
+  abbrev pub numberOf : ℕ
+  numberOf = sizesRefusal bounds (limits m n f c) .number
+
+  abbrev onM : Bool
+  onM = isIn 1 4096 m
+
+  abbrev onN : Bool
+  onN = isIn 1 16384 n
+
+  abbrev onF : Bool
+  onF = isIn m 1048576 f
+
+  abbrev onC : Bool
+  onC = isIn 1 262144 c
+
+  module _ {x : Bool} (a : x ≡ not onM) where
+    pub sizes-first : x ≡ true → 1 ≡ numberOf
+    sizes-first h = sym (ap (λ (r : Refusal). r .number) (in-order false onN onF onC (is-out onM a h) refl refl refl))
+
+    module _ (p : x ≡ false) {y : Bool} (b : y ≡ not onN) where
+      pub sizes-second : y ≡ true → 2 ≡ numberOf
+      sizes-second h = sym (ap (λ (r : Refusal). r .number) (in-order true false onF onC (is-in onM a p) (is-out onN b h) refl refl))
+
+      module _ (q : y ≡ false) {z : Bool} (d : z ≡ not onF) where
+        pub sizes-third : z ≡ true → 3 ≡ numberOf
+        sizes-third h = sym (ap (λ (r : Refusal). r .number) (in-order true true false onC (is-in onM a p) (is-in onN b q) (is-out onF d h) refl))
+
+        module _ (r : z ≡ false) {w : Bool} (e : w ≡ not onC) where
+          pub sizes-fourth : w ≡ true → 4 ≡ numberOf
+          sizes-fourth h =
+              sym (ap (λ (r : Refusal). r .number) (in-order true true true false (is-in onM a p) (is-in onN b q) (is-in onF d r) (is-out onC e h)))
+
+          pub sizes-none : w ≡ false → 0 ≡ numberOf
+          sizes-none h =
+              sym (ap (λ (r : Refusal). r .number) (in-order true true true true (is-in onM a p) (is-in onN b q) (is-in onF d r) (is-in onC e h)))
+
+-- ---- 5
+
+module _ (l : Limits) (t : Tables) (w : List ℕ) where
+  abbrev factorTest : Bool
+  factorTest = factorLong (l .m) (l .f) (t .heads) (t .parents) (t .rows) (t .counts) (t .next)
+
+  abbrev bookTest : Bool
+  bookTest = bookLong (l .n) (l .c) (t .bookHeads) (t .bookRows) (t .bookNext)
+
+  -- the tables of L, then those of the book
+  long-parts : longEnough l t ≡ factorTest && bookTest
+  long-parts = three factorTest (leb (l .n) (length (t .bookHeads))) (leb (l .c) (length (t .bookRows))) (leb (l .c) (length (t .bookNext)))
+    where
+      three : (a b c d : Bool) → a && b && c && d ≡ a && (b && c && d)
+      three true b c d = refl
+      three false b c d = refl
+
+  short-tests : isAccepted (shortRefusal l t w) ≡ factorTest && bookTest && leb (workFor l) (length w)
+  short-tests =
+      unless-accepted (longEnough l t && leb (workFor l) (length w)) 5 0 refl ∙ ap (λ (z : Bool). z && leb (workFor l) (length w)) long-parts
+
+  module _ {x : Bool} (a : x ≡ not factorTest) where
+    pub short-first : x ≡ true → true ≡ not (isAccepted (shortRefusal l t w))
+    short-first h = sym (ap not (short-tests ∙ ap (λ (z : Bool). z && bookTest && leb (workFor l) (length w)) (is-out factorTest a h)))
+
+    module _ (p : x ≡ false) {y : Bool} (b : y ≡ not bookTest) where
+      passed : (z : Bool) → bookTest ≡ z → isAccepted (shortRefusal l t w) ≡ z && leb (workFor l) (length w)
+      passed z e =
+          short-tests ∙ ap (λ (u : Bool). u && bookTest && leb (workFor l) (length w)) (is-in factorTest a p) ∙
+          ap (λ (u : Bool). u && leb (workFor l) (length w)) e
+
+      pub short-second : y ≡ true → true ≡ not (isAccepted (shortRefusal l t w))
+      short-second h = sym (ap not (passed false (is-out bookTest b h)))
+
+      pub short-third : y ≡ false → ltb (length w) (workFor l) ≡ not (isAccepted (shortRefusal l t w))
+      short-third h = below-not (workFor l) (length w) ∙ sym (ap not (passed true (is-in bookTest b h)))
+
+-- ---- for callers
+
+-- 1 to 4 have no position
+pub sizes-refusal : (l : Limits) {r : ℕ} → r ≡ sizesRefusal bounds l .number → sizesRefusal bounds l ≡ refusal r 0
+sizes-refusal l {r} e =
+    let q : sizesRefusal bounds l .position ≡ 0 = nowhere (isIn 1 4096 (l .m)) (isIn 1 16384 (l .n)) (isIn (l .m) 1048576 (l .f)) (isIn 1 262144 (l .c)) in
+    λ i. record { number = sym e i; position = q i }
+  where
+    nowhere : (a b c d : Bool) → orElse (unless a 1 0) (orElse (unless b 2 0) (orElse (unless c 3 0) (unless d 4 0))) .position ≡ 0
+    nowhere false b c d = refl
+    nowhere true false c d = refl
+    nowhere true true false d = refl
+    nowhere true true true false = refl
+    nowhere true true true true = refl
+
+-- a batch's number 5, from the answers of `short` and `short_lists`
+pub short-batch : (l : Limits) (t : Tables) (w a b : List ℕ) {x y : Bool} → x ≡ not (isAccepted (shortRefusal l t w)) → y ≡ not (listsLong (l .m) a b) →
+    shortBatch l t w a b ≡ unless (not x && not y) 5 0
+short-batch l t w a b {x} {y} e h =
+    ap (λ (z : Bool). unless z 5 0)
+    (four (longEnough l t && leb (workFor l) (length w)) (leb (l .m) (length a)) (leb (l .m) (length b)) x y
+    (e ∙ ap not (unless-accepted (longEnough l t && leb (workFor l) (length w)) 5 0 refl)) h)
+  where
+    twice : (z : Bool) → z ≡ not (not z)
+    twice true = refl
+    twice false = refl
+
+    four : (z u v x y : Bool) → x ≡ not z → y ≡ not (u && v) → z && u && v ≡ not x && not y
+    four true u v x y e h = rw (e, h) (twice (u && v))
+    four false u v x y e h = rw e refl
+
+-- number 5, from the answer of `short`
+pub short-refusal : (l : Limits) (t : Tables) (w : List ℕ) {x : Bool} → x ≡ not (isAccepted (shortRefusal l t w)) → shortRefusal l t w ≡ unless (not x) 5 0
+short-refusal l t w e = test-refusal (longEnough l t && leb (workFor l) (length w)) 5 refl e
+
+-- 17 and 18, from the answers of `row_outside` and `room_outside`
+pub row-refusal : (m i : ℕ) {x : Bool} → x ≡ not (isAccepted (rowRefusal m i)) → rowRefusal m i ≡ unless (not x) 17 0
+row-refusal m i e = test-refusal (isIn 1 m i) 17 refl e
+
+pub room-refusal : (xs : List ℕ) (p n : ℕ) {x : Bool} → NoRoom (length xs) p n x → roomFor xs p n ≡ unless (not x) 18 0
+room-refusal xs p n e = test-refusal (leb (p + n) (length xs)) 18 refl (e xs refl)
+
+-- an m that is allowed gets document 01's default
+pub default-allowed : (m n f c : ℕ) → m ≤ 4096 → limits m n (defaultRecords m f) c ≡ withDefault (limits m n f c)
+default-allowed m n f c h = rw (le-leb m 4096 h) refl
+
+-- the default changes no number: any other m is refused by 1
+pub default-refusal : (m n f c : ℕ) → sizesRefusal bounds (limits m n (defaultRecords m f) c) ≡ sizesRefusal bounds (withDefault (limits m n f c))
+default-refusal m n f c =
+    elim (lt-or-le 4096 m) [
+      | inl h ↦
+          let e : isIn 1 4096 m ≡ false = refute (isIn 1 4096 m) (λ t. omega (arith, in-range 1 4096 m t)) in
+          or-first (unless (isIn 1 4096 m) 1 0) _ (unless-accepted (isIn 1 4096 m) 1 0 refl ∙ e) ∙
+          sym (or-first (unless (isIn 1 4096 m) 1 0) _ (unless-accepted (isIn 1 4096 m) 1 0 refl ∙ e))
+      | inr h ↦ ap (sizesRefusal bounds) (default-allowed m n f c h)
+    ]

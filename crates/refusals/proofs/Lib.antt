@@ -1,0 +1,7 @@
+pub mod Tests
+pub mod Early
+pub mod Parts
+pub mod Positions
+pub mod Finding
+pub mod Offsets
+pub mod Accepted

@@ -1,0 +1,192 @@
+-- The loops over the positions of a batch, for every book with given heads: `ColumnsLeft` and `IdsLeft`, what is left says what the whole says; the start,
+-- a position that is refused, one more, the end. Above them: one position regrouped, and live ids as booked ones.
+-- Assumes nothing.
+use mathlib.Core.Path.{_≡_, refl, sym, ap, _∙_}
+use mathlib.Core.Logic.{inl, inr, _≢_}
+use mathlib.Core.Bool.{Bool, true, false, _&&_, not}
+use mathlib.Core.List.{List, [], _∷_}
+use Prim.Native.Nat.{ℕ, zero, suc, _+_, _≤_, _<_}
+use native.Mathlib.Omega.{arith}
+use native.Mathlib.Numerals.{add-one}
+use lib.Dec.{leb, eqb}
+use lib.ListN.{length, getD, take, drop, length-drop}
+use lib.Seq.{drop-cons, drop-length, drop-nil}
+use borrow.Author.Tests.{leb-true, eq-eqb, ne-eqb}
+use Rattle.lists.specs.Lists.{isIn, among}
+use Rattle.lists.proofs.Tests.{cases, and-both, in-range}
+use Rattle.symbolic.specs.Columns.{Register}
+use Rattle.book.specs.Book.{bookOf, isBooked}
+use Rattle.book.proofs.Columns.{ids-booked}
+use Rattle.calls.specs.Refusals.{Refusal, refusal, accepted, isAccepted, orElse, unless, isLive, rowsRefusal, columnsRefusal, idsRefusal}
+use Rattle.calls.proofs.Choices.{or-both, unless-holds, or-first, or-assoc}
+use Rattle.refusals.specs.Parts.{placed, IsNumber, before, idRefusal, countRefusal, columnRefusal, leavingRefusal}
+use Rattle.refusals.specs.Found.{registerIn}
+use Rattle.refusals.proofs.Tests.{unless-accepted}
+use Rattle.refusals.proofs.Parts.{placed-none}
+
+-- ---- one position
+
+pub drop-more : {A : Type 0} (xs : List A) (a b : ℕ) → drop b (drop a xs) ≡ drop (a + b) xs
+drop-more xs zero b = let e : b ≡ 0 + b = omega arith in ap (λ (k : ℕ). drop k xs) e
+drop-more [] (suc a) b = drop-nil b ∙ sym (drop-nil (suc a + b))
+drop-more (x ∷ xs) (suc a) b = let e : suc (a + b) ≡ suc a + b = omega arith in drop-more xs a b ∙ ap (λ (k : ℕ). drop k (x ∷ xs)) e
+
+regroup : (a b c d e f : Refusal) → orElse (orElse (orElse a b) (orElse c (orElse d e))) f ≡ orElse a (orElse b (orElse c (orElse d (orElse e f))))
+regroup a b c d e f =
+    or-assoc (orElse a b) (orElse c (orElse d e)) f ∙
+    ap (λ (x : Refusal). orElse (orElse a b) x) (or-assoc c (orElse d e) f ∙ ap (λ (x : Refusal). orElse c x) (or-assoc d e f)) ∙
+    or-assoc a b (orElse c (orElse d (orElse e f)))
+
+-- the test of the id decides wherever its being live is not what being booked is
+module _ (n : ℕ) (is : List ℕ) (k : ℕ) (z y : Bool) (h : 1 ≤ getD is k 0 → z ≡ y) where
+  same-after : (f : Bool → Refusal) (p : ℕ) → orElse (idRefusal n is k p) (f z) ≡ orElse (idRefusal n is k p) (f y)
+  same-after f p =
+      elim (cases (isIn 1 n (getD is k 0))) [
+        | inl e ↦ ap (λ (x : Bool). orElse (idRefusal n is k p) (f x)) (h (in-range 1 n (getD is k 0) e .0))
+        | inr e ↦
+            let r : isAccepted (unless (isIn 1 n (getD is k 0)) 8 p) ≡ false = unless-accepted (isIn 1 n (getD is k 0)) 8 p refl ∙ e in
+            let s : isAccepted (idRefusal n is k p) ≡ false =
+            ap isAccepted (or-first (unless (isIn 1 n (getD is k 0)) 8 p) (unless (not (among (getD is k 0) (before k is))) 9 p) r) ∙ r in
+            or-first (idRefusal n is k p) (f z) s ∙ sym (or-first (idRefusal n is k p) (f y) s)
+      ]
+
+module _ (r : Register) (n p k : ℕ) (is : List ℕ) (h : k < length is) where
+  pub columns-here : (ns rs : List ℕ) → k < length ns →
+      columnsRefusal r n p (before k is) (drop k is) (drop k ns) rs ≡
+      orElse (columnRefusal (r .m) n (isLive r (getD is k 0)) is ns rs k p) (columnsRefusal r n (suc p) (before (suc k) is) (drop (suc k) is) (drop (suc k) ns) (drop (getD ns k 0) rs))
+  unfolding columnsRefusal before
+  columns-here ns rs g =
+      rw (drop-cons is k 0 h, drop-cons ns k 0 g)
+      (sym
+      (regroup (unless (isIn 1 n (getD is k 0)) 8 p) (unless (not (among (getD is k 0) (before k is))) 9 p) (unless (not (isLive r (getD is k 0))) 10 p)
+      (unless (isIn 1 256 (getD ns k 0) && leb (getD ns k 0) (length rs)) 12 p) (rowsRefusal (r .m) p 0 (take (getD ns k 0) rs))
+      (columnsRefusal r n (suc p) (getD is k 0 ∷ before k is) (drop (suc k) is) (drop (suc k) ns) (drop (getD ns k 0) rs))))
+
+  pub ids-here : idsRefusal r n p (before k is) (drop k is) ≡
+      orElse (leavingRefusal n (isLive r (getD is k 0)) is k p) (idsRefusal r n (suc p) (before (suc k) is) (drop (suc k) is))
+  unfolding idsRefusal before
+  ids-here =
+      let a : Refusal = unless (isIn 1 n (getD is k 0)) 8 p in
+      let b : Refusal = unless (not (among (getD is k 0) (before k is))) 9 p in
+      let c : Refusal = unless (isLive r (getD is k 0)) 11 p in
+      let d : Refusal = idsRefusal r n (suc p) (getD is k 0 ∷ before k is) (drop (suc k) is) in
+      rw (drop-cons is k 0 h) (sym (or-assoc (orElse a b) c d ∙ or-assoc a b (orElse c d)))
+
+-- ---- an addition
+
+pub record ColumnsLeft (m : ℕ) (heads ids counts list : List ℕ) (k from : ℕ) : Type 0 where
+  pub within : k ≤ length ids
+  pub starts : from ≤ length list
+  pub same : (rows next : List ℕ) (free : ℕ) →
+      columnsRefusal (registerIn m (bookOf heads rows next free)) (length heads) (suc k) (before k ids) (drop k ids) (drop k counts) (drop from list) ≡
+      columnsRefusal (registerIn m (bookOf heads rows next free)) (length heads) 1 [] ids counts list
+
+pub columns-start : (m : ℕ) (hs is ns rs : List ℕ) → ColumnsLeft m hs is ns rs 0 0
+unfolding before
+columns-start m hs is ns rs = record { within = omega arith; starts = omega arith; same = λ rows next free. refl }
+
+module _ {m : ℕ} {hs is ns rs : List ℕ} {k from : ℕ} (l : ColumnsLeft m hs is ns rs k from) where
+  abbrev part : ℕ → Refusal
+  part p = columnRefusal m (length hs) (isBooked hs (getD is k 0)) is ns (drop from rs) k p
+
+  module _ (h : k < length is) (g : length ns ≡ length is) {a : ℕ} (t : IsNumber a part) where
+    turn : (rows next : List ℕ) (free : ℕ) →
+        columnsRefusal (registerIn m (bookOf hs rows next free)) (length hs) 1 [] is ns rs ≡
+        orElse (placed a (suc k)) (columnsRefusal (registerIn m (bookOf hs rows next free)) (length hs) (suc (suc k)) (before (suc k) is) (drop (suc k) is) (drop (suc k) ns) (drop (getD ns k 0) (drop from rs)))
+    turn rows next free =
+        let r : Register = registerIn m (bookOf hs rows next free) in
+        let f : Refusal = columnsRefusal r (length hs) (suc (suc k)) (before (suc k) is) (drop (suc k) is) (drop (suc k) ns) (drop (getD ns k 0) (drop from rs)) in
+        sym (l .same rows next free) ∙ columns-here r (length hs) (suc k) k is h ns (drop from rs) (omega arith) ∙
+        ap (λ (x : Refusal). orElse x f)
+        (same-after (length hs) is k (isLive r (getD is k 0)) (isBooked hs (getD is k 0)) (λ e. ids-booked (bookOf hs rows next free) (getD is k 0) e)
+        (λ (z : Bool). orElse (unless (not z) 10 (suc k)) (countRefusal m (getD ns k 0) (drop from rs) (suc k))) (suc k) ∙
+        t .same (suc k))
+
+    pub columns-refused : a ≢ 0 → (rows next : List ℕ) (free : ℕ) → refusal a (k + 1) ≡ columnsRefusal (registerIn m (bookOf hs rows next free)) (length hs) 1 [] is ns rs
+    columns-refused e rows next free =
+        sym (turn rows next free ∙ rw (ne-eqb a 0 e) (rw (ne-eqb a 0 e) (ap (refusal a) (sym (add-one k)))))
+
+    -- an accepted column has its rows
+    pub columns-room : a ≡ 0 → from + getD ns k 0 ≤ length rs
+    columns-room e =
+        let i : Refusal = idRefusal (length hs) is k 0 in
+        let j : Refusal = unless (not (isBooked hs (getD is k 0))) 10 0 in
+        let o : Refusal = unless (isIn 1 256 (getD ns k 0) && leb (getD ns k 0) (length (drop from rs))) 12 0 in
+        let q : Refusal = rowsRefusal m 0 0 (take (getD ns k 0) (drop from rs)) in
+        let u : isAccepted (orElse o q) ≡ true = or-both j (orElse o q) (or-both i (orElse j (orElse o q)) (ap isAccepted (t .same 0 ∙ placed-none 0 e)) .1) .1 in
+        let v : (isIn 1 256 (getD ns k 0) && leb (getD ns k 0) (length (drop from rs))) ≡ true =
+        unless-holds (isIn 1 256 (getD ns k 0) && leb (getD ns k 0) (length (drop from rs))) 12 0 refl (or-both o q u .0) in
+        let w : getD ns k 0 ≤ length (drop from rs) = leb-true (getD ns k 0) (length (drop from rs)) (and-both (isIn 1 256 (getD ns k 0)) (leb (getD ns k 0) (length (drop from rs))) v .1) in
+        omega (arith, length-drop from rs, l .starts)
+
+    pub columns-more : a ≡ 0 → ColumnsLeft m hs is ns rs (k + 1) (from + getD ns k 0)
+    columns-more e =
+        record {
+          within = omega arith;
+          starts = columns-room e;
+          same = λ rows next free.
+              let r : Register = registerIn m (bookOf hs rows next free) in
+              ap (λ (j : ℕ). columnsRefusal r (length hs) (suc j) (before j is) (drop j is) (drop j ns) (drop (from + getD ns k 0) rs)) (add-one k) ∙
+              ap (columnsRefusal r (length hs) (suc (suc k)) (before (suc k) is) (drop (suc k) is) (drop (suc k) ns)) (sym (drop-more rs from (getD ns k 0))) ∙
+              sym (turn rows next free ∙ rw (eq-eqb a 0 e) refl);
+        }
+
+  module _ (h : length is ≤ k) where
+    ended : (rows next : List ℕ) (free : ℕ) → columnsRefusal (registerIn m (bookOf hs rows next free)) (length hs) 1 [] is ns rs ≡ unless (eqb (length (drop from rs)) 0) 12 0
+    unfolding columnsRefusal
+    ended rows next free =
+        let e : k ≡ length is = omega (arith, l .within) in
+        sym (l .same rows next free) ∙
+        ap (λ (js : List ℕ). columnsRefusal (registerIn m (bookOf hs rows next free)) (length hs) (suc k) (before k is) js (drop k ns) (drop from rs)) (ap (λ (j : ℕ). drop j is) e ∙ drop-length is)
+
+    pub columns-over : from < length rs → (rows next : List ℕ) (free : ℕ) → refusal 12 0 ≡ columnsRefusal (registerIn m (bookOf hs rows next free)) (length hs) 1 [] is ns rs
+    columns-over g rows next free =
+        sym (ended rows next free ∙ rw (ne-eqb (length (drop from rs)) 0 (λ e. omega (arith, length-drop from rs))) refl)
+
+    pub columns-end : length rs ≤ from → (rows next : List ℕ) (free : ℕ) → accepted ≡ columnsRefusal (registerIn m (bookOf hs rows next free)) (length hs) 1 [] is ns rs
+    columns-end g rows next free =
+        sym (ended rows next free ∙ rw (eq-eqb (length (drop from rs)) 0 (omega (arith, length-drop from rs))) refl)
+
+-- ---- a removal
+
+pub record IdsLeft (heads ids : List ℕ) (k : ℕ) : Type 0 where
+  pub within : k ≤ length ids
+  pub same : (m : ℕ) (rows next : List ℕ) (free : ℕ) →
+      idsRefusal (registerIn m (bookOf heads rows next free)) (length heads) (suc k) (before k ids) (drop k ids) ≡
+      idsRefusal (registerIn m (bookOf heads rows next free)) (length heads) 1 [] ids
+
+pub ids-start : (hs is : List ℕ) → IdsLeft hs is 0
+unfolding before
+ids-start hs is = record { within = omega arith; same = λ m rows next free. refl }
+
+module _ {hs is : List ℕ} {k : ℕ} (l : IdsLeft hs is k) where
+  module _ (h : k < length is) {a : ℕ} (t : IsNumber a (leavingRefusal (length hs) (isBooked hs (getD is k 0)) is k)) where
+    leaves : (m : ℕ) (rows next : List ℕ) (free : ℕ) →
+        idsRefusal (registerIn m (bookOf hs rows next free)) (length hs) 1 [] is ≡
+        orElse (placed a (suc k)) (idsRefusal (registerIn m (bookOf hs rows next free)) (length hs) (suc (suc k)) (before (suc k) is) (drop (suc k) is))
+    leaves m rows next free =
+        let r : Register = registerIn m (bookOf hs rows next free) in
+        sym (l .same m rows next free) ∙ ids-here r (length hs) (suc k) k is h ∙
+        ap (λ (x : Refusal). orElse x (idsRefusal r (length hs) (suc (suc k)) (before (suc k) is) (drop (suc k) is)))
+        (same-after (length hs) is k (isLive r (getD is k 0)) (isBooked hs (getD is k 0)) (λ e. ids-booked (bookOf hs rows next free) (getD is k 0) e) (λ (z : Bool). unless z 11 (suc k)) (suc k) ∙ t .same (suc k))
+
+    pub ids-refused : a ≢ 0 → (m : ℕ) (rows next : List ℕ) (free : ℕ) → refusal a (k + 1) ≡ idsRefusal (registerIn m (bookOf hs rows next free)) (length hs) 1 [] is
+    ids-refused e m rows next free =
+        sym (leaves m rows next free ∙ rw (ne-eqb a 0 e) (rw (ne-eqb a 0 e) (ap (refusal a) (sym (add-one k)))))
+
+    pub ids-more : a ≡ 0 → IdsLeft hs is (k + 1)
+    ids-more e =
+        record {
+          within = omega arith;
+          same = λ m rows next free.
+              ap (λ (j : ℕ). idsRefusal (registerIn m (bookOf hs rows next free)) (length hs) (suc j) (before j is) (drop j is)) (add-one k) ∙
+              sym (leaves m rows next free ∙ rw (eq-eqb a 0 e) refl);
+        }
+
+  pub ids-end : length is ≤ k → (m : ℕ) (rows next : List ℕ) (free : ℕ) → accepted ≡ idsRefusal (registerIn m (bookOf hs rows next free)) (length hs) 1 [] is
+  unfolding idsRefusal
+  ids-end h m rows next free =
+      let e : k ≡ length is = omega (arith, l .within) in
+      sym
+      (sym (l .same m rows next free) ∙
+      ap (idsRefusal (registerIn m (bookOf hs rows next free)) (length hs) (suc k) (before k is)) (ap (λ (j : ℕ). drop j is) e ∙ drop-length is))

@@ -1,0 +1,57 @@
+-- `refusals::short` meets its contract: the tables of L, those of the book, then the work table. Assumes nothing.
+use borrow.Author.Needs.{needs}
+use Rattle.tables.specs.Tables.{Tables, Limits}
+use Rattle.refusals.specs.Early.{limits, lent}
+use Rattle.refusals.proofs.Early.{short-first, short-second, short-third}
+use Rattle.refusals.proofs.short.Statement.{statement}
+use Rattle.refusals.proofs.short.Tie as tie
+
+abbrev entry : tie.After-short-factor → tie.Start
+entry c = c .before .before .before .before .before .before .before .before .before .before
+
+abbrev limitsAt : tie.Start → Limits
+limitsAt s = limits (s .args .m) (s .args .n) (s .args .f) (s .args .c)
+
+abbrev tablesAt : tie.Start → Tables
+tablesAt s =
+    lent (s .args .heads .now) (s .args .parents .now) (s .args .rows .now) (s .args .counts .now) (s .args .next .now) (s .args .book-heads .now) (s .args .book-rows .now)
+    (s .args .book-next .now)
+
+short-factor-requires : tie.Need-short-factor-requires
+short-factor-requires c κs = search needs
+
+returns : tie.Need-returns
+returns c =
+    let s : tie.Start = entry (c .before) in
+    short-first (limitsAt s) (tablesAt s) (s .args .work .now) (c .before .short-factor .ensures) (c .if1 .taken)
+
+short-book-requires : tie.Need-short-book-requires
+short-book-requires c κs = search needs
+
+returns-2 : tie.Need-returns-2
+returns-2 c =
+    let one : tie.After-short-factor = c .before .before .before in
+    let s : tie.Start = entry one in
+    short-second (limitsAt s) (tablesAt s) (s .args .work .now) (one .short-factor .ensures) (c .before .before .if1 .left) (c .before .short-book .ensures) (c .if2 .taken)
+
+work-need-requires : tie.Need-work-need-requires
+work-need-requires c κs = search needs
+
+returns-3 : tie.Need-returns-3
+returns-3 c =
+    let two : tie.After-short-book = c .before .before in
+    let one : tie.After-short-factor = two .before .before in
+    let s : tie.Start = entry one in
+    rw (c .work-need .ensures)
+    (short-third (limitsAt s) (tablesAt s) (s .args .work .now) (one .short-factor .ensures) (two .before .if1 .left) (two .short-book .ensures) (c .before .if2 .left))
+
+pub short-spec : {M : Type 1} → statement M
+short-spec =
+    tie.close
+    (tie.spec
+    short-factor-requires
+    returns
+    short-book-requires
+    returns-2
+    work-need-requires
+    returns-3)

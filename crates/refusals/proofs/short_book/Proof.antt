@@ -1,0 +1,19 @@
+-- `refusals::short_book` meets its contract, table by table. Assumes nothing.
+use mathlib.Core.Path.{refl}
+use lib.ListN.{length}
+use borrow.Author.Tests.{le-leb, lt-leb}
+use Rattle.refusals.proofs.Tests.{below-not}
+use Rattle.refusals.proofs.short_book.Statement.{statement}
+use Rattle.refusals.proofs.short_book.Tie as tie
+
+returns : tie.Need-returns
+returns c = rw (lt-leb _ _ (c .if1 .taken)) refl
+
+returns-2 : tie.Need-returns-2
+returns-2 c = rw (le-leb _ _ (c .before .if1 .left), lt-leb _ _ (c .if2 .taken)) refl
+
+returns-3 : tie.Need-returns-3
+returns-3 c = rw (le-leb _ _ (c .before .if1 .left), le-leb _ _ (c .if2 .left)) (below-not (c .before .before .args .c) (length (c .before .before .args .next .now)))
+
+pub short-book-spec : {M : Type 1} → statement M
+short-book-spec = tie.close (tie.spec returns returns-2 returns-3)

@@ -1,0 +1,39 @@
+-- The four sizes and the eight tables as the definitions of numbers 1 to 5 read them; the records that an opening with F = 0 gets; when the tables of L,
+-- those of the book and a batch's lists are long enough, each group by itself; the room that an answer asks for. The numbers are in calls, Refusals.
+-- Assumes nothing: these are definitions.
+use mathlib.Core.Path.{_≡_}
+use mathlib.Core.Bool.{Bool, _&&_, not}
+use mathlib.Core.List.{List}
+use Prim.Native.Nat.{ℕ, _*_}
+use lib.Dec.{leb, eqb}
+use lib.ListN.{length}
+use Rattle.lists.specs.Lists.{pick}
+use Rattle.tables.specs.Tables.{Tables, Limits}
+use Rattle.calls.specs.Refusals.{isAccepted, roomFor}
+
+abbrev pub limits : (m n f c : ℕ) → Limits
+limits m n f c = record { m = m; n = n; f = f; c = c }
+
+abbrev pub lent : (heads parents rows counts next bookHeads bookRows bookNext : List ℕ) → Tables
+lent hs ps rs cs ns bh br bn =
+    record { heads = hs; parents = ps; rows = rs; counts = cs; next = ns; bookHeads = bh; bookRows = br; bookNext = bn }
+
+-- "F .. at opening 0 means 16 × m", for an m that is allowed; number 1 refuses any other, whatever F is
+abbrev pub defaultRecords : (m f : ℕ) → ℕ
+defaultRecords m f = pick (leb m 4096 && eqb f 0) (16 * m) f
+
+-- ---- long enough: the tables of L, those of the book, a batch's lists
+
+abbrev pub factorLong : (m f : ℕ) → (heads parents rows counts next : List ℕ) → Bool
+factorLong m f hs ps rs cs ns =
+    leb m (length hs) && leb m (length ps) && leb f (length rs) && leb f (length cs) && leb f (length ns)
+
+abbrev pub bookLong : (n c : ℕ) → (heads rows next : List ℕ) → Bool
+bookLong n c hs rs ns = leb n (length hs) && leb c (length rs) && leb c (length ns)
+
+abbrev pub listsLong : (m : ℕ) → (touched labels : List ℕ) → Bool
+listsLong m ts ls = leb m (length ts) && leb m (length ls)
+
+-- an answer is refused by 18, for every list of that length
+abbrev pub NoRoom : (len place places : ℕ) → (answer : Bool) → Type 0
+NoRoom len p n a = (xs : List ℕ) → length xs ≡ len → a ≡ not (isAccepted (roomFor xs p n))

@@ -1,0 +1,4 @@
+pub mod Early
+pub mod Parts
+pub mod Found
+pub mod Offsets

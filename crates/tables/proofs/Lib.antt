@@ -1,0 +1,6 @@
+pub mod Stored
+pub mod Tables
+pub mod Opening
+pub mod Stays
+pub mod Mended
+pub mod Reading

@@ -1,0 +1,111 @@
+-- Tables mended column by column: what stays is reflexive and composes (`stays-self`, `stays-joins`, `beyond-joins`, `tails-join`), a column that stays
+-- holds what it held (`stays-holds`), and columns mended where a batch touches them, with the rest as they were, are the factor after it
+-- (`mended-holds`, `mended-sound`). Assumes nothing.
+use mathlib.Core.Path.{_≡_, refl, sym, ap, _∙_, subst}
+use mathlib.Core.Logic.{inl, inr}
+use mathlib.Core.Bool.{Bool, true, false}
+use mathlib.Core.List.{List}
+use Prim.Native.Nat.{ℕ, _≤_}
+use native.Mathlib.Omega.{arith}
+use lib.ListN.{length}
+use Rattle.lists.specs.Lists.{Mem, valuesAt, allZero}
+use Rattle.lists.proofs.Tests.{cases}
+use Rattle.lists.proofs.Times.{times-mem}
+use Rattle.lists.proofs.Place.{values-frame}
+use Rattle.symbolic.specs.Columns.{Column}
+use Rattle.symbolic.specs.Factor.{FactorColumn, factorOf, columnAt}
+use Rattle.pool.specs.Chains.{chain}
+use Rattle.pool.specs.Whole.{Pool}
+use Rattle.tables.specs.Stored.{Stored, recordsOf, holdsFrom, isSoundFor}
+use Rattle.tables.specs.Tables.{Tables, Limits}
+use Rattle.tables.specs.Stays.{ColumnStays, Beyond, TailsStay}
+use Rattle.tables.proofs.Stored.{Holds, column-holds, holds-column, holds-at, holds-make, facts-sound}
+
+-- ---- what stays
+
+pub stays-self : (s : Stored) (j : ℕ) → ColumnStays s s j
+stays-self s j = record { head = refl; parent = refl; records = refl; row = λ x m. refl; count = λ x m. refl; next = λ x m. refl }
+
+pub stays-joins : {a b c : Stored} {j : ℕ} → ColumnStays a b j → ColumnStays b c j → ColumnStays a c j
+stays-joins {a} {b} {c} {j} s t =
+    let e : (x : ℕ) → Mem x (recordsOf a j) → Mem x (recordsOf b j) = λ x m. subst (λ (rs : List ℕ). Mem x rs) (sym (s .records)) m in
+    record {
+      head = t .head ∙ s .head;
+      parent = t .parent ∙ s .parent;
+      records = t .records ∙ s .records;
+      row = λ x m. t .row x (e x m) ∙ s .row x m;
+      count = λ x m. t .count x (e x m) ∙ s .count x m;
+      next = λ x m. t .next x (e x m) ∙ s .next x m;
+    }
+
+pub beyond-self : (n : ℕ) (xs : List ℕ) → Beyond n xs xs
+beyond-self n xs = record { same-length = refl; same-tail = refl }
+
+pub beyond-joins : {n : ℕ} {xs ys zs : List ℕ} → Beyond n xs ys → Beyond n ys zs → Beyond n xs zs
+beyond-joins s t = record { same-length = t .same-length ∙ s .same-length; same-tail = t .same-tail ∙ s .same-tail }
+
+pub tails-self : (l : Limits) (t : Tables) → TailsStay l t t
+tails-self l t =
+    record {
+      heads = beyond-self (l .m) (t .heads);
+      parents = beyond-self (l .m) (t .parents);
+      rows = beyond-self (l .f) (t .rows);
+      counts = beyond-self (l .f) (t .counts);
+      next = beyond-self (l .f) (t .next);
+      bookHeads = beyond-self (l .n) (t .bookHeads);
+      bookRows = beyond-self (l .c) (t .bookRows);
+      bookNext = beyond-self (l .c) (t .bookNext);
+    }
+
+pub tails-join : {l : Limits} {t u v : Tables} → TailsStay l t u → TailsStay l u v → TailsStay l t v
+tails-join a b =
+    record {
+      heads = beyond-joins (a .heads) (b .heads);
+      parents = beyond-joins (a .parents) (b .parents);
+      rows = beyond-joins (a .rows) (b .rows);
+      counts = beyond-joins (a .counts) (b .counts);
+      next = beyond-joins (a .next) (b .next);
+      bookHeads = beyond-joins (a .bookHeads) (b .bookHeads);
+      bookRows = beyond-joins (a .bookRows) (b .bookRows);
+      bookNext = beyond-joins (a .bookNext) (b .bookNext);
+    }
+
+-- ---- a column that stays
+
+pub stays-holds : {a b : Stored} {j : ℕ} {f : FactorColumn} → ColumnStays a b j → Holds a j f → Holds b j f
+stays-holds {a} {b} {j} {f} s h =
+    record {
+      rows = ap (λ (rs : List ℕ). valuesAt (b .rows) rs) (s .records) ∙
+          values-frame (a .rows) (b .rows) (recordsOf a j) (λ x m. s .row x (times-mem x (recordsOf a j) m)) ∙ h .rows;
+      counts = ap (λ (rs : List ℕ). valuesAt (b .counts) rs) (s .records) ∙
+          values-frame (a .counts) (b .counts) (recordsOf a j) (λ x m. s .count x (times-mem x (recordsOf a j) m)) ∙ h .counts;
+      parent = s .parent ∙ h .parent;
+    }
+
+-- ---- all columns, where T says which were mended
+
+module _ (a b : Stored) (fs gs : List FactorColumn) (m : ℕ) (T : ℕ → Bool) (old : holdsFrom a fs 1 m ≡ true)
+    (mended : (j : ℕ) → 1 ≤ j → j ≤ m → T j ≡ true → Holds b j (columnAt gs j)) (rest : (j : ℕ) → 1 ≤ j → j ≤ m → T j ≡ false → ColumnStays a b j)
+    (same : (j : ℕ) → 1 ≤ j → j ≤ m → T j ≡ false → columnAt gs j ≡ columnAt fs j) where
+  pub mended-column : (j : ℕ) → 1 ≤ j → j ≤ m → Holds b j (columnAt gs j)
+  mended-column j p q =
+      elim (cases (T j)) [
+        | inl e ↦ mended j p q e
+        | inr e ↦ subst (λ (f : FactorColumn). Holds b j f) (sym (same j p q e))
+            (stays-holds (rest j p q e) (column-holds a j (columnAt fs j) (holds-at a fs 1 m old j p (omega arith))))
+      ]
+
+  pub mended-holds : holdsFrom b gs 1 m ≡ true
+  mended-holds = holds-make b gs 1 m (λ j p q. holds-column b j (columnAt gs j) (mended-column j p (omega arith)))
+
+-- and so sound, with a whole pool and free records zero
+pub mended-sound : (cs : List Column) (b : Stored) (m : ℕ) → length (b .heads) ≡ m → Pool (b .next) (b .heads) (b .free) →
+    allZero (valuesAt (b .rows) (chain (b .next) (b .free))) ≡ true → allZero (valuesAt (b .counts) (chain (b .next) (b .free))) ≡ true →
+    ((j : ℕ) → 1 ≤ j → j ≤ m → Holds b j (columnAt (factorOf m cs) j)) → isSoundFor cs b ≡ true
+mended-sound cs b m e w x y h =
+    facts-sound cs b (record {
+      pool = w;
+      zero-rows = x;
+      zero-counts = y;
+      column = subst (λ (n : ℕ). (j : ℕ) → 1 ≤ j → j ≤ n → Holds b j (columnAt (factorOf n cs) j)) (sym e) h;
+    })

@@ -1,0 +1,116 @@
+-- The tables within their sizes: long enough as facts (`Long`), and what stays so when the tails stay (`tails-long`); soundness in its two halves, what
+-- it says of the booked columns (`sound-fits`) and of the stored ones against the limits (`sound-factor`).
+-- Assumes nothing.
+use mathlib.Core.Path.{_≡_, subst}
+use mathlib.Core.Bool.{Bool, true, _&&_}
+use mathlib.Core.List.{List}
+use Prim.Native.Nat.{ℕ, _≤_}
+use native.Mathlib.Omega.{arith}
+use lib.Dec.{leb}
+use lib.ListN.{length}
+use lib.Seq.{length-take-le}
+use borrow.Author.Tests.{leb-true, le-leb}
+use Rattle.lists.specs.Lists.{isIn, all}
+use Rattle.lists.proofs.Tests.{and-both, both-and}
+use Rattle.lists.proofs.Member.{all-at, all-make}
+use Rattle.symbolic.specs.Columns.{Column, live, fitsRows}
+use Rattle.symbolic.specs.Factor.{factorOf, factorFor}
+use Rattle.book.specs.Book as book
+use Rattle.book.proofs.Sound.{columns-fit, columns-rows}
+use Rattle.tables.specs.Stored.{isSoundFor, holdsFrom}
+use Rattle.tables.specs.Tables.{Tables, Limits, State, longEnough, storedIn, bookIn, registerOf, isSound}
+use Rattle.tables.specs.Stays.{TailsStay}
+use Rattle.tables.proofs.Stored.{sound-holds}
+
+-- ---- long enough
+
+pub record Long (l : Limits) (t : Tables) : Type 0 where
+  pub heads : l .m ≤ length (t .heads)
+  pub parents : l .m ≤ length (t .parents)
+  pub rows : l .f ≤ length (t .rows)
+  pub counts : l .f ≤ length (t .counts)
+  pub next : l .f ≤ length (t .next)
+  pub bookHeads : l .n ≤ length (t .bookHeads)
+  pub bookRows : l .c ≤ length (t .bookRows)
+  pub bookNext : l .c ≤ length (t .bookNext)
+
+module _ (l : Limits) (t : Tables) where
+  pub long-facts : longEnough l t ≡ true → Long l t
+  long-facts z =
+      let a : Bool = leb (l .m) (length (t .heads)) in
+      let b : Bool = leb (l .m) (length (t .parents)) in
+      let c : Bool = leb (l .f) (length (t .rows)) in
+      let d : Bool = leb (l .f) (length (t .counts)) in
+      let e : Bool = leb (l .f) (length (t .next)) in
+      let f : Bool = leb (l .n) (length (t .bookHeads)) in
+      let g : Bool = leb (l .c) (length (t .bookRows)) in
+      let h : Bool = leb (l .c) (length (t .bookNext)) in
+      let p : ((a && b && c && d && e && f && g) ≡ true) × (h ≡ true) = and-both (a && b && c && d && e && f && g) h z in
+      let q : ((a && b && c && d && e && f) ≡ true) × (g ≡ true) = and-both (a && b && c && d && e && f) g (p .0) in
+      let r : ((a && b && c && d && e) ≡ true) × (f ≡ true) = and-both (a && b && c && d && e) f (q .0) in
+      let s : ((a && b && c && d) ≡ true) × (e ≡ true) = and-both (a && b && c && d) e (r .0) in
+      let u : ((a && b && c) ≡ true) × (d ≡ true) = and-both (a && b && c) d (s .0) in
+      let v : ((a && b) ≡ true) × (c ≡ true) = and-both (a && b) c (u .0) in
+      let w : (a ≡ true) × (b ≡ true) = and-both a b (v .0) in
+      record {
+        heads = leb-true (l .m) (length (t .heads)) (w .0);
+        parents = leb-true (l .m) (length (t .parents)) (w .1);
+        rows = leb-true (l .f) (length (t .rows)) (v .1);
+        counts = leb-true (l .f) (length (t .counts)) (u .1);
+        next = leb-true (l .f) (length (t .next)) (s .1);
+        bookHeads = leb-true (l .n) (length (t .bookHeads)) (r .1);
+        bookRows = leb-true (l .c) (length (t .bookRows)) (q .1);
+        bookNext = leb-true (l .c) (length (t .bookNext)) (p .1);
+      }
+
+  pub facts-long : Long l t → longEnough l t ≡ true
+  facts-long h =
+      both-and (both-and (both-and (both-and (both-and (both-and (both-and (le-leb (l .m) (length (t .heads)) (h .heads))
+      (le-leb (l .m) (length (t .parents)) (h .parents))) (le-leb (l .f) (length (t .rows)) (h .rows))) (le-leb (l .f) (length (t .counts)) (h .counts)))
+      (le-leb (l .f) (length (t .next)) (h .next))) (le-leb (l .n) (length (t .bookHeads)) (h .bookHeads)))
+      (le-leb (l .c) (length (t .bookRows)) (h .bookRows))) (le-leb (l .c) (length (t .bookNext)) (h .bookNext))
+
+-- tables whose lengths stay stay long enough
+pub tails-long : (l : Limits) (t u : Tables) → TailsStay l t u → longEnough l t ≡ true → longEnough l u ≡ true
+tails-long l t u s z =
+    let h : Long l t = long-facts l t z in
+    facts-long l u (record {
+      heads = omega (arith, s .heads .same-length);
+      parents = omega (arith, s .parents .same-length);
+      rows = omega (arith, s .rows .same-length);
+      counts = omega (arith, s .counts .same-length);
+      next = omega (arith, s .next .same-length);
+      bookHeads = omega (arith, s .bookHeads .same-length);
+      bookRows = omega (arith, s .bookRows .same-length);
+      bookNext = omega (arith, s .bookNext .same-length);
+    })
+
+-- ---- sound
+
+module _ (s : State) (t : Tables) where
+  pub sound-book : isSound s t ≡ true → book.isSound (s .limits .m) (bookIn s t) ≡ true
+  sound-book h = and-both (book.isSound (s .limits .m) (bookIn s t)) (isSoundFor (live (registerOf s t)) (storedIn s t)) h .0
+
+  pub sound-stored : isSound s t ≡ true → isSoundFor (live (registerOf s t)) (storedIn s t) ≡ true
+  sound-stored h = and-both (book.isSound (s .limits .m) (bookIn s t)) (isSoundFor (live (registerOf s t)) (storedIn s t)) h .1
+
+  -- every booked column has 1 to 256 rows, rising, within 1 to m
+  pub sound-fits : isSound s t ≡ true → all (book.columnFits (s .limits .m)) (registerOf s t .columns) ≡ true
+  sound-fits h = columns-fit (s .limits .m) (bookIn s t) (sound-book h)
+
+  -- so its rows rise within 1 to m
+  pub sound-rows : isSound s t ≡ true → all (fitsRows (s .limits .m)) (registerOf s t .columns) ≡ true
+  sound-rows h = columns-rows (s .limits .m) (bookIn s t) (sound-book h)
+
+  pub stored-rows : longEnough (s .limits) t ≡ true → length (storedIn s t .heads) ≡ s .limits .m
+  stored-rows z = length-take-le (s .limits .m) (t .heads) (long-facts (s .limits) t z .heads)
+
+  -- "the factor equals the definition above for the live columns"
+  pub sound-factor : longEnough (s .limits) t ≡ true → isSound s t ≡ true → holdsFrom (storedIn s t) (factorFor (registerOf s t)) 1 (s .limits .m) ≡ true
+  sound-factor z h =
+      subst (λ (n : ℕ). holdsFrom (storedIn s t) (factorOf n (live (registerOf s t))) 1 n ≡ true) (stored-rows z)
+      (sound-holds (live (registerOf s t)) (storedIn s t) (sound-stored h))
+
+-- a column that fits has rows within 1 to m, rising
+pub fits-rows : (m : ℕ) (cs : List Column) → all (book.columnFits m) cs ≡ true → all (fitsRows m) cs ≡ true
+fits-rows m cs h = all-make (fitsRows m) cs (λ c k. and-both (fitsRows m c) (isIn 1 256 (length (c .rows))) (all-at (book.columnFits m) k h) .0)

@@ -1,0 +1,4 @@
+pub mod Stored
+pub mod Tables
+pub mod Opening
+pub mod Stays

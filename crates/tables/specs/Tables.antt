@@ -1,0 +1,65 @@
+-- The eight lent tables, the four limits and the two free heads; when the tables are long enough, and when they are sound. The book is read through
+-- its own definitions, the stored columns through Stored.antt. A later table or size enters here.
+-- Assumes nothing: these are definitions.
+use mathlib.Core.Bool.{Bool, _&&_}
+use mathlib.Core.List.{List}
+use Prim.Native.Nat.{ℕ}
+use lib.Dec.{leb}
+use lib.ListN.{length, take}
+use Rattle.symbolic.specs.Columns.{Register, live}
+use Rattle.book.specs.Book as book
+use Rattle.tables.specs.Stored.{Stored, isSoundFor}
+
+-- "What belongs to number k stands at place k − 1, so tables need m, n, F or C places"
+pub record Tables : Type 0 where
+  pub heads : List ℕ
+  pub parents : List ℕ
+  pub rows : List ℕ
+  pub counts : List ℕ
+  pub next : List ℕ
+  pub bookHeads : List ℕ
+  pub bookRows : List ℕ
+  pub bookNext : List ℕ
+
+-- the four sizes
+pub record Limits : Type 0 where
+  pub m : ℕ
+  pub n : ℕ
+  pub f : ℕ
+  pub c : ℕ
+
+-- the record of sizes and free heads
+pub record State : Type 0 where
+  pub limits : Limits
+  pub free : ℕ
+  pub bookFree : ℕ
+
+abbrev pub longEnough : Limits → Tables → Bool
+longEnough l t =
+    leb (l .m) (length (t .heads)) && leb (l .m) (length (t .parents)) && leb (l .f) (length (t .rows)) && leb (l .f) (length (t .counts)) &&
+    leb (l .f) (length (t .next)) && leb (l .n) (length (t .bookHeads)) && leb (l .c) (length (t .bookRows)) && leb (l .c) (length (t .bookNext))
+
+-- the stored columns of L, within the sizes
+abbrev pub storedIn : State → Tables → Stored
+storedIn s t =
+    record {
+      heads = take (s .limits .m) (t .heads);
+      parents = take (s .limits .m) (t .parents);
+      rows = take (s .limits .f) (t .rows);
+      counts = take (s .limits .f) (t .counts);
+      next = take (s .limits .f) (t .next);
+      free = s .free;
+    }
+
+-- the book, within the sizes
+abbrev pub bookIn : State → Tables → book.Book
+bookIn s t =
+    book.bookOf (take (s .limits .n) (t .bookHeads)) (take (s .limits .c) (t .bookRows)) (take (s .limits .c) (t .bookNext)) (s .bookFree)
+
+-- the register that the book holds, by rising id
+abbrev pub registerOf : State → Tables → Register
+registerOf s t = record { m = s .limits .m; columns = book.columnsIn (bookIn s t) }
+
+-- "Tables are sound if .." both pools and the book are, and L is the factor of the columns that count
+abbrev pub isSound : State → Tables → Bool
+isSound s t = book.isSound (s .limits .m) (bookIn s t) && isSoundFor (live (registerOf s t)) (storedIn s t)
