@@ -13,7 +13,7 @@ use Rattle.symbolic.specs.Change.{idsOf, added}
 use Rattle.workspace.specs.Layout.{workNeed}
 use Rattle.tables.specs.Tables.{Tables, Limits, longEnough}
 
--- ---- a refusal: its number, "and the position for the column and row checks and 0 otherwise". Accepted is 0.
+-- ---- a refusal: its number, and "the position for the column and row checks and 0 otherwise". Accepted is 0.
 
 pub record Refusal : Type 0 where
   pub number : ℕ
@@ -57,7 +57,7 @@ sizesRefusal b l =
 abbrev pub workFor : Limits → ℕ
 workFor l = workNeed (l .m) (l .n) (l .f) (l .c)
 
--- some table or list needed is too short; answers: the places that the lists for touched columns and labels must have
+-- some table, or the work table, is too short; a batch also needs its lists for touched columns and labels
 abbrev pub shortRefusal : Limits → Tables → (work : List ℕ) → Refusal
 shortRefusal l t w = unless (longEnough l t && leb (workFor l) (length w)) 5 0
 
@@ -80,7 +80,7 @@ unfoldable pub rowsRefusal : (m position above : ℕ) → (rows : List ℕ) → 
 rowsRefusal m p a [] = accepted
 rowsRefusal m p a (i ∷ is) = orElse (unless (isIn 1 m i) 13 p) (orElse (unless (ltb a i) 14 p) (rowsRefusal m p i is))
 
--- 8 to 14, column by column; then 12 for rows left over
+-- 8 to 14, column by column; then 12 for rows left over. Fewer counts than ids cannot be here: 7 has excluded it
 unfoldable pub columnsRefusal : Register → (n position : ℕ) → (before ids counts rows : List ℕ) → Refusal
 columnsRefusal r n p bs [] ns rs = unless (eqb (length rs) 0) 12 0
 columnsRefusal r n p bs (i ∷ is) [] rs = refusal 7 0

@@ -85,6 +85,9 @@ module _ {p : Plain} {u : World} (i : Inv p u) where
           others = λ q b j x y t.
               batch-world u k v b (s .world) .others j x (subst (λ (l : Limits). j ≤ l .m) (sym (i .limits)) y)
               (ap (λ (ks : List ℕ). among j ks) (bag-touched (booked u) (p .register) (inv-rows i) (i .bag) (book-once u) k) ∙ t);
+          entries = λ q b j x y. batch-world u k v b (s .world) .entries j x (subst (λ (l : Limits). j ≤ l .m) (sym (i .limits)) y);
+          ids = λ q b d x y t. batch-world u k v b (s .world) .book d x (subst (λ (l : Limits). d ≤ l .n) (sym (i .limits)) y) t;
+          tails = λ q b. subst (λ (l : Limits). TailsStay l (u .tables) (v .tables)) (i .limits) (batch-world u k v b (s .world) .tails);
         }
 
     refused-justified : Refused u (e .call) (e .answer) (e .left) v → Justified p u e v
@@ -101,6 +104,9 @@ module _ {p : Plain} {u : World} (i : Inv p u) where
           left = rw z (s .lists ∙ ap (λ (w : List ℕ). withWork (lentTo k) w) (work-plain k));
           unchanged = λ h. s .world;
           others = λ h b j x y t. absurd (n h);
+          entries = λ h b j x y. absurd (n h);
+          ids = λ h b d x y t. absurd (n h);
+          tails = λ h b. absurd (n h);
         }
 
   -- ONE CALL

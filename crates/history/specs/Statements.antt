@@ -11,11 +11,12 @@ use Rattle.symbolic.specs.Columns.{Column, live}
 use Rattle.symbolic.specs.Factor.{factorFor}
 use Rattle.symbolic.specs.Chains.{ChainTo}
 use Rattle.symbolic.specs.Change.{idsOf}
+use Rattle.book.specs.Book as book
 use Rattle.tables.specs.Stored.{recordsOf, holdsFrom}
-use Rattle.tables.specs.Tables.{Tables, Limits, longEnough, storedIn, registerOf, isSound}
-use Rattle.tables.specs.Stays.{ColumnStays}
+use Rattle.tables.specs.Tables.{Tables, Limits, longEnough, storedIn, bookIn, registerOf, isSound}
+use Rattle.tables.specs.Stays.{ColumnStays, EntriesKeep, TailsStay}
 use Rattle.calls.specs.Refusals.{Refusal, accepted, isAccepted, orElse, bounds, sizesRefusal}
-use Rattle.calls.specs.Calls.{Call, opening, isOpening, isBatch}
+use Rattle.calls.specs.Calls.{Call, opening, isOpening, isBatch, idsBy}
 use Rattle.calls.specs.Report.{touchedBy}
 use Rattle.calls.specs.Numbers.{earlyRefusal, callRefusal}
 use Rattle.calls.specs.Steps.{Answer, refusedBy, acceptedBy, Lent, lentTo, listsAfter, workAfter, withWork, World, Step}
@@ -69,6 +70,13 @@ pub record Justified (p : Plain) (u : World) (e : Event) (v : World) : Type 0 wh
   -- "each accepted batch alters no column off its paths"
   pub others : e .answer .number ≡ 0 → isBatch (e .call) ≡ true → (j : ℕ) → 1 ≤ j → j ≤ p .limits .m →
       among j (touchedBy (p .register) (e .call)) ≡ false → ColumnStays (storedIn (u .state) (u .tables)) (storedIn (v .state) (v .tables)) j
+  -- "An entry that stands in a column before and after a batch keeps its record"
+  pub entries : e .answer .number ≡ 0 → isBatch (e .call) ≡ true → (j : ℕ) → 1 ≤ j → j ≤ p .limits .m →
+      EntriesKeep (storedIn (u .state) (u .tables)) (storedIn (v .state) (v .tables)) j
+  -- the book's column of every id that the batch does not name stays, and so do the places beyond the sizes
+  pub ids : e .answer .number ≡ 0 → isBatch (e .call) ≡ true → (i : ℕ) → 1 ≤ i → i ≤ p .limits .n → among i (idsBy (e .call)) ≡ false →
+      book.ColumnStays (bookIn (u .state) (u .tables)) (bookIn (v .state) (v .tables)) i
+  pub tails : e .answer .number ≡ 0 → isBatch (e .call) ≡ true → TailsStay (p .limits) (u .tables) (v .tables)
 
 -- ---- DEMAND 3, one claim about a list of calls from an accepted opening, refused ones among them
 

@@ -68,7 +68,7 @@ unfoldable pub sumOf : {A : Type 0} → (A → ℕ) → List A → ℕ
 sumOf f [] = 0
 sumOf f (x ∷ xs) = f x + sumOf f xs
 
--- ---- numbered places: what belongs to number k stands at place k − 1
+-- ---- numbered places: what belongs to number k stands at place k − 1. Numbers are from 1: number 0 would read number 1, so every use excludes it
 
 abbrev pub at : List ℕ → (number : ℕ) → ℕ
 at xs k = getD xs (k - 1) 0

@@ -54,6 +54,7 @@ factorFor r = factorOf (r .m) (live r)
 abbrev pub noColumn : FactorColumn
 noColumn = record { counts = []; parent = 0 }
 
+-- column j, from 1 on (0 would read column 1)
 abbrev pub columnAt : List FactorColumn → (j : ℕ) → FactorColumn
 columnAt fs j = getD fs (j - 1) noColumn
 
