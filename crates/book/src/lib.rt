@@ -12,7 +12,7 @@ ghost use Rattle.pool.specs.Walks.{NoMarks};
 ghost use Rattle.book.specs.Book.{bookOf, tablesOf, isBooked, columnFor, isSound};
 ghost use Rattle.book.specs.Records.{HasChain, CanWrite, Written, Cleared};
 ghost use Rattle.book.specs.Walks.{CanWalk, FreeWalked, ColumnWalked};
-ghost use Rattle.book.specs.Entries.{opened, CanAdd, Added, CanRemove, Removed, CanCopy};
+ghost use Rattle.book.specs.Entries.{opened, CanAdd, Added, CanRemove, Removed, CanCopy, firstRow, HasHead};
 use pool::Rec;
 use pool::Visit;
 use pool::Walk;
@@ -177,6 +177,19 @@ pub fn is_booked(heads: &[u32], id: Id) -> bool
 {
     let k = id.0;
     heads[(k - 1) as usize] != 0
+}
+
+// The smallest row of an id's column, or row 0 where the id is not booked.
+pub fn first_row(heads: &[u32], rows: &[u16], id: Id) -> Row
+    requires { ⌜ HasHead (now heads) (now rows) (id .0) ⌝ }
+    ensures { λ r. ⌜ r .0 ≡ firstRow (now (heads .entry)) (now (rows .entry)) (id .0) ⌝ }
+{
+    let k = id.0;
+    let r = heads[(k - 1) as usize];
+    if r == 0 {
+        return Row(0);
+    }
+    Row(rows[(r - 1) as usize] as u32)
 }
 
 // Writes the rows of an id's column to the front of list, and gives their number.

@@ -1,0 +1,7 @@
+pub mod Tallies
+pub mod Numbers
+pub mod Linking
+pub mod Children
+pub mod Parts
+pub mod Starting
+pub mod Giving

@@ -1,0 +1,91 @@
+-- What column j of L is given: 1 on its diagonal, the rows of each child but its first, the rows of each book column that starts at j; the first two
+-- are read in the work table. Each function that counts says what it asks and what it has counted. Assumes nothing: these are definitions.
+use mathlib.Core.Path.{_≡_}
+use mathlib.Core.List.{List, _∷_, _++_}
+use Prim.Native.Nat.{ℕ, _+_, _*_, _-_, _≤_, _<_}
+use lib.ListN.{length, getD}
+use Rattle.lists.specs.Lists.{times}
+use Rattle.workspace.specs.Layout.{childHead, childNext, columnHead, stashStart, rowStash, small, columnNext}
+use Rattle.workspace.specs.Regions.{cell, region, IsZero}
+use Rattle.pool.specs.Chains.{chain, Linked}
+use Rattle.book.specs.Book.{tablesOf, columnFor}
+use Rattle.book.specs.Entries.{CanCopy}
+use Rattle.counting.specs.Counting.{gathered, tallied, OnlyTwo}
+
+-- every number in a list is one of 1 to m
+abbrev pub WithinRows : (m : ℕ) → List ℕ → Type 0
+WithinRows m xs = (x : ℕ) → 1 ≤ times x xs → (1 ≤ x) × (x ≤ m)
+
+-- ---- what was counted
+
+-- the counters, the first m places, have the rows more, and but for them and 256 places nothing changed; how many rows
+pub record Counted (m f : ℕ) (work₀ work : List ℕ) (rows : List ℕ) (given : ℕ) : Type 0 where
+  pub only : OnlyTwo 0 m (small m f) 256 work₀ work
+  pub counters : region work 0 m ≡ tallied (region work₀ 0 m) rows
+  pub number : given ≡ length rows
+
+-- a work table long enough for the sizes, and a row of 1 to m
+pub record Sizes (m f : ℕ) (work : List ℕ) (j : ℕ) : Type 0 where
+  pub low : 1 ≤ j
+  pub high : j ≤ m
+  pub m-bound : m ≤ 4096
+  pub f-bound : f ≤ 1048576
+  pub long : 8 * m + 4 * f + 1024 ≤ length work
+
+-- ---- the children of column j
+
+abbrev pub childrenIn : (work : List ℕ) → (m j : ℕ) → List ℕ
+childrenIn w m j = chain (region w (childNext m) m) (cell w (childHead m) (j - 1))
+
+-- the stashed rows of column c but its first
+abbrev pub stashed : (work : List ℕ) → (m f c : ℕ) → List ℕ
+stashed w m f c = region w (rowStash m f + cell w (stashStart m) (c - 1) + 1) (cell w (stashStart m) c - cell w (stashStart m) (c - 1) - 1)
+
+-- column c has rows in the stash
+pub record Stashed (work : List ℕ) (m f c : ℕ) : Type 0 where
+  pub some : cell work (stashStart m) (c - 1) < cell work (stashStart m) c
+  pub short : cell work (stashStart m) c ≤ cell work (stashStart m) (c - 1) + m
+  pub within : cell work (stashStart m) c ≤ f
+  pub rows-in : WithinRows m (stashed work m f c)
+
+pub record CanTallyChildren (work : List ℕ) (m f j : ℕ) : Type 0 where
+  pub sizes : Sizes m f work j
+  pub linked : Linked (region work (childNext m) m) (cell work (childHead m) (j - 1)) (childrenIn work m j)
+  pub each : (c : ℕ) → 1 ≤ times c (childrenIn work m j) → Stashed work m f c
+  pub room : (i : ℕ) → i < m → getD work i 0 < 1073741824
+
+-- ---- the book columns that start at row j
+
+abbrev pub bookRows : (heads rows next : List ℕ) → (id : ℕ) → List ℕ
+bookRows hs rs ns i = columnFor (tablesOf hs rs ns) i .rows
+
+abbrev pub startingIn : (work : List ℕ) → (m f n c j : ℕ) → List ℕ
+startingIn w m f n c j = chain (region w (columnNext m f c) n) (cell w (columnHead m) (j - 1))
+
+pub record CanTallyColumns (heads rows next work : List ℕ) (m f j : ℕ) : Type 0 where
+  pub sizes : Sizes m f work j
+  pub n-bound : length heads ≤ 200000
+  pub c-bound : length next ≤ 4194304
+  pub table-long : columnNext m f (length next) + length heads ≤ length work
+  pub linked : Linked (region work (columnNext m f (length next)) (length heads)) (cell work (columnHead m) (j - 1)) (startingIn work m f (length heads) (length next) j)
+  pub each : (i : ℕ) → 1 ≤ times i (startingIn work m f (length heads) (length next) j) → CanCopy heads rows next i 256
+  pub rows-in : (i : ℕ) → 1 ≤ times i (startingIn work m f (length heads) (length next) j) → WithinRows m (bookRows heads rows next i)
+  pub room : (i : ℕ) → i < m → getD work i 0 < 2147483648
+
+-- ---- all of it
+
+abbrev pub givenIn : (heads rows next work : List ℕ) → (m f j : ℕ) → List ℕ
+givenIn hs rs ns w m f j =
+    j ∷ (gathered (stashed w m f) (childrenIn w m j) ++ gathered (bookRows hs rs ns) (startingIn w m f (length hs) (length ns) j))
+
+pub record CanTallyAll (heads rows next work : List ℕ) (m f j : ℕ) : Type 0 where
+  pub zero : IsZero work 0 m
+  pub sizes : Sizes m f work j
+  pub n-bound : length heads ≤ 200000
+  pub c-bound : length next ≤ 4194304
+  pub table-long : columnNext m f (length next) + length heads ≤ length work
+  pub children : Linked (region work (childNext m) m) (cell work (childHead m) (j - 1)) (childrenIn work m j)
+  pub stash : (c : ℕ) → 1 ≤ times c (childrenIn work m j) → Stashed work m f c
+  pub starting : Linked (region work (columnNext m f (length next)) (length heads)) (cell work (columnHead m) (j - 1)) (startingIn work m f (length heads) (length next) j)
+  pub copied : (i : ℕ) → 1 ≤ times i (startingIn work m f (length heads) (length next) j) → CanCopy heads rows next i 256
+  pub rows-in : (i : ℕ) → 1 ≤ times i (startingIn work m f (length heads) (length next) j) → WithinRows m (bookRows heads rows next i)

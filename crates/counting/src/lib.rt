@@ -1,0 +1,132 @@
+// Counting what the definition gives for a column of L, in the work table: the booked ids listed by smallest row, the children of a column listed, and the
+// rows that the diagonal, the children and the columns that start there bring, one more in the counter of each. The counters are the first m places.
+ghost use mathlib.Core.Path.{_≡_};
+ghost use Prim.Native.Nat.{_+_, _-_, _*_, _≤_, _<_};
+ghost use lib.ListN.{length};
+ghost use Rattle.workspace.specs.Regions.{region};
+ghost use Rattle.counting.specs.Counting.{linkedIn, CanLink, CanList, Listed, gathered, tallied, CanTally};
+ghost use Rattle.counting.specs.Given.{
+  Counted,
+  childrenIn,
+  stashed,
+  CanTallyChildren,
+  bookRows,
+  startingIn,
+  CanTallyColumns,
+  givenIn,
+  CanTallyAll,
+};
+use book::Id;
+
+// Puts number i at the front of the list of value v, heads from place a on and nexts from place b on; value 0 has no list.
+pub fn link(work: &mut [u32], a: usize, b: usize, v: u32, i: u32)
+    requires { ⌜ CanLink (now work) a b v i ⌝ }
+    ensures { λ _. ⌜ now (work .exit) ≡ linkedIn (now (work .entry)) a b v i ⌝ }
+{
+    if v == 0 {
+        return;
+    }
+    let h = a + (v - 1) as usize;
+    let first = work[h];
+    work[b + (i - 1) as usize] = first;
+    work[h] = i;
+}
+
+// Lists the booked ids by their smallest rows, which are 1 to m.
+pub fn link_columns(
+    book_heads: &[u32],
+    book_rows: &[u16],
+    work: &mut [u32],
+    a: usize,
+    m: usize,
+    b: usize,
+)
+    requires { ⌜ CanList (now «book_heads») (now «book_rows») (now work) a m b ⌝ }
+    ensures { λ _. ⌜ Listed (now («book_heads» .entry)) (now («book_rows» .entry)) (now (work .entry)) (now (work .exit)) a m b ⌝ }
+{
+    let mut i: usize = 0;
+    while i < book_heads.len() {
+        let k = (i + 1) as u32;
+        let first = book::first_row(book_heads, book_rows, Id(k));
+        link(work, a, b, first.0, k);
+        i += 1;
+    }
+}
+
+// Counts the rows at places a to e - 1, one more in the counter of each.
+fn tally(work: &mut [u32], a: usize, e: usize)
+    requires { ⌜ CanTally (now work) a e ⌝ }
+    ensures { λ _. ⌜ now (work .exit) ≡ tallied (now (work .entry)) (region (now (work .entry)) a (e - a)) ⌝ }
+{
+    let mut k = a;
+    while k < e {
+        let i = (work[k] - 1) as usize;
+        work[i] += 1;
+        k += 1;
+    }
+}
+
+// Counts the rows of each child of column j but the child's first, out of the stash. Gives their number.
+fn tally_children(work: &mut [u32], m: usize, f: usize, j: u32) -> u32
+    requires { ⌜ CanTallyChildren (now work) m f j ⌝ }
+    ensures { λ r. ⌜ Counted m f (now (work .entry)) (now (work .exit)) (gathered (stashed (now (work .entry)) m f) (childrenIn (now (work .entry)) m j)) r ⌝ }
+{
+    let stash = 8 * m + f;
+    let mut given: u32 = 0;
+    let mut c = work[m + (j - 1) as usize];
+    while c != 0 {
+        let k = (c - 1) as usize;
+        let a = work[4 * m + k];
+        let e = work[4 * m + c as usize];
+        tally(work, stash + a as usize + 1, stash + e as usize);
+        given += e - a - 1;
+        c = work[2 * m + k];
+    }
+    given
+}
+
+// Counts the rows of each book column whose smallest row is j. Gives their number.
+fn tally_columns(
+    book_heads: &[u32],
+    book_rows: &[u16],
+    book_next: &[u32],
+    work: &mut [u32],
+    m: usize,
+    f: usize,
+    j: u32,
+) -> u32
+    requires { ⌜ CanTallyColumns (now «book_heads») (now «book_rows») (now «book_next») (now work) m f j ⌝ }
+    ensures { λ r. ⌜ Counted m f (now (work .entry)) (now (work .exit)) (gathered (bookRows (now («book_heads» .entry)) (now («book_rows» .entry)) (now («book_next» .entry))) (startingIn (now (work .entry)) m f (length (now («book_heads» .entry))) (length (now («book_next» .entry))) j)) r ⌝ }
+{
+    let a = 8 * m + 4 * f;
+    let e = a + 256;
+    let nexts = a + 1024 + book_next.len();
+    let mut given: u32 = 0;
+    let mut i = work[3 * m + (j - 1) as usize];
+    while i != 0 {
+        let n = book::copy_rows(book_heads, book_rows, book_next, &mut work[a..e], Id(i));
+        tally(work, a, a + n as usize);
+        given += n;
+        i = work[nexts + (i - 1) as usize];
+    }
+    given
+}
+
+// Counts all that the definition gives for column j: 1 on the diagonal, its children's rows, the rows of the columns that start there.
+pub fn tally_all(
+    book_heads: &[u32],
+    book_rows: &[u16],
+    book_next: &[u32],
+    work: &mut [u32],
+    m: usize,
+    f: usize,
+    j: u32,
+) -> u32
+    requires { ⌜ CanTallyAll (now «book_heads») (now «book_rows») (now «book_next») (now work) m f j ⌝ }
+    ensures { λ r. ⌜ Counted m f (now (work .entry)) (now (work .exit)) (givenIn (now («book_heads» .entry)) (now («book_rows» .entry)) (now («book_next» .entry)) (now (work .entry)) m f j) r ⌝ }
+{
+    work[(j - 1) as usize] = 1;
+    let children = tally_children(work, m, f, j);
+    let columns = tally_columns(book_heads, book_rows, book_next, work, m, f, j);
+    1 + children + columns
+}

@@ -1,0 +1,9 @@
+pub mod Fitting
+pub mod Freeing
+pub mod Checking
+pub mod Local
+pub mod Ready
+pub mod Column
+pub mod Closing
+pub mod Through
+pub mod Preparing

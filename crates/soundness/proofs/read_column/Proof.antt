@@ -1,0 +1,216 @@
+-- `soundness::read_column` meets its contract: what column j is given is counted, its chain is walked against the counters, its parent compared with the
+-- second row; a test that fails means that the tables are not sound, and after all of them the state is that of one column more (proofs/Ready.antt,
+-- proofs/Column.antt, proofs/Closing.antt). Assumes nothing.
+use mathlib.Core.Path.{refl, sym, _∙_}
+use Prim.Native.Nat.{_+_, _-_}
+use native.Mathlib.Omega.{arith}
+use Rattle.book.specs.Book.{Book, bookOf}
+use Rattle.tables.specs.Stored.{Stored}
+use Rattle.soundness.specs.State.{storedOf}
+use Rattle.soundness.proofs.Ready.{ready-tally, ready-check}
+use Rattle.soundness.proofs.Column.{Found, column-cut, column-ended}
+use Rattle.soundness.proofs.Closing.{CloseFacts, closing-cut, closing-differs, closing-facts, closing-second, closing-link, closing-only, closing-end}
+use borrow.Author.Needs.{needs}
+use Rattle.soundness.proofs.read_column.Statement.{statement}
+use Rattle.soundness.proofs.read_column.Tie as tie
+
+-- ---- the places, named
+abbrev started : tie.After-tally-all → tie.Start
+started c = c .before .before .before .before .before .before .before .before .before .before .before
+
+abbrev tallied-at : tie.After-check-chain → tie.After-tally-all
+tallied-at c = c .before .before .before .before .before
+
+abbrev refused : tie.After-enum-told → tie.After-check-chain
+refused c = c .before .before .before .before
+
+abbrev walked-at : tie.After-known-told → tie.After-check-chain
+walked-at c = c .before .before .before .before .before
+
+abbrev compared : tie.After-shared-slice-known10 → tie.After-known-told
+compared c = c .before .before .before
+
+abbrev linking : tie.After-slice-known4 → tie.After-shared-slice-known10
+linking c = c .before .before .before .before .before
+
+abbrev stored : tie.Start → Stored
+stored e = storedOf (e .args .heads .now) (e .args .parents .now) (e .args .rows .now) (e .args .counts .now) (e .args .next .now) (e .args .free .0)
+
+abbrev booked : tie.Start → Book
+booked e = bookOf (e .args .book-heads .now) (e .args .book-rows .now) (e .args .book-next .now) (e .args .book-free .0)
+
+found : (c : tie.After-known-told) →
+    Found (stored (started (tallied-at (walked-at c)))) (booked (started (tallied-at (walked-at c)))) (started (tallied-at (walked-at c)) .args .work .now)
+    (tallied-at (walked-at c) .tally-all .last .1 .1 .1 .0) (started (tallied-at (walked-at c)) .args .j) (started (tallied-at (walked-at c)) .args .met) (c .before .n .given .0 .0)
+found c =
+    let k = walked-at c in
+    let t = tallied-at k in
+    column-ended (started t .pre .state) (started t .pre .inside) (t .tally-all .ensures) (k .check-chain .ensures) (c .before .n .given .1)
+
+facts : (c : tie.After-known-told) →
+    CloseFacts (stored (started (tallied-at (walked-at c)))) (booked (started (tallied-at (walked-at c)))) (walked-at c .check-chain .last .1 .1 .1 .0)
+    (started (tallied-at (walked-at c)) .args .j) (started (tallied-at (walked-at c)) .args .met) (c .before .n .given .0 .0)
+facts c =
+    let k = walked-at c in
+    let t = tallied-at k in
+    closing-facts (started t .pre .state) (started t .pre .inside) (found c) (t .tally-all .ensures) (k .check-chain .ensures)
+
+sub-i : tie.Need-sub-i
+sub-i c = search needs
+
+cast-i : tie.Need-cast-i
+cast-i c = search needs
+
+tally-all-requires : tie.Need-tally-all-requires
+tally-all-requires c κs = let p = c .before .before .before .before .before .before .before .before .before .before .pre in ready-tally (p .state) (p .inside)
+
+mul-check-chain : tie.Need-mul-check-chain
+mul-check-chain c = search needs
+
+shared-slice-read-check-chain : tie.Need-shared-slice-read-check-chain
+shared-slice-read-check-chain c = search needs
+
+check-chain-requires : tie.Need-check-chain-requires
+check-chain-requires c κs =
+    let t = c .before .before .before .before in
+    let p = started t .pre in
+    ready-check (p .state) (p .inside) (t .tally-all .ensures)
+
+enum-told : tie.Need-enum-told
+enum-told c = search needs
+
+same-length : tie.Need-same-length
+same-length c = search needs
+
+returns : tie.Need-returns
+returns c =
+    let k = refused c in
+    let t = tallied-at k in
+    let p = started t .pre in
+    closing-cut (p .state) (t .tally-all .ensures) (k .check-chain .ensures) (started t .args .j + 1)
+    (column-cut (p .state) (p .inside) (t .tally-all .ensures) (k .check-chain .ensures) (c .enum-told .given .1))
+
+enum-known-n : tie.Need-enum-known-n
+enum-known-n c = search needs
+
+mul-stash : tie.Need-mul-stash
+mul-stash c = search needs
+
+add-stash : tie.Need-add-stash
+add-stash c = search needs
+
+add-second : tie.Need-add-second
+add-second c = let f = facts (c .before) in omega arith
+
+add-second-2 : tie.Need-add-second-2
+add-second-2 c = let f = facts (c .before) in omega arith
+
+second-requires : tie.Need-second-requires
+second-requires c κs = let f = facts (c .before) in omega arith
+
+mul-if1 : tie.Need-mul-if1
+mul-if1 c = search needs
+
+shared-slice-read-if1 : tie.Need-shared-slice-read-if1
+shared-slice-read-if1 c = let f = facts (compared c) in omega arith
+
+cast-if1 : tie.Need-cast-if1
+cast-if1 c = omega (arith, c .shared-slice-known10 .given (started (tallied-at (walked-at (compared c))) .args .j - 1))
+
+same-length-2 : tie.Need-same-length-2
+same-length-2 c = search needs
+
+returns-2 : tie.Need-returns-2
+returns-2 c =
+    let h = compared (c .before) in
+    let k = walked-at h in
+    let t = tallied-at k in
+    let p = started t .pre in
+    let f = found h in
+    let q = closing-second (p .state) (p .inside) f (t .tally-all .ensures) (k .check-chain .ensures) _ _ refl refl in
+    closing-cut (p .state) (t .tally-all .ensures) (k .check-chain .ensures) (started t .args .j + 1)
+    (closing-differs (p .state) (p .inside) f (λ e. c .if1 .taken (e ∙ sym (c .before .before .second .ensures ∙ q))))
+
+mul-link : tie.Need-mul-link
+mul-link c = search needs
+
+link-requires : tie.Need-link-requires
+link-requires c κs =
+    let h = compared (c .before .before) in
+    let k = walked-at h in
+    let t = tallied-at k in
+    let p = started t .pre in
+    let f = found h in
+    closing-link (p .state) (p .inside) f (t .tally-all .ensures) (k .check-chain .ensures) (c .before .before .before .second .result)
+    (c .before .before .before .second .ensures ∙ closing-second (p .state) (p .inside) f (t .tally-all .ensures) (k .check-chain .ensures) _ _ refl refl)
+
+cast-work : tie.Need-cast-work
+cast-work c = let f = facts (compared (linking c)) in omega arith
+
+mul-work : tie.Need-mul-work
+mul-work c = let f = facts (compared (linking c)) in omega arith
+
+add-work : tie.Need-add-work
+add-work c = let f = facts (compared (linking c)) in omega arith
+
+mul-work-2 : tie.Need-mul-work-2
+mul-work-2 c = let f = facts (compared (linking c)) in omega arith
+
+slice-write-work : tie.Need-slice-write-work
+slice-write-work c = let f = facts (compared (linking c)) in omega (arith, c .before .before .link .kept)
+
+same-length-3 : tie.Need-same-length-3
+same-length-3 c =
+    let h = compared (linking c) in
+    let k = walked-at h in
+    let t = tallied-at k in
+    let p = started t .pre in
+    let f = found h in
+    closing-only (p .state) (p .inside) f (t .tally-all .ensures) (k .check-chain .ensures) (linking c .before .second .result)
+    (linking c .before .second .ensures ∙ closing-second (p .state) (p .inside) f (t .tally-all .ensures) (k .check-chain .ensures) _ _ refl refl)
+    (c .before .before .before .before .if1 .left) (c .before .before .link .ensures) refl .same-length
+
+returns-3 : tie.Need-returns-3
+returns-3 c =
+    let h = compared (linking c) in
+    let k = walked-at h in
+    let t = tallied-at k in
+    let p = started t .pre in
+    let f = found h in
+    closing-end (p .state) (p .inside) f (t .tally-all .ensures) (k .check-chain .ensures) (linking c .before .second .result)
+    (linking c .before .second .ensures ∙ closing-second (p .state) (p .inside) f (t .tally-all .ensures) (k .check-chain .ensures) _ _ refl refl)
+    (c .before .before .before .before .if1 .left) (c .before .before .link .ensures) refl
+
+pub read-column-spec : {M : Type 1} → statement M
+read-column-spec =
+    tie.close
+    (tie.spec
+    sub-i
+    cast-i
+    tally-all-requires
+    mul-check-chain
+    shared-slice-read-check-chain
+    check-chain-requires
+    enum-told
+    same-length
+    returns
+    enum-known-n
+    mul-stash
+    add-stash
+    add-second
+    add-second-2
+    second-requires
+    mul-if1
+    shared-slice-read-if1
+    cast-if1
+    same-length-2
+    returns-2
+    mul-link
+    link-requires
+    cast-work
+    mul-work
+    add-work
+    mul-work-2
+    slice-write-work
+    same-length-3
+    returns-3)

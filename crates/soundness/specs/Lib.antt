@@ -1,0 +1,4 @@
+pub mod Fitting
+pub mod Checking
+pub mod State
+pub mod ReadThrough

@@ -1,0 +1,25 @@
+-- What the read-through of all tables asks and answers. Assumes nothing: these are definitions.
+use mathlib.Core.Bool.{Bool, _&&_}
+use mathlib.Core.List.{List}
+use Prim.Native.Nat.{ℕ, _≤_}
+use lib.ListN.{length}
+use Rattle.workspace.specs.Layout.{workNeed}
+use Rattle.workspace.specs.Regions.{IsZero}
+use Rattle.book.specs.Book as book
+use Rattle.tables.specs.Stored.{Stored, Sized, isSoundFor}
+
+-- tables cut to their sizes, sizes that 32 bits hold with room, and a work table whose first W places are zero
+pub record CanReadThrough (s : Stored) (b : book.Book) (work : List ℕ) : Type 0 where
+  pub stored : Sized s
+  pub booked : book.Sized b
+  pub some : 1 ≤ length (s .heads)
+  pub m-bound : length (s .heads) ≤ 4096
+  pub n-bound : length (b .heads) ≤ 200000
+  pub f-bound : length (s .next) ≤ 1048576
+  pub c-bound : length (b .next) ≤ 4194304
+  pub long : workNeed (length (s .heads)) (length (b .heads)) (length (s .next)) (length (b .next)) ≤ length work
+  pub zero : IsZero work 0 (workNeed (length (s .heads)) (length (b .heads)) (length (s .next)) (length (b .next)))
+
+-- "Tables are sound if .."
+abbrev pub areSound : Stored → book.Book → Bool
+areSound s b = book.isSound (length (s .heads)) b && isSoundFor (book.columnsIn b) s

@@ -1,0 +1,100 @@
+-- What is known when columns 1 to j − 1 of L were read: their chains were walked and marked, their rows stand in the stash, the children and the book's
+-- columns are listed, no counter is left, and each column is the definition's. What reading one column and all columns answer.
+-- Assumes nothing: these are definitions.
+use mathlib.Core.Path.{_≡_}
+use mathlib.Core.Bool.{Bool, true, false}
+use mathlib.Core.List.{List, _∷_}
+use Prim.Native.Nat.{ℕ, suc, _+_, _-_, _≤_, _<_}
+use lib.ListN.{length, take}
+use Rattle.lists.specs.Lists.{at, valuesAt}
+use Rattle.workspace.specs.Layout.{workNeed, childHead, childNext, columnHead, stashStart, factorMarks, rowStash, columnNext}
+use Rattle.workspace.specs.Regions.{cell, region, IsZero, OnlyIn}
+use Rattle.symbolic.specs.Factor.{factorOf, columnAt}
+use Rattle.pool.specs.Whole.{chains, AllLinked}
+use Rattle.pool.specs.Walks.{fresh, markAll, NoMarks}
+use Rattle.pool.specs.declared.Walk.{Walk}
+use Rattle.pool.specs.declared.Walk.the-variants.{Ended, Cut}
+use Rattle.book.specs.Book as book
+use Rattle.book.specs.Entries.{firstRow}
+use Rattle.tables.specs.Stored.{Stored, Sized, recordsOf, holdsColumn, isSoundFor}
+use Rattle.counting.specs.Counting.{ListedIn}
+use Rattle.soundness.specs.Checking.{marksIn}
+
+abbrev pub storedOf : (heads parents rows counts next : List ℕ) → (free : ℕ) → Stored
+storedOf hs ps rs vs ns f = record { heads = hs; parents = ps; rows = rs; counts = vs; next = ns; free = f }
+
+-- tables cut to their sizes, sizes that 32 bits hold with room, and a work table of W places
+pub record Sizes (s : Stored) (b : book.Book) (work : List ℕ) : Type 0 where
+  pub stored : Sized s
+  pub booked : book.Sized b
+  pub some : 1 ≤ length (s .heads)
+  pub m-bound : length (s .heads) ≤ 4096
+  pub n-bound : length (b .heads) ≤ 200000
+  pub f-bound : length (s .next) ≤ 1048576
+  pub c-bound : length (b .next) ≤ 4194304
+  pub long : workNeed (length (s .heads)) (length (b .heads)) (length (s .next)) (length (b .next)) ≤ length work
+
+-- the heads whose chains were walked: the free one, and those of columns 1 to j - 1
+abbrev pub walked : Stored → (j : ℕ) → List ℕ
+walked s j = s .free ∷ take (j - 1) (s .heads)
+
+pub record Walked (s : Stored) (marks : List ℕ) (j met : ℕ) : Type 0 where
+  pub marks₀ : List ℕ
+  pub none : NoMarks (s .next) marks₀
+  pub linked : AllLinked (s .next) (walked s j)
+  pub counted : met ≡ length (chains (s .next) (walked s j))
+  pub within : met ≤ length (s .next)
+  pub marked : marks ≡ markAll marks₀ (chains (s .next) (walked s j))
+  pub unmarked : fresh marks₀ (chains (s .next) (walked s j)) ≡ true
+
+-- the stash: where each column's rows begin, and the rows
+pub record Stash (s : Stored) (work : List ℕ) (j met : ℕ) : Type 0 where
+  pub here : cell work (stashStart (length (s .heads))) (j - 1) ≡ met
+  pub start : (c : ℕ) → 1 ≤ c → c < j →
+      cell work (stashStart (length (s .heads))) c ≡ cell work (stashStart (length (s .heads))) (c - 1) + length (recordsOf s c)
+  pub below : (c : ℕ) → 1 ≤ c → c < j → cell work (stashStart (length (s .heads))) c ≤ met
+  pub rows-are : (c : ℕ) → 1 ≤ c → c < j →
+      region work (rowStash (length (s .heads)) (length (s .next)) + cell work (stashStart (length (s .heads))) (c - 1)) (length (recordsOf s c)) ≡ valuesAt (s .rows) (recordsOf s c)
+
+pub record State (s : Stored) (b : book.Book) (work : List ℕ) (j met : ℕ) : Type 0 where
+  pub sizes : Sizes s b work
+  pub low : 1 ≤ j
+  pub high : j ≤ suc (length (s .heads))
+  pub sound : book.isSound (length (s .heads)) b ≡ true
+  pub chains-walked : Walked s (marksIn work (length (s .heads)) (length (s .next))) j met
+  pub zero : IsZero work 0 (length (s .heads))
+  pub children : ListedIn work (childHead (length (s .heads))) (length (s .heads)) (childNext (length (s .heads))) (length (s .heads)) (at (s .parents)) (j - 1)
+  pub columns : ListedIn work (columnHead (length (s .heads))) (length (s .heads)) (columnNext (length (s .heads)) (length (s .next)) (length (b .next))) (length (b .heads)) (firstRow (b .heads) (b .rows)) (length (b .heads))
+  pub stash : Stash s work j met
+  pub holds : (c : ℕ) → 1 ≤ c → c < j → holdsColumn s c (columnAt (factorOf (length (s .heads)) (book.columnsIn b)) c) ≡ true
+
+-- any content of the first W places
+abbrev pub WithinWork : Stored → book.Book → (before after : List ℕ) → Type 0
+WithinWork s b w₀ w = OnlyIn 0 (workNeed (length (s .heads)) (length (b .heads)) (length (s .next)) (length (b .next))) w₀ w
+
+-- column j read
+pub record CanReadColumn (s : Stored) (b : book.Book) (work : List ℕ) (j met : ℕ) : Type 0 where
+  pub state : State s b work j met
+  pub inside : j ≤ length (s .heads)
+
+-- columns up to k - 1 read: a cut means that the tables are not sound
+pub record ColumnsRead (s : Stored) (b : book.Book) (work₀ work : List ℕ) (k : ℕ) (a : Walk) : Type 0 where
+  pub only : WithinWork s b work₀ work
+  pub cut : a ≡ Cut → isSoundFor (book.columnsIn b) s ≡ false
+  pub next : (n : ℕ) → a ≡ Ended n → State s b work k n
+
+-- ---- before the first column
+
+-- the book is sound, its columns are listed, and what the columns of L need is zero
+pub record Prepared (s : Stored) (b : book.Book) (work : List ℕ) : Type 0 where
+  pub sizes : Sizes s b work
+  pub sound : book.isSound (length (s .heads)) b ≡ true
+  pub zero : IsZero work 0 (length (s .heads))
+  pub heads-zero : IsZero work (childHead (length (s .heads))) (length (s .heads))
+  pub marks-zero : IsZero work (factorMarks (length (s .heads))) (length (s .next))
+  pub columns : ListedIn work (columnHead (length (s .heads))) (length (s .heads)) (columnNext (length (s .heads)) (length (s .next)) (length (b .next))) (length (b .heads)) (firstRow (b .heads) (b .rows)) (length (b .heads))
+
+-- the stored columns decided
+pub record FactorRead (s : Stored) (b : book.Book) (work₀ work : List ℕ) (a : Bool) : Type 0 where
+  pub only : WithinWork s b work₀ work
+  pub answer : a ≡ isSoundFor (book.columnsIn b) s
