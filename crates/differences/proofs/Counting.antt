@@ -1,0 +1,170 @@
+-- The two steps of counting together: what the first leaves can be merged, and merged it is the whole count. Then what a user of the count needs: a tally
+-- and a gathering can be counted, and the count is the tally of the differences counted. Assumes nothing.
+use mathlib.Core.Path.{_≡_, refl, sym, ap, _∙_}
+use mathlib.Core.Logic.{inl, inr, _≢_}
+use mathlib.Core.Bool.{Bool, true, false, not, true≢false}
+use mathlib.Core.List.{List, _++_}
+use Prim.Native.Nat.{ℕ, _+_, _-_, _*_, _≤_, _<_}
+use native.Mathlib.Omega.{arith}
+use lib.Dec.{eqb}
+use lib.ListN.{length, getD, length-append}
+use borrow.Author.Tests.{eq-eqb, ne-eqb}
+use Rattle.lists.specs.Lists.{one, among, times, at, rises}
+use Rattle.lists.proofs.Tests.{zero-or-pos, one-le}
+use Rattle.lists.proofs.Member.{mem-either, among-mem}
+use Rattle.lists.proofs.Times.{times-append, times-mem, mem-times, among-some, once-length}
+use Rattle.lists.proofs.Rising.{rises-in}
+use Rattle.workspace.specs.Regions.{region, IsZero}
+use Rattle.workspace.proofs.Regions.{region-ext, region-length, only-region, only-zero, only-join, zero-part, zero-at}
+use Rattle.differences.specs.Tally.{base, shifted, differenceAt, Tally, counted}
+use Rattle.differences.specs.Gather.{CanGather, Gathered}
+use Rattle.differences.specs.Count.{CanCount, Counted, Bumped, CanMerge, Merged}
+use Rattle.differences.proofs.Rows.{rises-once}
+use Rattle.differences.proofs.Bumping.{counted-same}
+
+module _ {m : ℕ} {w₀ : List ℕ} {n k : ℕ} {up : Bool} {w : List ℕ} {f : ℕ} (can : CanCount m w₀ n k) (b : Bumped m w₀ n k up w f) where
+  long : 3 * m ≤ length w
+  long = omega (arith, b .only .same-length, can .touched .long)
+
+  list-same : region w m n ≡ region w₀ m n
+  list-same =
+      region-ext w₀ w m m n (omega (arith, can .touched .long, can .touched .within)) (omega (arith, long, can .touched .within))
+      (λ i h. b .list i (omega (arith, can .touched .within)))
+
+  list-rises : rises 1 m (region w m n) ≡ true
+  list-rises = rw list-same (can .touched .rising)
+
+  -- no row is in both
+  once : (i : ℕ) → times i (region w m n) + times i (region w (2 * m) f) ≤ 1
+  once i =
+      let a : times i (region w m n) ≤ 1 = rises-once 1 m (region w m n) list-rises i in
+      let c : times i (region w (2 * m) f) ≤ 1 = rises-once 1 m (region w (2 * m) f) (b .buffered .rising) i in
+      elim (zero-or-pos (times i (region w m n))) [
+        | inl z ↦ omega arith
+        | inr p ↦
+            let t : (1 ≤ i) × (i ≤ m) = rises-in 1 m (times-mem i (region w m n) p) list-rises in
+            omega (arith, b .fresh i (t .0) (t .1), ap (times i) list-same, one-le (not (eqb (at w i) 0)))
+      ]
+
+  few : n + f ≤ m
+  few =
+      omega (
+        arith,
+        length-append (region w m n) (region w (2 * m) f),
+        region-length w m n (omega (arith, long, can .touched .within)),
+        region-length w (2 * m) f (omega (arith, long, b .buffered .within)),
+        once-length m (region w m n ++ region w (2 * m) f) (λ i. omega (arith, times-append i (region w m n) (region w (2 * m) f), once i))
+            (λ i h. elim (mem-either (region w m n) (times-mem i (region w m n ++ region w (2 * m) f) h)) [
+              | inl q ↦ rises-in 1 m q list-rises
+              | inr q ↦ rises-in 1 m q (b .buffered .rising)
+            ]),
+      )
+
+  pub bumped-merge : CanMerge m w n f
+  bumped-merge =
+      record {
+        long = long;
+        within = few;
+        rising = list-rises;
+        rest = λ i h.
+            let e : m + n + i ≡ m + (n + i) = omega arith in
+            ap (λ (p : ℕ). getD w p 0) e ∙ b .list (n + i) (omega arith) ∙ sym (ap (λ (p : ℕ). getD w₀ p 0) e) ∙ can .touched .rest i h;
+        buffered = b .buffered;
+        apart = once;
+      }
+
+  module _ {x : List ℕ} (g : Merged m w n f x) where
+    place-same : (i : ℕ) → 1 ≤ i → i ≤ m → at x i ≡ at w i
+    place-same i p q = g .only .outside (i - 1) (inl (omega arith))
+
+    members : (i : ℕ) → 1 ≤ i → i ≤ m → times i (region x m (n + f)) ≡ one (not (eqb (at x i) 0))
+    members i p q = rw (place-same i p q) (omega (arith, g .members i, b .fresh i p q, ap (times i) list-same))
+
+    pub merged-counted : Counted m w₀ k up x (n + f)
+    merged-counted =
+        record {
+          tally = record {
+            touched = record {
+              long = omega (arith, g .only .same-length, long);
+              within = few;
+              rising = g .rising;
+              listed = λ i p q. (
+                λ t e. omega (arith, mem-times (among-mem i (region x m (n + f)) t), members i p q, none-of (at x i) e),
+                λ d. among-some i (region x m (n + f)) (omega (arith, members i p q, one-of (at x i) d)),
+              );
+              rest = g .rest;
+            };
+            values = λ i p q. refl;
+            buffer = g .buffer;
+          };
+          counted-rows = counted-same up (differenceAt w₀) (differenceAt w) (differenceAt x) m (λ i. among i (region w₀ (2 * m) k)) (b .counted-rows)
+              (λ i p q. ap shifted (place-same i p q));
+          only = only-join 0 (3 * m) (b .only) (g .only) (omega arith) (omega arith) (omega arith) (omega arith);
+        }
+      where
+        none-of : (y : ℕ) → y ≡ 0 → one (not (eqb y 0)) ≡ 0
+        none-of y e = rw (eq-eqb y 0 e) refl
+
+        one-of : (y : ℕ) → y ≢ 0 → one (not (eqb y 0)) ≡ 1
+        one-of y d = rw (ne-eqb y 0 d) refl
+
+-- ---- for a user
+
+-- nothing counted yet
+pub tally-start : {m : ℕ} {w : List ℕ} → 3 * m ≤ length w → IsZero w 0 (3 * m) → Tally m w 0 (λ i. base)
+unfolding among rises
+tally-start {m} {w} l z =
+    let none : (i : ℕ) → i ≤ m → 1 ≤ i → at w i ≡ 0 = (λ i q p. zero-at w 0 (3 * m) (i - 1) z (omega arith) (omega arith)) in
+    record {
+      touched = record {
+        long = l;
+        within = omega arith;
+        rising = refl;
+        listed = λ i p q. (λ t e. true≢false (sym t), λ d. absurd (d (none i q p)));
+        rest = zero-part w 0 (3 * m) (m + 0) (m - 0) z (omega arith) (omega arith);
+      };
+      values = λ i p q. rw (none i q p) refl;
+      buffer = zero-part w 0 (3 * m) (2 * m) m z (omega arith) (omega arith);
+    }
+
+pub tally-gather : {m : ℕ} {w : List ℕ} {n : ℕ} {δ : ℕ → ℕ} → Tally m w n δ → CanGather m w
+tally-gather t = record { long = t .touched .long; empty = t .buffer }
+
+module _ {m : ℕ} {w₀ : List ℕ} {n : ℕ} {δ : ℕ → ℕ} {w : List ℕ} {k : ℕ} {p : ℕ → Bool} (t : Tally m w₀ n δ) (g : Gathered m w₀ w k p) where
+  same-place : (i : ℕ) → 1 ≤ i → i ≤ m → at w i ≡ at w₀ i
+  same-place i a b = g .only .outside (i - 1) (inl (omega arith))
+
+  same-list : region w m n ≡ region w₀ m n
+  same-list = only-region (g .only) m n (inr (omega (arith, t .touched .within)))
+
+  same-value : (i : ℕ) → 1 ≤ i → i ≤ m → differenceAt w i ≡ δ i
+  same-value i a b = ap shifted (same-place i a b) ∙ t .values i a b
+
+  pub tally-gathered : ((i : ℕ) → p i ≡ true → (2 ≤ δ i) × (δ i < 2147483647)) → CanCount m w n k
+  tally-gathered f =
+      record {
+        touched = record {
+          long = omega (arith, g .only .same-length, t .touched .long);
+          within = t .touched .within;
+          rising = rw same-list (t .touched .rising);
+          listed = λ i a b. (
+            λ h e. t .touched .listed i a b .0 (sym (ap (among i) same-list) ∙ h) (sym (same-place i a b) ∙ e),
+            λ d. ap (among i) same-list ∙ t .touched .listed i a b .1 (λ e. d (same-place i a b ∙ e)),
+          );
+          rest = only-zero (g .only) (m + n) (m - n) (inr (omega (arith, t .touched .within))) (t .touched .rest);
+        };
+        buffered = g .buffered;
+        ranges = λ i h.
+            let b : (1 ≤ i) × (i ≤ m) = rises-in 1 m (among-mem i (region w (2 * m) k) h) (g .buffered .rising) in
+            let r : (2 ≤ δ i) × (δ i < 2147483647) = f i (sym (g .rows i) ∙ h) in
+            (omega (arith, r .0, same-value i (b .0) (b .1)), omega (arith, r .1, same-value i (b .0) (b .1)));
+      }
+
+  -- the count is the tally of the differences counted
+  pub tally-counted : (up : Bool) {x : List ℕ} {l : ℕ} (δ′ : ℕ → ℕ) → Counted m w k up x l → counted up δ δ′ m p → Tally m x l δ′
+  tally-counted up {x} {l} δ′ c d = record { touched = c .tally .touched; values = go up (c .counted-rows) d; buffer = c .tally .buffer }
+    where
+      go : (up : Bool) → counted up (differenceAt w) (differenceAt x) m (λ i. among i (region w (2 * m) k)) → counted up δ δ′ m p →
+          (i : ℕ) → 1 ≤ i → i ≤ m → differenceAt x i ≡ δ′ i
+      go true c d i a b = omega (arith, c i a b, d i a b, ap one (g .rows i), same-value i a b)
+      go false c d i a b = omega (arith, c i a b, d i a b, ap one (g .rows i), same-value i a b)

@@ -1,0 +1,8 @@
+pub mod Plans
+pub mod PlanRows
+pub mod Left
+pub mod Walking
+pub mod Clearing
+pub mod Turning
+pub mod Planning
+pub mod Emitting
