@@ -1,4 +1,6 @@
--- One step along a chain that ends: the record at hand, and the chain from its next one on. Assumes nothing.
+-- One step along a chain that ends: the record at hand is of the pool, and what follows is the chain from its next one on (`chain-onward`), which is
+-- shorter; at 0 the chain is over. A loop along a chain keeps `Linked next q (chain next q)` and has the chain's length as its measure.
+-- Assumes nothing.
 use mathlib.Core.Path.{_≡_, sym, ap, _∙_}
 use mathlib.Core.Logic.{_≢_}
 use mathlib.Core.List.{List, [], _∷_}

@@ -1,4 +1,5 @@
 -- Gathering the rows of a chain: those of the records passed stand in the buffer, and with those of the records to come they are the whole chain's.
+-- The start, a turn (there is room, and the next record), and the end.
 -- Assumes nothing.
 use mathlib.Core.Path.{_≡_, refl, sym, ap, _∙_}
 use mathlib.Core.Logic.{_≢_}

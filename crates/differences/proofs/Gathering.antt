@@ -1,4 +1,5 @@
--- Gathering rows in the buffer, one place after another: nothing yet, one row more, and all of them; what the buffer's writing leaves of the plan.
+-- Gathering rows in the buffer, one place after another: nothing yet, one row more (`gathering-push`), and all of them (`gathering-done`); what the
+-- buffer's writing leaves of the plan; the rows of a list; one gathering after another.
 -- Assumes nothing.
 use mathlib.Core.Path.{_≡_, refl, ap, subst, _∙_}
 use mathlib.Core.Logic.{inl}

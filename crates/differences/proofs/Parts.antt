@@ -1,4 +1,5 @@
--- Parts of the plan region as lists: none, one entry more at the end, the first entry, two in a row; the rows of their entries, all and of one kind.
+-- Parts of the plan region as lists: none, one entry more at the end, the first entry, two in a row. Then the rows of their entries, all and of one
+-- kind: of two parts, of one entry more; rows of one kind are rows and rise with them; a part's rows are at or above its first (`part-above`).
 -- Assumes nothing.
 use mathlib.Core.Path.{_≡_, refl, ap, subst, _∙_}
 use mathlib.Core.Logic.{inl, inr}

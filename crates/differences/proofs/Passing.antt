@@ -1,4 +1,6 @@
--- Passing a part of the plan up to a bound: nothing yet, one entry more, and the end; with the rows of one kind gathered on the way. Assumes nothing.
+-- Passing a part of the plan up to a bound: nothing yet, one entry more, and the end, at an entry at or above the bound or at the part's end. Then the
+-- same with the rows of one kind gathered on the way, after k others.
+-- Assumes nothing.
 use mathlib.Core.Path.{_≡_, refl, sym, ap, subst, _∙_}
 use mathlib.Core.Logic.{inl, inr}
 use mathlib.Core.Bool.{true, false, false≢true}

@@ -1,4 +1,6 @@
--- Rising lists of rows: taken apart at the front, joined and cut, bounded anew, no row twice; members of a list that is joined or sifted. Assumes nothing.
+-- Rising lists of rows, by what a walk does with them: take the first, bound them anew, join two or cut one in two, know that no row is twice and none
+-- above the last. Then members: the only one, those of a list that has another's and one more, a count that is a test.
+-- What lists has of rising lists (members within the bounds, weaker bounds, lengths) is not repeated. Assumes nothing.
 use mathlib.Core.Path.{_≡_, refl}
 use mathlib.Core.Logic.{inl, inr, _≢_}
 use mathlib.Core.Bool.{Bool, true, false, _&&_, _||_}

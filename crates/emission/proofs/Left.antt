@@ -86,9 +86,6 @@ module _ {rows counts : List ℕ} {j : ℕ} {old new : List ℕ} where
     left-above i n =
         rises-in (suc t) (t + length (drop t old)) (subst (λ (xs : List ℕ). Mem i xs) (g .rows-left) n) (pattern-rises (suc t) (drop t old) (t + length (drop t old)) (omega arith)) .0
 
-    pub left-size : length (patternFrom 1 new) ≡ size + length (patternFrom (suc t) (drop t new))
-    left-size = sym (g .size-left)
-
     pub record Ended : Type 0 where
       pub size-is : size ≡ length (patternFrom 1 new)
       pub parent-is : parent ≡ firstAbove j 1 new

@@ -1,5 +1,6 @@
 -- For a user of a plan: which rows it has of a kind. Of the plan from old to new multiplicities, those that are new and those that are gone (`plan-new`,
--- `plan-gone`); of any plan that suits, its rows rise and a new row was not there. Assumes nothing.
+-- `plan-gone`); of any plan that suits, its rows rise (`suits-rises`) and a new row was not there
+-- (`suits-new`). Assumes nothing.
 use mathlib.Core.Path.{_≡_, refl, sym, ap, subst, _∙_}
 use mathlib.Core.Logic.{inl, inr, _≢_}
 use mathlib.Core.Bool.{Bool, true, false, _&&_, not}

@@ -1,4 +1,6 @@
--- Passing over records with rows below a bound: nothing yet, one record more, and the end. Assumes nothing.
+-- Passing over records with rows below a bound: nothing yet, one record more, which is counted and may be the first row above the diagonal, and the end,
+-- at a record at or above the bound or at the chain's end.
+-- Assumes nothing.
 use mathlib.Core.Path.{_≡_, refl, sym, ap, subst, _∙_}
 use mathlib.Core.Logic.{inl, inr, _≢_}
 use mathlib.Core.Bool.{true, false, false≢true}
