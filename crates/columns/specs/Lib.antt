@@ -2,3 +2,4 @@ pub mod Search
 pub mod Plan
 pub mod Apply
 pub mod Commit
+pub mod Opened

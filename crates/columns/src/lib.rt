@@ -1,19 +1,96 @@
-// The stored columns of L: the first record at or above a row, a row's multiplicity, a column copied out, and a planned change of one column, in one
+// The stored columns of L: fresh ones, the first record at or above a row, a row's multiplicity, a column copied out, and a planned change of one column, in one
 // walk of its chain. A chain's end is a premise, so no walk counts its turns.
 ghost use mathlib.Core.Path.{_≡_};
 ghost use mathlib.Core.List.{List};
-ghost use Prim.Native.Nat.{ℕ, _≤_};
-ghost use lib.ListN.{length};
-ghost use Rattle.lists.specs.Lists.{at, over};
+ghost use Prim.Native.Nat.{ℕ, _≤_, _<_};
+ghost use lib.ListN.{length, replicate};
+ghost use Rattle.lists.specs.Lists.{at, over, upFrom};
 ghost use Rattle.pool.specs.Chains.{chain};
 ghost use Rattle.columns.specs.Search.{firstAt, lastBelow, countOf, entriesAt, CanSearch, CanCount, CanCopy};
 ghost use Rattle.columns.specs.Apply.{CanApply, Applied, CanBegin, Begun};
+ghost use Rattle.columns.specs.Opened.{openedRows, openedCounts, CanOpen, Opened};
 ghost use Rattle.columns.specs.Commit.{CanCommitChain, CommitReady, CommittedChain};
 use book::Row;
 use pool::Rec;
 
 // Where a commit stands: the last record that is done, then the free chain's head.
 struct Spot(Rec, Rec);
+
+// Writes fresh columns: column j is record j alone, the other records are free. Gives the free head.
+pub fn open(
+    heads: &mut [u32],
+    parents: &mut [u16],
+    rows: &mut [u16],
+    counts: &mut [u16],
+    next: &mut [u32],
+) -> Rec
+    requires { ⌜ CanOpen (now heads) (now parents) (now rows) (now counts) (now next) ⌝ }
+    ensures { λ f. ⌜ Opened (length (now (heads .entry))) (length (now (next .entry))) (now (heads .exit)) (now (parents .exit)) (now (rows .exit)) (now (counts .exit)) (now (next .exit)) (f .0) ⌝ }
+{
+    let m = heads.len();
+    number_heads(heads);
+    zero_parents(parents);
+    number_rows(rows, m);
+    one_counts(counts, m);
+    pool::link_free(next, m as u32)
+}
+
+// Writes record j as the head of column j.
+fn number_heads(heads: &mut [u32])
+    requires { ⌜ length (now heads) < 65536 ⌝ }
+    ensures { λ _. ⌜ now (heads .exit) ≡ upFrom 1 (length (now (heads .entry))) ⌝ }
+{
+    let mut i: usize = 0;
+    while i < heads.len() {
+        heads[i] = (i + 1) as u32;
+        i += 1;
+    }
+}
+
+// Writes no parent for any column.
+fn zero_parents(parents: &mut [u16])
+    ensures { λ _. ⌜ now (parents .exit) ≡ replicate (length (now (parents .entry))) 0 ⌝ }
+{
+    let mut i: usize = 0;
+    while i < parents.len() {
+        parents[i] = 0;
+        i += 1;
+    }
+}
+
+// Writes rows 1 to m, then 0.
+fn number_rows(rows: &mut [u16], m: usize)
+    requires { ⌜ (m ≤ length (now rows)) × (m < 65536) ⌝ }
+    ensures { λ _. ⌜ now (rows .exit) ≡ openedRows m (length (now (rows .entry))) ⌝ }
+{
+    let mut i: usize = 0;
+    while i < rows.len() {
+        if i < m {
+            rows[i] = (i + 1) as u16;
+            i += 1;
+        } else {
+            rows[i] = 0;
+            i += 1;
+        }
+    }
+}
+
+// Writes m multiplicities 1, then 0.
+fn one_counts(counts: &mut [u16], m: usize)
+    requires { ⌜ m ≤ length (now counts) ⌝ }
+    ensures { λ _. ⌜ now (counts .exit) ≡ openedCounts m (length (now (counts .entry))) ⌝ }
+{
+    let mut i: usize = 0;
+    while i < counts.len() {
+        if i < m {
+            counts[i] = 1;
+            i += 1;
+        } else {
+            counts[i] = 0;
+            i += 1;
+        }
+    }
+}
 
 // The first record of the chain from head whose row is at or above i, or record 0.
 pub fn first_at(rows: &[u16], next: &[u32], head: Rec, i: Row) -> Rec

@@ -13,7 +13,7 @@ use borrow.Author.Tests.{le-leb}
 use Rattle.lists.specs.Lists.{isIn}
 use Rattle.lists.proofs.Tests.{lt-or-le, refute, in-range}
 use Rattle.tables.specs.Tables.{Tables, Limits, longEnough}
-use Rattle.calls.specs.Refusals.{Refusal, refusal, isAccepted, orElse, unless, bounds, sizesRefusal, workFor, shortRefusal, shortBatch, rowRefusal, roomFor}
+use Rattle.calls.specs.Refusals.{Refusal, refusal, Bounds, isAccepted, orElse, unless, bounds, sizesRefusal, workFor, shortRefusal, shortBatch, rowRefusal, roomFor}
 use Rattle.calls.specs.Calls.{withDefault}
 use Rattle.calls.proofs.Choices.{or-first}
 use Rattle.refusals.specs.Early.{limits, defaultRecords, factorLong, bookLong, listsLong, NoRoom}
@@ -27,42 +27,42 @@ in-order : {a b c d : Bool} (w x y z : Bool) → a ≡ w → b ≡ x → c ≡ y
     orElse (unless w 1 0) (orElse (unless x 2 0) (orElse (unless y 3 0) (unless z 4 0)))
 in-order w x y z e f g h = rw (e, f, g, h) refl
 
-module _ (m n f c : ℕ) where
+module _ (b : Bounds) (m n f c : ℕ) where
   abbrev pub numberOf : ℕ
-  numberOf = sizesRefusal bounds (limits m n f c) .number
+  numberOf = sizesRefusal b (limits m n f c) .number
 
   abbrev onM : Bool
-  onM = isIn 1 4096 m
+  onM = isIn 1 (b .m) m
 
   abbrev onN : Bool
-  onN = isIn 1 16384 n
+  onN = isIn 1 (b .n) n
 
   abbrev onF : Bool
-  onF = isIn m 1048576 f
+  onF = isIn m (b .f) f
 
   abbrev onC : Bool
-  onC = isIn 1 262144 c
+  onC = isIn 1 (b .c) c
 
   module _ {x : Bool} (a : x ≡ not onM) where
     pub sizes-first : x ≡ true → 1 ≡ numberOf
     sizes-first h = sym (ap (λ (r : Refusal). r .number) (in-order false onN onF onC (is-out onM a h) refl refl refl))
 
-    module _ (p : x ≡ false) {y : Bool} (b : y ≡ not onN) where
+    module _ (p : x ≡ false) {y : Bool} (k : y ≡ not onN) where
       pub sizes-second : y ≡ true → 2 ≡ numberOf
-      sizes-second h = sym (ap (λ (r : Refusal). r .number) (in-order true false onF onC (is-in onM a p) (is-out onN b h) refl refl))
+      sizes-second h = sym (ap (λ (r : Refusal). r .number) (in-order true false onF onC (is-in onM a p) (is-out onN k h) refl refl))
 
       module _ (q : y ≡ false) {z : Bool} (d : z ≡ not onF) where
         pub sizes-third : z ≡ true → 3 ≡ numberOf
-        sizes-third h = sym (ap (λ (r : Refusal). r .number) (in-order true true false onC (is-in onM a p) (is-in onN b q) (is-out onF d h) refl))
+        sizes-third h = sym (ap (λ (r : Refusal). r .number) (in-order true true false onC (is-in onM a p) (is-in onN k q) (is-out onF d h) refl))
 
         module _ (r : z ≡ false) {w : Bool} (e : w ≡ not onC) where
           pub sizes-fourth : w ≡ true → 4 ≡ numberOf
           sizes-fourth h =
-              sym (ap (λ (r : Refusal). r .number) (in-order true true true false (is-in onM a p) (is-in onN b q) (is-in onF d r) (is-out onC e h)))
+              sym (ap (λ (r : Refusal). r .number) (in-order true true true false (is-in onM a p) (is-in onN k q) (is-in onF d r) (is-out onC e h)))
 
           pub sizes-none : w ≡ false → 0 ≡ numberOf
           sizes-none h =
-              sym (ap (λ (r : Refusal). r .number) (in-order true true true true (is-in onM a p) (is-in onN b q) (is-in onF d r) (is-in onC e h)))
+              sym (ap (λ (r : Refusal). r .number) (in-order true true true true (is-in onM a p) (is-in onN k q) (is-in onF d r) (is-in onC e h)))
 
 -- ---- 5
 
@@ -145,7 +145,7 @@ room-refusal xs p n e = test-refusal (leb (p + n) (length xs)) 18 refl (e xs ref
 
 -- an m that is allowed gets document 01's default
 pub default-allowed : (m n f c : ℕ) → m ≤ 4096 → limits m n (defaultRecords m f) c ≡ withDefault (limits m n f c)
-default-allowed m n f c h = rw (le-leb m 4096 h) refl
+default-allowed m n f c h = rw (le-leb m 268435455 (omega arith)) refl
 
 -- the default changes no number: any other m is refused by 1
 pub default-refusal : (m n f c : ℕ) → sizesRefusal bounds (limits m n (defaultRecords m f) c) ≡ sizesRefusal bounds (withDefault (limits m n f c))

@@ -9,18 +9,21 @@ use lib.Dec.{leb, eqb}
 use lib.ListN.{length}
 use Rattle.lists.specs.Lists.{pick}
 use Rattle.tables.specs.Tables.{Tables, Limits}
-use Rattle.calls.specs.Refusals.{isAccepted, roomFor}
+use Rattle.calls.specs.Refusals.{Bounds, isAccepted, roomFor}
 
 abbrev pub limits : (m n f c : ℕ) → Limits
 limits m n f c = record { m = m; n = n; f = f; c = c }
+
+abbrev pub largest : (m n f c : ℕ) → Bounds
+largest m n f c = record { m = m; n = n; f = f; c = c }
 
 abbrev pub lent : (heads parents rows counts next bookHeads bookRows bookNext : List ℕ) → Tables
 lent hs ps rs cs ns bh br bn =
     record { heads = hs; parents = ps; rows = rs; counts = cs; next = ns; bookHeads = bh; bookRows = br; bookNext = bn }
 
--- "F .. at opening 0 means 16 × m", for an m that is allowed; number 1 refuses any other, whatever F is
+-- "F .. at opening 0 means 16 × m", for an m whose 16 × m fits 32 bits; number 1 refuses any other, whatever F is
 abbrev pub defaultRecords : (m f : ℕ) → ℕ
-defaultRecords m f = pick (leb m 4096 && eqb f 0) (16 * m) f
+defaultRecords m f = pick (leb m 268435455 && eqb f 0) (16 * m) f
 
 -- ---- long enough: the tables of L, those of the book, a batch's lists
 

@@ -5,25 +5,13 @@ ghost use mathlib.Core.Bool.{not};
 ghost use Prim.Native.Nat.{_+_, _≤_, _<_};
 ghost use lib.ListN.{length, getD, drop};
 ghost use Rattle.lists.specs.Lists.{isIn, among};
-ghost use Rattle.calls.specs.Refusals.{bounds, refusal, isAccepted, sizesRefusal, shortRefusal, rowRefusal};
+ghost use Rattle.calls.specs.Refusals.{refusal, isAccepted, sizesRefusal, shortRefusal, rowRefusal};
 ghost use Rattle.book.specs.Book.{isBooked};
-ghost use Rattle.refusals.specs.Early.{limits, lent, defaultRecords, factorLong, bookLong, listsLong, NoRoom};
+ghost use Rattle.refusals.specs.Early.{limits, largest, lent, defaultRecords, factorLong, bookLong, listsLong, NoRoom};
 ghost use Rattle.refusals.specs.Parts.{IsNumber, before, idRefusal, rowsPart, countRefusal, columnRefusal, leavingRefusal, InStep, HasPlace};
 ghost use Rattle.refusals.specs.Found.{found, HasBook, ColumnsFound, AddFound, IdsFound, RemoveFound};
 use book::Id;
 use pool::Rec;
-
-// The largest m.
-pub const MOST_ROWS: u32 = 4096;
-
-// The largest n.
-pub const MOST_IDS: u32 = 16384;
-
-// The largest F.
-pub const MOST_RECORDS: u32 = 1048576;
-
-// The largest C.
-pub const MOST_BOOKED: u32 = 262144;
 
 // The most columns in a batch.
 pub const MOST_COLUMNS: usize = 64;
@@ -66,30 +54,42 @@ fn outside(low: u32, high: u32, x: u32) -> bool
     high < x
 }
 
-// The number 1 to 4 that the sizes are refused by, or 0.
-pub fn sizes(m: u32, n: u32, f: u32, c: u32) -> u32
-    ensures { λ r. ⌜ r ≡ sizesRefusal bounds (limits m n f c) .number ⌝ }
+// The number 1 to 4 that the sizes are refused by, or 0, from the largest m, n, F and C.
+pub fn sizes(
+    m: u32,
+    n: u32,
+    f: u32,
+    c: u32,
+    most_rows: u32,
+    most_ids: u32,
+    most_records: u32,
+    most_booked: u32,
+) -> u32
+    ensures { λ r. ⌜ r ≡ sizesRefusal (largest «most_rows» «most_ids» «most_records» «most_booked») (limits m n f c) .number ⌝ }
 {
-    if outside(1, MOST_ROWS, m) {
+    if outside(1, most_rows, m) {
         return 1;
     }
-    if outside(1, MOST_IDS, n) {
+    if outside(1, most_ids, n) {
         return 2;
     }
-    if outside(m, MOST_RECORDS, f) {
+    if outside(m, most_records, f) {
         return 3;
     }
-    if outside(1, MOST_BOOKED, c) {
+    if outside(1, most_booked, c) {
         return 4;
     }
     0
 }
 
-// The F of an opening: 16 * m where 0 is asked for and m is allowed.
+// The largest m whose 16 * m fits 32 bits; it is far beyond any that is allowed.
+const MOST_DEFAULTED: u32 = 268435455;
+
+// The F of an opening: 16 * m where 0 is asked for and 16 * m fits.
 pub fn default_records(m: u32, f: u32) -> u32
     ensures { λ r. ⌜ r ≡ defaultRecords m f ⌝ }
 {
-    if MOST_ROWS < m {
+    if MOST_DEFAULTED < m {
         return f;
     }
     if f == 0 {

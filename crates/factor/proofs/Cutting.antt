@@ -1,0 +1,134 @@
+-- The tables within their sizes, as the code lends them: their lengths are the sizes (`Cut`), usable tables can be asked and followed, tables that are long
+-- enough can be read through, and what is read through is soundness. Assumes nothing.
+use mathlib.Core.Path.{_≡_, sym, ap, _∙_, subst}
+use mathlib.Core.Bool.{true, _&&_}
+use mathlib.Core.List.{List}
+use Prim.Native.Nat.{ℕ, _+_, _≤_}
+use native.Mathlib.Omega.{arith}
+use lib.ListN.{length}
+use lib.Seq.{length-take-le}
+use Rattle.symbolic.specs.Columns.{live}
+use Rattle.workspace.specs.Layout.{workNeed}
+use Rattle.workspace.specs.Regions.{OnlyIn, cleared, zeroFirst}
+use Rattle.workspace.proofs.Regions.{cleared-length, cleared-zero, cleared-only, cleared-unique, only-trans, first-cleared}
+use Rattle.book.specs.Book as book
+use Rattle.tables.specs.Stored.{Sized, isSoundFor}
+use Rattle.tables.specs.Tables.{Tables, Limits, State, longEnough, storedIn, bookIn, registerOf, isSound}
+use Rattle.tables.proofs.Tables.{Long, long-facts, sound-stored}
+use Rattle.calls.specs.Refusals.{accepted, isAccepted, bounds, sizesRefusal, workFor}
+use Rattle.calls.proofs.Refusals.{InRange, sizes-facts}
+use Rattle.soundness.specs.ReadThrough.{CanReadThrough, areSound}
+use Rattle.questions.specs.Asked.{ColumnsFor, ParentsFor, CanAsk, CanFollow}
+use Rattle.questions.proofs.Reading.{stored-columns, stored-parents, can-ask, can-follow}
+use Rattle.factor.specs.Admission.{HasPlaces, Usable}
+
+-- ---- lengths
+
+pub record Cut (s : State) (t : Tables) : Type 0 where
+  pub heads : length (storedIn s t .heads) ≡ s .limits .m
+  pub parents : length (storedIn s t .parents) ≡ s .limits .m
+  pub rows : length (storedIn s t .rows) ≡ s .limits .f
+  pub counts : length (storedIn s t .counts) ≡ s .limits .f
+  pub next : length (storedIn s t .next) ≡ s .limits .f
+  pub bookHeads : length (bookIn s t .heads) ≡ s .limits .n
+  pub bookRows : length (bookIn s t .rows) ≡ s .limits .c
+  pub bookNext : length (bookIn s t .next) ≡ s .limits .c
+
+pub cut : (s : State) (t : Tables) → longEnough (s .limits) t ≡ true → Cut s t
+cut s t z =
+    let h : Long (s .limits) t = long-facts (s .limits) t z in
+    record {
+      heads = length-take-le (s .limits .m) (t .heads) (h .heads);
+      parents = length-take-le (s .limits .m) (t .parents) (h .parents);
+      rows = length-take-le (s .limits .f) (t .rows) (h .rows);
+      counts = length-take-le (s .limits .f) (t .counts) (h .counts);
+      next = length-take-le (s .limits .f) (t .next) (h .next);
+      bookHeads = length-take-le (s .limits .n) (t .bookHeads) (h .bookHeads);
+      bookRows = length-take-le (s .limits .c) (t .bookRows) (h .bookRows);
+      bookNext = length-take-le (s .limits .c) (t .bookNext) (h .bookNext);
+    }
+
+cut-sized : {s : State} {t : Tables} → Cut s t → Sized (storedIn s t)
+cut-sized c = record { parents-long = c .parents ∙ sym (c .heads); rows-long = c .rows ∙ sym (c .next); counts-long = c .counts ∙ sym (c .next) }
+
+pub in-range : (l : Limits) → sizesRefusal bounds l ≡ accepted → InRange l
+in-range l e = sizes-facts l (ap isAccepted e)
+
+-- ---- usable tables
+
+module _ {s : State} {t : Tables} (u : Usable s t) where
+  sizes : Cut s t
+  sizes = cut s t (u .long)
+
+  stored : isSoundFor (live (registerOf s t)) (storedIn s t) ≡ true
+  stored = sound-stored s t (u .sound)
+
+  rows-are : registerOf s t .m ≡ length (storedIn s t .heads)
+  rows-are = sym (sizes .heads)
+
+  narrow : length (storedIn s t .heads) ≤ 4096
+  narrow = omega (arith, sizes .heads, in-range (s .limits) (u .sizes) .m-high)
+
+  pub usable-columns : ColumnsFor (storedIn s t .heads) (storedIn s t .rows) (storedIn s t .counts) (storedIn s t .next) (registerOf s t)
+  usable-columns = stored-columns (storedIn s t) (registerOf s t) rows-are stored
+
+  pub usable-parents : ParentsFor (storedIn s t .parents) (registerOf s t)
+  usable-parents = stored-parents (storedIn s t) (registerOf s t) rows-are stored (cut-sized sizes .parents-long)
+
+  pub usable-ask : CanAsk (storedIn s t .heads) (storedIn s t .rows) (storedIn s t .counts) (storedIn s t .next)
+  usable-ask = can-ask (storedIn s t) (registerOf s t) rows-are stored (cut-sized sizes) narrow
+
+  pub usable-follow : CanFollow (storedIn s t .parents)
+  usable-follow = can-follow (storedIn s t) (registerOf s t) rows-are stored (cut-sized sizes) narrow
+
+-- ---- read through
+
+module _ (s : State) {t : Tables} {w : List ℕ} (r : HasPlaces (s .limits) t w) where
+  lengths : Cut s t
+  lengths = cut s t (r .long)
+
+  abbrev need : ℕ
+  need = workNeed (length (storedIn s t .heads)) (length (bookIn s t .heads)) (length (storedIn s t .next)) (length (bookIn s t .next))
+
+  need-is : need ≡ workFor (s .limits)
+  need-is = let c = lengths in omega arith
+
+  -- what is answered is soundness
+  pub read-sound : areSound (storedIn s t) (bookIn s t) ≡ isSound s t
+  read-sound = ap (λ (m : ℕ). book.isSound m (bookIn s t) && isSoundFor (live (registerOf s t)) (storedIn s t)) (lengths .heads)
+
+  -- the first W places are all of them
+  room : 0 + workFor (s .limits) ≤ length w
+  room = omega (arith, r .room)
+
+  module _ {x : List ℕ} (e : x ≡ cleared w 0 (workFor (s .limits))) where
+    long : length x ≡ length w
+    long = ap length e ∙ cleared-length w 0 (workFor (s .limits)) room
+
+    pub can-read-through : CanReadThrough (storedIn s t) (bookIn s t) x
+    can-read-through =
+        let i : InRange (s .limits) = in-range (s .limits) (r .sizes) in
+        let c : Cut s t = lengths in
+        record {
+          stored = cut-sized c;
+          booked = c .bookRows ∙ sym (c .bookNext);
+          some = omega (arith, c .heads, i .m-low);
+          m-bound = omega (arith, c .heads, i .m-high);
+          n-bound = omega (arith, c .bookHeads, i .n-high);
+          f-bound = omega (arith, c .next, i .f-high);
+          c-bound = omega (arith, c .bookNext, i .c-high);
+          long = omega (arith, need-is, r .room, long);
+          zero = λ j h. rw e (cleared-zero w 0 (workFor (s .limits)) room j (omega (arith, need-is)));
+        }
+
+    module _ {y : List ℕ} (o : OnlyIn 0 need x y) where
+      pub read-room : 0 + workFor (s .limits) ≤ length y
+      read-room = omega (arith, o .same-length, long, r .room)
+
+      -- the table cleared again is the table cleared
+      pub read-clears : {n : ℕ} → n ≡ workFor (s .limits) → cleared y 0 n ≡ zeroFirst (workFor (s .limits)) w
+      read-clears z =
+          let W : ℕ = workFor (s .limits) in
+          let p : OnlyIn 0 W w x = rw e (cleared-only w 0 W room) in
+          let q : OnlyIn 0 W x y = subst (λ (n : ℕ). OnlyIn 0 n x y) need-is o in
+          ap (λ (n : ℕ). cleared y 0 n) z ∙ cleared-unique w 0 W room (only-trans (only-trans p q) (cleared-only y 0 W read-room)) (cleared-zero y 0 W read-room) ∙ sym (first-cleared W w (r .room))

@@ -1,0 +1,130 @@
+-- `Factor::open` meets its contract: refused by 1 to 5 with everything as lent, or all tables are written. Assumes nothing.
+use mathlib.Core.Path.{refl}
+use borrow.Author.Needs.{needs}
+use Rattle.tables.specs.Tables.{Tables}
+use Rattle.factor.specs.Entries.{tablesOf}
+use Rattle.factor.proofs.Openings.{open-refused, open-writes, open-done}
+use Rattle.factor.proofs.Factor.open.Statement.{statement}
+use Rattle.factor.proofs.Factor.open.Tie as tie
+
+-- ---- the places, named
+abbrev sized : tie.After-early → tie.After-default-records
+sized c = c .before .before .before .before .before .before .before .before .before .before
+
+abbrev entry : tie.After-default-records → tie.Start
+entry c = c .before .before .before .before .before .before .before .before .before .before
+
+abbrev tablesAt : tie.Start → Tables
+tablesAt s = tablesOf (s .args .heads .now) (s .args .parents .now) (s .args .rows .now) (s .args .counts .now) (s .args .next .now) (s .args .book-heads .now) (s .args .book-rows .now) (s .args .book-next .now)
+
+default-records-requires : tie.Need-default-records-requires
+default-records-requires c κs = search needs
+
+early-requires : tie.Need-early-requires
+early-requires c κs = search needs
+
+same-length : tie.Need-same-length
+same-length c = refl
+
+same-length-2 : tie.Need-same-length-2
+same-length-2 c = refl
+
+same-length-3 : tie.Need-same-length-3
+same-length-3 c = refl
+
+same-length-4 : tie.Need-same-length-4
+same-length-4 c = refl
+
+same-length-5 : tie.Need-same-length-5
+same-length-5 c = refl
+
+same-length-6 : tie.Need-same-length-6
+same-length-6 c = refl
+
+same-length-7 : tie.Need-same-length-7
+same-length-7 c = refl
+
+same-length-8 : tie.Need-same-length-8
+same-length-8 c = refl
+
+same-length-9 : tie.Need-same-length-9
+same-length-9 c = refl
+
+returns : tie.Need-returns
+returns c =
+    let e : tie.After-early = c .before in
+    let s : tie.Start = entry (sized e) in
+    open-refused (s .args .m) (s .args .n) (s .args .f) (s .args .c) (tablesAt s) (s .args .work .now) (sized e .default-records .ensures) (e .early .ensures) (c .if1 .taken)
+
+write-requires : tie.Need-write-requires
+write-requires c κs =
+    let x : tie.Else1 = c .before .before .before .before .before .before .before .before .before in
+    let e : tie.After-early = x .before in
+    let s : tie.Start = entry (sized e) in
+    open-writes (s .args .m) (s .args .n) (s .args .f) (s .args .c) (tablesAt s) (s .args .work .now) (sized e .default-records .ensures) (e .early .ensures) (x .if1 .left)
+
+abbrev written : tie.After-slice-known18 → tie.After-write
+written c = c .before .before .before .before .before .before .before .before .before .before .before .before .before .before .before .before .before .before
+
+same-length-10 : tie.Need-same-length-10
+same-length-10 c = written c .write .kept .0
+
+same-length-11 : tie.Need-same-length-11
+same-length-11 c = written c .write .kept .1 .0
+
+same-length-12 : tie.Need-same-length-12
+same-length-12 c = written c .write .kept .1 .1 .0
+
+same-length-13 : tie.Need-same-length-13
+same-length-13 c = written c .write .kept .1 .1 .1 .0
+
+same-length-14 : tie.Need-same-length-14
+same-length-14 c = written c .write .kept .1 .1 .1 .1 .0
+
+same-length-15 : tie.Need-same-length-15
+same-length-15 c = written c .write .kept .1 .1 .1 .1 .1 .0
+
+same-length-16 : tie.Need-same-length-16
+same-length-16 c = written c .write .kept .1 .1 .1 .1 .1 .1 .0
+
+same-length-17 : tie.Need-same-length-17
+same-length-17 c = written c .write .kept .1 .1 .1 .1 .1 .1 .1 .0
+
+same-length-18 : tie.Need-same-length-18
+same-length-18 c = written c .write .kept .1 .1 .1 .1 .1 .1 .1 .1 .0
+
+returns-2 : tie.Need-returns-2
+returns-2 c =
+    let d : tie.After-write = written c in
+    let x : tie.Else1 = d .before .before .before .before .before .before .before .before .before .before in
+    let e : tie.After-early = x .before in
+    let s : tie.Start = entry (sized e) in
+    open-done (s .args .m) (s .args .n) (s .args .f) (s .args .c) (tablesAt s) (s .args .work .now) (sized e .default-records .ensures) (e .early .ensures) (x .if1 .left) (d .write .ensures)
+
+pub open-spec : {M : Type 1} → statement M
+open-spec =
+    tie.close
+    (tie.spec
+    default-records-requires
+    early-requires
+    same-length
+    same-length-2
+    same-length-3
+    same-length-4
+    same-length-5
+    same-length-6
+    same-length-7
+    same-length-8
+    same-length-9
+    returns
+    write-requires
+    same-length-10
+    same-length-11
+    same-length-12
+    same-length-13
+    same-length-14
+    same-length-15
+    same-length-16
+    same-length-17
+    same-length-18
+    returns-2)

@@ -1,0 +1,5 @@
+pub mod Admitting
+pub mod Asking
+pub mod Cutting
+pub mod Openings
+pub mod Writing

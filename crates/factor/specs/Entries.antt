@@ -1,0 +1,45 @@
+-- The public entries' records as the definitions of calls/ have them: the factor as limits and free heads, tables, answers. A contract is `Step` of the
+-- entry's call over these, and nothing else. Assumes nothing: these are definitions.
+use mathlib.Core.List.{List, []}
+use Prim.Native.Nat.{ℕ}
+use Rattle.tables.specs.Tables.{Tables, Limits, State}
+use Rattle.calls.specs.Calls.{opening}
+use Rattle.calls.specs.Steps.{Answer, Lent, World, Step}
+use Rattle.factor.specs.declared.Factor.{Factor}
+use Rattle.factor.specs.declared.Opening.{Opening}
+use Rattle.factor.specs.declared.Opening.the-variants.{Opened, Refused}
+
+abbrev pub tablesOf : (heads parents rows counts next bookHeads bookRows bookNext : List ℕ) → Tables
+tablesOf a b c d e f g h =
+    record { heads = a; parents = b; rows = c; counts = d; next = e; bookHeads = f; bookRows = g; bookNext = h }
+
+abbrev pub limitsOf : (m n f c : ℕ) → Limits
+limitsOf m n f c = record { m = m; n = n; f = f; c = c }
+
+abbrev pub stateOf : Factor → State
+stateOf x = record { limits = limitsOf (x .m) (x .n) (x .f) (x .c); free = x .free; bookFree = x .«book_free» }
+
+abbrev pub worldOf : Factor → Tables → World
+worldOf x t = record { state = stateOf x; tables = t }
+
+-- the lists of a call that has a work table alone, and of a question that writes a list
+abbrev pub workOnly : (work : List ℕ) → Lent
+workOnly w = record { work = w; touched = []; labels = []; list = [] }
+
+abbrev pub workAndList : (work list : List ℕ) → Lent
+workAndList w xs = record { work = w; touched = []; labels = []; list = xs }
+
+-- an opening's answer: accepted, all numbers are 0; refused, the number
+abbrev pub openingAnswer : Opening → Answer
+openingAnswer (Opened x) = record { number = 0; position = 0; touched = 0; entries = 0; grade = 0; value = 0 }
+openingAnswer (Refused n) = record { number = n; position = 0; touched = 0; entries = 0; grade = 0; value = 0 }
+
+-- the record after an opening: "after a refused opening the record from before it serves on"
+abbrev pub stateAfter : Opening → State → State
+stateAfter (Opened x) s = stateOf x
+stateAfter (Refused n) s = s
+
+-- OPEN, whatever record there was before
+abbrev pub OpenStep : (asked : Limits) (t : Tables) (work : List ℕ) (r : Opening) (t′ : Tables) (work′ : List ℕ) → Type 0
+OpenStep l t w r t′ w′ =
+    (s : State) → Step (record { state = s; tables = t }) (opening l w) (openingAnswer r) (workOnly w′) (record { state = stateAfter r s; tables = t′ })

@@ -1,0 +1,329 @@
+// The factor's public entries: opening, the check of all tables, and questions. Each refuses unusable input by number and fixes everything lent.
+// A caller that has proved its tables sound uses the unchecked twins of unchecked.rt.
+ghost use Rattle.questions.specs.Asked.{replyOf};
+ghost use Rattle.calls.specs.Calls.Call.{checking, askMultiplicity, askParent, askPath, askColumn};
+ghost use Rattle.calls.specs.Steps.{Step};
+ghost use Rattle.factor.specs.Entries.{tablesOf, limitsOf, worldOf, workOnly, workAndList, OpenStep};
+
+mod admission;
+mod fresh;
+mod unchecked;
+
+use book::Row;
+use questions::Reply;
+
+// The record of sizes and free heads.
+pub struct Factor {
+    pub m: u32,
+    pub n: u32,
+    pub f: u32,
+    pub c: u32,
+    pub free: u32,
+    pub book_free: u32,
+}
+
+// What an opening answers.
+pub enum Opening {
+    Opened(Factor),
+    Refused(u32),
+}
+
+impl Factor {
+    // The largest m.
+    pub const MOST_ROWS: u32 = 4096;
+    // The largest n.
+    pub const MOST_IDS: u32 = 16384;
+    // The largest F.
+    pub const MOST_RECORDS: u32 = 1048576;
+    // The largest C.
+    pub const MOST_BOOKED: u32 = 262144;
+
+    // A fresh factor: writes all tables. F = 0 means 16 × m.
+    pub fn open(
+        m: u32,
+        n: u32,
+        f: u32,
+        c: u32,
+        heads: &mut [u32],
+        parents: &mut [u16],
+        rows: &mut [u16],
+        counts: &mut [u16],
+        next: &mut [u32],
+        book_heads: &mut [u32],
+        book_rows: &mut [u16],
+        book_next: &mut [u32],
+        work: &mut [u32],
+    ) -> Opening
+        ensures { λ r. ⌜ OpenStep (limitsOf m n f c) (tablesOf (now (heads .entry)) (now (parents .entry)) (now (rows .entry)) (now (counts .entry)) (now (next .entry)) (now («book_heads» .entry)) (now («book_rows» .entry)) (now («book_next» .entry))) (now (work .entry)) r (tablesOf (now (heads .exit)) (now (parents .exit)) (now (rows .exit)) (now (counts .exit)) (now (next .exit)) (now («book_heads» .exit)) (now («book_rows» .exit)) (now («book_next» .exit))) (now (work .exit)) ⌝ }
+    {
+        let records = refusals::default_records(m, f);
+        let asked = Factor {
+            m,
+            n,
+            f: records,
+            c,
+            free: 0,
+            book_free: 0,
+        };
+        let number = admission::early(
+            asked,
+            heads,
+            parents,
+            rows,
+            counts,
+            next,
+            book_heads,
+            book_rows,
+            book_next,
+            work,
+            true,
+        );
+        if number != 0 {
+            return Opening::Refused(number);
+        }
+        let free = fresh::write(
+            heads,
+            parents,
+            rows,
+            counts,
+            next,
+            book_heads,
+            book_rows,
+            book_next,
+            work,
+            m,
+            n,
+            records,
+            c,
+        );
+        Opening::Opened(Factor {
+            m,
+            n,
+            f: records,
+            c,
+            free: free.0.0,
+            book_free: free.1.0,
+        })
+    }
+
+    // Whether the tables are sound: 0, or 6 for no.
+    pub fn check(
+        self,
+        heads: &[u32],
+        parents: &[u16],
+        rows: &[u16],
+        counts: &[u16],
+        next: &[u32],
+        book_heads: &[u32],
+        book_rows: &[u16],
+        book_next: &[u32],
+        work: &mut [u32],
+    ) -> Reply
+        ensures { λ r. ⌜ Step (worldOf self (tablesOf (now (heads .entry)) (now (parents .entry)) (now (rows .entry)) (now (counts .entry)) (now (next .entry)) (now («book_heads» .entry)) (now («book_rows» .entry)) (now («book_next» .entry)))) (checking (now (work .entry))) (replyOf r) (workOnly (now (work .exit))) (worldOf self (tablesOf (now (heads .entry)) (now (parents .entry)) (now (rows .entry)) (now (counts .entry)) (now (next .entry)) (now («book_heads» .entry)) (now («book_rows» .entry)) (now («book_next» .entry)))) ⌝ }
+    {
+        let number = admission::admit(
+            self,
+            heads,
+            parents,
+            rows,
+            counts,
+            next,
+            book_heads,
+            book_rows,
+            book_next,
+            work,
+            true,
+        );
+        Reply { number, value: 0 }
+    }
+
+    // The multiplicity of row i in column j, 0 when absent.
+    pub fn multiplicity(
+        self,
+        heads: &[u32],
+        parents: &[u16],
+        rows: &[u16],
+        counts: &[u16],
+        next: &[u32],
+        book_heads: &[u32],
+        book_rows: &[u16],
+        book_next: &[u32],
+        work: &mut [u32],
+        i: Row,
+        j: Row,
+    ) -> Reply
+        ensures { λ r. ⌜ Step (worldOf self (tablesOf (now (heads .entry)) (now (parents .entry)) (now (rows .entry)) (now (counts .entry)) (now (next .entry)) (now («book_heads» .entry)) (now («book_rows» .entry)) (now («book_next» .entry)))) (askMultiplicity (i .0) (j .0) (now (work .entry))) (replyOf r) (workOnly (now (work .exit))) (worldOf self (tablesOf (now (heads .entry)) (now (parents .entry)) (now (rows .entry)) (now (counts .entry)) (now (next .entry)) (now («book_heads» .entry)) (now («book_rows» .entry)) (now («book_next» .entry)))) ⌝ }
+    {
+        let number = admission::admit(
+            self,
+            heads,
+            parents,
+            rows,
+            counts,
+            next,
+            book_heads,
+            book_rows,
+            book_next,
+            work,
+            true,
+        );
+        if number != 0 {
+            return Reply { number, value: 0 };
+        }
+        self.multiplicity_unchecked(
+            heads,
+            parents,
+            rows,
+            counts,
+            next,
+            book_heads,
+            book_rows,
+            book_next,
+            i,
+            j,
+        )
+    }
+
+    // The parent of j, 0 for a root.
+    pub fn parent(
+        self,
+        heads: &[u32],
+        parents: &[u16],
+        rows: &[u16],
+        counts: &[u16],
+        next: &[u32],
+        book_heads: &[u32],
+        book_rows: &[u16],
+        book_next: &[u32],
+        work: &mut [u32],
+        j: Row,
+    ) -> Reply
+        ensures { λ r. ⌜ Step (worldOf self (tablesOf (now (heads .entry)) (now (parents .entry)) (now (rows .entry)) (now (counts .entry)) (now (next .entry)) (now («book_heads» .entry)) (now («book_rows» .entry)) (now («book_next» .entry)))) (askParent (j .0) (now (work .entry))) (replyOf r) (workOnly (now (work .exit))) (worldOf self (tablesOf (now (heads .entry)) (now (parents .entry)) (now (rows .entry)) (now (counts .entry)) (now (next .entry)) (now («book_heads» .entry)) (now («book_rows» .entry)) (now («book_next» .entry)))) ⌝ }
+    {
+        let number = admission::admit(
+            self,
+            heads,
+            parents,
+            rows,
+            counts,
+            next,
+            book_heads,
+            book_rows,
+            book_next,
+            work,
+            true,
+        );
+        if number != 0 {
+            return Reply { number, value: 0 };
+        }
+        self.parent_unchecked(
+            heads,
+            parents,
+            rows,
+            counts,
+            next,
+            book_heads,
+            book_rows,
+            book_next,
+            j,
+        )
+    }
+
+    // The path of j, a row to a place from the given place of the list on, and its length.
+    pub fn path(
+        self,
+        heads: &[u32],
+        parents: &[u16],
+        rows: &[u16],
+        counts: &[u16],
+        next: &[u32],
+        book_heads: &[u32],
+        book_rows: &[u16],
+        book_next: &[u32],
+        work: &mut [u32],
+        list: &mut [u32],
+        j: Row,
+        place: usize,
+    ) -> Reply
+        ensures { λ r. ⌜ Step (worldOf self (tablesOf (now (heads .entry)) (now (parents .entry)) (now (rows .entry)) (now (counts .entry)) (now (next .entry)) (now («book_heads» .entry)) (now («book_rows» .entry)) (now («book_next» .entry)))) (askPath (j .0) place (now (work .entry)) (now (list .entry))) (replyOf r) (workAndList (now (work .exit)) (now (list .exit))) (worldOf self (tablesOf (now (heads .entry)) (now (parents .entry)) (now (rows .entry)) (now (counts .entry)) (now (next .entry)) (now («book_heads» .entry)) (now («book_rows» .entry)) (now («book_next» .entry)))) ⌝ }
+    {
+        let number = admission::admit(
+            self,
+            heads,
+            parents,
+            rows,
+            counts,
+            next,
+            book_heads,
+            book_rows,
+            book_next,
+            work,
+            true,
+        );
+        if number != 0 {
+            return Reply { number, value: 0 };
+        }
+        self.path_unchecked(
+            heads,
+            parents,
+            rows,
+            counts,
+            next,
+            book_heads,
+            book_rows,
+            book_next,
+            list,
+            j,
+            place,
+        )
+    }
+
+    // Column j, row then multiplicity from the given place of the list on, and its number of entries.
+    pub fn column(
+        self,
+        heads: &[u32],
+        parents: &[u16],
+        rows: &[u16],
+        counts: &[u16],
+        next: &[u32],
+        book_heads: &[u32],
+        book_rows: &[u16],
+        book_next: &[u32],
+        work: &mut [u32],
+        list: &mut [u32],
+        j: Row,
+        place: usize,
+    ) -> Reply
+        ensures { λ r. ⌜ Step (worldOf self (tablesOf (now (heads .entry)) (now (parents .entry)) (now (rows .entry)) (now (counts .entry)) (now (next .entry)) (now («book_heads» .entry)) (now («book_rows» .entry)) (now («book_next» .entry)))) (askColumn (j .0) place (now (work .entry)) (now (list .entry))) (replyOf r) (workAndList (now (work .exit)) (now (list .exit))) (worldOf self (tablesOf (now (heads .entry)) (now (parents .entry)) (now (rows .entry)) (now (counts .entry)) (now (next .entry)) (now («book_heads» .entry)) (now («book_rows» .entry)) (now («book_next» .entry)))) ⌝ }
+    {
+        let number = admission::admit(
+            self,
+            heads,
+            parents,
+            rows,
+            counts,
+            next,
+            book_heads,
+            book_rows,
+            book_next,
+            work,
+            true,
+        );
+        if number != 0 {
+            return Reply { number, value: 0 };
+        }
+        self.column_unchecked(
+            heads,
+            parents,
+            rows,
+            counts,
+            next,
+            book_heads,
+            book_rows,
+            book_next,
+            list,
+            j,
+            place,
+        )
+    }
+}

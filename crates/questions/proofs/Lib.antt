@@ -1,0 +1,4 @@
+pub mod Replies
+pub mod Following
+pub mod Reading
+pub mod Answers
