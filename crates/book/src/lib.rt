@@ -6,7 +6,7 @@ ghost use mathlib.Core.Logic.{_≢_};
 ghost use Prim.Native.Nat.{_≤_, _<_};
 ghost use lib.Dec.{leb};
 ghost use lib.ListN.{length, getD, replicate};
-ghost use Rattle.lists.specs.Lists.{over};
+ghost use Rattle.lists.specs.Lists.{at, over};
 ghost use Rattle.pool.specs.Chains.{chain, Linked};
 ghost use Rattle.pool.specs.Walks.{NoMarks};
 ghost use Rattle.book.specs.Book.{bookOf, tablesOf, isBooked, columnFor, isSound};
@@ -177,6 +177,16 @@ pub fn is_booked(heads: &[u32], id: Id) -> bool
 {
     let k = id.0;
     heads[(k - 1) as usize] != 0
+}
+
+// The smallest row of a booked id's column.
+pub fn lowest_row(heads: &[u32], rows: &[u16], id: Id) -> Row
+    requires { ⌜ (1 ≤ id .0) × (id .0 ≤ length (now heads)) × (1 ≤ at (now heads) (id .0)) × (at (now heads) (id .0) ≤ length (now rows)) ⌝ }
+    ensures { λ r. ⌜ r .0 ≡ at (now (rows .entry)) (at (now (heads .entry)) (id .0)) ⌝ }
+{
+    let k = id.0;
+    let h = heads[(k - 1) as usize];
+    Row(rows[(h - 1) as usize] as u32)
 }
 
 // The smallest row of an id's column, or row 0 where the id is not booked.
