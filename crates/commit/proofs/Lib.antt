@@ -1,0 +1,6 @@
+pub mod Standing
+pub mod Wiped
+pub mod Committing
+pub mod Reporting
+pub mod Written
+pub mod Planned

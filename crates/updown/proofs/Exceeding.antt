@@ -1,0 +1,81 @@
+-- Sizes after an addition: where the turn of j finds too few free records the sizes exceed the pool (`sizes-exceed`), and where all fit they do not
+-- (`sizes-fit`). Assumes nothing.
+use mathlib.Core.Path.{_≡_, refl, sym, ap, _∙_, subst}
+use mathlib.Core.Logic.{_⊎_, inl, inr}
+use mathlib.Core.Bool.{Bool, true, false}
+use mathlib.Core.List.{List, [], _∷_, _++_}
+use Prim.Native.Nat.{ℕ, zero, suc, _+_, _-_, _*_, _≤_, _<_}
+use native.Mathlib.Omega.{arith}
+use lib.Dec.{leb}
+use lib.ListN.{length}
+use borrow.Author.Tests.{leb-false}
+use Rattle.lists.specs.Lists.{Mem, first, later}
+use Rattle.lists.proofs.Tests.{cases}
+use Rattle.symbolic.specs.Columns.{Column}
+use Rattle.symbolic.specs.Factor.{FactorColumn, columnAt, sizeSum}
+use Rattle.symbolic.specs.Batch.{isTouched, touchedFrom, touched, entriesOf}
+use Rattle.symbolic.proofs.Build.{factor-length}
+use Rattle.symbolic.proofs.Sizes.{size-grows, sizes-local-sum}
+use Rattle.workspace.specs.Regions.{region}
+use Rattle.pool.specs.Chains.{chain}
+use Rattle.columns.specs.Plan.{ofKind}
+use Rattle.emission.specs.Plans.{planFrom}
+use Rattle.updown.specs.Turns.{larger, smaller, done}
+use Rattle.updown.specs.States.{Numbers}
+use Rattle.updown.proofs.Plans.{in-touched, entries-append}
+use Rattle.updown.proofs.Stepping.{done-next}
+use Rattle.updown.proofs.Numbering.{column-grows}
+
+touched-split : (fs : List FactorColumn) (cs : List Column) (i n t : ℕ) → touchedFrom fs cs i (n + t) ≡ touchedFrom fs cs i n ++ touchedFrom fs cs (i + n) t
+unfolding touchedFrom
+touched-split fs cs i zero t =
+    let a : 0 + t ≡ t = omega arith in
+    let b : i ≡ i + 0 = omega arith in
+    ap (λ (x : ℕ). touchedFrom fs cs i x) a ∙ ap (λ (x : ℕ). touchedFrom fs cs x t) b
+touched-split fs cs i (suc n) t =
+    let a : suc n + t ≡ suc (n + t) = omega arith in
+    let b : suc i + n ≡ i + suc n = omega arith in
+    let ih : touchedFrom fs cs (suc i) (n + t) ≡ touchedFrom fs cs (suc i) n ++ touchedFrom fs cs (i + suc n) t =
+    touched-split fs cs (suc i) n t ∙ ap (λ (x : ℕ). touchedFrom fs cs (suc i) n ++ touchedFrom fs cs x t) b in
+    ap (λ (x : ℕ). touchedFrom fs cs i x) a ∙ elim (cases (isTouched fs cs i)) [
+      | inl e ↦ rw e (ap (λ (l : List ℕ). i ∷ l) ih)
+      | inr e ↦ rw e ih
+    ]
+
+entries-grow : (m : ℕ) (R W : List Column) (js : List ℕ) → ((c : ℕ) → Mem c js → (1 ≤ c) × (c ≤ m)) → entriesOf (smaller m R) js ≤ entriesOf (larger m R W) js
+unfolding entriesOf
+entries-grow m R W [] h = omega arith
+entries-grow m R W (j ∷ js) h = omega (arith, size-grows m R W j (h j first .0) (h j first .1), entries-grow m R W js (λ c x. h c (later x)))
+
+module _ {next work : List ℕ} {m : ℕ} {R W : List Column} {free f l c k used avail : ℕ} (size : sizeSum (smaller m R) + free ≡ length next) where
+  pub sizes-fit : Numbers next work m R W true free (suc m) f l c k used avail → sizeSum (larger m R W) ≤ length next
+  sizes-fit n =
+      let q : suc m - 1 ≡ length (larger m R W) = omega (arith, factor-length m (R ++ W)) in
+      let e : done m R W (suc m) ≡ touched (larger m R W) W = ap (λ (x : ℕ). touchedFrom (larger m R W) W 1 x) q in
+      omega (arith, size, n .grown refl, n .taken, sizes-local-sum m R W, ap (entriesOf (smaller m R)) e, ap (entriesOf (larger m R W)) e)
+
+  pub sizes-exceed : (j : ℕ) → 1 ≤ j → j ≤ m → m ≤ 4096 → length R + length W ≤ 60000 → isTouched (larger m R W) W j ≡ true → Numbers next work m R W true free j f l c k used avail →
+      leb (ofKind 1 (planFrom 1 (columnAt (smaller m R) j .counts) (columnAt (larger m R W) j .counts))) (length (chain next avail)) ≡ false → length next < sizeSum (larger m R W)
+  unfolding entriesOf
+  sizes-exceed j a b narrow few t n over =
+      let q : (suc j - 1) + (m - j) ≡ length (larger m R W) = omega (arith, factor-length m (R ++ W)) in
+      let rest : List ℕ = touchedFrom (larger m R W) W (1 + (suc j - 1)) (m - j) in
+      let e : touched (larger m R W) W ≡ (done m R W j ++ (j ∷ [])) ++ rest =
+      ap (λ (x : ℕ). touchedFrom (larger m R W) W 1 x) (sym q) ∙ touched-split (larger m R W) W 1 (suc j - 1) (m - j) ∙ ap (λ (x : List ℕ). x ++ rest) (done-next m R W j a t) in
+      omega (
+        arith,
+        size,
+        n .grown refl,
+        n .taken,
+        leb-false (ofKind 1 (planFrom 1 (columnAt (smaller m R) j .counts) (columnAt (larger m R W) j .counts))) (length (chain next avail)) over,
+        sizes-local-sum m R W,
+        column-grows m R W j a b narrow few,
+        ap (entriesOf (smaller m R)) e,
+        ap (entriesOf (larger m R W)) e,
+        entries-append (smaller m R) (done m R W j ++ (j ∷ [])) rest,
+        entries-append (larger m R W) (done m R W j ++ (j ∷ [])) rest,
+        entries-append (smaller m R) (done m R W j) (j ∷ []),
+        entries-append (larger m R W) (done m R W j) (j ∷ []),
+        entries-grow m R W rest (λ x y. let v : (1 + (suc j - 1) ≤ x) × (x < 1 + (suc j - 1) + (m - j)) × (isTouched (larger m R W) W x ≡ true) =
+            in-touched (larger m R W) W (1 + (suc j - 1)) (m - j) x y in omega arith),
+      )

@@ -1,0 +1,308 @@
+-- Batch columns read one after another, listed or booked: the column at a position (`Reading`); their starts marked (`starts-next`), and at row j counted
+-- (`counting-here`, `counting-past`). Assumes nothing.
+use mathlib.Core.Path.{_≡_, refl, sym, ap, _∙_, subst}
+use mathlib.Core.Logic.{_⊎_, inl, inr, _≢_}
+use mathlib.Core.Bool.{Bool, true, false, _&&_, true≢false}
+use mathlib.Core.List.{List, [], _∷_, _++_, append-nil, append-assoc}
+use Prim.Native.Nat.{ℕ, zero, suc, _+_, _-_, _*_, _/_, _%_, _≤_, _<_}
+use native.Mathlib.Omega.{arith}
+use native.Mathlib.Numerals.{add-one}
+use lib.Dec.{eqb}
+use lib.ListN.{length, getD, take, drop, set, length-take, length-drop, length-set, length-append}
+use lib.Seq.{drop-cons, take-all, take-suc, drop-drop, getD-take, getD-drop, getD-set-same, getD-set-other}
+use borrow.Author.Tests.{eq-eqb, ne-eqb}
+use Rattle.lists.specs.Lists.{one, isIn, among, rises, all, Mem, first}
+use Rattle.lists.proofs.Tests.{eq-or-ne, and-both, in-range, lt-or-le, refute}
+use Rattle.lists.proofs.Member.{all-at, place-mem, among-mem}
+use Rattle.lists.proofs.Rising.{rises-in, rises-first}
+use Rattle.symbolic.specs.Columns.{Column, smallest, holds, startingWith}
+use Rattle.symbolic.specs.Factor.{multiplicity}
+use Rattle.symbolic.proofs.Columns.{starts-append, starts-le}
+use Rattle.differences.specs.Tally.{differenceAt}
+use Rattle.workspace.specs.Regions.{cell, Outside, IsZero, OnlyIn}
+use Rattle.workspace.proofs.Regions.{only-refl, only-trans}
+use Rattle.book.specs.Book as book
+use Rattle.updown.specs.Entries.{Listed}
+use Rattle.updown.specs.Marks.{Room, markAt, flagAt, marked, Flagged}
+use Rattle.updown.specs.Children.{Steady, Bumps}
+use Rattle.updown.specs.Turns.{smaller, Tallied, soFar, Shift}
+use Rattle.updown.specs.States.{startOf}
+use Rattle.updown.specs.Starts.{StartsTo, CanMark, CanStart, Started}
+use Rattle.differences.specs.Gather.{CanGather, Gathered}
+use Rattle.differences.specs.Count.{Counted}
+use Rattle.updown.proofs.Children.{can-gather, bumps}
+use Rattle.updown.proofs.Tallying.{tallied-column, tallied-steady}
+
+abbrev pub none : Column
+none = record { id = 0; rows = [] }
+
+-- ---- a column that fits
+
+pub record Fits (m : ℕ) (w : Column) : Type 0 where
+  pub rising : rises 1 m (w .rows) ≡ true
+  pub some : 1 ≤ length (w .rows)
+  pub low : 1 ≤ smallest w
+  pub high : smallest w ≤ m
+
+pub fits-at : (m : ℕ) (W : List Column) → all (book.columnFits m) W ≡ true → (k : ℕ) → k < length W → Fits m (getD W k none)
+fits-at m W h k l = go (getD W k none) (all-at (book.columnFits m) (place-mem W k none l) h)
+  where
+    bounds : (xs : List ℕ) → rises 1 m xs ≡ true → 1 ≤ length xs → (1 ≤ getD xs 0 0) × (getD xs 0 0 ≤ m)
+    bounds [] r s = absurd (omega arith)
+    bounds (x ∷ xs) r s = rises-in {x = x} 1 m (first {xs = xs}) r
+
+    go : (w : Column) → book.columnFits m w ≡ true → Fits m w
+    go w e =
+        let t : (rises 1 m (w .rows) ≡ true) × (isIn 1 256 (length (w .rows)) ≡ true) = and-both (rises 1 m (w .rows)) (isIn 1 256 (length (w .rows))) e in
+        let u : (1 ≤ length (w .rows)) × (length (w .rows) ≤ 256) = in-range 1 256 (length (w .rows)) (t .1) in
+        let v : (1 ≤ smallest w) × (smallest w ≤ m) = bounds (w .rows) (t .0) (u .0) in
+        record { rising = t .0; some = u .0; low = v .0; high = v .1 }
+
+-- its rows lie at or above its first
+pub rows-above : (m : ℕ) (w : Column) → Fits m w → (i : ℕ) → i < smallest w → holds w i ≡ false
+rows-above m w f i l = go (w .rows) (f .rising) l
+  where
+    go : (xs : List ℕ) → rises 1 m xs ≡ true → i < getD xs 0 0 → among i xs ≡ false
+    go [] r l = absurd (omega arith)
+    go (x ∷ xs) r l = refute (among i (x ∷ xs)) (λ h. let q : x ≤ i = rises-first 1 m (among-mem i (x ∷ xs) h) r in omega arith)
+
+-- ---- the column at a position of a list
+
+pub record Reading (counts list : List ℕ) (W : List Column) (k at : ℕ) : Type 0 where
+  pub listed : Listed (drop k counts) (drop at list) (drop k W)
+  pub size : length W ≡ length counts
+  pub within : at ≤ length list
+
+listed-length : (ks xs : List ℕ) (ws : List Column) → Listed ks xs ws → length ws ≡ length ks
+unfolding Listed
+listed-length [] xs [] h = refl
+listed-length [] xs (w ∷ ws) h = absurd h
+listed-length (k ∷ ks) xs [] h = absurd h
+listed-length (k ∷ ks) xs (w ∷ ws) h = ap suc (listed-length ks (drop k xs) ws (h .2))
+
+pub reading-start : {counts list : List ℕ} {W : List Column} → Listed counts list W → Reading counts list W 0 0
+reading-start {counts} {list} {W} h = record { listed = h; size = listed-length counts list W h; within = omega arith }
+
+module _ {counts list : List ℕ} {W : List Column} {k at : ℕ} (r : Reading counts list W k at) (l : k < length counts) where
+  parts : (getD W k none .rows ≡ take (getD counts k 0) (drop at list)) × (getD counts k 0 ≤ length (drop at list)) ×
+      Listed (drop (suc k) counts) (drop (getD counts k 0) (drop at list)) (drop (suc k) W)
+  unfolding Listed
+  parts =
+      let a : drop k counts ≡ getD counts k 0 ∷ drop (suc k) counts = drop-cons counts k 0 l in
+      let b : drop k W ≡ getD W k none ∷ drop (suc k) W = drop-cons W k none (omega (arith, r .size)) in
+      let h : Listed (getD counts k 0 ∷ drop (suc k) counts) (drop at list) (getD W k none ∷ drop (suc k) W) =
+      subst (λ (x : List ℕ). Listed x (drop at list) (getD W k none ∷ drop (suc k) W)) a (subst (λ (x : List Column). Listed (drop k counts) (drop at list) x) b (r .listed)) in
+      (h .0, h .1, h .2)
+
+  pub reading-rows : getD W k none .rows ≡ take (getD counts k 0) (drop at list)
+  reading-rows = parts .0
+
+  pub reading-end : at + getD counts k 0 ≤ length list
+  reading-end = omega (arith, parts .1, length-drop at list, r .within)
+
+  pub reading-next : Reading counts list W (k + 1) (at + getD counts k 0)
+  reading-next =
+      record {
+        listed = rw (add-one k) (subst (λ (x : List ℕ). Listed (drop (suc k) counts) x (drop (suc k) W)) (drop-drop (getD counts k 0) at list) (parts .2));
+        size = r .size;
+        within = reading-end;
+      }
+
+  pub reading-first : {m : ℕ} → Fits m (getD W k none) → (at < length list) × (1 ≤ getD counts k 0) × (getD list at 0 ≡ smallest (getD W k none))
+  reading-first f =
+      let n : length (getD W k none .rows) ≡ length (take (getD counts k 0) (drop at list)) = ap length reading-rows in
+      let some : 1 ≤ getD counts k 0 = omega (arith, f .some, length-take (getD counts k 0) (drop at list)) in
+      let z : at + 0 ≡ at = omega arith in
+      (omega (arith, reading-end), some, sym (ap (λ (xs : List ℕ). getD xs 0 0) reading-rows ∙ getD-take (getD counts k 0) (drop at list) 0 0 some ∙ getD-drop at list 0 0 ∙ ap (λ (x : ℕ). getD list x 0) z))
+
+-- ---- starts marked
+
+pub starts-none : {m flags : ℕ} {W : List Column} {w : List ℕ} → IsZero w (3 * m) m → StartsTo m flags W w w 0
+starts-none {m} z =
+    record {
+      same-length = refl;
+      start = λ k a b. absurd (omega arith);
+      bit = λ k a b. absurd (omega arith);
+      cause = λ q a b n. absurd (n (z (q - 1) (omega arith)));
+      flagged = λ q a b n. absurd (n (z (q - 1) (omega arith)));
+      rest = λ x a b. refl;
+    }
+
+module _ {m flags : ℕ} {W : List Column} {w₀ w : List ℕ} {k : ℕ} (s : StartsTo m flags W w₀ w k) (r : Room m flags w) (a : 1 ≤ startOf W (k + 1)) (b : startOf W (k + 1) ≤ m)
+    (within : (p : ℕ) → 1 ≤ p → p ≤ k → (1 ≤ startOf W p) × (startOf W p ≤ m)) where
+  abbrev q₀ : ℕ
+  q₀ = startOf W (k + 1)
+
+  abbrev x₀ : ℕ
+  x₀ = 4 * (k + 1) + 2
+
+  abbrev w₁ : List ℕ
+  w₁ = marked m flags w q₀ x₀
+
+  w₁-own : markAt m w₁ q₀ ≡ x₀
+  w₁-own =
+      getD-set-other (set w (3 * m + (q₀ - 1)) x₀) (flags + (q₀ - 1) / 64) (3 * m + (q₀ - 1)) 1 0 (omega (arith, r .low)) ∙
+      getD-set-same w (3 * m + (q₀ - 1)) x₀ 0 (omega (arith, r .low, r .long))
+
+  w₁-other : (x : ℕ) → x ≢ 3 * m + (q₀ - 1) → x ≢ flags + (q₀ - 1) / 64 → getD w₁ x 0 ≡ getD w x 0
+  w₁-other x p q = getD-set-other (set w (3 * m + (q₀ - 1)) x₀) (flags + (q₀ - 1) / 64) x 1 0 q ∙ getD-set-other w (3 * m + (q₀ - 1)) x x₀ 0 p
+
+  mark-other : (q : ℕ) → 1 ≤ q → q ≤ m → q ≢ q₀ → markAt m w₁ q ≡ markAt m w q
+  mark-other q x y n = w₁-other (3 * m + (q - 1)) (omega arith) (omega (arith, r .low))
+
+  flag-other : (q : ℕ) → (q - 1) / 64 ≢ (q₀ - 1) / 64 → flagAt flags w₁ q ≡ flagAt flags w q
+  flag-other q n = w₁-other (flags + (q - 1) / 64) (omega (arith, r .low)) (omega arith)
+
+  flag-own : (q : ℕ) → (q - 1) / 64 ≡ (q₀ - 1) / 64 → flagAt flags w₁ q ≡ 1
+  flag-own q e =
+      ap (λ (x : ℕ). getD w₁ (flags + x) 0) e ∙
+      getD-set-same (set w (3 * m + (q₀ - 1)) x₀) (flags + (q₀ - 1) / 64) 1 0 (simp length-set (omega (arith, r .long, r .m-bound)))
+
+  pub starts-next : StartsTo m flags W w₀ w₁ (k + 1)
+  starts-next =
+      record {
+        same-length = length-set (set w (3 * m + (q₀ - 1)) x₀) (flags + (q₀ - 1) / 64) 1 ∙ length-set w (3 * m + (q₀ - 1)) x₀ ∙ s .same-length;
+        start = λ p x y. elim (eq-or-ne (startOf W p) q₀) [
+          | inl e ↦ omega (arith, ap (markAt m w₁) e, w₁-own)
+          | inr e ↦
+              let l : p ≤ k = older p x y e in
+              omega (arith, s .start p x l, ap (λ (v : ℕ). v / 4) (mark-other (startOf W p) (within p x l .0) (within p x l .1) e))
+        ];
+        bit = λ p x y. elim (eq-or-ne (startOf W p) q₀) [
+          | inl e ↦ ap (λ (v : ℕ). v % 4) (ap (markAt m w₁) e ∙ w₁-own) ∙ four
+          | inr e ↦
+              let l : p ≤ k = older p x y e in
+              ap (λ (v : ℕ). v % 4) (mark-other (startOf W p) (within p x l .0) (within p x l .1) e) ∙ s .bit p x l
+        ];
+        cause = λ q x y n. elim (eq-or-ne q q₀) [
+          | inl e ↦ (k + 1, omega arith, omega arith, sym e, ap (markAt m w₁) e ∙ w₁-own)
+          | inr e ↦
+              let t : (p : ℕ) × (1 ≤ p) × (p ≤ k) × (startOf W p ≡ q) × (markAt m w q ≡ 4 * p + 2) = s .cause q x y (λ z. n (mark-other q x y e ∙ z)) in
+              (t .0, t .1, omega (arith, t .2), t .3, mark-other q x y e ∙ t .4)
+        ];
+        flagged = λ q x y n f. elim (eq-or-ne ((q - 1) / 64) ((q₀ - 1) / 64)) [
+          | inl e ↦ omega (arith, flag-own q e)
+          | inr e ↦ s .flagged q x y (λ z. n (mark-other q (omega arith) y (λ g. e (ap (λ (v : ℕ). (v - 1) / 64) g)) ∙ z)) (sym (flag-other q e) ∙ f)
+        ];
+        rest = λ x u v. w₁-other x (λ e. elim u [ inl y ↦ omega arith | inr y ↦ omega arith ]) (λ e. elim v [ inl y ↦ omega arith | inr y ↦ omega (arith, r .m-bound) ]) ∙ s .rest x u v;
+      }
+    where
+      four : x₀ % 4 ≡ 2
+      four = omega arith
+
+      older : (p : ℕ) → 1 ≤ p → p ≤ k + 1 → startOf W p ≢ q₀ → p ≤ k
+      older p x y e = elim (eq-or-ne p (k + 1)) [ inl z ↦ absurd (e (ap (startOf W) z)) | inr z ↦ omega arith ]
+
+-- ---- starts counted
+
+pub tallied-ext : {m : ℕ} {R W : List Column} {adding : Bool} {w : List ℕ} {n j : ℕ} {s s′ : ℕ → ℕ} {place : ℕ → ℕ} → ((i : ℕ) → s′ i ≡ s i) → Tallied m R W adding w n j s place →
+    Tallied m R W adding w n j s′ place
+tallied-ext {m} {R} {W} {adding} {w} {n} {j} {s} {s′} {place} e t =
+    record {
+      tally = t .tally;
+      shifts = λ i x y. subst (λ (v : ℕ). Shift adding (differenceAt w i) (multiplicity (smaller m R) i j) (soFar m R W j place v i)) (sym (e i)) (t .shifts i x y);
+      still = t .still;
+    }
+
+-- one column more
+pub starting-more : (j i : ℕ) (R W : List Column) (k : ℕ) → k < length W →
+    startingWith j i (R ++ take (k + 1) W) ≡ startingWith j i (R ++ take k W) + one (eqb (smallest (getD W k none)) j && holds (getD W k none) i)
+unfolding startingWith
+starting-more j i R W k l =
+    let e : take (k + 1) W ≡ take k W ++ (getD W k none ∷ []) = ap (λ (x : ℕ). take x W) (add-one k) ∙ take-suc W k none l in
+    omega (
+      arith,
+      ap (λ (x : List Column). startingWith j i (R ++ x)) e,
+      starts-append j i R (take k W ++ (getD W k none ∷ [])),
+      starts-append j i (take k W) (getD W k none ∷ []),
+      starts-append j i R (take k W),
+    )
+
+pub record Counting (m : ℕ) (R W : List Column) (adding : Bool) (w₀ w : List ℕ) (n j k : ℕ) (place : ℕ → ℕ) : Type 0 where
+  pub tallied : Tallied m R W adding w n j (λ i. startingWith j i (R ++ take k W)) place
+  pub only : OnlyIn 0 (3 * m) w₀ w
+
+pub counting-start : {m : ℕ} {R W : List Column} {adding : Bool} {w : List ℕ} {j : ℕ} {place : ℕ → ℕ} → CanStart m R W adding w j place → Counting m R W adding w w 0 j 0 place
+counting-start {R = R} {W} {j = j} c =
+    record { tallied = tallied-ext (λ i. ap (startingWith j i) (append-nil R)) (c .tallied); only = only-refl }
+
+module _ {m : ℕ} {R W : List Column} {adding : Bool} {w₀ w : List ℕ} {n j k : ℕ} {place : ℕ → ℕ} (c : CanStart m R W adding w₀ j place) (t : Counting m R W adding w₀ w n j k place)
+    (l : k < length W) where
+  pub counting-steady : Steady m w n
+  counting-steady =
+      tallied-steady m R W adding j (c .low) (c .high) (t .tallied) (c .narrow) (c .few)
+      (λ i. omega (arith, starts-le j i (R ++ take k W), length-append R (take k W), length-take k W))
+
+  -- A: it starts here
+  pub counting-here : {w′ : List ℕ} {n′ : ℕ} → smallest (getD W k none) ≡ j → Bumps m w w′ n′ adding (holds (getD W k none)) → Counting m R W adding w₀ w′ n′ j (k + 1) place
+  counting-here {w′} {n′} e b =
+      let f : Fits m (getD W k none) = fits-at m W (c .fits) k l in
+      record {
+        tallied = tallied-column m R W adding j (c .low) (c .high) (holds (getD W k none)) (t .tallied) b (λ i x y. rows-above m (getD W k none) f i (omega arith))
+            (λ i x y. starting-more j i R W k l ∙ ap (λ (v : Bool). startingWith j i (R ++ take k W) + one (v && holds (getD W k none) i)) (eq-eqb (smallest (getD W k none)) j e));
+        only = only-trans (t .only) (b .only);
+      }
+
+  -- it starts elsewhere
+  pub counting-past : smallest (getD W k none) ≢ j → Counting m R W adding w₀ w n j (k + 1) place
+  counting-past e =
+      record {
+        tallied = tallied-ext (λ i. starting-more j i R W k l ∙ omega (arith, ap (λ (v : Bool). one (v && holds (getD W k none) i)) (ne-eqb (smallest (getD W k none)) j e))) (t .tallied);
+        only = t .only;
+      }
+
+pub counting-end : {m : ℕ} {R W : List Column} {adding : Bool} {w₀ w : List ℕ} {n j k : ℕ} {place : ℕ → ℕ} → Counting m R W adding w₀ w n j k place → length W ≤ k →
+    Started m R W adding w₀ w n j place
+counting-end {R = R} {W} {j = j} {k} t l =
+    record { tallied = tallied-ext (λ i. ap (λ (x : List Column). startingWith j i (R ++ x)) (sym (take-all k W l))) (t .tallied); only = t .only }
+
+-- ---- the loops over listed columns
+
+module _ {counts list : List ℕ} {m flags : ℕ} {w₀ : List ℕ} {W : List Column} (c : CanMark counts list m flags w₀ W) {w : List ℕ} {k at : ℕ} (r : Reading counts list W k at)
+    (s : StartsTo m flags W w₀ w k) (l : k < length counts) where
+  fits-here : Fits m (getD W k none)
+  fits-here = fits-at m W (c .fits) k (omega (arith, r .size))
+
+  room-here : Room m flags w
+  room-here = record { m-bound = c .room .m-bound; low = c .room .low; long = omega (arith, c .room .long, s .same-length) }
+
+  pub marking-row : (at < length list) × Room m flags w × (1 ≤ getD list at 0) × (getD list at 0 ≤ m) × (k + 1 ≤ 64)
+  marking-row =
+      let f : (at < length list) × (1 ≤ getD counts k 0) × (getD list at 0 ≡ smallest (getD W k none)) = reading-first r l fits-here in
+      (f .0, room-here, omega (arith, f .2, fits-here .low), omega (arith, f .2, fits-here .high), omega (arith, c .few, r .size))
+
+  pub marking-next : {w₁ : List ℕ} → w₁ ≡ marked m flags w (getD list at 0) (4 * (k + 1) + 2) → StartsTo m flags W w₀ w₁ (k + 1)
+  marking-next {w₁} e =
+      let f : (at < length list) × (1 ≤ getD counts k 0) × (getD list at 0 ≡ smallest (getD W k none)) = reading-first r l fits-here in
+      let q : k + 1 - 1 ≡ k = omega arith in
+      let g : getD list at 0 ≡ startOf W (k + 1) = f .2 ∙ ap (λ (x : ℕ). smallest (getD W x none)) (sym q) in
+      subst (λ (x : List ℕ). StartsTo m flags W w₀ x (k + 1)) (sym (e ∙ ap (λ (x : ℕ). marked m flags w x (4 * (k + 1) + 2)) g))
+      (starts-next s room-here (omega (arith, g, f .2, fits-here .low)) (omega (arith, g, f .2, fits-here .high))
+      (λ p x y. let v : Fits m (getD W (p - 1) none) = fits-at m W (c .fits) (p - 1) (omega (arith, r .size)) in (v .low, v .high)))
+
+module _ {counts list : List ℕ} {m : ℕ} {R W : List Column} {w₀ w : List ℕ} {n j k at : ℕ} {place : ℕ → ℕ} (c : CanStart m R W true w₀ j place) (r : Reading counts list W k at)
+    (t : Counting m R W true w₀ w n j k place) (l : k < length counts) where
+  fits-there : Fits m (getD W k none)
+  fits-there = fits-at m W (c .fits) k (omega (arith, r .size))
+
+  pub listed-first : (at < length list) × (getD list at 0 ≡ smallest (getD W k none))
+  listed-first = let f : (at < length list) × (1 ≤ getD counts k 0) × (getD list at 0 ≡ smallest (getD W k none)) = reading-first r l fits-there in (f .0, f .2)
+
+  listed-rows : take (at + getD counts k 0 - at) (drop at list) ≡ getD W k none .rows
+  listed-rows = let q : at + getD counts k 0 - at ≡ getD counts k 0 = omega arith in ap (λ (x : ℕ). take x (drop at list)) q ∙ sym (reading-rows r l)
+
+  pub listed-gather : CanGather m w × (rises 1 m (take (at + getD counts k 0 - at) (drop at list)) ≡ true)
+  listed-gather = (can-gather (counting-steady c t (omega (arith, r .size))), ap (rises 1 m) listed-rows ∙ fits-there .rising)
+
+  pub listed-here : {w₁ w₂ : List ℕ} {g n′ : ℕ} → getD list at 0 ≡ j → Gathered m w w₁ g (λ i. among i (take (at + getD counts k 0 - at) (drop at list))) → Counted m w₁ g true w₂ n′ →
+      Counting m R W true w₀ w₂ n′ j (k + 1) place
+  listed-here e a b =
+      counting-here c t (omega (arith, r .size)) (sym (listed-first .1) ∙ e)
+      (bumps a true (holds (getD W k none)) (λ i x y. ap (λ (z : List ℕ). among i z) listed-rows) b)
+
+  pub listed-past : getD list at 0 ≢ j → Counting m R W true w₀ w n j (k + 1) place
+  listed-past e = counting-past c t (omega (arith, r .size)) (λ x. e (listed-first .1 ∙ x))
+
+pub marking-end : {counts list : List ℕ} {m flags : ℕ} {W : List Column} {w₀ w : List ℕ} {k at : ℕ} → Reading counts list W k at → StartsTo m flags W w₀ w k → k ≤ length counts → length counts ≤ k →
+    StartsTo m flags W w₀ w (length W)
+marking-end {m = m} {flags} {W} {w₀} {w} {k} r s a b = let e : k ≡ length W = omega (arith, r .size) in subst (λ (x : ℕ). StartsTo m flags W w₀ w x) e s

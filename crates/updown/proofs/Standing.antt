@@ -1,0 +1,233 @@
+-- Where a done column waits before the turn of j (`standing`), by cases; who waits for j (`waits-child`, `waits-lost`, `relevant-here`); what one row more
+-- changes: those that waited for j move on, j itself starts to wait for its tree parent, and for a row that is not touched nothing changes. Assumes nothing.
+use mathlib.Core.Path.{_≡_, refl, sym, ap, _∙_, subst}
+use mathlib.Core.Logic.{_⊎_, inl, inr, _≢_}
+use mathlib.Core.Bool.{Bool, true, false, _&&_, _||_, not, true≢false, false≢true}
+use mathlib.Core.List.{List, _++_}
+use Prim.Native.Nat.{ℕ, suc, _+_, _-_, _≤_, _<_}
+use native.Mathlib.Omega.{arith}
+use lib.Dec.{ltb, leb, eqb}
+use borrow.Author.Tests.{ltb-true, lt-ltb, le-ltb, le-leb, lt-leb, eqb-true, eqb-false, eq-eqb, ne-eqb}
+use Rattle.lists.specs.Lists.{pick}
+use Rattle.lists.proofs.Tests.{cases, eq-or-ne, lt-or-le, zero-or-pos, and-both, both-and, or-either, or-left, or-right, refute}
+use Rattle.symbolic.specs.Columns.{Column}
+use Rattle.symbolic.specs.Factor.{factorOf, multiplicity, parentOf}
+use Rattle.symbolic.specs.Batch.{isTouched}
+use Rattle.symbolic.proofs.Build.{laws}
+use Rattle.symbolic.proofs.Touched.{touched-parent}
+use Rattle.symbolic.proofs.Locality.{parent-stays-or-falls, touched-old-parent}
+use Rattle.updown.specs.Turns.{larger, smaller, treeParent, otherParent, isDone, standing, isHere}
+
+module _ (m : ℕ) (R W : List Column) where
+  abbrev T : ℕ → Bool
+  T c = isTouched (larger m R W) W c
+
+  abbrev U : ℕ → ℕ
+  U = treeParent m R W
+
+  abbrev O : ℕ → ℕ
+  O = otherParent m R
+
+  -- ---- parents
+
+  pub tree-above : (c : ℕ) → 1 ≤ c → c ≤ m → 0 < U c → (c < U c) × (U c ≤ m)
+  tree-above c a b p = (laws m (R ++ W) .parent-in c a b p .0, laws m (R ++ W) .parent-in c a b p .1)
+
+  pub other-above : (c : ℕ) → 1 ≤ c → c ≤ m → 0 < O c → (0 < U c) × (U c ≤ O c) × (c < O c) × (O c ≤ m)
+  other-above c a b p =
+      let t : (0 < U c) × (U c ≤ O c) = parent-stays-or-falls m R W c a b p in
+      (t .0, t .1, laws m R .parent-in c a b p .0, laws m R .parent-in c a b p .1)
+
+  pub done-true : (j c : ℕ) → T c ≡ true → c < j → isDone m R W j c ≡ true
+  done-true j c t l = both-and t (lt-ltb c j l)
+
+  pub done-parts : (j c : ℕ) → isDone m R W j c ≡ true → (T c ≡ true) × (c < j)
+  done-parts j c h = let t : (T c ≡ true) × (ltb c j ≡ true) = and-both (T c) (ltb c j) h in (t .0, ltb-true c j (t .1))
+
+  -- ---- where a column waits
+
+  pub stands-none : (j c : ℕ) → isDone m R W j c ≡ false → standing m R W j c ≡ 0
+  stands-none j c e = rw e refl
+
+  pub stands-tree : (j c : ℕ) → isDone m R W j c ≡ true → j ≤ U c → standing m R W j c ≡ U c
+  stands-tree j c e l = rw (e, le-leb j (U c) l) refl
+
+  pub stands-other : (j c : ℕ) → isDone m R W j c ≡ true → U c < j → 0 < U c → O c ≢ U c → j ≤ O c → standing m R W j c ≡ m + O c
+  stands-other j c e l p n k = rw (e, lt-leb j (U c) l, ne-eqb (U c) 0 (omega arith), ne-eqb (O c) (U c) n, le-leb j (O c) k) refl
+
+  pub stands-gone : (j c : ℕ) → isDone m R W j c ≡ true → U c < j → (U c ≡ 0) ⊎ ((O c ≡ U c) ⊎ (O c < j)) → standing m R W j c ≡ 0
+  stands-gone j c e l d =
+      elim d [
+        | inl z ↦ rw (e, lt-leb j (U c) l, eq-eqb (U c) 0 z) refl
+        | inr (inl z) ↦ rw (e, lt-leb j (U c) l, eq-eqb (O c) (U c) z) (first-false (not (eqb (U c) 0)) (leb j (O c)))
+        | inr (inr z) ↦ rw (e, lt-leb j (U c) l, lt-leb j (O c) z) (last-false (not (eqb (U c) 0) && not (eqb (O c) (U c))))
+      ]
+    where
+      first-false : (x y : Bool) → pick (x && false && y) (m + O c) 0 ≡ 0
+      first-false true y = refl
+      first-false false y = refl
+
+      last-false : (x : Bool) → pick (x && false) (m + O c) 0 ≡ 0
+      last-false true = refl
+      last-false false = refl
+
+  -- all cases at once
+  pub data Stands (j c : ℕ) : Type 0 where
+    nowhere : isDone m R W j c ≡ false → standing m R W j c ≡ 0 → Stands j c
+    tree : isDone m R W j c ≡ true → j ≤ U c → standing m R W j c ≡ U c → Stands j c
+    other : isDone m R W j c ≡ true → U c < j → 0 < U c → O c ≢ U c → j ≤ O c → standing m R W j c ≡ m + O c → Stands j c
+    gone : isDone m R W j c ≡ true → U c < j → (U c ≡ 0) ⊎ ((O c ≡ U c) ⊎ (O c < j)) → standing m R W j c ≡ 0 → Stands j c
+
+  pub stands : (j c : ℕ) → Stands j c
+  stands j c =
+      elim (cases (isDone m R W j c)) [
+        | inr e ↦ nowhere e (stands-none j c e)
+        | inl e ↦ elim (lt-or-le (U c) j) [
+          | inr l ↦ tree e l (stands-tree j c e l)
+          | inl l ↦ elim (zero-or-pos (U c)) [
+            | inl z ↦ gone e l (inl z) (stands-gone j c e l (inl z))
+            | inr z ↦ elim (eq-or-ne (O c) (U c)) [
+              | inl y ↦ gone e l (inr (inl y)) (stands-gone j c e l (inr (inl y)))
+              | inr y ↦ elim (lt-or-le (O c) j) [
+                | inl k ↦ gone e l (inr (inr k)) (stands-gone j c e l (inr (inr k)))
+                | inr k ↦ other e l z y k (stands-other j c e l z y k)
+              ]
+            ]
+          ]
+        ]
+      ]
+
+  -- ---- who waits for j
+
+  module _ (j : ℕ) (a : 1 ≤ j) (b : j ≤ m) where
+    here-child : isHere m j j ≡ true
+    here-child = or-left (eqb j j) (eqb j (m + j)) (eq-eqb j j refl)
+
+    here-lost : isHere m j (m + j) ≡ true
+    here-lost = or-right (eqb (m + j) j) (eqb (m + j) (m + j)) (eq-eqb (m + j) (m + j) refl)
+
+    pub here-at : (x : ℕ) → (x ≡ j) ⊎ (x ≡ m + j) → isHere m j x ≡ true
+    here-at x (inl e) = ap (isHere m j) e ∙ here-child
+    here-at x (inr e) = ap (isHere m j) e ∙ here-lost
+
+    pub at-here : (x : ℕ) → isHere m j x ≡ true → (x ≡ j) ⊎ (x ≡ m + j)
+    at-here x h = elim (or-either (eqb x j) (eqb x (m + j)) h) [ inl e ↦ inl (eqb-true x j e) | inr e ↦ inr (eqb-true x (m + j) e) ]
+
+    pub not-here : (x : ℕ) → x ≢ j → x ≢ m + j → isHere m j x ≡ false
+    not-here x p q = refute (isHere m j x) (λ h. elim (at-here x h) [ inl e ↦ p e | inr e ↦ q e ])
+
+    pub waits-child : (c : ℕ) → standing m R W j c ≡ j → (T c ≡ true) × (c < j) × (U c ≡ j)
+    waits-child c h =
+        elim (stands j c) [
+          | nowhere e z ↦ absurd (omega arith)
+          | tree e l z ↦ (done-parts j c e .0, done-parts j c e .1, sym z ∙ h)
+          | other e l p n k z ↦ absurd (omega arith)
+          | gone e l d z ↦ absurd (omega arith)
+        ]
+
+    pub waits-lost : (c : ℕ) → 1 ≤ c → c ≤ m → standing m R W j c ≡ m + j → (T c ≡ true) × (c < j) × (U c < j) × (0 < U c) × (O c ≡ j)
+    waits-lost c x y h =
+        elim (stands j c) [
+          | nowhere e z ↦ absurd (omega arith)
+          | tree e l z ↦ absurd (omega (arith, tree-above c x y (omega arith)))
+          | other e l p n k z ↦ (done-parts j c e .0, done-parts j c e .1, l, p, omega arith)
+          | gone e l d z ↦ absurd (omega arith)
+        ]
+
+    pub relevant-here : (c : ℕ) → 1 ≤ c → c ≤ m → T c ≡ true → (O c ≡ j) ⊎ (U c ≡ j) → isHere m j (standing m R W j c) ≡ true
+    relevant-here c x y t (inr u) =
+        let v : (c < U c) × (U c ≤ m) = tree-above c x y (omega arith) in
+        here-at (standing m R W j c) (inl (stands-tree j c (done-true j c t (omega arith)) (omega arith) ∙ u))
+    relevant-here c x y t (inl o) =
+        let v : (0 < U c) × (U c ≤ O c) × (c < O c) × (O c ≤ m) = other-above c x y (omega arith) in
+        let d : isDone m R W j c ≡ true = done-true j c t (omega arith) in
+        elim (eq-or-ne (U c) j) [
+          | inl u ↦ here-at (standing m R W j c) (inl (stands-tree j c d (omega arith) ∙ u))
+          | inr u ↦ here-at (standing m R W j c) (inr (stands-other j c d (omega arith) (v .0) (omega arith) (omega arith) ∙ ap (λ (z : ℕ). m + z) o))
+        ]
+
+    -- ---- one row more
+
+    pub never-here : (c : ℕ) → 1 ≤ c → c ≤ m → isHere m j (standing m R W (suc j) c) ≡ false
+    never-here c x y =
+        elim (stands (suc j) c) [
+          | nowhere e z ↦ not-here (standing m R W (suc j) c) (omega arith) (omega arith)
+          | tree e l z ↦ not-here (standing m R W (suc j) c) (omega arith) (omega (arith, tree-above c x y (omega arith)))
+          | other e l p n k z ↦ not-here (standing m R W (suc j) c) (omega arith) (omega arith)
+          | gone e l d z ↦ not-here (standing m R W (suc j) c) (omega arith) (omega arith)
+        ]
+
+    done-more : (c : ℕ) → c ≢ j → isDone m R W (suc j) c ≡ isDone m R W j c
+    done-more c n = ap (λ (z : Bool). T c && z) (same c n)
+      where
+        same : (c : ℕ) → c ≢ j → ltb c (suc j) ≡ ltb c j
+        same c n = elim (lt-or-le c j) [ inl l ↦ lt-ltb c (suc j) (omega arith) ∙ sym (lt-ltb c j l) | inr l ↦ le-ltb c (suc j) (omega arith) ∙ sym (le-ltb c j l) ]
+
+    pub stands-keep : (c : ℕ) → 1 ≤ c → c ≤ m → c ≢ j → isHere m j (standing m R W j c) ≡ false → standing m R W (suc j) c ≡ standing m R W j c
+    stands-keep c x y n h =
+        elim (stands j c) [
+          | nowhere e z ↦ stands-none (suc j) c (done-more c n ∙ e) ∙ sym z
+          | tree e l z ↦ elim (eq-or-ne (U c) j) [
+            | inl u ↦ absurd (true≢false (sym (here-at (standing m R W j c) (inl (z ∙ u))) ∙ h))
+            | inr u ↦ stands-tree (suc j) c (done-more c n ∙ e) (omega arith) ∙ sym z
+          ]
+          | other e l p k o z ↦ elim (eq-or-ne (O c) j) [
+            | inl u ↦ absurd (true≢false (sym (here-at (standing m R W j c) (inr (z ∙ ap (λ (t : ℕ). m + t) u))) ∙ h))
+            | inr u ↦ stands-other (suc j) c (done-more c n ∙ e) (omega arith) p k (omega arith) ∙ sym z
+          ]
+          | gone e l d z ↦
+              stands-gone (suc j) c (done-more c n ∙ e) (omega arith) (elim d [ inl p ↦ inl p | inr (inl p) ↦ inr (inl p) | inr (inr p) ↦ inr (inr (omega arith)) ]) ∙ sym z
+        ]
+
+    pub stands-self : T j ≡ true → standing m R W (suc j) j ≡ U j
+    stands-self t =
+        let d : isDone m R W (suc j) j ≡ true = done-true (suc j) j t (omega arith) in
+        elim (zero-or-pos (U j)) [
+          | inl z ↦ stands-gone (suc j) j d (omega arith) (inl z) ∙ sym z
+          | inr z ↦ stands-tree (suc j) j d (omega (arith, tree-above j a b z))
+        ]
+
+    pub stands-before : standing m R W j j ≡ 0
+    stands-before = stands-none j j (ap (λ (z : Bool). T j && z) (le-ltb j j (omega arith)) ∙ none (T j))
+      where
+        none : (x : Bool) → (x && false) ≡ false
+        none true = refl
+        none false = refl
+
+    -- a child of j moves on to its other parent, a lost child waits no more
+    pub moves-child : (c : ℕ) → 1 ≤ c → c ≤ m → standing m R W j c ≡ j → standing m R W (suc j) c ≡ pick (not (eqb (O c) j) && not (eqb (O c) 0)) (m + O c) 0
+    moves-child c x y h =
+        let w : (T c ≡ true) × (c < j) × (U c ≡ j) = waits-child c h in
+        let d : isDone m R W (suc j) c ≡ true = done-true (suc j) c (w .0) (omega arith) in
+        elim (eq-or-ne (O c) j) [
+          | inl e ↦ stands-gone (suc j) c d (omega arith) (inr (inl (omega arith))) ∙ rw (eq-eqb (O c) j e) refl
+          | inr e ↦ elim (zero-or-pos (O c)) [
+            | inl z ↦ stands-gone (suc j) c d (omega arith) (inr (inr (omega arith))) ∙ rw (ne-eqb (O c) j e, eq-eqb (O c) 0 z) refl
+            | inr z ↦
+                let v : (0 < U c) × (U c ≤ O c) × (c < O c) × (O c ≤ m) = other-above c x y z in
+                stands-other (suc j) c d (omega arith) (v .0) (omega arith) (omega arith) ∙ rw (ne-eqb (O c) j e, ne-eqb (O c) 0 (omega arith)) refl
+          ]
+        ]
+
+    pub moves-lost : (c : ℕ) → 1 ≤ c → c ≤ m → standing m R W j c ≡ m + j → standing m R W (suc j) c ≡ 0
+    moves-lost c x y h =
+        let w : (T c ≡ true) × (c < j) × (U c < j) × (0 < U c) × (O c ≡ j) = waits-lost c x y h in
+        stands-gone (suc j) c (done-true (suc j) c (w .0) (omega arith)) (omega arith) (inr (inr (omega arith)))
+
+    -- a row that is not touched
+    pub stands-untouched : T j ≡ false → (c : ℕ) → 1 ≤ c → c ≤ m → standing m R W (suc j) c ≡ standing m R W j c
+    stands-untouched t c x y =
+        elim (eq-or-ne c j) [
+          | inl e ↦
+              let d : isDone m R W (suc j) c ≡ false = rw (ap T e ∙ t) refl in
+              let k : isDone m R W j c ≡ false = rw (ap T e ∙ t) refl in
+              stands-none (suc j) c d ∙ sym (stands-none j c k)
+          | inr e ↦ stands-keep c x y e (refute (isHere m j (standing m R W j c)) (λ h. elim (at-here (standing m R W j c) h) [
+            | inl z ↦
+                let w : (T c ≡ true) × (c < j) × (U c ≡ j) = waits-child c z in
+                true≢false (sym (sym (ap T (w .2)) ∙ touched-parent m (R ++ W) W c x y (w .0) (omega arith)) ∙ t)
+            | inr z ↦
+                let w : (T c ≡ true) × (c < j) × (U c < j) × (0 < U c) × (O c ≡ j) = waits-lost c x y z in
+                true≢false (sym (sym (ap T (w .4)) ∙ touched-old-parent m R W c x y (w .0) (omega arith)) ∙ t)
+          ]))
+        ]

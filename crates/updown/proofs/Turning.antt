@@ -1,0 +1,165 @@
+-- A done column in the turn of j, read from the work table: its multiplicities with and without the batch (`column-counts`), its plan (`turn-plan`), its
+-- other parent (`turn-other`). And what leaves their places leaves the differences, the plans and the queues. Assumes nothing.
+use mathlib.Core.Path.{_≡_, refl, sym, ap, _∙_, subst}
+use mathlib.Core.Logic.{_⊎_, inl, inr, _≢_}
+use mathlib.Core.Bool.{Bool, true, false, _&&_}
+use mathlib.Core.List.{List, [], _∷_, _++_}
+use Prim.Native.Nat.{ℕ, zero, suc, _+_, _-_, _*_, _/_, _≤_, _<_}
+use native.Mathlib.Omega.{arith}
+use lib.ListN.{length, getD, length-append}
+use Rattle.lists.specs.Lists.{pick, at, among, rises, Mem}
+use Rattle.lists.proofs.Tests.{lt-or-le}
+use Rattle.symbolic.specs.Columns.{Column}
+use Rattle.symbolic.specs.Factor.{FactorColumn, factorOf, columnAt, multiplicity, parentOf}
+use Rattle.symbolic.specs.Batch.{isTouched}
+use Rattle.symbolic.proofs.Laws.{diagonal-in}
+use Rattle.symbolic.proofs.Build.{laws, counts-length}
+use Rattle.symbolic.proofs.Order.{count-bound}
+use Rattle.symbolic.proofs.Locality.{multiplicity-stays}
+use Rattle.workspace.specs.Regions.{cell, region, IsZero, OnlyIn}
+use Rattle.workspace.proofs.Regions.{region-cell}
+use Rattle.differences.specs.Tally.{base, shifted, differenceAt, Touched, Tally}
+use Rattle.differences.specs.Gather.{planPart}
+use Rattle.emission.specs.Plans.{planFrom}
+use Rattle.updown.specs.Plans.{marksAt, startsAt, nextAt, planAt, labelIn, parentIn, InPlan}
+use Rattle.updown.specs.Marks.{markAt, endAt, otherAt}
+use Rattle.updown.specs.Queues.{Queues}
+use Rattle.updown.specs.Children.{Counts, PlanOf, ChainOf, oldOf, newOf}
+use Rattle.updown.specs.Turns.{larger, smaller, before, after, otherParent, labelAt, done, DoneColumn, PlansTo, soFar, Shift, Tallied}
+use Rattle.updown.specs.Walks.{Columns, Parents, Turn}
+use Rattle.updown.proofs.Plans.{touched-in, in-touched, region-same, Found, plans-find}
+
+-- ---- multiplicities
+
+pub beyond : (xs : List ℕ) (k : ℕ) → length xs ≤ k → getD xs k 0 ≡ 0
+beyond [] k h = refl
+beyond (x ∷ xs) zero h = absurd (omega arith)
+beyond (x ∷ xs) (suc k) h = beyond xs k (omega arith)
+
+counts-small : (m : ℕ) (cs : List Column) (c : ℕ) → 1 ≤ c → c ≤ m → m ≤ 4096 → length cs ≤ 60000 → (k : ℕ) → getD (columnAt (factorOf m cs) c .counts) k 0 < 65536
+counts-small m cs c a b n f k =
+    elim (lt-or-le k m) [
+      | inl l ↦
+          let q : suc k - 1 ≡ k = omega arith in
+          let e : multiplicity (factorOf m cs) (suc k) c ≡ getD (columnAt (factorOf m cs) c .counts) k 0 = ap (λ (x : ℕ). getD (columnAt (factorOf m cs) c .counts) x 0) q in
+          omega (arith, count-bound m cs (suc k) c (omega arith) (omega arith) a b)
+      | inr l ↦ omega (arith, beyond (columnAt (factorOf m cs) c .counts) k (omega (arith, counts-length m cs c a b)))
+    ]
+
+pub column-counts : (m : ℕ) (R W : List Column) (c : ℕ) → 1 ≤ c → c ≤ m → m ≤ 4096 → length R + length W ≤ 60000 →
+    Counts m c (columnAt (larger m R W) c .counts) (columnAt (smaller m R) c .counts)
+column-counts m R W c a b n f =
+    record {
+      low = a;
+      high = b;
+      narrow = n;
+      more-long = counts-length m (R ++ W) c a b;
+      less-long = counts-length m R c a b;
+      more-small = counts-small m (R ++ W) c a b n (omega (arith, length-append R W));
+      less-small = counts-small m R c a b n (omega arith);
+      diagonal = (diagonal-in (laws m (R ++ W)) c a b, diagonal-in (laws m R) c a b);
+      below = λ i x y. (laws m (R ++ W) .below i c x y b, laws m R .below i c x y b);
+      grows = λ i x y h. multiplicity-stays m R W i c x y a b h;
+    }
+
+-- ---- what stays
+
+-- the differences, where the first 3 m places stay
+pub tally-frame : {m : ℕ} {w w′ : List ℕ} {n : ℕ} {δ : ℕ → ℕ} → length w′ ≡ length w → ((k : ℕ) → k < 3 * m → getD w′ k 0 ≡ getD w k 0) → Tally m w n δ → Tally m w′ n δ
+tally-frame {m} {w} {w′} {n} l h t =
+    let r : region w′ m n ≡ region w m n = region-same w w′ m n l (λ i x. h (m + i) (omega (arith, t .touched .within))) in
+    record {
+      touched = record {
+        long = omega (arith, t .touched .long);
+        within = t .touched .within;
+        rising = subst (λ (x : List ℕ). rises 1 m x ≡ true) (sym r) (t .touched .rising);
+        listed = λ i a b. (
+          λ x z. t .touched .listed i a b .0 (ap (λ (y : List ℕ). among i y) (sym r) ∙ x) (sym (h (i - 1) (omega arith)) ∙ z),
+          λ x. ap (λ (y : List ℕ). among i y) r ∙ t .touched .listed i a b .1 (λ z. x (h (i - 1) (omega arith) ∙ z)),
+        );
+        rest = λ i x. h (m + n + i) (omega (arith, t .touched .within)) ∙ t .touched .rest i x;
+      };
+      values = λ i a b. ap shifted (h (i - 1) (omega arith)) ∙ t .values i a b;
+      buffer = λ i x. h (2 * m + i) (omega arith) ∙ t .buffer i x;
+    }
+
+pub tallied-frame : {m : ℕ} {R W : List Column} {adding : Bool} {w w′ : List ℕ} {n j : ℕ} {s : ℕ → ℕ} {place : ℕ → ℕ} → length w′ ≡ length w →
+    ((k : ℕ) → k < 3 * m → getD w′ k 0 ≡ getD w k 0) → 1 ≤ j → j ≤ m → Tallied m R W adding w n j s place → Tallied m R W adding w′ n j s place
+tallied-frame {m} {R} {W} {adding} {w} {w′} {n} {j} {s} {place} l h a b t =
+    let u : Tally m w′ n (differenceAt w) = tally-frame l h (t .tally) in
+    record {
+      tally = record { touched = u .touched; values = λ i x y. refl; buffer = u .buffer };
+      shifts = λ i x y. go adding (differenceAt w′ i) (differenceAt w i) (ap shifted (h (i - 1) (omega arith))) i (t .shifts i x y);
+      still = λ i x y. ap shifted (h (i - 1) (omega arith)) ∙ t .still i x y;
+    }
+  where
+    go : (z : Bool) (d e : ℕ) → d ≡ e → (i : ℕ) → Shift z e (multiplicity (smaller m R) i j) (soFar m R W j place (s i) i) → Shift z d (multiplicity (smaller m R) i j) (soFar m R W j place (s i) i)
+    go z d e q i x = subst (λ (y : ℕ). Shift z y (multiplicity (smaller m R) i j) (soFar m R W j place (s i) i)) (sym q) x
+
+-- a plan's places lie past the differences, and not among the queues of other parents and the links
+pub plan-places : (m : ℕ) (R W : List Column) (j used : ℕ) → j ≤ suc m → (k : ℕ) → InPlan m used (done m R W j) k → (3 * m ≤ k) × ((k < 6 * m) ⊎ (8 * m ≤ k))
+plan-places m R W j used h k (inr t) = (omega arith, inr (t .0))
+plan-places m R W j used h k (inl t) =
+    let v : (1 ≤ t .0) × (t .0 < 1 + (j - 1)) × (isTouched (larger m R W) W (t .0) ≡ true) = in-touched (larger m R W) W 1 (j - 1) (t .0) (t .1 .0) in
+    elim (t .1 .1) [
+      | inl e ↦ (omega arith, inl (omega arith))
+      | inr (inl e) ↦ (omega arith, inl (omega arith))
+      | inr (inr e) ↦ (omega arith, inl (omega arith))
+    ]
+
+-- ---- one done column
+
+module _ {heads rows next : List ℕ} {m : ℕ} {R W : List Column} {adding : Bool} (k : Columns heads rows next m R W adding) {work : List ℕ} {j used n except : ℕ} {place : ℕ → ℕ}
+    (t : Turn m R W adding work j used n except place) (c : ℕ) (a : 1 ≤ c) (b : c < j) (touched : isTouched (larger m R W) W c ≡ true) where
+  turn-found : Found m (before adding m R W) (after adding m R W) (labelAt m R W) work (done m R W j) j used c
+  turn-found =
+      plans-find m (before adding m R W) (after adding m R W) (labelAt m R W) work (done m R W j) 0 j used c
+      (touched-in (larger m R W) W 1 (j - 1) c a (omega arith) touched) (t .plans) (t .starts)
+
+  next-range : (1 ≤ turn-found .next) × (turn-found .next ≤ m)
+  next-range =
+      elim (turn-found .next-in) [
+        | inl x ↦ let v : (1 ≤ turn-found .next) × (turn-found .next < 1 + (j - 1)) × (isTouched (larger m R W) W (turn-found .next) ≡ true) =
+            in-touched (larger m R W) W 1 (j - 1) (turn-found .next) x in omega (arith, t .high)
+        | inr x ↦ omega (arith, t .low, t .high)
+      ]
+
+  turn-end : endAt m work c ≡ turn-found .end
+  turn-end = ap (λ (x : ℕ). cell work (4 * m) (x - 1)) (turn-found .column .plan .next-is) ∙ turn-found .ends
+
+  pub turn-plan : PlanOf work m c adding (columnAt (larger m R W) c .counts) (columnAt (smaller m R) c .counts)
+  turn-plan =
+      let f : Found m (before adding m R W) (after adding m R W) (labelAt m R W) work (done m R W j) j used c = turn-found in
+      let part : planPart m work (cell work (4 * m) (c - 1)) (endAt m work c) ≡ planPart m work (f .start) (f .end) =
+      ap (λ (x : ℕ). planPart m work x (endAt m work c)) (f .column .plan .starts) ∙ ap (λ (x : ℕ). planPart m work (f .start) x) turn-end in
+      record {
+        column = column-counts m R W c a (omega (arith, t .high)) (k .narrow) (k .few);
+        long = omega (arith, turn-end, f .high, t .long);
+        next-low = omega (arith, f .column .plan .next-is, next-range);
+        next-high = omega (arith, f .column .plan .next-is, next-range);
+        order = omega (arith, turn-end, f .column .plan .starts, f .column .plan .rises);
+        entries = part ∙ f .column .entries ∙ ap (λ (x : List ℕ). planFrom 1 x (columnAt (after adding m R W) c .counts)) (olds adding) ∙
+            ap (λ (x : List ℕ). planFrom 1 (oldOf adding (columnAt (larger m R W) c .counts) (columnAt (smaller m R) c .counts)) x) (news adding);
+      }
+    where
+      olds : (z : Bool) → columnAt (before z m R W) c .counts ≡ oldOf z (columnAt (larger m R W) c .counts) (columnAt (smaller m R) c .counts)
+      olds true = refl
+      olds false = refl
+
+      news : (z : Bool) → columnAt (after z m R W) c .counts ≡ newOf z (columnAt (larger m R W) c .counts) (columnAt (smaller m R) c .counts)
+      news true = refl
+      news false = refl
+
+  pub turn-chain : ChainOf heads rows next m c (oldOf adding (columnAt (larger m R W) c .counts) (columnAt (smaller m R) c .counts))
+  turn-chain = subst (λ (x : List ℕ). ChainOf heads rows next m c x) (olds adding) (k .chains c a (omega (arith, t .high)))
+    where
+      olds : (z : Bool) → columnAt (before z m R W) c .counts ≡ oldOf z (columnAt (larger m R W) c .counts) (columnAt (smaller m R) c .counts)
+      olds true = refl
+      olds false = refl
+
+  pub turn-other : {parents : List ℕ} → Parents parents m R W adding → otherAt parents work m c adding ≡ otherParent m R c
+  turn-other {parents} p = go adding (p .are c a (omega (arith, t .high))) (turn-found .column .plan .parent-is)
+    where
+      go : (z : Bool) → at parents c ≡ parentOf (before z m R W) c → parentIn (cell work (marksAt m) (c - 1)) ≡ parentOf (after z m R W) c → otherAt parents work m c z ≡ otherParent m R c
+      go true x y = x
+      go false x y = y

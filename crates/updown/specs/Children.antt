@@ -1,0 +1,86 @@
+-- What a done column brings to a parent, as it is counted into the differences: more are its multiplicities with the batch, less those without it, so
+-- adding goes from less to more and removing from more to less. Assumes nothing: these are definitions.
+use mathlib.Core.Path.{_≡_}
+use mathlib.Core.Bool.{Bool, true, false, _&&_, not}
+use mathlib.Core.List.{List}
+use Prim.Native.Nat.{ℕ, _+_, _-_, _*_, _≤_, _<_}
+use lib.Dec.{eqb}
+use lib.ListN.{length, getD}
+use Rattle.lists.specs.Lists.{pick, at, valuesAt}
+use Rattle.symbolic.specs.Factor.{patternFrom}
+use Rattle.workspace.specs.Regions.{cell, OnlyIn}
+use Rattle.pool.specs.Chains.{chain, Linked}
+use Rattle.differences.specs.Tally.{differenceAt, Tally, counted}
+use Rattle.differences.specs.Gather.{planPart}
+use Rattle.emission.specs.Plans.{planFrom}
+use Rattle.updown.specs.Marks.{endAt}
+
+-- ---- differences counted
+
+-- n touched rows, and differences that can be counted up and down
+pub record Steady (m : ℕ) (work : List ℕ) (n : ℕ) : Type 0 where
+  pub tally : Tally m work n (differenceAt work)
+  pub ranges : (i : ℕ) → 1 ≤ i → i ≤ m → (2 ≤ differenceAt work i) × (differenceAt work i < 2147483647)
+
+-- the rows that pass a test are counted up or down, and nothing but the differences changes
+pub record Bumps (m : ℕ) (before after : List ℕ) (n : ℕ) (up : Bool) (p : ℕ → Bool) : Type 0 where
+  pub tally : Tally m after n (differenceAt after)
+  pub counts : counted up (differenceAt before) (differenceAt after) m p
+  pub only : OnlyIn 0 (3 * m) before after
+
+-- ---- a column's multiplicities, its plan, its chain
+
+pub record Counts (m c : ℕ) (more less : List ℕ) : Type 0 where
+  pub low : 1 ≤ c
+  pub high : c ≤ m
+  pub narrow : m ≤ 4096
+  pub more-long : length more ≡ m
+  pub less-long : length less ≡ m
+  pub more-small : (k : ℕ) → getD more k 0 < 65536
+  pub less-small : (k : ℕ) → getD less k 0 < 65536
+  pub diagonal : (0 < at more c) × (0 < at less c)
+  pub below : (i : ℕ) → 1 ≤ i → i < c → (at more i ≡ 0) × (at less i ≡ 0)
+  pub grows : (i : ℕ) → 1 ≤ i → i ≤ m → 0 < at less i → 0 < at more i
+
+-- before and after the batch
+abbrev pub oldOf : (adding : Bool) (more less : List ℕ) → List ℕ
+oldOf z xs ys = pick z ys xs
+
+abbrev pub newOf : (adding : Bool) (more less : List ℕ) → List ℕ
+newOf z xs ys = pick z xs ys
+
+-- its plan, which ends where that of the next touched column starts
+pub record PlanOf (work : List ℕ) (m c : ℕ) (adding : Bool) (more less : List ℕ) : Type 0 where
+  pub column : Counts m c more less
+  pub long : 8 * m + endAt m work c ≤ length work
+  pub next-low : 1 ≤ cell work (5 * m) (c - 1)
+  pub next-high : cell work (5 * m) (c - 1) ≤ m
+  pub order : cell work (4 * m) (c - 1) ≤ endAt m work c
+  pub entries : planPart m work (cell work (4 * m) (c - 1)) (endAt m work c) ≡ planFrom 1 (oldOf adding more less) (newOf adding more less)
+
+-- its chain
+pub record ChainOf (heads rows next : List ℕ) (m c : ℕ) (old : List ℕ) : Type 0 where
+  pub heads-long : length heads ≡ m
+  pub rows-long : length rows ≡ length next
+  pub linked : Linked next (at heads c) (chain next (at heads c))
+  pub rows-are : valuesAt rows (chain next (at heads c)) ≡ patternFrom 1 old
+
+-- ---- what it brings
+
+-- B: the rows that it has with the batch alone; C: its rows with the batch but its own; D: its rows without the batch but its own
+abbrev pub keptRow : (more less : List ℕ) (i : ℕ) → Bool
+keptRow xs ys i = eqb (at ys i) 0 && not (eqb (at xs i) 0)
+
+abbrev pub wholeRow : (counts : List ℕ) (c i : ℕ) → Bool
+wholeRow xs c i = not (eqb (at xs i) 0) && not (eqb i c)
+
+pub record SomePlan (work : List ℕ) (m c : ℕ) (adding : Bool) : Type 0 where
+  pub more : List ℕ
+  pub less : List ℕ
+  pub plan : PlanOf work m c adding more less
+
+pub record SomeColumn (heads rows next work : List ℕ) (m c : ℕ) (adding : Bool) : Type 0 where
+  pub more : List ℕ
+  pub less : List ℕ
+  pub plan : PlanOf work m c adding more less
+  pub column : ChainOf heads rows next m c (oldOf adding more less)

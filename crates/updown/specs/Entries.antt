@@ -1,0 +1,99 @@
+-- What planning a batch asks and promises: adding goes from the columns R to R ++ W, removing from R ++ W to R. A promise holds for every R and W that the
+-- tables and the lists suit. Assumes nothing: these are definitions.
+use mathlib.Core.Path.{_≡_}
+use mathlib.Core.Bool.{Bool, true, false}
+use mathlib.Core.List.{List, [], _∷_, _++_}
+use Prim.Native.Nat.{ℕ, _+_, _*_, _≤_}
+use lib.Dec.{leb}
+use lib.ListN.{length, take, drop}
+use Rattle.lists.specs.Lists.{all}
+use Rattle.symbolic.specs.Columns.{Column, fitsRows}
+use Rattle.symbolic.specs.Factor.{factorOf, sizeSum}
+use Rattle.symbolic.specs.Batch.{touched, labelOf}
+use Rattle.symbolic.specs.Change.{Bag}
+use Rattle.workspace.specs.Regions.{IsZero}
+use Rattle.pool.specs.Chains.{chain}
+use Rattle.book.specs.Book as book
+use Rattle.tables.specs.Stored.{Stored, Sized, isSoundFor}
+use Rattle.updown.specs.Plans.{PlanIs}
+
+abbrev pub storedOf : (heads parents rows counts next : List ℕ) → (free : ℕ) → Stored
+storedOf hs ps rs cs ns f = record { heads = hs; parents = ps; rows = rs; counts = cs; next = ns; free = f }
+
+-- the places of the work table that planning may use
+abbrev pub planNeed : (m f : ℕ) → ℕ
+planNeed m f = 8 * m + 4 * f + 1024
+
+-- ---- batches, as they are lent
+
+-- the rows of the batch's columns stand one after another in a list, as many of them as counts say
+unfoldable pub Listed : (counts list : List ℕ) → (batch : List Column) → Type 0
+Listed [] xs [] = Unit {0}
+Listed [] xs (w ∷ ws) = ⊥
+Listed (k ∷ ks) xs [] = ⊥
+Listed (k ∷ ks) xs (w ∷ ws) = (w .rows ≡ take k xs) × (k ≤ length xs) × Listed ks (drop k xs) ws
+
+-- the batch's columns are those that the book has under some ids
+unfoldable pub Booked : book.Book → (ids : List ℕ) → (batch : List Column) → Type 0
+Booked b [] [] = Unit {0}
+Booked b [] (w ∷ ws) = ⊥
+Booked b (i ∷ is) [] = ⊥
+Booked b (i ∷ is) (w ∷ ws) = (w .rows ≡ book.columnFor b i .rows) × (1 ≤ i) × (i ≤ length (b .heads)) × Booked b is ws
+
+-- ---- what planning asks: stored columns that are sound for columns cs, a batch, and a work table whose places for it are zero
+
+pub record CanPlan (s : Stored) (cs batch : List Column) (work : List ℕ) : Type 0 where
+  pub sized : Sized s
+  pub sound : isSoundFor cs s ≡ true
+  pub fits : all (fitsRows (length (s .heads))) cs ≡ true
+  pub batch-fits : all (book.columnFits (length (s .heads))) batch ≡ true
+  pub some : 1 ≤ length (s .heads)
+  pub m-bound : length (s .heads) ≤ 4096
+  pub f-bound : length (s .next) ≤ 1048576
+  pub few : length cs + length batch ≤ 60000
+  pub positions : (1 ≤ length batch) × (length batch ≤ 64)
+  pub long : planNeed (length (s .heads)) (length (s .next)) ≤ length work
+  pub zero : IsZero work 0 (planNeed (length (s .heads)) (length (s .next)))
+
+-- adding W to the columns R that the tables are sound for
+pub record CanAdd (s : Stored) (counts list work : List ℕ) (R W : List Column) : Type 0 where
+  pub can : CanPlan s R W work
+  pub listed : Listed counts list W
+
+pub record SomeAdd (s : Stored) (counts list work : List ℕ) : Type 0 where
+  pub R : List Column
+  pub W : List Column
+  pub can : CanAdd s counts list work R W
+
+-- removing W, which the book has, from columns that are R and W but for their order; the free heads of s and b are not read, any that suit will do
+pub record CanRemove (s : Stored) (b : book.Book) (ids work : List ℕ) (R W : List Column) : Type 0 where
+  pub columns : List Column
+  pub free : ℕ
+  pub book-free : ℕ
+  pub can : CanPlan (storedOf (s .heads) (s .parents) (s .rows) (s .counts) (s .next) free) columns W work
+  pub same : Bag columns (R ++ W)
+  pub booked : Booked b ids W
+  pub book-sized : book.Sized b
+  pub book-sound : book.isSound (length (s .heads)) (book.bookOf (b .heads) (b .rows) (b .next) book-free) ≡ true
+
+pub record SomeRemove (s : Stored) (b : book.Book) (ids work : List ℕ) : Type 0 where
+  pub R : List Column
+  pub W : List Column
+  pub can : CanRemove s b ids work R W
+
+-- ---- what it promises
+
+-- from R to R ++ W: "16: the sum of all pattern sizes would exceed F" decides; where it does not fit, the work table is as lent
+pub record AddPlanned (s : Stored) (R W : List Column) (before after : List ℕ) (fits : Bool) (first count entries used : ℕ) : Type 0 where
+  pub fits-is : fits ≡ leb (sizeSum (factorOf (length (s .heads)) (R ++ W))) (length (s .next))
+  pub plan : fits ≡ true →
+      PlanIs (length (s .heads)) (length (s .next)) (length (chain (s .next) (s .free))) (factorOf (length (s .heads)) R) (factorOf (length (s .heads)) (R ++ W))
+      (labelOf (factorOf (length (s .heads)) (R ++ W)) W) (touched (factorOf (length (s .heads)) (R ++ W)) W) before after first count entries used
+  pub unchanged : fits ≡ false → after ≡ before
+
+-- from R ++ W to R: it always fits, and no entry is new
+pub record RemovePlanned (s : Stored) (R W : List Column) (before after : List ℕ) (fits : Bool) (first count entries used : ℕ) : Type 0 where
+  pub fits-is : fits ≡ true
+  pub plan :
+      PlanIs (length (s .heads)) (length (s .next)) 0 (factorOf (length (s .heads)) (R ++ W)) (factorOf (length (s .heads)) R)
+      (labelOf (factorOf (length (s .heads)) (R ++ W)) W) (touched (factorOf (length (s .heads)) (R ++ W)) W) before after first count entries used

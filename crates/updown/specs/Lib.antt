@@ -1,0 +1,10 @@
+pub mod Plans
+pub mod Entries
+pub mod Marks
+pub mod Queues
+pub mod Children
+pub mod Turns
+pub mod Walks
+pub mod States
+pub mod Starts
+pub mod Clears

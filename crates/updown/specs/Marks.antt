@@ -1,0 +1,69 @@
+-- The walk's marks and flags, and raw reads and stores: a mark for each row, a flag for each block of 64 rows that has a marked one. Assumes nothing: these
+-- are definitions.
+use mathlib.Core.Path.{_≡_}
+use mathlib.Core.Logic.{_≢_}
+use mathlib.Core.Bool.{Bool, true, false, _&&_, not}
+use mathlib.Core.List.{List}
+use Prim.Native.Nat.{ℕ, _+_, _-_, _*_, _/_, _%_, _≤_, _<_}
+use lib.Dec.{ltb, eqb}
+use lib.ListN.{length, set}
+use Rattle.lists.specs.Lists.{pick, at}
+use Rattle.workspace.specs.Regions.{cell}
+
+-- the work table has the regions of m rows and, past them, 64 flags
+pub record Room (m flags : ℕ) (work : List ℕ) : Type 0 where
+  pub m-bound : m ≤ 4096
+  pub low : 8 * m ≤ flags
+  pub long : flags + 64 ≤ length work
+
+abbrev pub markAt : (m : ℕ) (work : List ℕ) (row : ℕ) → ℕ
+markAt m w q = cell w (3 * m) (q - 1)
+
+abbrev pub flagAt : (flags : ℕ) (work : List ℕ) (row : ℕ) → ℕ
+flagAt f w q = cell w f ((q - 1) / 64)
+
+-- a row marked, with its block
+abbrev pub marked : (m flags : ℕ) (work : List ℕ) (row mark : ℕ) → List ℕ
+marked m f w q x = set (set w (3 * m + (q - 1)) x) (f + (q - 1) / 64) 1
+
+-- a tree parent marked with at least a label
+abbrev pub raised : (m flags : ℕ) (work : List ℕ) (row label : ℕ) → List ℕ
+raised m f w q l = pick (ltb (markAt m w q / 4) l) (marked m f w q (4 * l + markAt m w q % 4)) w
+
+-- a marked row past the first rows has the flag of its block
+abbrev pub Flagged : (m flags : ℕ) (work : List ℕ) (from : ℕ) → Type 0
+Flagged m f w a = (q : ℕ) → a < q → q ≤ m → markAt m w q ≢ 0 → flagAt f w q ≢ 0
+
+-- the first marked row past the first rows, or 0
+pub record Next (m : ℕ) (work : List ℕ) (from row : ℕ) : Type 0 where
+  pub found : row ≢ 0 → (from < row) × ((row ≤ m) × (markAt m work row ≢ 0))
+  pub passed : (q : ℕ) → from < q → q ≤ m → (row ≢ 0 → q < row) → markAt m work q ≡ 0
+
+-- ---- a done column's place in the tables
+
+-- where the plan of a column ends that is not the last: where that of the next touched column starts
+abbrev pub endAt : (m : ℕ) (work : List ℕ) (c : ℕ) → ℕ
+endAt m w c = cell w (4 * m) (cell w (5 * m) (c - 1) - 1)
+
+abbrev pub otherAt : (parents work : List ℕ) (m c : ℕ) (adding : Bool) → ℕ
+otherAt ps w m c z = pick z (at ps c) (markAt m w c / 262144)
+
+-- a column out of one queue and into that of its other parent, if that is another one
+abbrev pub passedOn : (m : ℕ) (work : List ℕ) (c j other : ℕ) → List ℕ
+passedOn m w c j o =
+    pick (not (eqb o j) && not (eqb o 0)) (set (set w (7 * m + (c - 1)) (cell w (6 * m) (o - 1))) (6 * m + (o - 1)) c) (set w (7 * m + (c - 1)) 0)
+
+-- a column into the queue of its tree parent
+abbrev pub queued : (m : ℕ) (work : List ℕ) (c up : ℕ) → List ℕ
+queued m w c q = set (set w (7 * m + (c - 1)) (cell w (5 * m) (q - 1))) (5 * m + (q - 1)) c
+
+-- a turn begun: the last touched column goes on to j, and j's plan starts
+abbrev pub begun : (m : ℕ) (work : List ℕ) (last j used : ℕ) → List ℕ
+begun m w l j u = set (pick (eqb l 0) w (set w (5 * m + (l - 1)) j)) (4 * m + (j - 1)) u
+
+-- one step up from j, with its new parent, to its tree parent
+abbrev pub kept : (m : ℕ) (work : List ℕ) (j parent : ℕ) → List ℕ
+kept m w j p = set w (3 * m + (j - 1)) (markAt m w j + 262144 * p)
+
+abbrev pub steppedUp : (m flags : ℕ) (work : List ℕ) (j parent up : ℕ) → List ℕ
+steppedUp m f w j p q = pick (eqb q 0) (kept m w j p) (queued m (raised m f (kept m w j p) q (markAt m w j / 4)) j q)

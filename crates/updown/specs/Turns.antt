@@ -1,0 +1,94 @@
+-- The walk of a batch W beside the columns R, in the tree of R ++ W, and the turn of column j in it: which queue a done column waits in, what of j's
+-- multiplicities is counted so far, the plans of done columns. Adding goes from R to R ++ W, removing back. Assumes nothing: these are definitions.
+use mathlib.Core.Path.{_≡_}
+use mathlib.Core.Logic.{_⊎_}
+use mathlib.Core.Bool.{Bool, true, false, _&&_, _||_, not}
+use mathlib.Core.List.{List, [], _∷_, _++_}
+use Prim.Native.Nat.{ℕ, suc, _+_, _-_, _*_, _≤_, _<_}
+use lib.Dec.{ltb, leb, eqb}
+use Rattle.lists.specs.Lists.{pick}
+use Rattle.symbolic.specs.Columns.{Column, startingWith}
+use Rattle.symbolic.specs.Factor.{FactorColumn, factorOf, columnAt, multiplicity, parentOf}
+use Rattle.symbolic.specs.Batch.{isTouched, touchedFrom, labelOf}
+use Rattle.symbolic.specs.Steps.{countSoFar}
+use Rattle.differences.specs.Tally.{base, differenceAt, Tally}
+use Rattle.differences.specs.Gather.{planPart}
+use Rattle.emission.specs.Plans.{planFrom}
+use Rattle.updown.specs.Plans.{ColumnPlan, firstOf}
+
+-- ---- the two factors
+
+abbrev pub larger : (m : ℕ) (R W : List Column) → List FactorColumn
+larger m R W = factorOf m (R ++ W)
+
+abbrev pub smaller : (m : ℕ) (R : List Column) → List FactorColumn
+smaller m R = factorOf m R
+
+abbrev pub before : (adding : Bool) (m : ℕ) (R W : List Column) → List FactorColumn
+before z m R W = pick z (smaller m R) (larger m R W)
+
+abbrev pub after : (adding : Bool) (m : ℕ) (R W : List Column) → List FactorColumn
+after z m R W = pick z (larger m R W) (smaller m R)
+
+-- the parent with the batch, along which the walk goes, and the parent without it
+abbrev pub treeParent : (m : ℕ) (R W : List Column) (c : ℕ) → ℕ
+treeParent m R W c = parentOf (larger m R W) c
+
+abbrev pub otherParent : (m : ℕ) (R : List Column) (c : ℕ) → ℕ
+otherParent m R c = parentOf (smaller m R) c
+
+abbrev pub labelAt : (m : ℕ) (R W : List Column) (c : ℕ) → ℕ
+labelAt m R W c = labelOf (larger m R W) W c
+
+-- ---- done columns
+
+-- the touched columns below j
+abbrev pub done : (m : ℕ) (R W : List Column) (j : ℕ) → List ℕ
+done m R W j = touchedFrom (larger m R W) W 1 (j - 1)
+
+abbrev pub isDone : (m : ℕ) (R W : List Column) (j c : ℕ) → Bool
+isDone m R W j c = isTouched (larger m R W) W c && ltb c j
+
+-- where a done column waits before the turn of j: for its tree parent, then for its other parent if that is another one
+abbrev pub standing : (m : ℕ) (R W : List Column) (j c : ℕ) → ℕ
+standing m R W j c =
+    pick (isDone m R W j c)
+    (pick (leb j (treeParent m R W c)) (treeParent m R W c)
+    (pick (not (eqb (treeParent m R W c) 0) && not (eqb (otherParent m R c) (treeParent m R W c)) && leb j (otherParent m R c)) (m + otherParent m R c) 0))
+    0
+
+-- the plan of a done column
+pub record DoneColumn (m : ℕ) (L L′ : List FactorColumn) (label : ℕ → ℕ) (work : List ℕ) (j start end next : ℕ) : Type 0 where
+  pub plan : ColumnPlan m L L′ label work j start end next
+  pub entries : planPart m work start end ≡ planFrom 1 (columnAt L j .counts) (columnAt L′ j .counts)
+
+-- the plans of done columns, one after another; the next column after the last one is given
+unfoldable pub PlansTo : (m : ℕ) (L L′ : List FactorColumn) (label : ℕ → ℕ) (work : List ℕ) (columns : List ℕ) (start next used : ℕ) → Type 0
+PlansTo m L L′ label w [] start next used = start ≡ used
+PlansTo m L L′ label w (j ∷ js) start next used =
+    (end : ℕ) × (DoneColumn m L L′ label w j start end (firstOf (js ++ (next ∷ []))) × PlansTo m L L′ label w js end next used)
+
+-- ---- the turn of j
+
+-- x is one of j's two queues
+abbrev pub isHere : (m j x : ℕ) → Bool
+isHere m j x = eqb x j || eqb x (m + j)
+
+-- c waited for j and does not any more
+abbrev pub handled : (m : ℕ) (R W : List Column) (j : ℕ) (place : ℕ → ℕ) (c : ℕ) → Bool
+handled m R W j place c = isHere m j (standing m R W j c) && not (isHere m j (place c))
+
+-- the multiplicity of row i in column j with the handled columns as with the batch, the others as without it; s of the batch columns counted so far
+abbrev pub soFar : (m : ℕ) (R W : List Column) (j : ℕ) (place : ℕ → ℕ) (s i : ℕ) → ℕ
+soFar m R W j place s i =
+    countSoFar m (handled m R W j place) (multiplicity (smaller m R)) (parentOf (smaller m R)) (multiplicity (larger m R W)) (parentOf (larger m R W)) s i j
+
+-- a shifted difference d from a, without the batch, to x, up when adding, down when removing
+abbrev pub Shift : (adding : Bool) (d a x : ℕ) → Type 0
+Shift true d a x = d + a ≡ base + x
+Shift false d a x = d + x ≡ base + a
+
+pub record Tallied (m : ℕ) (R W : List Column) (adding : Bool) (work : List ℕ) (n j : ℕ) (s : ℕ → ℕ) (place : ℕ → ℕ) : Type 0 where
+  pub tally : Tally m work n (differenceAt work)
+  pub shifts : (i : ℕ) → j ≤ i → i ≤ m → Shift adding (differenceAt work i) (multiplicity (smaller m R) i j) (soFar m R W j place (s i) i)
+  pub still : (i : ℕ) → 1 ≤ i → i < j → differenceAt work i ≡ base
