@@ -284,3 +284,123 @@ module _ {m flags : ℕ} {R W : List Column} {work₀ w : List ℕ} {j used c : 
       go : (xs : List ℕ) → rises (suc c) m xs ≡ true → firstOf xs ≢ 0 → (c < firstOf xs) × (firstOf xs ≤ m)
       go [] r n = absurd (n refl)
       go (x ∷ xs) r n = let v : (suc c ≤ x) × (x ≤ m) = rises-in {x = x} (suc c) m (first {xs = xs}) r in omega arith
+
+-- ---- the loop over the touched columns
+
+pub record Turns (m flags : ℕ) (R W : List Column) (work₀ w : List ℕ) (j used c : ℕ) : Type 0 where
+  pub columns : List ℕ
+  pub halted : Halted m flags R W work₀ w j used columns
+  pub at-first : c ≡ firstOf columns
+
+pub turns-start : {m flags : ℕ} {R W : List Column} {work₀ w : List ℕ} {j used c : ℕ} {cs : List ℕ} → Halted m flags R W work₀ w j used cs → c ≡ firstOf cs → Turns m flags R W work₀ w j used c
+turns-start {cs = cs} h e = record { columns = cs; halted = h; at-first = e }
+
+pub turns-end : {m flags : ℕ} {R W : List Column} {work₀ w : List ℕ} {j used c : ℕ} → Turns m flags R W work₀ w j used c → c ≡ 0 → Halted m flags R W work₀ w j used []
+turns-end {m} {flags} {R} {W} {work₀} {w} {j} {used} t z = go (t .columns) (t .halted) (sym (t .at-first) ∙ z)
+  where
+    go : (cs : List ℕ) → Halted m flags R W work₀ w j used cs → firstOf cs ≡ 0 → Halted m flags R W work₀ w j used []
+    go [] h e = h
+    go (x ∷ xs) h e = absurd (omega (arith, h .within x first))
+
+module _ {m flags : ℕ} {R W : List Column} {work₀ w : List ℕ} {j used c : ℕ} (t : Turns m flags R W work₀ w j used c) (z : c ≢ 0) where
+  split : (cs : List ℕ) × (Halted m flags R W work₀ w j used (c ∷ cs))
+  split = go (t .columns) (t .halted) (t .at-first)
+    where
+      go : (cs : List ℕ) → Halted m flags R W work₀ w j used cs → c ≡ firstOf cs → (xs : List ℕ) × (Halted m flags R W work₀ w j used (c ∷ xs))
+      go [] h e = absurd (z e)
+      go (x ∷ xs) h e = (xs, subst (λ (y : ℕ). Halted m flags R W work₀ w j used (y ∷ xs)) (sym e) h)
+
+  pub turns-turn : {parents : List ℕ} → Parents parents m R W true →
+      (8 * m ≤ length w) × (m ≤ 4096) × (1 ≤ c) × (c ≤ m) × (length parents ≡ m) × (markAt m w c / 262144 ≤ m) × (at parents c ≤ m)
+  turns-turn q = halted-turn (split .1) q
+
+  pub turns-next : {parents : List ℕ} → Parents parents m R W true → {w₁ : List ℕ} {r : ℕ} → w₁ ≡ wipe w (turnPlaces m c j (markAt m w c / 262144) (at parents c)) → r ≡ cell w (5 * m) (c - 1) →
+      Turns m flags R W work₀ w₁ j used r
+  turns-next {parents} q {w₁} {r} e g =
+      let v : (8 * m ≤ length w) × (m ≤ 4096) × (1 ≤ c) × (c ≤ m) × (length parents ≡ m) × (markAt m w c / 262144 ≤ m) × (at parents c ≤ m) = turns-turn q in
+      let o : at parents c ≡ otherParent m R c = q .are c (v .2) (v .3) in
+      let n : Halted m flags R W work₀ w₁ j used (split .0) =
+      subst (λ (x : List ℕ). Halted m flags R W work₀ x j used (split .0)) (sym (e ∙ ap (λ (x : ℕ). wipe w (turnPlaces m c j (markAt m w c / 262144) x)) o)) (halted-next (split .1)) in
+      turns-start n (g ∙ halted-leads (split .1))
+
+  pub turns-further : {r : ℕ} → r ≡ cell w (5 * m) (c - 1) → r ≢ 0 → (c < r) × (r ≤ m)
+  turns-further {r} g n =
+      let e : r ≡ firstOf (split .0) = g ∙ halted-leads (split .1) in
+      let f : (c < firstOf (split .0)) × (firstOf (split .0) ≤ m) = halted-further (split .1) (λ x. n (e ∙ x)) in omega arith
+
+-- ---- the loop over the starts
+
+pub clearing-start : {m : ℕ} {W : List Column} {w : List ℕ} → StartsCleared m W w w 0
+clearing-start = record { same-length = refl; each = λ k. inr (refl, λ i a b. absurd (omega arith)) }
+
+module _ {counts list : List ℕ} {m : ℕ} {w₀ : List ℕ} {W : List Column} (c : CanClear counts list m w₀ W) {w : List ℕ} {k at : ℕ} (r : Reading counts list W k at)
+    (s : StartsCleared m W w₀ w k) (l : k < length counts) where
+  fits-here : Fits m (getD W k none)
+  fits-here = fits-at m W (c .fits) k (omega (arith, r .size))
+
+  pub clearing-row : (at < length list) × (1 ≤ getD list at 0) × (getD list at 0 ≤ m) × (4 * m ≤ length w)
+  clearing-row =
+      let f : (at < length list) × (1 ≤ getD counts k 0) × (getD list at 0 ≡ smallest (getD W k none)) = reading-first r l fits-here in
+      (f .0, omega (arith, f .2, fits-here .low), omega (arith, f .2, fits-here .high), omega (arith, c .long, s .same-length))
+
+  pub clearing-next : StartsCleared m W w₀ (set w (3 * m + (getD list at 0 - 1)) 0) (k + 1)
+  clearing-next =
+      let f : (at < length list) × (1 ≤ getD counts k 0) × (getD list at 0 ≡ smallest (getD W k none)) = reading-first r l fits-here in
+      let row : ℕ = getD list at 0 in
+      let q : k + 1 - 1 ≡ k = omega arith in
+      let g : row ≡ startOf W (k + 1) = f .2 ∙ ap (λ (x : ℕ). smallest (getD W x none)) (sym q) in
+      let b : (1 ≤ row) × (row ≤ m) = omega (arith, f .2, fits-here .low, fits-here .high) in
+      record {
+        same-length = length-set w (3 * m + (row - 1)) 0 ∙ s .same-length;
+        each = λ x. elim (eq-or-ne x (3 * m + (row - 1))) [
+          | inl e ↦ inl (omega arith, ap (λ (v : ℕ). getD (set w (3 * m + (row - 1)) 0) v 0) e ∙ getD-set-same w (3 * m + (row - 1)) 0 0 (omega (arith, c .long, s .same-length)))
+          | inr e ↦ elim (s .each x) [
+            | inl t ↦ inl (t .0, getD-set-other w (3 * m + (row - 1)) x 0 0 e ∙ t .1)
+            | inr t ↦ inr (
+              getD-set-other w (3 * m + (row - 1)) x 0 0 e ∙ t .0,
+              λ i y z. elim (eq-or-ne i (k + 1)) [
+                | inl u ↦ λ v. e (v ∙ ap (λ (d : ℕ). 3 * m + (startOf W d - 1)) u ∙ ap (λ (d : ℕ). 3 * m + (d - 1)) (sym g))
+                | inr u ↦ t .1 i y (omega arith)
+              ],
+            )
+          ]
+        ];
+      }
+
+pub clearing-end : {counts list : List ℕ} {m : ℕ} {W : List Column} {w₀ w : List ℕ} {k at : ℕ} → Reading counts list W k at → StartsCleared m W w₀ w k → k ≤ length counts → length counts ≤ k →
+    StartsCleared m W w₀ w (length W)
+clearing-end {m = m} {W} {w₀} {w} {k} r s a b = let e : k ≡ length W = omega (arith, r .size) in subst (λ (x : ℕ). StartsCleared m W w₀ w x) e s
+
+-- ---- all cleared
+
+pub cleared-all : {m flags : ℕ} {R W : List Column} {work₀ w w₁ : List ℕ} {j used : ℕ} → Halted m flags R W work₀ w j used [] → StartsCleared m W w w₁ (length W) → {w₂ w₃ : List ℕ} →
+    w₂ ≡ cleared w₁ (8 * m) used → w₃ ≡ cleared w₂ flags 64 → w₃ ≡ work₀
+cleared-all {m} {flags} {R} {W} {work₀} {w} {w₁} {j} {used} h s {w₂} {w₃} a b =
+    let l₁ : 8 * m + used ≤ length w₁ = omega (arith, h .plan-room, h .room .long, s .same-length) in
+    let n₂ : length w₂ ≡ length w₁ = ap length a ∙ cleared-length w₁ (8 * m) used l₁ in
+    let l₂ : flags + 64 ≤ length w₂ = omega (arith, h .room .long, s .same-length, n₂) in
+    let n₃ : length w₃ ≡ length w₂ = ap length b ∙ cleared-length w₂ flags 64 l₂ in
+    table-ext work₀ w₃ (n₃ ∙ n₂ ∙ s .same-length ∙ h .same-length) (λ k. elim (inside flags 64 k) [
+      | inl f ↦ ap (λ (x : List ℕ). getD x k 0) b ∙ zero-at (cleared w₂ flags 64) flags 64 k (cleared-zero w₂ flags 64 l₂) (f .0) (f .1) ∙ sym (h .zero k (omega arith))
+      | inr f ↦ ap (λ (x : List ℕ). getD x k 0) b ∙ cleared-outside w₂ flags 64 l₂ k f ∙ ap (λ (x : List ℕ). getD x k 0) a ∙ elim (inside (8 * m) used k) [
+        | inl g ↦ zero-at (cleared w₁ (8 * m) used) (8 * m) used k (cleared-zero w₁ (8 * m) used l₁) (g .0) (g .1) ∙ sym (h .zero k (omega (arith, h .plan-room)))
+        | inr g ↦ cleared-outside w₁ (8 * m) used l₁ k g ∙ elim (s .each k) [
+          | inl t ↦ t .1 ∙ sym (h .zero k (omega (arith, t .0, h .room .low)))
+          | inr t ↦ t .0 ∙ h .clean k (λ x. still x f g (t .1))
+        ]
+      ]
+    ])
+  where
+    inside : (x n k : ℕ) → ((x ≤ k) × (k < x + n)) ⊎ Outside x n k
+    inside x n k = elim (lt-or-le k x) [
+      | inl y ↦ inr (inl y)
+      | inr y ↦ elim (lt-or-le k (x + n)) [ inl z ↦ inl (y, z) | inr z ↦ inr (inr z) ]
+    ]
+
+    still : {k : ℕ} → Dirty m flags R W j used [] k → Outside flags 64 k → Outside (8 * m) used k → ((i : ℕ) → 1 ≤ i → i ≤ length W → k ≢ 3 * m + (startOf W i - 1)) → ⊥
+    still (own c x e) f g t = nothing x
+    still (parent c x y z e) f g t = nothing x
+    still (other c x y e) f g t = nothing x
+    still (start i x y e) f g t = t i x y e
+    still (planned x y) f g t = elim g [ inl z ↦ omega arith | inr z ↦ omega arith ]
+    still (flag x y) f g t = elim f [ inl z ↦ omega arith | inr z ↦ omega arith ]

@@ -28,3 +28,4 @@ pub mod Entering
 pub mod Sound
 pub mod Opening
 pub mod Preparing
+pub mod Adding

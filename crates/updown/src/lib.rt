@@ -718,6 +718,91 @@ fn clear_turn(parents: &[u16], work: &mut [u32], m: usize, c: u32, last: u32)
     clear_other(work, m, other);
 }
 
+// Clears the turns of the touched columns from first on, up to the last.
+fn clear_turns(parents: &[u16], work: &mut [u32], m: usize, first: u32, last: u32)
+    requires { ⌜ SomeHalted (now parents) (now work) m first last ⌝ }
+    ensures { λ _. ⌜ ((flags : ℕ) (R W : List Column) («work₀» : List ℕ) (used : ℕ) → Parents (now (parents .entry)) m R W true → Halted m flags R W «work₀» (now (work .entry)) last used (done m R W (suc last)) → first ≡ firstOf (done m R W (suc last)) → Halted m flags R W «work₀» (now (work .exit)) last used []) ⌝ }
+{
+    let mut c = first;
+    while c != 0 {
+        let next = work[5 * m + (c - 1) as usize];
+        clear_turn(parents, work, m, c, last);
+        c = next;
+    }
+}
+
+// Clears the marks where listed columns start.
+fn clear_starts(work: &mut [u32], row_counts: &[u32], row_list: &[u32], m: usize)
+    requires { ⌜ SomeClear (now «row_counts») (now «row_list») m (now work) ⌝ }
+    ensures { λ _. ⌜ ((W : List Column) → CanClear (now («row_counts» .entry)) (now («row_list» .entry)) m (now (work .entry)) W → StartsCleared m W (now (work .entry)) (now (work .exit)) (length W)) ⌝ }
+{
+    let mut k: usize = 0;
+    let mut at: usize = 0;
+    while k < row_counts.len() {
+        let row = row_list[at];
+        work[3 * m + (row - 1) as usize] = 0;
+        at += row_counts[k] as usize;
+        k += 1;
+    }
+}
+
+// ---- the plans
+
+// Plans an addition: of the columns whose rows stand one after another in row_list, row_counts[k] of them each, beside the tables' columns. Where the
+// records are too few the work table is as lent.
+pub fn plan_add(
+    heads: &[u32],
+    parents: &[u16],
+    rows: &[u16],
+    counts: &[u16],
+    next: &[u32],
+    work: &mut [u32],
+    row_counts: &[u32],
+    row_list: &[u32],
+    free: Rec,
+) -> Plan
+    requires { ⌜ SomeAdd (storedOf (now heads) (now parents) (now rows) (now counts) (now next) (free .0)) (now «row_counts») (now «row_list») (now work) ⌝ }
+    ensures { λ p. ⌜ ((R W : List Column) → CanAdd (storedOf (now (heads .entry)) (now (parents .entry)) (now (rows .entry)) (now (counts .entry)) (now (next .entry)) (free .0)) (now («row_counts» .entry)) (now («row_list» .entry)) (now (work .entry)) R W → AddPlanned (storedOf (now (heads .entry)) (now (parents .entry)) (now (rows .entry)) (now (counts .entry)) (now (next .entry)) (free .0)) R W (now (work .entry)) (now (work .exit)) (p .fits) (p .first) (p .count) (p .entries) (p .used)) ⌝ }
+{
+    let m = heads.len();
+    let flags = 8 * m + 4 * next.len();
+    mark_listed(work, row_counts, row_list, m, flags);
+    let walk = walk_add(
+        heads,
+        parents,
+        rows,
+        counts,
+        next,
+        work,
+        row_counts,
+        row_list,
+        m,
+        flags,
+        free,
+    );
+    if walk.fits {
+        workspace::clear(work, flags, 64);
+        return Plan {
+            fits: true,
+            first: walk.first,
+            count: walk.count,
+            entries: walk.entries,
+            used: walk.used as u32,
+        };
+    }
+    clear_turns(parents, work, m, walk.first, walk.last);
+    clear_starts(work, row_counts, row_list, m);
+    workspace::clear(work, 8 * m, walk.used);
+    workspace::clear(work, flags, 64);
+    Plan {
+        fits: false,
+        first: 0,
+        count: 0,
+        entries: 0,
+        used: 0,
+    }
+}
+
 // Plans a removal: of the columns that the book has under ids, from the tables' columns. It always fits.
 pub fn plan_remove(
     heads: &[u32],

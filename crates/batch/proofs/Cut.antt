@@ -1,0 +1,111 @@
+-- Tables that are cut to their sizes are read whole: the stored columns (`stored-whole`), the book (`book-whole`), the register; what `CanFind`
+-- says of them, each fact in the form that the parts of a batch ask. Assumes nothing.
+use mathlib.Core.Path.{_≡_, refl, sym, ap, _∙_, subst}
+use mathlib.Core.Bool.{true}
+use mathlib.Core.List.{List}
+use Prim.Native.Nat.{ℕ, _≤_}
+use native.Mathlib.Omega.{arith}
+use lib.ListN.{length}
+use lib.Seq.{take-all}
+use Rattle.lists.specs.Lists.{all, noRepeats}
+use Rattle.symbolic.specs.Columns.{Column, fitsRows}
+use Rattle.symbolic.specs.Change.{idsOf}
+use Rattle.workspace.specs.Regions.{IsZero}
+use Rattle.book.specs.Book as book
+use Rattle.book.proofs.Columns.{columns-count, ids-distinct}
+use Rattle.tables.specs.Stored.{Stored, Sized, isSoundFor}
+use Rattle.tables.specs.Tables.{Tables, bookIn, storedIn}
+use Rattle.tables.proofs.Tables.{sound-book, sound-stored, sound-fits, sound-rows}
+use Rattle.calls.specs.Refusals.{isAccepted, bounds, sizesRefusal}
+use Rattle.calls.proofs.Refusals.{InRange, sizes-facts}
+use Rattle.updown.specs.Entries.{planNeed, CanPlan}
+use Rattle.batch.specs.Outcome.{cutLimits, cutWorld, CanFind}
+use Rattle.batch.specs.Parts.{storedWhole, bookWhole, registerIn}
+
+-- ---- read whole
+
+pub stored-whole : (t : Tables) (f g : ℕ) → Sized (storedWhole t f) → storedIn (cutWorld t f g .state) t ≡ storedWhole t f
+stored-whole t f g z = λ i.
+    record {
+      heads = take-all (length (t .heads)) (t .heads) (omega arith) i;
+      parents = take-all (length (t .heads)) (t .parents) (omega (arith, z .parents-long)) i;
+      rows = take-all (length (t .next)) (t .rows) (omega (arith, z .rows-long)) i;
+      counts = take-all (length (t .next)) (t .counts) (omega (arith, z .counts-long)) i;
+      next = take-all (length (t .next)) (t .next) (omega arith) i;
+      free = f;
+    }
+
+pub book-whole : (t : Tables) (f g : ℕ) → book.Sized (bookWhole t g) → bookIn (cutWorld t f g .state) t ≡ bookWhole t g
+book-whole t f g z = λ i.
+    record {
+      heads = take-all (length (t .bookHeads)) (t .bookHeads) (omega arith) i;
+      rows = take-all (length (t .bookNext)) (t .bookRows) (omega arith) i;
+      next = take-all (length (t .bookNext)) (t .bookNext) (omega arith) i;
+      free = g;
+    }
+
+module _ {t : Tables} {f g : ℕ} {w : List ℕ} (can : CanFind (cutWorld t f g) w) where
+  pub sizes-are : InRange (cutLimits t)
+  sizes-are = sizes-facts (cutLimits t) (ap isAccepted (can .in-range))
+
+  pub stored-sized : Sized (storedWhole t f)
+  stored-sized = record { parents-long = can .parents; rows-long = can .rows; counts-long = can .counts }
+
+  pub stored-cut : storedIn (cutWorld t f g .state) t ≡ storedWhole t f
+  stored-cut = stored-whole t f g stored-sized
+
+  pub book-cut : bookIn (cutWorld t f g .state) t ≡ bookWhole t g
+  book-cut = book-whole t f g (can .book-rows)
+
+  pub columns-cut : registerIn (cutWorld t f g) .columns ≡ book.columnsIn (bookWhole t g)
+  columns-cut = ap book.columnsIn book-cut
+
+  -- ---- sound
+
+  pub stored-sound : isSoundFor (registerIn (cutWorld t f g) .columns) (storedWhole t f) ≡ true
+  stored-sound =
+      subst (λ (s : Stored). isSoundFor (registerIn (cutWorld t f g) .columns) s ≡ true) stored-cut (sound-stored (cutWorld t f g .state) t (can .sound))
+
+  pub book-sound : book.isSound (length (t .heads)) (bookWhole t g) ≡ true
+  book-sound = subst (λ (b : book.Book). book.isSound (length (t .heads)) b ≡ true) book-cut (sound-book (cutWorld t f g .state) t (can .sound))
+
+  -- ---- the register: its columns fit, have distinct ids, and are at most n
+
+  pub columns-fit : all (book.columnFits (length (t .heads))) (registerIn (cutWorld t f g) .columns) ≡ true
+  columns-fit = sound-fits (cutWorld t f g .state) t (can .sound)
+
+  pub columns-rise : all (fitsRows (length (t .heads))) (registerIn (cutWorld t f g) .columns) ≡ true
+  columns-rise = sound-rows (cutWorld t f g .state) t (can .sound)
+
+  pub columns-distinct : noRepeats (idsOf (registerIn (cutWorld t f g) .columns)) ≡ true
+  columns-distinct = ids-distinct (bookIn (cutWorld t f g .state) t)
+
+  pub columns-few : length (registerIn (cutWorld t f g) .columns) ≤ 16384
+  columns-few = omega (arith, ap length columns-cut, columns-count (bookWhole t g), sizes-are .n-high)
+
+  -- ---- the work table
+
+  pub work-long : planNeed (length (t .heads)) (length (t .next)) ≤ length w
+  work-long = omega (arith, can .long)
+
+  pub work-zero : IsZero w 0 (planNeed (length (t .heads)) (length (t .next)))
+  work-zero i h = can .zero i (omega arith)
+
+  -- ---- a batch of 1 to 64 columns that fit can be planned
+
+  pub plan-can : (W : List Column) → all (book.columnFits (length (t .heads))) W ≡ true → 1 ≤ length W → length W ≤ 64 →
+      CanPlan (storedWhole t f) (registerIn (cutWorld t f g) .columns) W w
+  plan-can W fits some few =
+      record {
+        sized = stored-sized;
+        sound = stored-sound;
+        fits = columns-rise;
+        batch-fits = fits;
+        some = sizes-are .m-low;
+        m-bound = sizes-are .m-high;
+        f-bound = sizes-are .f-high;
+        few = omega (arith, columns-few);
+        positions = (some, few);
+        long = work-long;
+        zero = work-zero;
+      }

@@ -1,0 +1,10 @@
+pub mod Cut
+pub mod Verdicts
+pub mod Adding
+pub mod Removing
+pub mod Amending
+pub mod Booking
+pub mod Stepping
+pub mod Lifting
+pub mod Lifted
+pub mod Whole

@@ -1,0 +1,102 @@
+-- The outcome of a batch on cut tables, lifted: its number, answer and lists are those of the whole tables' register, an accepted world with the prefixes
+-- written back is the whole one's (`amended-lifts`), a refused one is unchanged; so the step on the whole tables is whole (`step-lifts`).
+-- Assumes nothing.
+use mathlib.Core.Path.{_≡_, refl, sym, ap, _∙_, subst}
+use mathlib.Core.Bool.{Bool, true, false, _&&_, false≢true}
+use mathlib.Core.List.{List}
+use Prim.Native.Nat.{ℕ, _≤_}
+use lib.ListN.{length}
+use Rattle.lists.specs.Lists.{among}
+use Rattle.symbolic.specs.Columns.{Register}
+use Rattle.symbolic.specs.Change.{Bag}
+use Rattle.book.specs.Book as book
+use Rattle.tables.specs.Stored.{Stored, isSoundFor}
+use Rattle.tables.specs.Stays.{ColumnStays, EntriesKeep, TailsStay}
+use Rattle.tables.specs.Tables.{Tables, Limits, storedIn, bookIn, registerOf, isSound}
+use Rattle.tables.proofs.Tables.{Long}
+use Rattle.calls.specs.Refusals.{Refusal, isAccepted}
+use Rattle.calls.specs.Calls.{Call, isBatch, registerAfter, idsBy}
+use Rattle.calls.specs.Report.{touchedBy}
+use Rattle.calls.specs.Numbers.{callRefusal}
+use Rattle.calls.specs.Steps.{Answer, Lent, lentTo, listsAfter, acceptedBy, refusedBy, World, Amended, AcceptedWorld}
+use Rattle.calls.proofs.Steps.{batch-world}
+use Rattle.batch.specs.Outcome.{cutLimits, cutWorld, BatchOutcome, BatchStep}
+use Rattle.batch.proofs.Stepping.{accepted-world}
+use Rattle.batch.proofs.Lifting.{cutTables, joinTables, worldFor, join-cut, Fits, cut-fits, limits-are, stored-fits, book-fits, stored-joins, book-joins, tails-join, stored-lifts, book-lifts, register-lifts}
+
+-- a fact of two things, moved along equations of both
+moved : {A : Type 0} (P : A → A → Type 0) {a a′ b b′ : A} → a ≡ b → a′ ≡ b′ → P a a′ → P b b′
+moved P {a} {a′} {b} {b′} e e′ h = subst (λ x. P x b′) e (subst (λ x. P a x) e′ h)
+
+module _ {l : Limits} {t : Tables} (long : Long l t) (f g : ℕ) (y : Tables) (f′ g′ : ℕ) (k : Call) where
+  abbrev u : World
+  u = cutWorld (cutTables l t) f g
+
+  abbrev v : World
+  v = cutWorld y f′ g′
+
+  abbrev after : World
+  after = worldFor l f′ g′ (joinTables l y t)
+
+  -- lengths stay, so the tables after it fit
+  amended-fits : TailsStay (cutLimits (cutTables l t)) (cutTables l t) y → Fits l y
+  amended-fits h =
+      let z : Fits l (cutTables l t) = cut-fits l t long in
+      record {
+        heads = h .heads .same-length ∙ z .heads;
+        parents = h .parents .same-length ∙ z .parents;
+        rows = h .rows .same-length ∙ z .rows;
+        counts = h .counts .same-length ∙ z .counts;
+        next = h .next .same-length ∙ z .next;
+        book-heads = h .bookHeads .same-length ∙ z .book-heads;
+        book-rows = h .bookRows .same-length ∙ z .book-rows;
+        book-next = h .bookNext .same-length ∙ z .book-next;
+      }
+
+  pub amended-lifts : Amended (cutWorld (cutTables l t) f g) k (cutWorld y f′ g′) → Amended (worldFor l f g t) k (worldFor l f′ g′ (joinTables l y t))
+  amended-lifts x =
+      let c : Fits l (cutTables l t) = cut-fits l t long in
+      let z : Fits l y = amended-fits (x .tails) in
+      let s : storedIn (u .state) (u .tables) ≡ storedIn (worldFor l f g t .state) t = stored-lifts long f g in
+      let b : bookIn (u .state) (u .tables) ≡ bookIn (worldFor l f g t .state) t = book-lifts long f g in
+      let r : registerOf (u .state) (u .tables) ≡ registerOf (worldFor l f g t .state) t = register-lifts long f g in
+      let s′ : storedIn (v .state) y ≡ storedIn (after .state) (after .tables) = stored-fits z f′ g′ ∙ sym (stored-joins z f′ g′ t) in
+      let b′ : bookIn (v .state) y ≡ bookIn (after .state) (after .tables) = book-fits z f′ g′ ∙ sym (book-joins z f′ g′ t) in
+      let sound : isSound (v .state) y ≡ isSound (after .state) (after .tables) =
+      λ i. book.isSound (z .heads i) (b′ i) && isSoundFor (book.columnsIn (b′ i)) (s′ i) in
+      record {
+        limits = refl;
+        sound = sym sound ∙ x .sound;
+        columns = subst (λ (q : Register). Bag (registerOf (after .state) (after .tables) .columns) (registerAfter q k .columns)) r
+            (subst (λ (d : book.Book). Bag (book.columnsIn d) (registerAfter (registerOf (u .state) (u .tables)) k .columns)) b′ (x .columns));
+        others = λ j p q h. moved (λ (m n : Stored). ColumnStays m n j) s s′
+            (x .others j p (subst (λ (n : ℕ). j ≤ n) (sym (c .heads)) q) (ap (λ (o : Register). among j (touchedBy o k)) r ∙ h));
+        entries = λ j p q. moved (λ (m n : Stored). EntriesKeep m n j) s s′ (x .entries j p (subst (λ (n : ℕ). j ≤ n) (sym (c .heads)) q));
+        book = λ i p q h. moved (λ (m n : book.Book). book.ColumnStays m n i) b b′ (x .book i p (subst (λ (n : ℕ). i ≤ n) (sym (c .book-heads)) q) h);
+        tails = tails-join z f′ g′ t long;
+      }
+
+  -- ---- the whole step
+
+  module _ (a : Answer) (x : Lent) (batch : isBatch k ≡ true) where
+    by-number : (z : Bool) → isAccepted (callRefusal (cutLimits (cutTables l t)) (registerOf (u .state) (u .tables)) k) ≡ z → BatchOutcome z u k a x v →
+        callRefusal (cutLimits (cutTables l t)) (registerOf (u .state) (u .tables)) k ≡ callRefusal l (registerOf (worldFor l f g t .state) t) k →
+        BatchStep (worldFor l f g t) k a x after
+    by-number true e o n =
+        subst (λ (z : Bool). BatchOutcome z (worldFor l f g t) k a x after) (sym (ap isAccepted (sym n) ∙ e)) (
+          o .0 ∙ ap (λ (q : Register). acceptedBy q k) (register-lifts long f g),
+          o .1 ∙ ap (λ (q : Register). listsAfter q k (lentTo k .work)) (register-lifts long f g),
+          accepted-world k batch (amended-lifts (batch-world u k v batch (o .2))),
+        )
+    by-number false e o n =
+        let w : joinTables l y t ≡ t = ap (λ (q : World). joinTables l (q .tables) t) (o .2) ∙ join-cut l t in
+        subst (λ (z : Bool). BatchOutcome z (worldFor l f g t) k a x after) (sym (ap isAccepted (sym n) ∙ e)) (
+          o .0 ∙ ap refusedBy n,
+          o .1,
+          λ i. worldFor l (o .2 i .state .free) (o .2 i .state .bookFree) (w i),
+        )
+
+    pub step-lifts : BatchStep (cutWorld (cutTables l t) f g) k a x (cutWorld y f′ g′) → BatchStep (worldFor l f g t) k a x (worldFor l f′ g′ (joinTables l y t))
+    step-lifts step =
+        by-number (isAccepted (callRefusal (cutLimits (cutTables l t)) (registerOf (u .state) (u .tables)) k)) refl step
+        (λ i. callRefusal (limits-are (cut-fits l t long) f g i) (register-lifts long f g i) k)

@@ -1,0 +1,184 @@
+-- A batch on tables cut to their sizes is one on the tables that they are cut from: the cut tables read as the whole ones (`stored-lifts`, `book-lifts`,
+-- `register-lifts`), so a usable factor's prefixes can be batched (`lift-can`), and prefixes written back are read alike, with the tails as they were.
+-- Assumes nothing.
+use mathlib.Core.Path.{_≡_, refl, sym, ap, _∙_, subst}
+use mathlib.Core.Bool.{true, _&&_}
+use mathlib.Core.List.{List, _++_}
+use Prim.Native.Nat.{ℕ, _≤_}
+use native.Mathlib.Omega.{arith}
+use lib.ListN.{length, take, drop, take-append-drop, length-append, length-drop}
+use lib.Seq.{length-take-le, take-at, drop-at}
+use Rattle.lists.proofs.Tests.{both-and}
+use Rattle.symbolic.specs.Columns.{Register}
+use Rattle.workspace.specs.Regions.{IsZero}
+use Rattle.book.specs.Book as book
+use Rattle.tables.specs.Stored.{Stored, Sized, isSoundFor}
+use Rattle.tables.specs.Stays.{Beyond, TailsStay}
+use Rattle.tables.specs.Tables.{Tables, Limits, State, storedIn, bookIn, registerOf, isSound}
+use Rattle.tables.proofs.Tables.{Long}
+use Rattle.calls.specs.Refusals.{accepted, bounds, sizesRefusal, workFor}
+use Rattle.calls.specs.Steps.{World}
+use Rattle.batch.specs.Outcome.{cutLimits, cutWorld, CanFind, CanBatch}
+use Rattle.batch.specs.Parts.{storedWhole, bookWhole}
+use Rattle.batch.proofs.Cut.{stored-whole, book-whole}
+
+-- ---- tables cut to limits, and put back
+
+abbrev pub cutTables : Limits → Tables → Tables
+cutTables l t =
+    record {
+      heads = take (l .m) (t .heads);
+      parents = take (l .m) (t .parents);
+      rows = take (l .f) (t .rows);
+      counts = take (l .f) (t .counts);
+      next = take (l .f) (t .next);
+      bookHeads = take (l .n) (t .bookHeads);
+      bookRows = take (l .c) (t .bookRows);
+      bookNext = take (l .c) (t .bookNext);
+    }
+
+-- prefixes before the tails of the whole tables
+abbrev pub joinTables : Limits → (cut whole : Tables) → Tables
+joinTables l y t =
+    record {
+      heads = y .heads ++ drop (l .m) (t .heads);
+      parents = y .parents ++ drop (l .m) (t .parents);
+      rows = y .rows ++ drop (l .f) (t .rows);
+      counts = y .counts ++ drop (l .f) (t .counts);
+      next = y .next ++ drop (l .f) (t .next);
+      bookHeads = y .bookHeads ++ drop (l .n) (t .bookHeads);
+      bookRows = y .bookRows ++ drop (l .c) (t .bookRows);
+      bookNext = y .bookNext ++ drop (l .c) (t .bookNext);
+    }
+
+abbrev pub worldFor : Limits → (free bookFree : ℕ) → Tables → World
+worldFor l f g t = record { state = record { limits = l; free = f; bookFree = g }; tables = t }
+
+-- what was cut and put back is as it was
+pub join-cut : (l : Limits) (t : Tables) → joinTables l (cutTables l t) t ≡ t
+join-cut l t = λ i.
+    record {
+      heads = take-append-drop (l .m) (t .heads) i;
+      parents = take-append-drop (l .m) (t .parents) i;
+      rows = take-append-drop (l .f) (t .rows) i;
+      counts = take-append-drop (l .f) (t .counts) i;
+      next = take-append-drop (l .f) (t .next) i;
+      bookHeads = take-append-drop (l .n) (t .bookHeads) i;
+      bookRows = take-append-drop (l .c) (t .bookRows) i;
+      bookNext = take-append-drop (l .c) (t .bookNext) i;
+    }
+
+-- tables of just the limits
+pub record Fits (l : Limits) (y : Tables) : Type 0 where
+  pub heads : length (y .heads) ≡ l .m
+  pub parents : length (y .parents) ≡ l .m
+  pub rows : length (y .rows) ≡ l .f
+  pub counts : length (y .counts) ≡ l .f
+  pub next : length (y .next) ≡ l .f
+  pub book-heads : length (y .bookHeads) ≡ l .n
+  pub book-rows : length (y .bookRows) ≡ l .c
+  pub book-next : length (y .bookNext) ≡ l .c
+
+pub cut-fits : (l : Limits) (t : Tables) → Long l t → Fits l (cutTables l t)
+cut-fits l t h =
+    record {
+      heads = length-take-le (l .m) (t .heads) (h .heads);
+      parents = length-take-le (l .m) (t .parents) (h .parents);
+      rows = length-take-le (l .f) (t .rows) (h .rows);
+      counts = length-take-le (l .f) (t .counts) (h .counts);
+      next = length-take-le (l .f) (t .next) (h .next);
+      book-heads = length-take-le (l .n) (t .bookHeads) (h .bookHeads);
+      book-rows = length-take-le (l .c) (t .bookRows) (h .bookRows);
+      book-next = length-take-le (l .c) (t .bookNext) (h .bookNext);
+    }
+
+beyond : (n : ℕ) (xs ys : List ℕ) → n ≤ length xs → length ys ≡ n → Beyond n xs (ys ++ drop n xs)
+beyond n xs ys p q =
+    record { same-length = omega (arith, length-append ys (drop n xs), length-drop n xs); same-tail = drop-at ys (drop n xs) n q }
+
+-- ---- tables that fit are read whole, alone or before any tails
+
+module _ {l : Limits} {y : Tables} (z : Fits l y) (f g : ℕ) where
+  pub limits-are : cutLimits y ≡ l
+  limits-are = λ i. record { m = z .heads i; n = z .book-heads i; f = z .next i; c = z .book-next i }
+
+  pub stored-fits : storedIn (cutWorld y f g .state) y ≡ storedWhole y f
+  stored-fits =
+      stored-whole y f g (record { parents-long = z .parents ∙ sym (z .heads); rows-long = z .rows ∙ sym (z .next); counts-long = z .counts ∙ sym (z .next) })
+
+  pub book-fits : bookIn (cutWorld y f g .state) y ≡ bookWhole y g
+  book-fits = book-whole y f g (z .book-rows ∙ sym (z .book-next))
+
+  module _ (t : Tables) where
+    pub stored-joins : storedIn (worldFor l f g (joinTables l y t) .state) (joinTables l y t) ≡ storedWhole y f
+    stored-joins = λ i.
+        record {
+          heads = take-at (y .heads) (drop (l .m) (t .heads)) (l .m) (z .heads) i;
+          parents = take-at (y .parents) (drop (l .m) (t .parents)) (l .m) (z .parents) i;
+          rows = take-at (y .rows) (drop (l .f) (t .rows)) (l .f) (z .rows) i;
+          counts = take-at (y .counts) (drop (l .f) (t .counts)) (l .f) (z .counts) i;
+          next = take-at (y .next) (drop (l .f) (t .next)) (l .f) (z .next) i;
+          free = f;
+        }
+
+    pub book-joins : bookIn (worldFor l f g (joinTables l y t) .state) (joinTables l y t) ≡ bookWhole y g
+    book-joins = λ i.
+        record {
+          heads = take-at (y .bookHeads) (drop (l .n) (t .bookHeads)) (l .n) (z .book-heads) i;
+          rows = take-at (y .bookRows) (drop (l .c) (t .bookRows)) (l .c) (z .book-rows) i;
+          next = take-at (y .bookNext) (drop (l .c) (t .bookNext)) (l .c) (z .book-next) i;
+          free = g;
+        }
+
+    -- the tails stay
+    pub tails-join : Long l t → TailsStay l t (joinTables l y t)
+    tails-join h =
+        record {
+          heads = beyond (l .m) (t .heads) (y .heads) (h .heads) (z .heads);
+          parents = beyond (l .m) (t .parents) (y .parents) (h .parents) (z .parents);
+          rows = beyond (l .f) (t .rows) (y .rows) (h .rows) (z .rows);
+          counts = beyond (l .f) (t .counts) (y .counts) (h .counts) (z .counts);
+          next = beyond (l .f) (t .next) (y .next) (h .next) (z .next);
+          bookHeads = beyond (l .n) (t .bookHeads) (y .bookHeads) (h .bookHeads) (z .book-heads);
+          bookRows = beyond (l .c) (t .bookRows) (y .bookRows) (h .bookRows) (z .book-rows);
+          bookNext = beyond (l .c) (t .bookNext) (y .bookNext) (h .bookNext) (z .book-next);
+        }
+
+-- ---- the cut tables of a usable factor
+
+module _ {l : Limits} {t : Tables} (long : Long l t) (f g : ℕ) where
+  pub stored-lifts : storedIn (cutWorld (cutTables l t) f g .state) (cutTables l t) ≡ storedIn (worldFor l f g t .state) t
+  stored-lifts = stored-fits (cut-fits l t long) f g
+
+  pub book-lifts : bookIn (cutWorld (cutTables l t) f g .state) (cutTables l t) ≡ bookIn (worldFor l f g t .state) t
+  book-lifts = book-fits (cut-fits l t long) f g
+
+  pub register-lifts : registerOf (cutWorld (cutTables l t) f g .state) (cutTables l t) ≡ registerOf (worldFor l f g t .state) t
+  register-lifts = λ i. record { m = cut-fits l t long .heads i; columns = book.columnsIn (book-lifts i) }
+
+  sound-lifts : isSound (cutWorld (cutTables l t) f g .state) (cutTables l t) ≡ isSound (worldFor l f g t .state) t
+  sound-lifts = λ i. book.isSound (cut-fits l t long .heads i) (book-lifts i) && isSoundFor (book.columnsIn (book-lifts i)) (stored-lifts i)
+
+  pub lift-can : {w a b : List ℕ} → sizesRefusal bounds l ≡ accepted → isSound (worldFor l f g t .state) t ≡ true → workFor l ≤ length w →
+      IsZero w 0 (workFor l) → l .m ≤ length a → l .m ≤ length b → CanBatch (cutWorld (cutTables l t) f g) w a b
+  lift-can {w} {a} {b} sizes sound room zero p q =
+      let z : Fits l (cutTables l t) = cut-fits l t long in
+      let e : l ≡ cutLimits (cutTables l t) = sym (limits-are z f g) in
+      record {
+        find = record {
+          in-range = subst (λ (x : Limits). sizesRefusal bounds x ≡ accepted) e sizes;
+          heads = refl;
+          parents = z .parents ∙ sym (z .heads);
+          rows = z .rows ∙ sym (z .next);
+          counts = z .counts ∙ sym (z .next);
+          next = refl;
+          book-heads = refl;
+          book-rows = z .book-rows ∙ sym (z .book-next);
+          book-next = refl;
+          sound = sound-lifts ∙ sound;
+          long = subst (λ (x : Limits). workFor x ≤ length w) e room;
+          zero = subst (λ (x : Limits). IsZero w 0 (workFor x)) e zero;
+        };
+        touched-long = subst (λ (x : Limits). x .m ≤ length a) e p;
+        labels-long = subst (λ (x : Limits). x .m ≤ length b) e q;
+      }

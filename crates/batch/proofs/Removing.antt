@@ -1,0 +1,135 @@
+-- A removal found and planned: the batch's columns are those that the book has under the ids (`columns-booked`), a removal that is not refused can be planned
+-- (`remove-can`), and search and plan together are the call's verdict (`remove-refused`, `remove-planned`). The register's columns are, but for their
+-- order, those that stay and the batch's, so its factor is theirs. Assumes nothing.
+use mathlib.Core.Path.{_≡_, refl, sym, ap, _∙_, subst}
+use mathlib.Core.Bool.{Bool, true, false, not}
+use mathlib.Core.List.{List, [], _∷_, _++_}
+use Prim.Native.Nat.{ℕ, zero, suc, _≤_, _<_}
+use native.Mathlib.Omega.{arith}
+use lib.ListN.{length, getD}
+use Rattle.lists.specs.Lists.{isIn, among}
+use Rattle.symbolic.specs.Columns.{Column, Register}
+use Rattle.symbolic.specs.Factor.{FactorColumn, factorOf}
+use Rattle.symbolic.specs.Batch.{labelOf, touched}
+use Rattle.symbolic.specs.Change.{without, columnsOf}
+use Rattle.book.specs.Book as book
+use Rattle.book.proofs.Columns.{column-found}
+use Rattle.tables.specs.Tables.{Tables}
+use Rattle.calls.specs.Refusals.{Refusal, accepted, isAccepted, orElse, unless, isLive, idsRefusal, removeRefusal}
+use Rattle.calls.specs.Calls.{removing}
+use Rattle.calls.proofs.Choices.{Whole, or-whole}
+use Rattle.calls.proofs.Refusals.{RemoveFits, remove-facts}
+use Rattle.calls.proofs.Batches.{removal-bag, removal-fits, removal-factor}
+use Rattle.refusals.specs.Found as refusals
+use Rattle.refusals.specs.Found.{removeFound}
+use Rattle.refusals.proofs.Accepted.{RemoveReady, remove-ready, remove-refusal}
+use Rattle.updown.specs.Plans.{PlanIs}
+use Rattle.updown.specs.Entries.{Booked, CanRemove, RemovePlanned}
+use Rattle.batch.specs.Outcome.{cutLimits, cutWorld, CanFind}
+use Rattle.batch.specs.Parts.{storedWhole, bookWhole, registerIn, numberFor, verdictNumber, Judged}
+use Rattle.batch.specs.declared.Verdict.{Verdict}
+use Rattle.batch.proofs.Cut.{columns-cut, columns-fit, columns-distinct, book-sound, plan-can}
+use Rattle.batch.proofs.Verdicts.{refused-judged, planned-judged}
+
+-- ---- the columns of a batch, as the book has them
+
+pub columns-booked : (b : book.Book) (is : List ℕ) → ((k : ℕ) → k < length is → (1 ≤ getD is k 0) × (getD is k 0 ≤ length (b .heads))) →
+    ((k : ℕ) → k < length is → book.isBooked (b .heads) (getD is k 0) ≡ true) → Booked b is (columnsOf is (book.columnsIn b))
+unfolding Booked columnsOf
+columns-booked b [] named present = tt
+columns-booked b (i ∷ is) named present =
+    let n : (1 ≤ i) × (i ≤ length (b .heads)) = named 0 (omega arith) in (
+      ap (λ (c : Column). c .rows) (column-found b i (n .0) (present 0 (omega arith))),
+      n .0,
+      n .1,
+      columns-booked b is (λ k h. named (suc k) (omega arith)) (λ k h. present (suc k) (omega arith)),
+    )
+
+-- the book's free head is not read
+booked-free : (hs rs ns : List ℕ) (g i : ℕ) (is : List ℕ) (ws : List Column) → Booked (book.bookOf hs rs ns g) is ws → Booked (book.bookOf hs rs ns i) is ws
+unfolding Booked
+booked-free hs rs ns g i [] [] h = tt
+booked-free hs rs ns g i [] (w ∷ ws) h = h
+booked-free hs rs ns g i (x ∷ is) [] h = h
+booked-free hs rs ns g i (x ∷ is) (w ∷ ws) h = (h .0, h .1, h .2, booked-free hs rs ns g i is ws (h .3))
+
+pub columns-length : (is : List ℕ) (cs : List Column) → length (columnsOf is cs) ≡ length is
+unfolding columnsOf
+columns-length [] cs = refl
+columns-length (i ∷ is) cs = ap suc (columns-length is cs)
+
+-- ---- the verdict
+
+-- an accepted search of the ids is number 0 at position 0
+ids-whole : (r : Register) (n p : ℕ) (bs is : List ℕ) → Whole (idsRefusal r n p bs is)
+unfolding idsRefusal
+ids-whole r n p bs [] h = refl
+ids-whole r n p bs (i ∷ is) h =
+    let x : Refusal = unless (isIn 1 n i) 8 p in
+    let y : Refusal = unless (not (among i bs)) 9 p in
+    let z : Refusal = unless (isLive r i) 11 p in
+    let q : Refusal = idsRefusal r n (suc p) (i ∷ bs) is in
+    or-whole x (orElse y (orElse z q)) (or-whole y (orElse z q) (or-whole z q (ids-whole r n (suc p) (i ∷ bs) is))) h
+
+module _ {t : Tables} {f g : ℕ} {w : List ℕ} (can : CanFind (cutWorld t f g) w) (is a b : List ℕ) where
+  abbrev r : Register
+  r = registerIn (cutWorld t f g)
+
+  abbrev m : ℕ
+  m = length (t .heads)
+
+  pub remove-number : numberFor (cutWorld t f g) (removing is w a b) ≡ removeFound m (bookWhole t g) is
+  remove-number =
+      ap (λ (cs : List Column). removeRefusal (cutLimits t) (record { m = m; columns = cs }) is) (columns-cut can) ∙
+      remove-refusal (cutLimits t) m (bookWhole t g) is refl
+
+  pub remove-refused : {x : Verdict} → verdictNumber x ≡ removeFound (length (t .heads)) (bookWhole t g) is → isAccepted (verdictNumber x) ≡ false →
+      Judged (cutWorld t f g) (removing is w a b) w w x
+  remove-refused e h = refused-judged (e ∙ sym remove-number) h refl
+
+  -- ---- not refused
+
+  module _ (found : isAccepted (removeFound (length (t .heads)) (bookWhole t g) is) ≡ true) where
+    abbrev R : List Column
+    R = without is (r .columns)
+
+    abbrev W : List Column
+    W = columnsOf is (r .columns)
+
+    facts : RemoveFits (cutLimits t) (registerIn (cutWorld t f g)) is
+    facts = remove-facts (cutLimits t) r is (ap isAccepted remove-number ∙ found)
+
+    found-whole : removeFound (length (t .heads)) (bookWhole t g) is ≡ accepted
+    found-whole =
+        let y : Refusal = idsRefusal (refusals.registerIn m (bookWhole t g)) (length (t .bookHeads)) 1 [] is in
+        or-whole (unless (isIn 1 64 (length is)) 7 0) y (ids-whole (refusals.registerIn m (bookWhole t g)) (length (t .bookHeads)) 1 [] is) found
+
+    pub remove-can : (h i : ℕ) → CanRemove (storedWhole t h) (bookWhole t i) is w (without is (registerIn (cutWorld t f g) .columns)) (columnsOf is (registerIn (cutWorld t f g) .columns))
+    remove-can h i =
+        let x : RemoveReady (bookWhole t g) is = remove-ready m (bookWhole t g) is found in
+        record {
+          columns = r .columns;
+          free = f;
+          book-free = g;
+          can = plan-can can W (removal-fits (book.columnFits m) (cutLimits t) r is (columns-distinct can) facts (columns-fit can) .1)
+              (omega (arith, columns-length is (r .columns), x .some)) (omega (arith, columns-length is (r .columns), x .few));
+          same = removal-bag (cutLimits t) r is (columns-distinct can) facts;
+          booked = booked-free (t .bookHeads) (t .bookRows) (t .bookNext) g i is W
+              (subst (λ (cs : List Column). Booked (bookWhole t g) is (columnsOf is cs)) (sym (columns-cut can)) (columns-booked (bookWhole t g) is (x .named) (x .booked)));
+          book-sized = can .book-rows;
+          book-sound = book-sound can;
+        }
+
+    pub remove-planned : {h : ℕ} {w′ : List ℕ} {z : Bool} {first count entries used : ℕ} →
+        RemovePlanned (storedWhole t h) (without is (registerIn (cutWorld t f g) .columns)) (columnsOf is (registerIn (cutWorld t f g) .columns)) w w′ z first count entries used →
+        {x : Verdict} → verdictNumber x ≡ accepted → x .first ≡ first → x .count ≡ count → x .entries ≡ entries → x .used ≡ used →
+        Judged (cutWorld t f g) (removing is w a b) w w′ x
+    remove-planned {h} {w′} {z} {first} {count} {entries} {used} p {x} e q1 q2 q3 q4 =
+        planned-judged (e ∙ sym (remove-number ∙ found-whole)) (ap isAccepted e)
+        (record {
+          room = 0;
+          room-fits = omega arith;
+          plan = rw (q1, q2, q3, q4)
+              (subst (λ (F : List FactorColumn). PlanIs m (length (t .next)) 0 F (factorOf m R) (labelOf F W) (touched F W) w w′ first count entries used)
+              (sym (removal-factor (cutLimits t) r is (columns-distinct can) facts)) (p .plan));
+        })

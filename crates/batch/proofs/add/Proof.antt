@@ -1,0 +1,151 @@
+-- `batch::add` meets its contract: a verdict that refuses is the refused outcome, one that accepts with what is written after it the accepted one, by the
+-- laws of Stepping.antt. Assumes nothing.
+use mathlib.Core.Path.{refl, _∙_}
+use borrow.Author.Needs.{needs}
+use Rattle.calls.specs.Calls.{Call, adding}
+use Rattle.calls.specs.Steps.{World}
+use Rattle.batch.specs.Outcome.{tablesOf, cutWorld}
+use Rattle.batch.specs.Parts.{Judged}
+use Rattle.batch.proofs.Verdicts.{judged-can}
+use Rattle.batch.proofs.Stepping.{batch-refused, batch-taken}
+use Rattle.batch.proofs.add.Statement.{statement}
+use Rattle.batch.proofs.add.Tie as tie
+
+-- ---- the places, named
+
+abbrev entry-at : tie.After-judge-add-arg7 → tie.Start
+entry-at c = c .before .before .before .before .before .before .before .before .before .before .before .before .before .before .before .before .before .before .before .before .before
+
+abbrev entry : tie.After-judge-add → tie.Start
+entry c = entry-at (c .before)
+
+abbrev judged : tie.After-struct-known → tie.After-judge-add
+judged c = c .before .before .before
+
+abbrev wrote : tie.After-accepting → tie.After-write-add
+wrote c = c .before .before .before .before .before .before .before .before .before .before .before .before .before .before .before .before .before .before .before .before .before
+
+abbrev at-write : tie.After-write-add-arg10 → tie.Else1
+at-write c = c .before .before .before .before .before .before .before .before .before .before
+
+-- ---- the world and the call
+
+abbrev worldAt : tie.Start → World
+worldAt s =
+    cutWorld (tablesOf (s .args .heads .now) (s .args .parents .now) (s .args .rows .now) (s .args .counts .now) (s .args .next .now) (s .args .book-heads .now) (s .args .book-rows .now) (s .args .book-next .now))
+    (s .args .free .0) (s .args .book-free .0)
+
+abbrev callAt : tie.Start → Call
+callAt s = adding (s .args .ids .now) (s .args .row-counts .now) (s .args .row-list .now) (s .args .work .now) (s .args .touched .now) (s .args .labels .now)
+
+-- the verdict
+verdict-at : (c : tie.After-judge-add) → Judged (worldAt (entry c)) (callAt (entry c)) (entry c .args .work .now) (c .judge-add .last .1 .1 .1 .1 .1 .1 .1 .0) (c .judge-add .result)
+verdict-at c = let s = entry c in c .judge-add .ensures (s .args .book-rows .now) (s .args .touched .now) (s .args .labels .now) (s .pre .find)
+
+judge-add-requires : tie.Need-judge-add-requires
+judge-add-requires c κs = let s = entry-at c in record { book-rows = s .args .book-rows .now; can = s .pre .find }
+
+refusing-requires : tie.Need-refusing-requires
+refusing-requires c κs = search needs
+
+same-length : tie.Need-same-length
+same-length c = refl
+
+same-length-2 : tie.Need-same-length-2
+same-length-2 c = refl
+
+same-length-3 : tie.Need-same-length-3
+same-length-3 c = refl
+
+same-length-4 : tie.Need-same-length-4
+same-length-4 c = refl
+
+same-length-5 : tie.Need-same-length-5
+same-length-5 c = refl
+
+same-length-6 : tie.Need-same-length-6
+same-length-6 c = refl
+
+same-length-7 : tie.Need-same-length-7
+same-length-7 c = judged (c .before .before) .judge-add .kept .1 .1 .1 .1 .1 .1 .1 .0
+
+returns : tie.Need-returns
+returns c =
+    let x = judged (c .before .before) in
+    batch-refused (verdict-at x) (c .before .if1 .taken) refl (c .refusing .ensures)
+
+write-add-requires : tie.Need-write-add-requires
+write-add-requires c κs =
+    let e = at-write c in
+    let x = judged (e .before) in
+    record { before = entry x .args .work .now; can = judged-can (verdict-at x) (e .if1 .left) (entry x .pre) }
+
+accepting-requires : tie.Need-accepting-requires
+accepting-requires c κs = search needs
+
+same-length-8 : tie.Need-same-length-8
+same-length-8 c = wrote c .write-add .kept .1 .0
+
+same-length-9 : tie.Need-same-length-9
+same-length-9 c = wrote c .write-add .kept .1 .1 .0
+
+same-length-10 : tie.Need-same-length-10
+same-length-10 c = wrote c .write-add .kept .1 .1 .1 .0
+
+same-length-11 : tie.Need-same-length-11
+same-length-11 c = wrote c .write-add .kept .1 .1 .1 .1 .0
+
+same-length-12 : tie.Need-same-length-12
+same-length-12 c = wrote c .write-add .kept .1 .1 .1 .1 .1 .0
+
+same-length-13 : tie.Need-same-length-13
+same-length-13 c = wrote c .write-add .kept .1 .1 .1 .1 .1 .1 .0
+
+same-length-14 : tie.Need-same-length-14
+same-length-14 c = wrote c .write-add .kept .1 .1 .1 .1 .1 .1 .1 .0
+
+same-length-15 : tie.Need-same-length-15
+same-length-15 c = wrote c .write-add .kept .1 .1 .1 .1 .1 .1 .1 .1 .0 ∙ judged (at-write (wrote c .before) .before) .judge-add .kept .1 .1 .1 .1 .1 .1 .1 .0
+
+same-length-16 : tie.Need-same-length-16
+same-length-16 c = wrote c .write-add .kept .1 .1 .1 .1 .1 .1 .1 .1 .1 .0
+
+same-length-17 : tie.Need-same-length-17
+same-length-17 c = wrote c .write-add .kept .1 .1 .1 .1 .1 .1 .1 .1 .1 .1 .0
+
+returns-2 : tie.Need-returns-2
+returns-2 c =
+    let y = wrote c in
+    let e = at-write (y .before) in
+    let x = judged (e .before) in
+    let s = entry x in
+    let j = verdict-at x in
+    batch-taken refl j (e .if1 .left) refl (y .write-add .ensures (s .args .work .now) (judged-can j (e .if1 .left) (s .pre))) (c .accepting .ensures)
+
+pub add-spec : {M : Type 1} → statement M
+add-spec =
+    tie.close
+    (tie.spec
+    judge-add-requires
+    refusing-requires
+    same-length
+    same-length-2
+    same-length-3
+    same-length-4
+    same-length-5
+    same-length-6
+    same-length-7
+    returns
+    write-add-requires
+    accepting-requires
+    same-length-8
+    same-length-9
+    same-length-10
+    same-length-11
+    same-length-12
+    same-length-13
+    same-length-14
+    same-length-15
+    same-length-16
+    same-length-17
+    returns-2)

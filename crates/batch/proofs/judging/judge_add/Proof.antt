@@ -1,0 +1,128 @@
+-- `judging::judge_add` meets its contract: what it finds and what it plans are the call's verdict, by the laws of Adding.antt. Assumes nothing.
+use mathlib.Core.Path.{_≡_, sym, ap, _∙_}
+use mathlib.Core.Bool.{true}
+use mathlib.Core.List.{List, []}
+use Prim.Native.Nat.{ℕ}
+use native.Mathlib.Omega.{arith}
+use borrow.Author.Needs.{needs}
+use borrow.Author.Tests.{eq-eqb, ne-eqb}
+use lib.ListN.{length}
+use Rattle.tables.specs.Tables.{Tables}
+use Rattle.calls.specs.Refusals.{isAccepted, batchOf}
+use Rattle.refusals.specs.Found.{addFound}
+use Rattle.batch.specs.Outcome.{tablesOf, cutWorld, CanFind}
+use Rattle.batch.specs.Parts.{bookWhole, registerIn, verdictNumber}
+use Rattle.batch.specs.declared.Verdict.{Verdict}
+use Rattle.batch.proofs.Cut.{sizes-are, book-sound}
+use Rattle.batch.proofs.Adding.{add-refused, add-can, add-planned, add-full}
+use Rattle.batch.proofs.judging.judge_add.Statement.{statement}
+use Rattle.batch.proofs.judging.judge_add.Tie as tie
+
+-- ---- the places, named
+
+abbrev entry : tie.After-shared-slice-known10 → tie.Start
+entry c = c .before .before .before .before .before .before .before .before .before .before .before
+
+abbrev searched : tie.After-struct-known → tie.After-find-add
+searched c = c .before
+
+abbrev plans : tie.After-slice-known2 → tie.After-plan-add
+plans c = c .before .before
+
+abbrev at-plan : tie.Else1 → tie.Start
+at-plan c = entry (searched (c .before) .before)
+
+-- the tables, with given rows of the book
+abbrev tablesAt : tie.Start → List ℕ → Tables
+tablesAt s br =
+    tablesOf (s .args .heads .now) (s .args .parents .now) (s .args .rows .now) (s .args .counts .now) (s .args .next .now) (s .args .book-heads .now) br (s .args .book-next .now)
+
+-- 7 to 15 did not apply
+accepted-at : (c : tie.Else1) (br : List ℕ) →
+    CanFind (cutWorld (tablesAt (at-plan c) br) (at-plan c .args .free .0) (at-plan c .args .book-free .0)) (at-plan c .args .work .now) →
+    isAccepted (addFound (length (at-plan c .args .heads .now)) (bookWhole (tablesAt (at-plan c) br) (at-plan c .args .book-free .0))
+    (at-plan c .args .ids .now) (at-plan c .args .row-counts .now) (at-plan c .args .row-list .now)) ≡ true
+accepted-at c br can =
+    let x = searched (c .before) in
+    ap isAccepted (sym (x .find-add .ensures br (book-sound can))) ∙ eq-eqb (x .find-add .result .number) 0 (c .if1 .left)
+
+cast-find-add : tie.Need-cast-find-add
+cast-find-add c = let s = entry c in omega (arith, sizes-are (s .pre .can) .m-high)
+
+find-add-requires : tie.Need-find-add-requires
+find-add-requires c κs = let s = entry c in record { rows = s .pre .book-rows; sound = book-sound (s .pre .can) }
+
+refused-requires : tie.Need-refused-requires
+refused-requires c κs = search needs
+
+returns : tie.Need-returns
+returns c br a b can =
+    let x = searched (c .before .before) in
+    let s = entry (x .before) in
+    add-refused can (s .args .ids .now) (s .args .row-counts .now) (s .args .row-list .now) a b
+    (ap verdictNumber (c .refused .ensures) ∙ x .find-add .ensures br (book-sound can))
+    (ap (λ (v : Verdict). isAccepted (verdictNumber v)) (c .refused .ensures) ∙ ne-eqb (x .find-add .result .number) 0 (c .before .if1 .taken))
+
+plan-add-requires : tie.Need-plan-add-requires
+plan-add-requires c κs =
+    let s = at-plan (c .before) in
+    let br : List ℕ = s .pre .book-rows in
+    record {
+      R = registerIn (cutWorld (tablesAt s br) (s .args .free .0) (s .args .book-free .0)) .columns;
+      W = batchOf (s .args .ids .now) (s .args .row-counts .now) (s .args .row-list .now);
+      can = add-can (s .pre .can) (s .args .ids .now) (s .args .row-counts .now) (s .args .row-list .now) [] [] (accepted-at (c .before) br (s .pre .can));
+    }
+
+planned-requires : tie.Need-planned-requires
+planned-requires c κs = search needs
+
+same-length : tie.Need-same-length
+same-length c = search needs
+
+returns-2 : tie.Need-returns-2
+returns-2 c br a b can =
+    let p = plans (c .before .before) in
+    let no = p .before .before in
+    let s = at-plan no in
+    let ids = s .args .ids .now in
+    let ns = s .args .row-counts .now in
+    let rs = s .args .row-list .now in
+    let ok = accepted-at no br can in
+    let u = registerIn (cutWorld (tablesAt s br) (s .args .free .0) (s .args .book-free .0)) .columns in
+    let e = c .planned .ensures in
+    add-planned can ids ns rs a b ok (p .plan-add .ensures u (batchOf ids ns rs) (add-can can ids ns rs a b ok)) (c .before .if2 .taken)
+    (ap verdictNumber e) (ap (λ (v : Verdict). v .first) e) (ap (λ (v : Verdict). v .count) e) (ap (λ (v : Verdict). v .entries) e) (ap (λ (v : Verdict). v .used) e)
+
+refused-requires-2 : tie.Need-refused-requires-2
+refused-requires-2 c κs = search needs
+
+same-length-2 : tie.Need-same-length-2
+same-length-2 c = search needs
+
+returns-3 : tie.Need-returns-3
+returns-3 c br a b can =
+    let p = plans (c .before .before) in
+    let no = p .before .before in
+    let s = at-plan no in
+    let ids = s .args .ids .now in
+    let ns = s .args .row-counts .now in
+    let rs = s .args .row-list .now in
+    let ok = accepted-at no br can in
+    let u = registerIn (cutWorld (tablesAt s br) (s .args .free .0) (s .args .book-free .0)) .columns in
+    add-full can ids ns rs a b ok (p .plan-add .ensures u (batchOf ids ns rs) (add-can can ids ns rs a b ok)) (c .before .if2 .left) (ap verdictNumber (c .refused2 .ensures))
+
+pub judge-add-spec : {M : Type 1} → statement M
+judge-add-spec =
+    tie.close
+    (tie.spec
+    cast-find-add
+    find-add-requires
+    refused-requires
+    returns
+    plan-add-requires
+    planned-requires
+    same-length
+    returns-2
+    refused-requires-2
+    same-length-2
+    returns-3)

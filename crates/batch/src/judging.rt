@@ -1,0 +1,120 @@
+// A batch judged before anything is written: its refusal is searched for, and where there is none its plan is made in the work table.
+ghost use mathlib.Core.Path.{_≡_};
+ghost use mathlib.Core.List.{List};
+ghost use Prim.Native.Nat.{ℕ};
+ghost use Rattle.calls.specs.Calls.Call.{adding, removing};
+ghost use Rattle.batch.specs.Outcome.{tablesOf, cutWorld, CanFind};
+ghost use Rattle.batch.specs.Parts.{Judged, SomeRows, SomeFree};
+use crate::Verdict;
+use pool::Rec;
+use updown::Plan;
+
+// A verdict that refuses.
+fn refused(number: u32, position: u32) -> Verdict
+    ensures { λ x. ⌜ x ≡ record { number = number; position = position; first = 0; count = 0; entries = 0; used = 0 } ⌝ }
+{
+    Verdict {
+        number,
+        position,
+        first: 0,
+        count: 0,
+        entries: 0,
+        used: 0,
+    }
+}
+
+// A verdict that accepts, with the plan.
+fn planned(plan: Plan) -> Verdict
+    ensures { λ x. ⌜ x ≡ record { number = 0; position = 0; first = plan .first; count = plan .count; entries = plan .entries; used = plan .used } ⌝ }
+{
+    Verdict {
+        number: 0,
+        position: 0,
+        first: plan.first,
+        count: plan.count,
+        entries: plan.entries,
+        used: plan.used,
+    }
+}
+
+// An addition's number, and its plan in the work table where that is 0: 7 to 15, then 16, for which the plan is made.
+pub fn judge_add(
+    heads: &[u32],
+    parents: &[u16],
+    rows: &[u16],
+    counts: &[u16],
+    next: &[u32],
+    book_heads: &[u32],
+    book_next: &[u32],
+    work: &mut [u32],
+    ids: &[u32],
+    row_counts: &[u32],
+    row_list: &[u32],
+    free: Rec,
+    book_free: Rec,
+) -> Verdict
+    requires { ⌜ SomeRows (now heads) (now parents) (now rows) (now counts) (now next) (now «book_heads») (now «book_next») (free .0) («book_free» .0) (now work) ⌝ }
+    ensures { λ x. ⌜ ((br a b : List ℕ) → CanFind (cutWorld (tablesOf (now (heads .entry)) (now (parents .entry)) (now (rows .entry)) (now (counts .entry)) (now (next .entry)) (now («book_heads» .entry)) br (now («book_next» .entry))) (free .0) («book_free» .0)) (now (work .entry)) → Judged (cutWorld (tablesOf (now (heads .entry)) (now (parents .entry)) (now (rows .entry)) (now (counts .entry)) (now (next .entry)) (now («book_heads» .entry)) br (now («book_next» .entry))) (free .0) («book_free» .0)) (adding (now (ids .entry)) (now («row_counts» .entry)) (now («row_list» .entry)) (now (work .entry)) a b) (now (work .entry)) (now (work .exit)) x) ⌝ }
+{
+    let found = refusals::find_add(
+        book_heads,
+        book_next,
+        ids,
+        row_counts,
+        row_list,
+        book_free,
+        heads.len() as u32,
+    );
+    if found.number != 0 {
+        return refused(found.number, found.position);
+    }
+    let plan = updown::plan_add(
+        heads,
+        parents,
+        rows,
+        counts,
+        next,
+        work,
+        row_counts,
+        row_list,
+        free,
+    );
+    if plan.fits {
+        return planned(plan);
+    }
+    refused(16, 0)
+}
+
+// A removal's number, and its plan in the work table where that is 0.
+pub fn judge_remove(
+    heads: &[u32],
+    parents: &[u16],
+    rows: &[u16],
+    counts: &[u16],
+    next: &[u32],
+    book_heads: &[u32],
+    book_rows: &[u16],
+    book_next: &[u32],
+    work: &mut [u32],
+    ids: &[u32],
+) -> Verdict
+    requires { ⌜ SomeFree (tablesOf (now heads) (now parents) (now rows) (now counts) (now next) (now «book_heads») (now «book_rows») (now «book_next»)) (now work) ⌝ }
+    ensures { λ x. ⌜ ((f g : ℕ) (a b : List ℕ) → CanFind (cutWorld (tablesOf (now (heads .entry)) (now (parents .entry)) (now (rows .entry)) (now (counts .entry)) (now (next .entry)) (now («book_heads» .entry)) (now («book_rows» .entry)) (now («book_next» .entry))) f g) (now (work .entry)) → Judged (cutWorld (tablesOf (now (heads .entry)) (now (parents .entry)) (now (rows .entry)) (now (counts .entry)) (now (next .entry)) (now («book_heads» .entry)) (now («book_rows» .entry)) (now («book_next» .entry))) f g) (removing (now (ids .entry)) (now (work .entry)) a b) (now (work .entry)) (now (work .exit)) x) ⌝ }
+{
+    let found = refusals::find_remove(book_heads, ids);
+    if found.number != 0 {
+        return refused(found.number, found.position);
+    }
+    planned(updown::plan_remove(
+        heads,
+        parents,
+        rows,
+        counts,
+        next,
+        book_heads,
+        book_rows,
+        book_next,
+        work,
+        ids,
+    ))
+}

@@ -1,0 +1,102 @@
+// An accepted batch written: the plan to the stored columns, then the batch's columns into the book or out of it.
+ghost use mathlib.Core.List.{List};
+ghost use Prim.Native.Nat.{ℕ};
+ghost use Rattle.calls.specs.Calls.Call.{adding, removing};
+ghost use Rattle.batch.specs.Outcome.{tablesOf, cutWorld};
+ghost use Rattle.batch.specs.Parts.{CanWriteBatch, SomePlan, BatchWritten};
+use crate::FreeHeads;
+use pool::Rec;
+
+// Writes an accepted addition: the plan, then the batch's columns into the book.
+pub fn write_add(
+    heads: &[u32],
+    parents: &mut [u16],
+    rows: &mut [u16],
+    counts: &mut [u16],
+    next: &mut [u32],
+    book_heads: &mut [u32],
+    book_rows: &mut [u16],
+    book_next: &mut [u32],
+    work: &mut [u32],
+    touched: &mut [u16],
+    labels: &mut [u16],
+    ids: &[u32],
+    row_counts: &[u32],
+    row_list: &[u32],
+    first: u32,
+    used: u32,
+    free: Rec,
+    book_free: Rec,
+) -> FreeHeads
+    requires { ⌜ SomePlan (cutWorld (tablesOf (now heads) (now parents) (now rows) (now counts) (now next) (now «book_heads») (now «book_rows») (now «book_next»)) (free .0) («book_free» .0)) (λ w. adding (now ids) (now «row_counts») (now «row_list») w (now touched) (now labels)) (now work) (now touched) (now labels) first used ⌝ }
+    ensures { λ r. ⌜ ((w : List ℕ) → CanWriteBatch (cutWorld (tablesOf (now (heads .entry)) (now (parents .entry)) (now (rows .entry)) (now (counts .entry)) (now (next .entry)) (now («book_heads» .entry)) (now («book_rows» .entry)) (now («book_next» .entry))) (free .0) («book_free» .0)) (adding (now (ids .entry)) (now («row_counts» .entry)) (now («row_list» .entry)) w (now (touched .entry)) (now (labels .entry))) w (now (work .entry)) (now (touched .entry)) (now (labels .entry)) first used → BatchWritten (cutWorld (tablesOf (now (heads .entry)) (now (parents .entry)) (now (rows .entry)) (now (counts .entry)) (now (next .entry)) (now («book_heads» .entry)) (now («book_rows» .entry)) (now («book_next» .entry))) (free .0) («book_free» .0)) (adding (now (ids .entry)) (now («row_counts» .entry)) (now («row_list» .entry)) w (now (touched .entry)) (now (labels .entry))) w (now (touched .entry)) (now (labels .entry)) (cutWorld (tablesOf (now (heads .entry)) (now (parents .exit)) (now (rows .exit)) (now (counts .exit)) (now (next .exit)) (now («book_heads» .exit)) (now («book_rows» .exit)) (now («book_next» .exit))) (r .free) (r .«book_free»)) (now (work .exit)) (now (touched .exit)) (now (labels .exit))) ⌝ }
+{
+    let z = commit::write_plan(
+        heads,
+        parents,
+        rows,
+        counts,
+        next,
+        work,
+        touched,
+        labels,
+        first,
+        used,
+        free,
+    );
+    let y = entering::enter_columns(
+        book_heads,
+        book_rows,
+        book_next,
+        ids,
+        row_counts,
+        row_list,
+        book_free,
+    );
+    FreeHeads {
+        free: z.0,
+        book_free: y.0,
+    }
+}
+
+// Writes an accepted removal: the plan, then the batch's columns out of the book.
+pub fn write_remove(
+    heads: &[u32],
+    parents: &mut [u16],
+    rows: &mut [u16],
+    counts: &mut [u16],
+    next: &mut [u32],
+    book_heads: &mut [u32],
+    book_rows: &mut [u16],
+    book_next: &mut [u32],
+    work: &mut [u32],
+    touched: &mut [u16],
+    labels: &mut [u16],
+    ids: &[u32],
+    first: u32,
+    used: u32,
+    free: Rec,
+    book_free: Rec,
+) -> FreeHeads
+    requires { ⌜ SomePlan (cutWorld (tablesOf (now heads) (now parents) (now rows) (now counts) (now next) (now «book_heads») (now «book_rows») (now «book_next»)) (free .0) («book_free» .0)) (λ w. removing (now ids) w (now touched) (now labels)) (now work) (now touched) (now labels) first used ⌝ }
+    ensures { λ r. ⌜ ((w : List ℕ) → CanWriteBatch (cutWorld (tablesOf (now (heads .entry)) (now (parents .entry)) (now (rows .entry)) (now (counts .entry)) (now (next .entry)) (now («book_heads» .entry)) (now («book_rows» .entry)) (now («book_next» .entry))) (free .0) («book_free» .0)) (removing (now (ids .entry)) w (now (touched .entry)) (now (labels .entry))) w (now (work .entry)) (now (touched .entry)) (now (labels .entry)) first used → BatchWritten (cutWorld (tablesOf (now (heads .entry)) (now (parents .entry)) (now (rows .entry)) (now (counts .entry)) (now (next .entry)) (now («book_heads» .entry)) (now («book_rows» .entry)) (now («book_next» .entry))) (free .0) («book_free» .0)) (removing (now (ids .entry)) w (now (touched .entry)) (now (labels .entry))) w (now (touched .entry)) (now (labels .entry)) (cutWorld (tablesOf (now (heads .entry)) (now (parents .exit)) (now (rows .exit)) (now (counts .exit)) (now (next .exit)) (now («book_heads» .exit)) (now («book_rows» .exit)) (now («book_next» .exit))) (r .free) (r .«book_free»)) (now (work .exit)) (now (touched .exit)) (now (labels .exit))) ⌝ }
+{
+    let z = commit::write_plan(
+        heads,
+        parents,
+        rows,
+        counts,
+        next,
+        work,
+        touched,
+        labels,
+        first,
+        used,
+        free,
+    );
+    let y = entering::leave_columns(book_heads, book_rows, book_next, ids, book_free);
+    FreeHeads {
+        free: z.0,
+        book_free: y.0,
+    }
+}
