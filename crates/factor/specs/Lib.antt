@@ -1,3 +1,4 @@
 pub mod Entries
 pub mod Admission
 pub mod Written
+pub mod Batches

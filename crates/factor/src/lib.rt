@@ -6,6 +6,7 @@ ghost use Rattle.calls.specs.Steps.{Step};
 ghost use Rattle.factor.specs.Entries.{tablesOf, limitsOf, worldOf, workOnly, workAndList, OpenStep};
 
 mod admission;
+mod batches;
 mod fresh;
 mod unchecked;
 
@@ -26,6 +27,16 @@ pub struct Factor {
 pub enum Opening {
     Opened(Factor),
     Refused(u32),
+}
+
+// What a batch answers, with the record after it.
+pub struct Changed {
+    pub number: u32,
+    pub position: u32,
+    pub touched: u32,
+    pub entries: u32,
+    pub grade: u32,
+    pub factor: Factor,
 }
 
 impl Factor {

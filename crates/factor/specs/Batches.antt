@@ -1,0 +1,22 @@
+-- A batch of the factor: what its unchecked twin asks, and the answer with the record after it. The contract of the checked entry is `Step` of its call,
+-- that of the unchecked one `BatchStep`: 1 to 6 are passed by its premise. Assumes nothing: these are definitions.
+use mathlib.Core.List.{List}
+use Prim.Native.Nat.{ℕ, _≤_}
+use lib.ListN.{length}
+use Rattle.workspace.specs.Regions.{IsZero}
+use Rattle.tables.specs.Tables.{Tables, State}
+use Rattle.calls.specs.Refusals.{workFor}
+use Rattle.calls.specs.Steps.{Answer}
+use Rattle.factor.specs.Admission.{Usable}
+use Rattle.factor.specs.declared.Changed.{Changed}
+
+-- usable tables, a work table whose first W places are zero, and lists long enough for the report
+pub record CanChange (s : State) (t : Tables) (work touched labels : List ℕ) : Type 0 where
+  pub usable : Usable s t
+  pub room : workFor (s .limits) ≤ length work
+  pub zero : IsZero work 0 (workFor (s .limits))
+  pub touched-long : s .limits .m ≤ length touched
+  pub labels-long : s .limits .m ≤ length labels
+
+abbrev pub changedAnswer : Changed → Answer
+changedAnswer x = record { number = x .number; position = x .position; touched = x .touched; entries = x .entries; grade = x .grade; value = 0 }
