@@ -1,0 +1,13 @@
+-- What keeps an index within the tables: rows are 1 to 64, ids 1 to 256. The contracts say no more than that: the crate is safe and ends, and its
+-- results are held against the product's by a program. Assumes nothing.
+use Prim.Native.Nat.{ℕ, _≤_}
+
+abbrev pub IsRow : ℕ → Type 0
+IsRow j = (1 ≤ j) × (j ≤ 64)
+
+abbrev pub IsId : ℕ → Type 0
+IsId i = (1 ≤ i) × (i ≤ 256)
+
+-- sizes that the tables serve: rows, ids
+abbrev pub Served : (m n : ℕ) → Type 0
+Served m n = (m ≤ 64) × (n ≤ 256)

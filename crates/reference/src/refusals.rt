@@ -1,0 +1,174 @@
+// Where a call is turned down, in the order of the table: the first number whose condition holds, 0 if none does.
+ghost use mathlib.Core.Path.{_≡_};
+ghost use Prim.Native.Nat.{_+_, _≤_, _<_};
+ghost use lib.ListN.{length};
+ghost use Rattle.reference.specs.Ranges.{Served};
+use crate::Holds;
+use crate::Live;
+use crate::Refusal;
+use crate::Sizes;
+use crate::columns;
+use crate::columns::wide;
+
+fn is_outside(x: usize, low: usize, high: usize) -> bool {
+    if x < low {
+        return true;
+    }
+    high < x
+}
+
+// Whether some number and `more` together exceed `most`.
+pub fn exceeds(most: usize, number: usize, more: usize) -> bool {
+    if most < number {
+        return true;
+    }
+    most - number < more
+}
+
+// 1 to 4: m, n, F or C outside its range.
+pub fn of_sizes(sizes: Sizes) -> usize {
+    if is_outside(sizes.m, 1, 4096) {
+        return 1;
+    }
+    if is_outside(sizes.n, 1, 16384) {
+        return 2;
+    }
+    if is_outside(sizes.f, sizes.m, 1048576) {
+        return 3;
+    }
+    if is_outside(sizes.c, 1, 262144) {
+        return 4;
+    }
+    0
+}
+
+// ---- each column, by position
+
+// Whether the id at place t stands earlier in the batch.
+fn is_earlier(ids: &[u32], t: usize) -> bool
+    requires { ⌜ t < length (now ids) ⌝ }
+{
+    let mut k = 0;
+    while k < t {
+        if ids[k] == ids[t] {
+            return true;
+        }
+        k += 1;
+    }
+    false
+}
+
+// 8: the id at place t outside 1 to n; 9: earlier in this batch; 10, adding: live; 11, removing: not live.
+fn of_id(live: &Live, ids: &[u32], n: usize, t: usize, adding: bool) -> usize
+    requires { ⌜ (n ≤ 256) × (t < length (now ids)) ⌝ }
+{
+    let i = wide(ids[t]);
+    if i < 1 {
+        return 8;
+    }
+    if n < i {
+        return 8;
+    }
+    if is_earlier(ids, t) {
+        return 9;
+    }
+    if columns::is_live(live, i) {
+        if adding { 10 } else { 0 }
+    } else {
+        if adding { 0 } else { 11 }
+    }
+}
+
+// 13: a row outside 1 to m; 14: not above the row before. The rows are `count` of the list, from place `from` onward.
+fn of_rows(rows: &[u32], m: usize, from: usize, count: usize) -> usize
+    requires { ⌜ from + count ≤ length (now rows) ⌝ }
+{
+    let mut above = 0;
+    let mut k = 0;
+    while k < count {
+        let row = wide(rows[from + k]);
+        if is_outside(row, 1, m) {
+            return 13;
+        }
+        if row <= above {
+            return 14;
+        }
+        above = row;
+        k += 1;
+    }
+    0
+}
+
+// ---- whole batches
+
+fn refusal(number: usize, position: usize) -> Refusal {
+    Refusal { number, position }
+}
+
+// 8 to 14 of the columns of an addition whose lists keep step, and 12 for rows left over.
+fn of_columns(live: &Live, ids: &[u32], counts: &[u32], rows: &[u32], m: usize, n: usize) -> Refusal
+    requires { ⌜ (n ≤ 256) × (length (now counts) ≡ length (now ids)) ⌝ }
+{
+    let mut used = 0;
+    let mut t = 0;
+    while t < ids.len() {
+        let number = of_id(live, ids, n, t, true);
+        if number != 0 {
+            return refusal(number, t + 1);
+        }
+        let count = wide(counts[t]);
+        if is_outside(count, 1, 256) {
+            return refusal(12, t + 1);
+        }
+        if rows.len() - used < count {
+            return refusal(12, t + 1);
+        }
+        let number = of_rows(rows, m, used, count);
+        if number != 0 {
+            return refusal(number, t + 1);
+        }
+        used += count;
+        t += 1;
+    }
+    if used < rows.len() {
+        return refusal(12, 0);
+    }
+    refusal(0, 0)
+}
+
+// 8 to 15 of an addition whose lists keep step.
+pub fn of_addition(
+    holds: &Holds,
+    live: &Live,
+    ids: &[u32],
+    counts: &[u32],
+    rows: &[u32],
+    sizes: Sizes,
+) -> Refusal
+    requires { ⌜ Served (sizes .m) (sizes .n) × (length (now counts) ≡ length (now ids)) ⌝ }
+{
+    let first = of_columns(live, ids, counts, rows, sizes.m, sizes.n);
+    if first.number != 0 {
+        return first;
+    }
+    let booked = columns::book_rows(holds, live, sizes.m, sizes.n);
+    if exceeds(sizes.c, booked, rows.len()) {
+        return refusal(15, 0);
+    }
+    first
+}
+
+// 8 to 11 of a removal.
+pub fn of_removal(live: &Live, ids: &[u32], n: usize) -> Refusal
+    requires { ⌜ n ≤ 256 ⌝ }
+{
+    let mut t = 0;
+    while t < ids.len() {
+        let number = of_id(live, ids, n, t, false);
+        if number != 0 {
+            return refusal(number, t + 1);
+        }
+        t += 1;
+    }
+    refusal(0, 0)
+}
