@@ -11,7 +11,7 @@ use Rattle.tables.specs.Tables.{Tables, Limits, registerOf, isSound}
 use Rattle.calls.specs.Refusals.{Refusal, isAccepted, workFor}
 use Rattle.calls.specs.Calls.{Call, adding, removing}
 use Rattle.calls.specs.Numbers.{earlyRefusal, callRefusal, refusalOf}
-use Rattle.calls.specs.Steps.{Answer, refusedBy, acceptedBy, Lent, lentTo, listsAfter, workAfter, withWork, World, AcceptedWorld, OutcomeFor, Step}
+use Rattle.calls.specs.Steps.{Answer, refusedBy, acceptedBy, Lent, lentTo, listsAfter, workAfter, withWork, World, AcceptedWorld, OutcomeFor, Transition}
 use Rattle.calls.proofs.Choices.{or-second}
 use Rattle.calls.proofs.Numbers.{sound-number}
 use Rattle.batch.specs.Outcome.{batchLists, BatchOutcome, BatchStep}
@@ -62,13 +62,13 @@ module _ {u : World} {k j : Call} {v : World} (like : Alike u k j v) (early : is
       let n : Refusal = callRefusal (u .state .limits) (registerOf (u .state) (u .tables)) k in
       sound-number (u .state) (u .tables) k sound ∙ or-second (earlyRefusal (u .state .limits) (u .tables) k) n early ∙ sym (like .number)
 
-  by-number : (q : Bool) → isAccepted (callRefusal (u .state .limits) (registerOf (u .state) (u .tables)) j) ≡ q → BatchOutcome q u j z x v → Step u k z x v
+  by-number : (q : Bool) → isAccepted (callRefusal (u .state .limits) (registerOf (u .state) (u .tables)) j) ≡ q → BatchOutcome q u j z x v → Transition u k z x v
   by-number true e o =
       subst (λ (q : Bool). OutcomeFor q u k z x v) (sym (ap isAccepted own ∙ e)) (o .0 ∙ like .answer, o .1 ∙ like .taken, like .world (o .2))
   by-number false e o =
       subst (λ (q : Bool). OutcomeFor q u k z x v) (sym (ap isAccepted own ∙ e)) (o .0 ∙ ap refusedBy (sym own), o .1 ∙ like .refused, o .2)
 
-  whole-step : BatchStep u j z x v → Step u k z x v
+  whole-step : BatchStep u j z x v → Transition u k z x v
   whole-step o = by-number (isAccepted (callRefusal (u .state .limits) (registerOf (u .state) (u .tables)) j)) refl o
 
 -- ---- adding and removing
@@ -78,7 +78,7 @@ module _ (u : World) (w a b : List ℕ) (sound : isSound (u .state) (u .tables) 
   w′ = zeroFirst (workFor (u .state .limits)) w
 
   pub add-whole : (is ns rs : List ℕ) → isAccepted (earlyRefusal (u .state .limits) (u .tables) (adding is ns rs w a b)) ≡ true →
-      BatchStep u (adding is ns rs (zeroFirst (workFor (u .state .limits)) w) a b) z x v → Step u (adding is ns rs w a b) z x v
+      BatchStep u (adding is ns rs (zeroFirst (workFor (u .state .limits)) w) a b) z x v → Transition u (adding is ns rs w a b) z x v
   add-whole is ns rs early =
       let e : w′ ≡ workAfter (u .state .limits) (u .tables) (adding is ns rs w a b) = sym (ap (λ (q : Bool). pick q w′ w) early) in
       whole-step {u = u} {k = adding is ns rs w a b} {j = adding is ns rs w′ a b} {v = v} (record {
@@ -90,7 +90,7 @@ module _ (u : World) (w a b : List ℕ) (sound : isSound (u .state) (u .tables) 
       }) early sound z x
 
   pub remove-whole : (is : List ℕ) → isAccepted (earlyRefusal (u .state .limits) (u .tables) (removing is w a b)) ≡ true →
-      BatchStep u (removing is (zeroFirst (workFor (u .state .limits)) w) a b) z x v → Step u (removing is w a b) z x v
+      BatchStep u (removing is (zeroFirst (workFor (u .state .limits)) w) a b) z x v → Transition u (removing is w a b) z x v
   remove-whole is early =
       let e : w′ ≡ workAfter (u .state .limits) (u .tables) (removing is w a b) = sym (ap (λ (q : Bool). pick q w′ w) early) in
       whole-step {u = u} {k = removing is w a b} {j = removing is w′ a b} {v = v} (record {

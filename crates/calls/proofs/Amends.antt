@@ -1,5 +1,5 @@
--- What an accepted batch owes to record and tables (`Amended`), as one test on given worlds: `amends u k v`, with the law that a batch that passes it
--- owes nothing more (`amends-passed`). The limits and the columns are compared apart: they are equal as they stand. How a stored example is held to the
+-- What an accepted batch must leave in record and tables (`Amended`), as one test on given worlds: `amends u k v`, with the law that a batch that passes it
+-- meets it (`amends-passed`). The limits and the columns are compared apart: they are equal as they stand. How a stored example is held to the
 -- promise. Assumes nothing.
 use mathlib.Core.Path.{_≡_, sym, ap, _∙_}
 use mathlib.Core.Logic.{inl, inr}

@@ -10,7 +10,7 @@ use Rattle.tables.specs.Tables.{registerOf}
 use Rattle.calls.specs.Refusals.{isAccepted}
 use Rattle.calls.specs.Calls.{Call, opening, adding, removing, checking, askMultiplicity, askParent, askPath, askColumn, isOpening, isBatch}
 use Rattle.calls.specs.Numbers.{refusalOf}
-use Rattle.calls.specs.Steps.{Answer, refusedBy, acceptedBy, Lent, lentTo, listsAfter, workAfter, withWork, World, Amended, AcceptedWorld, OutcomeFor, Step}
+use Rattle.calls.specs.Steps.{Answer, refusedBy, acceptedBy, Lent, lentTo, listsAfter, workAfter, withWork, World, Amended, AcceptedWorld, OutcomeFor, Transition}
 
 -- an accepted call
 pub record Accepted (u : World) (k : Call) (a : Answer) (x : Lent) (v : World) : Type 0 where
@@ -31,15 +31,15 @@ module _ {u : World} {k : Call} {a : Answer} {x : Lent} {v : World} where
   outcome true e o = inl (record { number = e; answer = o .0; lists = o .1; world = o .2 })
   outcome false e o = inr (record { number = e; answer = o .0; lists = o .1; world = o .2 })
 
-pub step-cases : (u : World) (k : Call) (a : Answer) (x : Lent) (v : World) → Step u k a x v → Accepted u k a x v ⊎ Refused u k a x v
+pub step-cases : (u : World) (k : Call) (a : Answer) (x : Lent) (v : World) → Transition u k a x v → Accepted u k a x v ⊎ Refused u k a x v
 step-cases u k a x v s = outcome (isAccepted (refusalOf (u .state) (u .tables) k)) refl s
 
 -- and put together
 module _ (u : World) (k : Call) (a : Answer) (x : Lent) (v : World) where
-  pub accepted-step : Accepted u k a x v → Step u k a x v
+  pub accepted-step : Accepted u k a x v → Transition u k a x v
   accepted-step s = subst (λ (z : Bool). OutcomeFor z u k a x v) (sym (s .number)) (s .answer, s .lists, s .world)
 
-  pub refused-step : Refused u k a x v → Step u k a x v
+  pub refused-step : Refused u k a x v → Transition u k a x v
   refused-step s = subst (λ (z : Bool). OutcomeFor z u k a x v) (sym (s .number)) (s .answer, s .lists, s .world)
 
 -- "Accepted is 0"
@@ -61,7 +61,7 @@ module _ {u : World} {k : Call} {a : Answer} {x : Lent} {v : World} where
   refused-some s e =
       true≢false (sym (eq-eqb (refusalOf (u .state) (u .tables) k .number) 0 (ap (λ (y : Answer). y .number) (sym (s .answer)) ∙ e)) ∙ s .number)
 
-module _ (u : World) (k : Call) (a : Answer) (x : Lent) (v : World) (s : Step u k a x v) where
+module _ (u : World) (k : Call) (a : Answer) (x : Lent) (v : World) (s : Transition u k a x v) where
   -- number 0: it was accepted
   pub step-taken : a .number ≡ 0 → Accepted u k a x v
   step-taken e = elim (step-cases u k a x v s) [ inl t ↦ t | inr t ↦ absurd (refused-some t e) ]

@@ -1,5 +1,5 @@
--- One call: its answer, what it leaves of each lent list, and record and tables after it. The contract of an entry is `Step` of its call and nothing else.
--- Left open are which free record a batch takes and the free chains' later order: `Amended` says what of record and tables an accepted batch owes.
+-- One call: its answer, what it leaves of each lent list, and record and tables after it. The contract of an entry is `Transition` of its call and nothing else.
+-- Left open are which free record a batch takes and the free chains' later order: `Amended` says what an accepted batch must leave in record and tables.
 -- Assumes nothing: these are definitions.
 use mathlib.Core.Path.{_≡_}
 use mathlib.Core.Bool.{Bool, true, false}
@@ -143,5 +143,5 @@ OutcomeFor true u k a x v =
 OutcomeFor false u k a x v =
     (a ≡ refusedBy (refusalOf (u .state) (u .tables) k)) × (x ≡ withWork (lentTo k) (workAfter (u .state .limits) (u .tables) k)) × (v ≡ u)
 
-abbrev pub Step : World → Call → Answer → Lent → World → Type 0
-Step u k a x v = OutcomeFor (isAccepted (refusalOf (u .state) (u .tables) k)) u k a x v
+abbrev pub Transition : World → Call → Answer → Lent → World → Type 0
+Transition u k a x v = OutcomeFor (isAccepted (refusalOf (u .state) (u .tables) k)) u k a x v

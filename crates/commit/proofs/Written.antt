@@ -21,7 +21,7 @@ use Rattle.workspace.proofs.Regions.{table-ext, place-cases, zero-at, cleared-l
 use Rattle.pool.specs.Chains.{chain}
 use Rattle.tables.specs.Stored.{Stored, Sized, isSoundFor}
 use Rattle.tables.proofs.Stored as stored
-use Rattle.tables.proofs.Mended.{mended-sound}
+use Rattle.tables.proofs.Revised.{revised-sound}
 use Rattle.columns.specs.Commit.{Holds, Ready, ChainStays}
 use Rattle.columns.proofs.Stored.{stays-holds, held-keep}
 use Rattle.updown.specs.Plans.{planAt, PlansFrom}
@@ -164,7 +164,7 @@ module _ {s : Stored} {cs ds : List Column} {label : ℕ → ℕ} {columns befor
             counts-long = c .ready .sized .counts-long;
           };
           heads = refl;
-          sound = mended-sound ds after m refl (c .ready .pool) (z .0) (z .1) column-after;
+          sound = revised-sound ds after m refl (c .ready .pool) (z .0) (z .1) column-after;
           others = λ j a b t.
               let n : times j columns ≡ 0 = none-among j columns t in
               let d : ChainStays s between j = c .others j a b n in

@@ -15,7 +15,7 @@ use Rattle.calls.specs.Refusals.{Refusal, isAccepted, orElse, unless, bounds, s
 use Rattle.calls.specs.Calls.{Call, checking, askMultiplicity, askParent, askPath, askColumn, limitsAfter}
 use Rattle.calls.specs.Report.{pathList, columnList}
 use Rattle.calls.specs.Numbers.{earlyRefusal, callRefusal, soundRefusal, refusalOf}
-use Rattle.calls.specs.Steps.{Answer, refusedBy, acceptedBy, Lent, lentTo, listsAfter, workAfter, withWork, writtenAt, World, AcceptedWorld, Step}
+use Rattle.calls.specs.Steps.{Answer, refusedBy, acceptedBy, Lent, lentTo, listsAfter, workAfter, withWork, writtenAt, World, AcceptedWorld, Transition}
 use Rattle.calls.proofs.Choices.{or-first, or-second, or-assoc}
 use Rattle.calls.proofs.Steps.{accepted-step, refused-step}
 use Rattle.questions.specs.Asked.{replyOf, repliedTo, listLeft}
@@ -106,7 +106,7 @@ module _ {s : State} {t : Tables} {k : Call} {w : List ℕ} {z : Bool} (m : Admi
 
   -- refused by 1 to 6
   pub refused-early : n ≢ 0 → {x : Lent} → x ≡ withWork (lentTo k) w′ →
-      Step (record { state = s; tables = t }) k (replyOf (record { number = n; value = 0 })) x (record { state = s; tables = t })
+      Transition (record { state = s; tables = t }) k (replyOf (record { number = n; value = 0 })) x (record { state = s; tables = t })
   refused-early d {x} e =
       let q : isAccepted (admission s t w z) ≡ false = admitted-some a d in
       let r : refusalOf s t k ≡ admission s t w z = number-is ∙ or-first (admission s t w z) call q in
@@ -126,7 +126,7 @@ module _ {s : State} {t : Tables} {k : Call} {w : List ℕ} {z : Bool} (m : Admi
     pub asked-step : {b : Answer} {x : Lent} → b ≡ repliedTo (s .limits) (registerOf s t) k →
         AcceptedWorld (record { state = s; tables = t }) k (record { state = s; tables = t }) →
         (isAccepted call ≡ true → x ≡ listsAfter (registerOf s t) k w′) → (isAccepted call ≡ false → x ≡ withWork (lentTo k) w′) →
-        Step (record { state = s; tables = t }) k b x (record { state = s; tables = t })
+        Transition (record { state = s; tables = t }) k b x (record { state = s; tables = t })
     asked-step {b} {x} answer stays taken refused =
         let u : World = record { state = s; tables = t } in
         elim (cases (isAccepted call)) [
@@ -151,7 +151,7 @@ module _ (s : State) (t : Tables) (w : List ℕ) {n : ℕ} {w′ : List ℕ} (a 
   here = record { state = s; tables = t }
 
   -- a check: 0 or the number
-  pub check-step : Step here (checking w) (replyOf (record { number = n; value = 0 })) (workOnly w′) here
+  pub check-step : Transition here (checking w) (replyOf (record { number = n; value = 0 })) (workOnly w′) here
   check-step =
       elim (eq-or-ne n 0) [
         | inl d ↦ asked-step (admits-check s t w) a d (ap (λ (k : ℕ). replyOf (record { number = k; value = 0 })) d) refl (λ q. refl) (λ q. refl)
@@ -159,21 +159,21 @@ module _ (s : State) (t : Tables) (w : List ℕ) {n : ℕ} {w′ : List ℕ} (a 
       ]
 
   module _ (d : n ≡ 0) {b : Answer} where
-    pub multiplicity-step : (i j : ℕ) → b ≡ repliedTo (s .limits) (registerOf s t) (askMultiplicity i j []) → Step here (askMultiplicity i j w) b (workOnly w′) here
+    pub multiplicity-step : (i j : ℕ) → b ≡ repliedTo (s .limits) (registerOf s t) (askMultiplicity i j []) → Transition here (askMultiplicity i j w) b (workOnly w′) here
     multiplicity-step i j e = asked-step (admits-multiplicity s t w i j) a d e refl (λ q. refl) (λ q. refl)
 
-    pub parent-step : (j : ℕ) → b ≡ repliedTo (s .limits) (registerOf s t) (askParent j []) → Step here (askParent j w) b (workOnly w′) here
+    pub parent-step : (j : ℕ) → b ≡ repliedTo (s .limits) (registerOf s t) (askParent j []) → Transition here (askParent j w) b (workOnly w′) here
     parent-step j e = asked-step (admits-parent s t w j) a d e refl (λ q. refl) (λ q. refl)
 
     module _ (j p : ℕ) (xs : List ℕ) {ys : List ℕ} where
       pub path-step : b ≡ repliedTo (s .limits) (registerOf s t) (askPath j p [] xs) → ys ≡ listLeft (s .limits) (registerOf s t) (askPath j p [] xs) →
-          Step here (askPath j p w xs) b (workAndList w′ ys) here
+          Transition here (askPath j p w xs) b (workAndList w′ ys) here
       path-step e f =
           let new : List ℕ = writtenAt p (pathList (registerOf s t) j) xs in
           asked-step (admits-path s t w j p xs) a d e refl (λ q. ap (workAndList w′) (f ∙ picked new xs q)) (λ q. ap (workAndList w′) (f ∙ picked new xs q))
 
       pub column-step : b ≡ repliedTo (s .limits) (registerOf s t) (askColumn j p [] xs) → ys ≡ listLeft (s .limits) (registerOf s t) (askColumn j p [] xs) →
-          Step here (askColumn j p w xs) b (workAndList w′ ys) here
+          Transition here (askColumn j p w xs) b (workAndList w′ ys) here
       column-step e f =
           let new : List ℕ = writtenAt p (columnList (registerOf s t) j) xs in
           asked-step (admits-column s t w j p xs) a d e refl (λ q. ap (workAndList w′) (f ∙ picked new xs q)) (λ q. ap (workAndList w′) (f ∙ picked new xs q))

@@ -16,7 +16,7 @@ use Rattle.workspace.proofs.Regions.{cleared-length, cleared-zero, first-cleare
 use Rattle.tables.specs.Tables.{Tables, Limits, State, longEnough}
 use Rattle.calls.specs.Refusals.{Refusal, isAccepted, orElse, unless, bounds, sizesRefusal, workFor, shortRefusal, shortBatch}
 use Rattle.calls.specs.Calls.{Call, adding, removing}
-use Rattle.calls.specs.Steps.{Answer, Lent, lentTo, withWork, World, Step}
+use Rattle.calls.specs.Steps.{Answer, Lent, lentTo, withWork, World, Transition}
 use Rattle.calls.proofs.Choices.{or-both, unless-holds}
 use Rattle.calls.proofs.Refusals.{HasRoom}
 use Rattle.refusals.specs.Early.{listsLong}
@@ -93,13 +93,13 @@ module _ (s : State) (t : Tables) (w a b : List ℕ) {y : Bool} (e : y ≡ not (
       u = record { state = s; tables = t }
 
       pub add-changed : (is ns rs : List ℕ) → BatchStep (record { state = s; tables = t }) (adding is ns rs w′ a b) z x v →
-          Step (record { state = s; tables = t }) (adding is ns rs w a b) z x v
+          Transition (record { state = s; tables = t }) (adding is ns rs w a b) z x v
       add-changed is ns rs o =
           add-whole u w a b (admitted-usable m d .sound) z x v is ns rs (ap isAccepted batch-early ∙ admitted-early m d)
           (subst (λ (q : List ℕ). BatchStep u (adding is ns rs q a b) z x v) work-first o)
 
       pub remove-changed : (is : List ℕ) → BatchStep (record { state = s; tables = t }) (removing is w′ a b) z x v →
-          Step (record { state = s; tables = t }) (removing is w a b) z x v
+          Transition (record { state = s; tables = t }) (removing is w a b) z x v
       remove-changed is o =
           remove-whole u w a b (admitted-usable m d .sound) z x v is (ap isAccepted batch-early ∙ admitted-early m d)
           (subst (λ (q : List ℕ). BatchStep u (removing is q a b) z x v) work-first o)
@@ -110,6 +110,6 @@ abbrev pub unchangedOf : Factor → ℕ → Changed
 unchangedOf s n = record { number = n; position = 0; touched = 0; entries = 0; grade = 0; factor = s }
 
 pub change-refused : (s : Factor) (t : Tables) {k : Call} {w : List ℕ} {z : Bool} → Admits (stateOf s) t k w z → {n : ℕ} {w′ : List ℕ} → Admitted (stateOf s) t w z n w′ →
-    n ≢ 0 → (x : Lent) → x ≡ withWork (lentTo k) w′ → {r : Changed} → r ≡ unchangedOf s n → Step (worldOf s t) k (changedAnswer r) x (worldOf (r .factor) t)
+    n ≢ 0 → (x : Lent) → x ≡ withWork (lentTo k) w′ → {r : Changed} → r ≡ unchangedOf s n → Transition (worldOf s t) k (changedAnswer r) x (worldOf (r .factor) t)
 change-refused s t {k} m a d x e q =
-    subst (λ (r : Changed). Step (worldOf s t) k (changedAnswer r) x (worldOf (r .factor) t)) (sym q) (refused-early m a d e)
+    subst (λ (r : Changed). Transition (worldOf s t) k (changedAnswer r) x (worldOf (r .factor) t)) (sym q) (refused-early m a d e)

@@ -1,4 +1,4 @@
--- A batch of the factor: what its unchecked twin asks, and the answer with the record after it. The contract of the checked entry is `Step` of its call,
+-- A batch of the factor: what its unchecked twin asks, and the answer with the record after it. The contract of the checked entry is `Transition` of its call,
 -- that of the unchecked one `BatchStep`: 1 to 6 are passed by its premise. Assumes nothing: these are definitions.
 use mathlib.Core.List.{List}
 use Prim.Native.Nat.{ℕ, _≤_}

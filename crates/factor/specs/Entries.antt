@@ -1,10 +1,10 @@
--- The public entries' records as the definitions of calls/ have them: the factor as limits and free heads, tables, answers. A contract is `Step` of the
+-- The public entries' records as the definitions of calls/ have them: the factor as limits and free heads, tables, answers. A contract is `Transition` of the
 -- entry's call over these, and nothing else. Assumes nothing: these are definitions.
 use mathlib.Core.List.{List, []}
 use Prim.Native.Nat.{ℕ}
 use Rattle.tables.specs.Tables.{Tables, Limits, State}
 use Rattle.calls.specs.Calls.{opening}
-use Rattle.calls.specs.Steps.{Answer, Lent, World, Step}
+use Rattle.calls.specs.Steps.{Answer, Lent, World, Transition}
 use Rattle.factor.specs.declared.Factor.{Factor}
 use Rattle.factor.specs.declared.Opening.{Opening}
 use Rattle.factor.specs.declared.Opening.the-variants.{Opened, Refused}
@@ -42,4 +42,4 @@ stateAfter (Refused n) s = s
 -- OPEN, whatever record there was before
 abbrev pub OpenStep : (asked : Limits) (t : Tables) (work : List ℕ) (r : Opening) (t′ : Tables) (work′ : List ℕ) → Type 0
 OpenStep l t w r t′ w′ =
-    (s : State) → Step (record { state = s; tables = t }) (opening l w) (openingAnswer r) (workOnly w′) (record { state = stateAfter r s; tables = t′ })
+    (s : State) → Transition (record { state = s; tables = t }) (opening l w) (openingAnswer r) (workOnly w′) (record { state = stateAfter r s; tables = t′ })

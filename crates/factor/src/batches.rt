@@ -1,7 +1,7 @@
 // Batches of the factor: a checked entry refuses by 1 to 6 and hands on to its unchecked twin, which lends the tables within their sizes to the batch.
 ghost use mathlib.Core.Path.{_≡_};
 ghost use Rattle.calls.specs.Calls.Call.{adding, removing};
-ghost use Rattle.calls.specs.Steps.{Step};
+ghost use Rattle.calls.specs.Steps.{Transition};
 ghost use Rattle.batch.specs.Outcome.{batchLists, BatchStep};
 ghost use Rattle.factor.specs.Entries.{tablesOf, stateOf, worldOf};
 ghost use Rattle.factor.specs.Batches.{CanChange, changedAnswer};
@@ -112,7 +112,7 @@ impl Factor {
         row_counts: &[u32],
         row_list: &[u32],
     ) -> Changed
-        ensures { λ r. ⌜ Step (worldOf self (tablesOf (now (heads .entry)) (now (parents .entry)) (now (rows .entry)) (now (counts .entry)) (now (next .entry)) (now («book_heads» .entry)) (now («book_rows» .entry)) (now («book_next» .entry)))) (adding (now (ids .entry)) (now («row_counts» .entry)) (now («row_list» .entry)) (now (work .entry)) (now (touched .entry)) (now (labels .entry))) (changedAnswer r) (batchLists (now (work .exit)) (now (touched .exit)) (now (labels .exit))) (worldOf (r .factor) (tablesOf (now (heads .entry)) (now (parents .exit)) (now (rows .exit)) (now (counts .exit)) (now (next .exit)) (now («book_heads» .exit)) (now («book_rows» .exit)) (now («book_next» .exit)))) ⌝ }
+        ensures { λ r. ⌜ Transition (worldOf self (tablesOf (now (heads .entry)) (now (parents .entry)) (now (rows .entry)) (now (counts .entry)) (now (next .entry)) (now («book_heads» .entry)) (now («book_rows» .entry)) (now («book_next» .entry)))) (adding (now (ids .entry)) (now («row_counts» .entry)) (now («row_list» .entry)) (now (work .entry)) (now (touched .entry)) (now (labels .entry))) (changedAnswer r) (batchLists (now (work .exit)) (now (touched .exit)) (now (labels .exit))) (worldOf (r .factor) (tablesOf (now (heads .entry)) (now (parents .exit)) (now (rows .exit)) (now (counts .exit)) (now (next .exit)) (now («book_heads» .exit)) (now («book_rows» .exit)) (now («book_next» .exit)))) ⌝ }
     {
         let short = refusals::short_lists(touched, labels, self.m);
         let number = admission::admit(
@@ -207,7 +207,7 @@ impl Factor {
         labels: &mut [u16],
         ids: &[u32],
     ) -> Changed
-        ensures { λ r. ⌜ Step (worldOf self (tablesOf (now (heads .entry)) (now (parents .entry)) (now (rows .entry)) (now (counts .entry)) (now (next .entry)) (now («book_heads» .entry)) (now («book_rows» .entry)) (now («book_next» .entry)))) (removing (now (ids .entry)) (now (work .entry)) (now (touched .entry)) (now (labels .entry))) (changedAnswer r) (batchLists (now (work .exit)) (now (touched .exit)) (now (labels .exit))) (worldOf (r .factor) (tablesOf (now (heads .entry)) (now (parents .exit)) (now (rows .exit)) (now (counts .exit)) (now (next .exit)) (now («book_heads» .exit)) (now («book_rows» .exit)) (now («book_next» .exit)))) ⌝ }
+        ensures { λ r. ⌜ Transition (worldOf self (tablesOf (now (heads .entry)) (now (parents .entry)) (now (rows .entry)) (now (counts .entry)) (now (next .entry)) (now («book_heads» .entry)) (now («book_rows» .entry)) (now («book_next» .entry)))) (removing (now (ids .entry)) (now (work .entry)) (now (touched .entry)) (now (labels .entry))) (changedAnswer r) (batchLists (now (work .exit)) (now (touched .exit)) (now (labels .exit))) (worldOf (r .factor) (tablesOf (now (heads .entry)) (now (parents .exit)) (now (rows .exit)) (now (counts .exit)) (now (next .exit)) (now («book_heads» .exit)) (now («book_rows» .exit)) (now («book_next» .exit)))) ⌝ }
     {
         let short = refusals::short_lists(touched, labels, self.m);
         let number = admission::admit(

@@ -2,7 +2,7 @@
 // and fixes everything lent. A caller that has proved its tables sound uses the unchecked twins of unchecked.rt and batches.rt.
 ghost use Rattle.questions.specs.Asked.{replyOf};
 ghost use Rattle.calls.specs.Calls.Call.{checking, askMultiplicity, askParent, askPath, askColumn};
-ghost use Rattle.calls.specs.Steps.{Step};
+ghost use Rattle.calls.specs.Steps.{Transition};
 ghost use Rattle.factor.specs.Entries.{tablesOf, limitsOf, worldOf, workOnly, workAndList, OpenStep};
 
 mod admission;
@@ -14,6 +14,7 @@ use book::Row;
 use questions::Reply;
 
 // The record of sizes and free heads.
+#[repr(C)]
 pub struct Factor {
     pub m: u32,
     pub n: u32,
@@ -30,6 +31,7 @@ pub enum Opening {
 }
 
 // What a batch answers, with the record after it.
+#[repr(C)]
 pub struct Changed {
     pub number: u32,
     pub position: u32,
@@ -130,7 +132,7 @@ impl Factor {
         book_next: &[u32],
         work: &mut [u32],
     ) -> Reply
-        ensures { λ r. ⌜ Step (worldOf self (tablesOf (now (heads .entry)) (now (parents .entry)) (now (rows .entry)) (now (counts .entry)) (now (next .entry)) (now («book_heads» .entry)) (now («book_rows» .entry)) (now («book_next» .entry)))) (checking (now (work .entry))) (replyOf r) (workOnly (now (work .exit))) (worldOf self (tablesOf (now (heads .entry)) (now (parents .entry)) (now (rows .entry)) (now (counts .entry)) (now (next .entry)) (now («book_heads» .entry)) (now («book_rows» .entry)) (now («book_next» .entry)))) ⌝ }
+        ensures { λ r. ⌜ Transition (worldOf self (tablesOf (now (heads .entry)) (now (parents .entry)) (now (rows .entry)) (now (counts .entry)) (now (next .entry)) (now («book_heads» .entry)) (now («book_rows» .entry)) (now («book_next» .entry)))) (checking (now (work .entry))) (replyOf r) (workOnly (now (work .exit))) (worldOf self (tablesOf (now (heads .entry)) (now (parents .entry)) (now (rows .entry)) (now (counts .entry)) (now (next .entry)) (now («book_heads» .entry)) (now («book_rows» .entry)) (now («book_next» .entry)))) ⌝ }
     {
         let number = admission::admit(
             self,
@@ -163,7 +165,7 @@ impl Factor {
         i: Row,
         j: Row,
     ) -> Reply
-        ensures { λ r. ⌜ Step (worldOf self (tablesOf (now (heads .entry)) (now (parents .entry)) (now (rows .entry)) (now (counts .entry)) (now (next .entry)) (now («book_heads» .entry)) (now («book_rows» .entry)) (now («book_next» .entry)))) (askMultiplicity (i .0) (j .0) (now (work .entry))) (replyOf r) (workOnly (now (work .exit))) (worldOf self (tablesOf (now (heads .entry)) (now (parents .entry)) (now (rows .entry)) (now (counts .entry)) (now (next .entry)) (now («book_heads» .entry)) (now («book_rows» .entry)) (now («book_next» .entry)))) ⌝ }
+        ensures { λ r. ⌜ Transition (worldOf self (tablesOf (now (heads .entry)) (now (parents .entry)) (now (rows .entry)) (now (counts .entry)) (now (next .entry)) (now («book_heads» .entry)) (now («book_rows» .entry)) (now («book_next» .entry)))) (askMultiplicity (i .0) (j .0) (now (work .entry))) (replyOf r) (workOnly (now (work .exit))) (worldOf self (tablesOf (now (heads .entry)) (now (parents .entry)) (now (rows .entry)) (now (counts .entry)) (now (next .entry)) (now («book_heads» .entry)) (now («book_rows» .entry)) (now («book_next» .entry)))) ⌝ }
     {
         let number = admission::admit(
             self,
@@ -209,7 +211,7 @@ impl Factor {
         work: &mut [u32],
         j: Row,
     ) -> Reply
-        ensures { λ r. ⌜ Step (worldOf self (tablesOf (now (heads .entry)) (now (parents .entry)) (now (rows .entry)) (now (counts .entry)) (now (next .entry)) (now («book_heads» .entry)) (now («book_rows» .entry)) (now («book_next» .entry)))) (askParent (j .0) (now (work .entry))) (replyOf r) (workOnly (now (work .exit))) (worldOf self (tablesOf (now (heads .entry)) (now (parents .entry)) (now (rows .entry)) (now (counts .entry)) (now (next .entry)) (now («book_heads» .entry)) (now («book_rows» .entry)) (now («book_next» .entry)))) ⌝ }
+        ensures { λ r. ⌜ Transition (worldOf self (tablesOf (now (heads .entry)) (now (parents .entry)) (now (rows .entry)) (now (counts .entry)) (now (next .entry)) (now («book_heads» .entry)) (now («book_rows» .entry)) (now («book_next» .entry)))) (askParent (j .0) (now (work .entry))) (replyOf r) (workOnly (now (work .exit))) (worldOf self (tablesOf (now (heads .entry)) (now (parents .entry)) (now (rows .entry)) (now (counts .entry)) (now (next .entry)) (now («book_heads» .entry)) (now («book_rows» .entry)) (now («book_next» .entry)))) ⌝ }
     {
         let number = admission::admit(
             self,
@@ -256,7 +258,7 @@ impl Factor {
         j: Row,
         place: usize,
     ) -> Reply
-        ensures { λ r. ⌜ Step (worldOf self (tablesOf (now (heads .entry)) (now (parents .entry)) (now (rows .entry)) (now (counts .entry)) (now (next .entry)) (now («book_heads» .entry)) (now («book_rows» .entry)) (now («book_next» .entry)))) (askPath (j .0) place (now (work .entry)) (now (list .entry))) (replyOf r) (workAndList (now (work .exit)) (now (list .exit))) (worldOf self (tablesOf (now (heads .entry)) (now (parents .entry)) (now (rows .entry)) (now (counts .entry)) (now (next .entry)) (now («book_heads» .entry)) (now («book_rows» .entry)) (now («book_next» .entry)))) ⌝ }
+        ensures { λ r. ⌜ Transition (worldOf self (tablesOf (now (heads .entry)) (now (parents .entry)) (now (rows .entry)) (now (counts .entry)) (now (next .entry)) (now («book_heads» .entry)) (now («book_rows» .entry)) (now («book_next» .entry)))) (askPath (j .0) place (now (work .entry)) (now (list .entry))) (replyOf r) (workAndList (now (work .exit)) (now (list .exit))) (worldOf self (tablesOf (now (heads .entry)) (now (parents .entry)) (now (rows .entry)) (now (counts .entry)) (now (next .entry)) (now («book_heads» .entry)) (now («book_rows» .entry)) (now («book_next» .entry)))) ⌝ }
     {
         let number = admission::admit(
             self,
@@ -305,7 +307,7 @@ impl Factor {
         j: Row,
         place: usize,
     ) -> Reply
-        ensures { λ r. ⌜ Step (worldOf self (tablesOf (now (heads .entry)) (now (parents .entry)) (now (rows .entry)) (now (counts .entry)) (now (next .entry)) (now («book_heads» .entry)) (now («book_rows» .entry)) (now («book_next» .entry)))) (askColumn (j .0) place (now (work .entry)) (now (list .entry))) (replyOf r) (workAndList (now (work .exit)) (now (list .exit))) (worldOf self (tablesOf (now (heads .entry)) (now (parents .entry)) (now (rows .entry)) (now (counts .entry)) (now (next .entry)) (now («book_heads» .entry)) (now («book_rows» .entry)) (now («book_next» .entry)))) ⌝ }
+        ensures { λ r. ⌜ Transition (worldOf self (tablesOf (now (heads .entry)) (now (parents .entry)) (now (rows .entry)) (now (counts .entry)) (now (next .entry)) (now («book_heads» .entry)) (now («book_rows» .entry)) (now («book_next» .entry)))) (askColumn (j .0) place (now (work .entry)) (now (list .entry))) (replyOf r) (workAndList (now (work .exit)) (now (list .exit))) (worldOf self (tablesOf (now (heads .entry)) (now (parents .entry)) (now (rows .entry)) (now (counts .entry)) (now (next .entry)) (now («book_heads» .entry)) (now («book_rows» .entry)) (now («book_next» .entry)))) ⌝ }
     {
         let number = admission::admit(
             self,

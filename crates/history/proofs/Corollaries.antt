@@ -19,21 +19,21 @@ use Rattle.symbolic.specs.Chains.{ChainTo}
 use Rattle.symbolic.proofs.Theorems.{equation-31}
 use Rattle.tables.specs.Tables.{Limits, storedIn}
 use Rattle.tables.specs.Stays.{ColumnStays}
-use Rattle.tables.proofs.Mended.{stays-self}
+use Rattle.tables.proofs.Revised.{stays-self}
 use Rattle.calls.specs.Calls.{isOpening, isBatch}
 use Rattle.calls.specs.Numbers.{callRefusal}
 use Rattle.calls.specs.Steps.{World}
 use Rattle.calls.proofs.Order.{bag-number, bag-touched}
 use Rattle.history.specs.Runs.{Plain}
-use Rattle.history.specs.Statements.{Kept, Justified, Stands}
+use Rattle.history.specs.Statements.{Consistent, Justified, Stands}
 use Rattle.history.specs.Corollaries.{Keeps, KeepsPattern, AltersOnly, fromChild, startsHere, isUnion, PatternsAre}
-use Rattle.history.proofs.Invariant.{booked, Inv, book-once, inv-rows, inv-kept}
+use Rattle.history.proofs.Invariant.{booked, Inv, book-once, inv-rows, inv-consistent}
 use Rattle.history.proofs.Steps.{inv-justified, inv-run}
 use Rattle.history.proofs.Theorems.{begun-inv}
 
 keeps-of : {p : Plain} {v : World} → Inv p v → Keeps p v
 keeps-of {p} {v} i =
-    let k : Kept p v = inv-kept i in
+    let k : Consistent p v = inv-consistent i in
     record {
       sound = i .sound;
       columns = k .columns;

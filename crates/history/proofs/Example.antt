@@ -1,5 +1,5 @@
 -- The listed example, step by step, on tables with one place more than the sizes ask: the world after the opening and after each accepted batch, what a
--- batch owes, and the steps, all by computing. Which free records are taken is this example's choice.
+-- batch leaves, and the transitions, all by computing. Which free records are taken is this example's choice.
 -- Assumes nothing.
 use mathlib.Core.Path.{refl}
 use mathlib.Core.List.{List, [], _∷_, _++_}
@@ -17,7 +17,7 @@ use Rattle.tables.specs.Stored.{holdsFrom}
 use Rattle.calls.specs.Refusals.{batchOf, rowsRefusal, columnsRefusal, idsRefusal}
 use Rattle.calls.specs.Calls.{Call, removing, checking, askPath}
 use Rattle.calls.specs.Report.{pairsOf}
-use Rattle.calls.specs.Steps.{Answer, World, Amended, Step}
+use Rattle.calls.specs.Steps.{Answer, World, Amended, Transition}
 use Rattle.calls.proofs.Amends.{amends-passed}
 use Rattle.history.specs.Runs.{Event, Run, Begun, Plain}
 use Rattle.history.specs.Example.{askedSizes, workLent, listLent, add, answered, eventCalls, eventAnswers, eventTouched, eventLabels, eventLists, shownFrom}
@@ -85,23 +85,23 @@ world5 =
     (1 ∷ 0 ∷ 5 ∷ 0 ∷ 0 ∷ 0 ∷ 0 ∷ 0 ∷ []) (1 ∷ 3 ∷ 0 ∷ 0 ∷ 2 ∷ 3 ∷ 0 ∷ 0 ∷ 0 ∷ 0 ∷ 0 ∷ 0 ∷ 0 ∷ 0 ∷ 0 ∷ 0 ∷ [])
     (2 ∷ 0 ∷ 4 ∷ 7 ∷ 6 ∷ 0 ∷ 8 ∷ 9 ∷ 10 ∷ 11 ∷ 12 ∷ 13 ∷ 14 ∷ 15 ∷ 16 ∷ 0 ∷ [])
 
--- ---- what each accepted batch owes
+-- ---- what each accepted batch leaves
 
-first-owed : Amended world1 (add 1 (1 ∷ 3 ∷ [])) world2
+first-amended : Amended world1 (add 1 (1 ∷ 3 ∷ [])) world2
 unfolding all any among noRepeats allZero same valuesAt rises upFrom startingWith childrenWith countsFrom firstAbove buildFrom patternFrom nonZero pathFrom touchedFrom chainFrom lastOf chains columnsFrom holdsFrom batchOf
-first-owed = amends-passed world1 (add 1 (1 ∷ 3 ∷ [])) world2 refl refl refl
+first-amended = amends-passed world1 (add 1 (1 ∷ 3 ∷ [])) world2 refl refl refl
 
-second-owed : Amended world2 (add 2 (1 ∷ 4 ∷ [])) world3
+second-amended : Amended world2 (add 2 (1 ∷ 4 ∷ [])) world3
 unfolding all any among noRepeats allZero same valuesAt rises upFrom startingWith childrenWith countsFrom firstAbove buildFrom patternFrom nonZero pathFrom touchedFrom chainFrom lastOf chains columnsFrom holdsFrom batchOf
-second-owed = amends-passed world2 (add 2 (1 ∷ 4 ∷ [])) world3 refl refl refl
+second-amended = amends-passed world2 (add 2 (1 ∷ 4 ∷ [])) world3 refl refl refl
 
-third-owed : Amended world3 (add 3 (2 ∷ 3 ∷ [])) world4
+third-amended : Amended world3 (add 3 (2 ∷ 3 ∷ [])) world4
 unfolding all any among noRepeats allZero same valuesAt rises upFrom startingWith childrenWith countsFrom firstAbove buildFrom patternFrom nonZero pathFrom touchedFrom chainFrom lastOf chains columnsFrom holdsFrom batchOf
-third-owed = amends-passed world3 (add 3 (2 ∷ 3 ∷ [])) world4 refl refl refl
+third-amended = amends-passed world3 (add 3 (2 ∷ 3 ∷ [])) world4 refl refl refl
 
-removal-owed : Amended world4 (removing (2 ∷ []) workLent listLent listLent) world5
+removal-amended : Amended world4 (removing (2 ∷ []) workLent listLent listLent) world5
 unfolding all any among noRepeats allZero same valuesAt rises upFrom startingWith childrenWith countsFrom firstAbove buildFrom patternFrom nonZero pathFrom touchedFrom chainFrom lastOf chains columnsFrom holdsFrom without columnOf columnsOf
-removal-owed = amends-passed world4 (removing (2 ∷ []) workLent listLent listLent) world5 refl refl refl
+removal-amended = amends-passed world4 (removing (2 ∷ []) workLent listLent listLent) world5 refl refl refl
 
 -- ---- the run
 
@@ -156,33 +156,33 @@ opened-begun =
       plain = refl;
     }
 
-first-step : Step world1 (first .call) (first .answer) (first .left) world2
+first-step : Transition world1 (first .call) (first .answer) (first .left) world2
 unfolding all any among noRepeats allZero same sumOf valuesAt rises upFrom startingWith childrenWith countsFrom firstAbove buildFrom patternFrom nonZero pathFrom sizeSum touchedFrom labelFrom labelsOf entriesOf idsOf chainFrom lastOf chains columnsFrom holdsFrom batchOf rowsRefusal columnsRefusal
-first-step = (refl, refl, first-owed)
+first-step = (refl, refl, first-amended)
 
-again-step : Step world2 (again .call) (again .answer) (again .left) world2
+again-step : Transition world2 (again .call) (again .answer) (again .left) world2
 unfolding all any among noRepeats allZero same sumOf valuesAt rises upFrom startingWith childrenWith countsFrom firstAbove buildFrom patternFrom nonZero pathFrom sizeSum touchedFrom labelFrom labelsOf entriesOf idsOf chainFrom lastOf chains columnsFrom holdsFrom batchOf rowsRefusal columnsRefusal
 again-step = (refl, refl, refl)
 
-second-step : Step world2 (second .call) (second .answer) (second .left) world3
+second-step : Transition world2 (second .call) (second .answer) (second .left) world3
 unfolding all any among noRepeats allZero same sumOf valuesAt rises upFrom startingWith childrenWith countsFrom firstAbove buildFrom patternFrom nonZero pathFrom sizeSum touchedFrom labelFrom labelsOf entriesOf idsOf chainFrom lastOf chains columnsFrom holdsFrom batchOf rowsRefusal columnsRefusal
-second-step = (refl, refl, second-owed)
+second-step = (refl, refl, second-amended)
 
-third-step : Step world3 (third .call) (third .answer) (third .left) world4
+third-step : Transition world3 (third .call) (third .answer) (third .left) world4
 unfolding all any among noRepeats allZero same sumOf valuesAt rises upFrom startingWith childrenWith countsFrom firstAbove buildFrom patternFrom nonZero pathFrom sizeSum touchedFrom labelFrom labelsOf entriesOf idsOf chainFrom lastOf chains columnsFrom holdsFrom batchOf rowsRefusal columnsRefusal
-third-step = (refl, refl, third-owed)
+third-step = (refl, refl, third-amended)
 
-checked-step : Step world4 (checked .call) (checked .answer) (checked .left) world4
+checked-step : Transition world4 (checked .call) (checked .answer) (checked .left) world4
 unfolding all any among noRepeats allZero same sumOf valuesAt rises upFrom startingWith childrenWith countsFrom firstAbove buildFrom patternFrom nonZero pathFrom sizeSum touchedFrom labelFrom labelsOf entriesOf idsOf chainFrom lastOf chains columnsFrom holdsFrom batchOf rowsRefusal columnsRefusal
 checked-step = (refl, refl, refl)
 
-path-step : Step world4 (path .call) (path .answer) (path .left) world4
+path-step : Transition world4 (path .call) (path .answer) (path .left) world4
 unfolding all any among noRepeats allZero same sumOf valuesAt rises upFrom startingWith childrenWith countsFrom firstAbove buildFrom patternFrom nonZero pathFrom sizeSum touchedFrom labelFrom labelsOf entriesOf idsOf chainFrom lastOf chains columnsFrom holdsFrom batchOf rowsRefusal columnsRefusal
 path-step = (refl, refl, refl)
 
-removal-step : Step world4 (removal .call) (removal .answer) (removal .left) world5
+removal-step : Transition world4 (removal .call) (removal .answer) (removal .left) world5
 unfolding all any among noRepeats allZero same sumOf valuesAt rises upFrom startingWith childrenWith countsFrom firstAbove buildFrom patternFrom nonZero pathFrom sizeSum touchedFrom labelFrom labelsOf entriesOf idsOf chainFrom lastOf chains columnsFrom holdsFrom batchOf rowsRefusal columnsRefusal idsRefusal without columnOf columnsOf
-removal-step = (refl, refl, removal-owed)
+removal-step = (refl, refl, removal-amended)
 
 pub concrete-run : ConcreteRun
 unfolding Run eventCalls eventAnswers eventTouched eventLabels eventLists shownFrom chainFrom valuesAt pairsOf opened-begun

@@ -1,5 +1,5 @@
 -- What record, tables and plain register have in common between calls (`Inv`): sizes in range, tables long enough and sound, and the same columns up to
--- order, ids once. It gives `Kept` (`inv-kept`); an accepted opening sets it up (`inv-opened`), and Steps.antt shows that every call keeps it.
+-- order, ids once. It gives `Consistent` (`inv-consistent`); an accepted opening sets it up (`inv-opened`), and Steps.antt shows that every call keeps it.
 -- Assumes nothing.
 use mathlib.Core.Path.{_≡_, refl, sym, ap, _∙_, subst}
 use mathlib.Core.Bool.{true}
@@ -25,7 +25,7 @@ use Rattle.calls.proofs.Refusals.{InRange, sizes-facts}
 use Rattle.calls.proofs.Numbers.{Ready}
 use Rattle.calls.proofs.Order.{bag-factor}
 use Rattle.history.specs.Runs.{Plain}
-use Rattle.history.specs.Statements.{Kept}
+use Rattle.history.specs.Statements.{Consistent}
 
 -- the columns that a world's book holds
 abbrev pub booked : World → Register
@@ -65,8 +65,8 @@ module _ {p : Plain} {u : World} (i : Inv p u) where
       subst (λ (l : Limits). all (columnFits (l .m)) (p .register .columns) ≡ true) (i .limits)
       (bag-all (columnFits (u .state .limits .m)) (booked u .columns) (p .register .columns) (i .bag) (sound-fits (u .state) (u .tables) (i .sound)))
 
-  pub inv-kept : Kept p u
-  inv-kept =
+  pub inv-consistent : Consistent p u
+  inv-consistent =
       let m : ℕ = p .limits .m in
       let s : Stored = storedIn (u .state) (u .tables) in
       let h : holdsFrom s (factorOf m (live (p .register))) 1 m ≡ true =

@@ -16,7 +16,7 @@ use Rattle.tables.proofs.Tables.{tails-long}
 use Rattle.calls.specs.Refusals.{Refusal, isAccepted, orElse}
 use Rattle.calls.specs.Calls.{Call, opening, adding, removing, checking, askMultiplicity, askParent, askPath, askColumn, registerAfter, limitsAfter, isOpening}
 use Rattle.calls.specs.Numbers.{earlyRefusal, callRefusal, refusalOf}
-use Rattle.calls.specs.Steps.{Answer, refusedBy, lentTo, listsAfter, workAfter, withWork, World, Amended, AcceptedWorld, Step}
+use Rattle.calls.specs.Steps.{Answer, refusedBy, lentTo, listsAfter, workAfter, withWork, World, Amended, AcceptedWorld, Transition}
 use Rattle.calls.proofs.Choices.{or-both, or-first, or-second}
 use Rattle.calls.proofs.Numbers.{early-facts, early-number, early-low, call-number, sound-number}
 use Rattle.calls.proofs.Order.{bag-after, bag-number, bag-touched, bag-answer, bag-lists, once-after}
@@ -110,7 +110,7 @@ module _ {p : Plain} {u : World} (i : Inv p u) where
         }
 
   -- ONE CALL
-  pub inv-justified : (e : Event) (v : World) → Step u (e .call) (e .answer) (e .left) v → Justified p u e v
+  pub inv-justified : (e : Event) (v : World) → Transition u (e .call) (e .answer) (e .left) v → Justified p u e v
   inv-justified e v s = elim (step-cases u (e .call) (e .answer) (e .left) v s) [ inl t ↦ accepted-justified t | inr t ↦ refused-justified t ]
 
   -- ---- the invariant after it
@@ -148,7 +148,7 @@ module _ {p : Plain} {u : World} (i : Inv p u) where
     inv-taken (askPath y q w xs) h s = subst (λ (x : World). Inv p x) (sym s) i
     inv-taken (askColumn y q w xs) h s = subst (λ (x : World). Inv p x) (sym s) i
 
-  pub inv-step : (e : Event) (v : World) → Step u (e .call) (e .answer) (e .left) v → Inv (plainNext p e) v
+  pub inv-step : (e : Event) (v : World) → Transition u (e .call) (e .answer) (e .left) v → Inv (plainNext p e) v
   inv-step e v s =
       elim (step-cases u (e .call) (e .answer) (e .left) v s) [
         | inl t ↦ subst (λ (z : Bool). Inv (pick z (taken p (e .call)) p) v) (sym (eq-eqb (e .answer .number) 0 (taken-zero t)))

@@ -8,18 +8,18 @@ use Rattle.tables.specs.Tables.{Limits}
 use Rattle.calls.specs.Refusals.{accepted}
 use Rattle.calls.specs.Calls.{opening}
 use Rattle.calls.specs.Numbers.{earlyRefusal}
-use Rattle.calls.specs.Steps.{Answer, Lent, World, Step}
+use Rattle.calls.specs.Steps.{Answer, Lent, World, Transition}
 use Rattle.calls.proofs.Choices.{or-both}
 use Rattle.calls.proofs.Numbers.{Ready, early-facts, Found, accepted-found}
 use Rattle.calls.proofs.Steps.{Accepted, step-taken, batch-apart}
 use Rattle.history.specs.Runs.{Run, Plain, plainAfter, Begun}
 use Rattle.history.specs.Statements.{Demand3, RunSplits, plainOf, AnySound, OpeningSound}
-use Rattle.history.proofs.Invariant.{Inv, book-once, inv-kept, openedPlain, openedWorld, inv-opened}
+use Rattle.history.proofs.Invariant.{Inv, book-once, inv-consistent, openedPlain, openedWorld, inv-opened}
 use Rattle.history.proofs.Steps.{inv-justified, inv-step, inv-run}
 
 -- ---- an accepted opening
 
-module _ (u : World) (l : Limits) (w : List ℕ) (a : Answer) (x : Lent) (v : World) (s : Step u (opening l w) a x v) (n : a .number ≡ 0) where
+module _ (u : World) (l : Limits) (w : List ℕ) (a : Answer) (x : Lent) (v : World) (s : Transition u (opening l w) a x v) (n : a .number ≡ 0) where
   opened-inv : Inv (openedPlain l) v
   opened-inv =
       let t : Accepted u (opening l w) a x v = step-taken u (opening l w) a x v s n in
@@ -38,7 +38,7 @@ begun-inv u p b = subst (λ (q : Plain). Inv q u) (sym (b .plain)) (opened-inv (
 
 pub demand3 : Demand3
 demand3 u p es v b r = (
-  inv-kept (inv-run es v (begun-inv u p b) r),
+  inv-consistent (inv-run es v (begun-inv u p b) r),
   λ before after e x y q s t z. inv-justified (inv-run before x (begun-inv u p b) s) e y t,
 )
 
@@ -46,7 +46,7 @@ pub run-splits : RunSplits
 unfolding Run
 run-splits u v [] after e r = (u, r .0, (refl, r .1 .0, r .1 .1))
 run-splits u v (d ∷ before) after e r =
-    let t : (x : World) × (y : World) × (Run (r .0) before x × Step x (e .call) (e .answer) (e .left) y × Run y after v) =
+    let t : (x : World) × (y : World) × (Run (r .0) before x × Transition x (e .call) (e .answer) (e .left) y × Run y after v) =
     run-splits (r .0) v before after e (r .1 .1) in
     (t .0, t .1, ((r .0, (r .1 .0, t .2 .0)), t .2 .1, t .2 .2))
 
@@ -59,4 +59,4 @@ any-sound u e v s n b =
     let f : Found (u .state) (u .tables) = accepted-found (u .state) (u .tables) (e .call) (batch-apart (e .call) b) (t .number) in
     let i : Inv (plainOf u) u =
     record { in-range = f .in-range; limits = refl; rows = refl; long = f .long; sound = f .sound; bag = λ f. refl; once = book-once u } in
-    (inv-kept i, inv-justified i e v s, inv-kept (inv-step i e v s))
+    (inv-consistent i, inv-justified i e v s, inv-consistent (inv-step i e v s))

@@ -17,7 +17,7 @@ use Rattle.tables.specs.Stays.{ColumnStays}
 use Rattle.calls.specs.Calls.{Call, isOpening, isBatch}
 use Rattle.calls.specs.Report.{touchedBy}
 use Rattle.calls.specs.Numbers.{callRefusal}
-use Rattle.calls.specs.Steps.{World, Step}
+use Rattle.calls.specs.Steps.{World, Transition}
 use Rattle.history.specs.Runs.{Event, Run, Plain, plainAfter, Begun}
 use Rattle.history.specs.Statements.{Stands}
 
@@ -35,7 +35,7 @@ KeepsPattern = (u : World) (p : Plain) (es : List Event) (v : World) → Begun u
 abbrev pub AltersOnly : Type 0
 AltersOnly =
     (u : World) (p : Plain) (es : List Event) (v : World) (e : Event) (w : World) (j : ℕ) → Begun u p → Run u es v →
-    Step v (e .call) (e .answer) (e .left) w → isOpening (e .call) ≡ false → 1 ≤ j → j ≤ v .state .limits .m →
+    Transition v (e .call) (e .answer) (e .left) w → isOpening (e .call) ≡ false → 1 ≤ j → j ≤ v .state .limits .m →
     (e .answer .number ≡ 0 → isBatch (e .call) ≡ true → among j (touchedBy (registerOf (v .state) (v .tables)) (e .call)) ≡ false →
     ColumnStays (storedIn (v .state) (v .tables)) (storedIn (w .state) (w .tables)) j) ×
     ((e .answer .number ≢ 0) ⊎ (isBatch (e .call) ≡ false) → ColumnStays (storedIn (v .state) (v .tables)) (storedIn (w .state) (w .tables)) j)

@@ -9,7 +9,7 @@ use Rattle.lists.specs.Lists.{pick}
 use Rattle.symbolic.specs.Columns.{Register}
 use Rattle.tables.specs.Tables.{Limits}
 use Rattle.calls.specs.Calls.{Call, opening, registerAfter, limitsAfter, withDefault}
-use Rattle.calls.specs.Steps.{Answer, Lent, World, Step}
+use Rattle.calls.specs.Steps.{Answer, Lent, World, Transition}
 
 -- a call with everything lent to it, the numbers it answered and the lists it left
 pub record Event : Type 0 where
@@ -20,7 +20,7 @@ pub record Event : Type 0 where
 -- "Each call gets the tables, and all but an opening get the record, as the calls before it left them. .. Nobody else writes these meanwhile."
 unfoldable pub Run : World → List Event → World → Type 0
 Run u [] v = v ≡ u
-Run u (e ∷ es) v = (x : World) × (Step u (e .call) (e .answer) (e .left) x × Run x es v)
+Run u (e ∷ es) v = (x : World) × (Transition u (e .call) (e .answer) (e .left) x × Run x es v)
 
 -- the plain register with the limits: "It sees each call's arguments and number, never the tables."
 pub record Plain : Type 0 where
@@ -43,6 +43,6 @@ pub record Begun (u : World) (p : Plain) : Type 0 where
   pub work : List ℕ
   pub answer : Answer
   pub left : Lent
-  pub step : Step before (opening asked work) answer left u
+  pub step : Transition before (opening asked work) answer left u
   pub taken : answer .number ≡ 0
   pub plain : p ≡ record { limits = withDefault asked; register = record { m = asked .m; columns = [] } }

@@ -1,4 +1,4 @@
--- The theorems about calls, each a type with the sentence that it renders: what holds of record and tables (`Kept`), what holds of one call
+-- The theorems about calls, each a type with the sentence that it renders: what holds of record and tables (`Consistent`), what holds of one call
 -- (`Justified`), demand 3, and what stands beside it. proofs/Theorems.antt has a term of each, proofs/Example.antt the one of `ConcreteRun`.
 -- Assumes nothing: these are definitions.
 use mathlib.Core.Path.{_≡_}
@@ -19,7 +19,7 @@ use Rattle.calls.specs.Refusals.{Refusal, accepted, isAccepted, orElse, bounds,
 use Rattle.calls.specs.Calls.{Call, opening, isOpening, isBatch, idsBy}
 use Rattle.calls.specs.Report.{touchedBy}
 use Rattle.calls.specs.Numbers.{earlyRefusal, callRefusal}
-use Rattle.calls.specs.Steps.{Answer, refusedBy, acceptedBy, Lent, lentTo, listsAfter, workAfter, withWork, World, Step}
+use Rattle.calls.specs.Steps.{Answer, refusedBy, acceptedBy, Lent, lentTo, listsAfter, workAfter, withWork, World, Transition}
 use Rattle.history.specs.Runs.{Event, Run, Plain, plainAfter, Begun}
 use Rattle.history.specs.Example.{askedSizes, listedCalls, listedAnswers, listedTouched, listedLabels, laterCalls, laterAnswers, laterTouched, laterLists, eventCalls, eventAnswers, eventTouched, eventLabels, eventLists, shown, listing, laterListing}
 
@@ -30,21 +30,21 @@ abbrev pub Stands : World → (i j : ℕ) → Type 0
 Stands v i j =
     Mem i (valuesAt (storedIn (v .state) (v .tables) .rows) (recordsOf (storedIn (v .state) (v .tables)) j))
 
-pub record Kept (p : Plain) (v : World) : Type 0 where
+pub record Consistent (p : Plain) (v : World) : Type 0 where
   -- the sizes are in range, the record has them, and the tables are long enough for them
   pub in-range : sizesRefusal bounds (p .limits) ≡ accepted
   pub limits : v .state .limits ≡ p .limits
   pub rows : p .register .m ≡ p .limits .m
   pub long : longEnough (p .limits) (v .tables) ≡ true
-  -- "tables sound"
+  -- demand 3: tables sound
   pub sound : isSound (v .state) (v .tables) ≡ true
-  -- "book = the plain register": the same columns, both ways, each id once
+  -- demand 3: book = the plain register: the same columns, both ways, each id once
   pub columns : (c : Column) → Mem c (registerOf (v .state) (v .tables) .columns) ↔ Mem c (p .register .columns)
   pub book-once : noRepeats (idsOf (registerOf (v .state) (v .tables) .columns)) ≡ true
   pub register-once : noRepeats (idsOf (p .register .columns)) ≡ true
-  -- "numbers justified": multiplicities and parents in the tables are the definition's for the register
+  -- demand 3: numbers justified: multiplicities and parents in the tables are the definition's for the register
   pub numbers : holdsFrom (storedIn (v .state) (v .tables)) (factorFor (p .register)) 1 (p .limits .m) ≡ true
-  -- "row i in column j exactly if a chain of rows leads there"
+  -- demand 3: row i in column j exactly if a chain of rows leads there
   pub chains : (i j : ℕ) → 1 ≤ j → j < i → i ≤ p .limits .m → Stands v i j ↔ ChainTo (p .limits .m) (live (p .register)) i j
 
 -- ---- what holds of one call against the plain register before it
@@ -67,7 +67,7 @@ pub record Justified (p : Plain) (u : World) (e : Event) (v : World) : Type 0 wh
       (withWork (lentTo (e .call)) (workAfter (p .limits) (u .tables) (e .call)))
   -- a refused call, a check or a question leaves record and tables
   pub unchanged : (e .answer .number ≢ 0) ⊎ ((isBatch (e .call) || isOpening (e .call)) ≡ false) → v ≡ u
-  -- "each accepted batch alters no column off its paths"
+  -- demand 3: each accepted batch alters no column off its paths
   pub others : e .answer .number ≡ 0 → isBatch (e .call) ≡ true → (j : ℕ) → 1 ≤ j → j ≤ p .limits .m →
       among j (touchedBy (p .register) (e .call)) ≡ false → ColumnStays (storedIn (u .state) (u .tables)) (storedIn (v .state) (v .tables)) j
   -- "An entry that stands in a column before and after a batch keeps its record"
@@ -83,15 +83,15 @@ pub record Justified (p : Plain) (u : World) (e : Event) (v : World) : Type 0 wh
 abbrev pub Demand3 : Type 0
 Demand3 =
     (u : World) (p : Plain) (es : List Event) (v : World) → Begun u p → Run u es v →
-    Kept (plainAfter p es) v ×
+    Consistent (plainAfter p es) v ×
     ((before after : List Event) (e : Event) (x y : World) → es ≡ before ++ (e ∷ after) → Run u before x →
-    Step x (e .call) (e .answer) (e .left) y → Run y after v → Justified (plainAfter p before) x e y)
+    Transition x (e .call) (e .answer) (e .left) y → Run y after v → Justified (plainAfter p before) x e y)
 
 -- every split of a run has worlds around the call, so the second half speaks of every call
 abbrev pub RunSplits : Type 0
 RunSplits =
     (u v : World) (before after : List Event) (e : Event) → Run u (before ++ (e ∷ after)) v →
-    (x : World) × (y : World) × (Run u before x × Step x (e .call) (e .answer) (e .left) y × Run y after v)
+    (x : World) × (y : World) × (Run u before x × Transition x (e .call) (e .answer) (e .left) y × Run y after v)
 
 -- ---- beside it
 
@@ -103,13 +103,13 @@ plainOf u = record { limits = u .state .limits; register = registerOf (u .state)
 -- accepted batch has passed 1 to 6, so that its tables are in range, long enough and sound is a conclusion here
 abbrev pub AnySound : Type 0
 AnySound =
-    (u : World) (e : Event) (v : World) → Step u (e .call) (e .answer) (e .left) v → e .answer .number ≡ 0 → isBatch (e .call) ≡ true →
-    Kept (plainOf u) u × Justified (plainOf u) u e v × Kept (plainAfter (plainOf u) (e ∷ [])) v
+    (u : World) (e : Event) (v : World) → Transition u (e .call) (e .answer) (e .left) v → e .answer .number ≡ 0 → isBatch (e .call) ≡ true →
+    Consistent (plainOf u) u × Justified (plainOf u) u e v × Consistent (plainAfter (plainOf u) (e ∷ [])) v
 
 -- every accepted opening leaves sound tables
 abbrev pub OpeningSound : Type 0
 OpeningSound =
-    (u : World) (l : Limits) (w : List ℕ) (a : Answer) (x : Lent) (v : World) → Step u (opening l w) a x v → a .number ≡ 0 →
+    (u : World) (l : Limits) (w : List ℕ) (a : Answer) (x : Lent) (v : World) → Transition u (opening l w) a x v → a .number ≡ 0 →
     isSound (v .state) (v .tables) ≡ true
 
 -- ---- a run that is, so that nothing above is empty: the listed example, with a refused addition among the others, then a check,

@@ -13,6 +13,7 @@ use book::Row;
 use pool::Rec;
 
 // What a question answers: its number, 0 when accepted, and its value, 0 when refused.
+#[repr(C)]
 pub struct Reply {
     pub number: u32,
     pub value: u32,

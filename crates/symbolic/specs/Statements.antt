@@ -94,7 +94,7 @@ RemovalSplits =
 abbrev pub MultiplicityBound : Type 0
 MultiplicityBound = (m : ℕ) (cs : List Column) (i j : ℕ) → 1 ≤ i → i ≤ m → 1 ≤ j → j ≤ m → multiplicity (factorOf m cs) i j ≤ length cs + j
 
--- ---- 6. "row i in column j exactly if a chain of rows leads there"; the pattern is closed, and the least that is
+-- ---- 6. row i in column j exactly if a chain of rows leads there (demand 3); the pattern is closed, and the least that is
 
 abbrev pub ChainRule : Type 0
 ChainRule =

@@ -2,5 +2,5 @@ pub mod Stored
 pub mod Tables
 pub mod Opening
 pub mod Stays
-pub mod Mended
+pub mod Revised
 pub mod Reading

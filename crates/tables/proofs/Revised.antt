@@ -1,6 +1,6 @@
--- Tables mended column by column: what stays is reflexive and composes (`stays-self`, `stays-joins`, `beyond-joins`, `tails-join`), a column that stays
--- holds what it held (`stays-holds`), and columns mended where a batch touches them, with the rest as they were, are the factor after it
--- (`mended-holds`, `mended-sound`). Assumes nothing.
+-- Tables revised column by column: what stays is reflexive and composes (`stays-self`, `stays-joins`, `beyond-joins`, `tails-join`), a column that stays
+-- holds what it held (`stays-holds`), and columns revised where a batch touches them, with the rest as they were, are the factor after it
+-- (`revised-holds`, `revised-sound`). Assumes nothing.
 use mathlib.Core.Path.{_≡_, refl, sym, ap, _∙_, subst}
 use mathlib.Core.Logic.{inl, inr}
 use mathlib.Core.Bool.{Bool, true, false}
@@ -82,27 +82,27 @@ stays-holds {a} {b} {j} {f} s h =
       parent = s .parent ∙ h .parent;
     }
 
--- ---- all columns, where T says which were mended
+-- ---- all columns, where T says which were revised
 
 module _ (a b : Stored) (fs gs : List FactorColumn) (m : ℕ) (T : ℕ → Bool) (old : holdsFrom a fs 1 m ≡ true)
-    (mended : (j : ℕ) → 1 ≤ j → j ≤ m → T j ≡ true → Holds b j (columnAt gs j)) (rest : (j : ℕ) → 1 ≤ j → j ≤ m → T j ≡ false → ColumnStays a b j)
+    (revised : (j : ℕ) → 1 ≤ j → j ≤ m → T j ≡ true → Holds b j (columnAt gs j)) (rest : (j : ℕ) → 1 ≤ j → j ≤ m → T j ≡ false → ColumnStays a b j)
     (same : (j : ℕ) → 1 ≤ j → j ≤ m → T j ≡ false → columnAt gs j ≡ columnAt fs j) where
-  pub mended-column : (j : ℕ) → 1 ≤ j → j ≤ m → Holds b j (columnAt gs j)
-  mended-column j p q =
+  pub revised-column : (j : ℕ) → 1 ≤ j → j ≤ m → Holds b j (columnAt gs j)
+  revised-column j p q =
       elim (cases (T j)) [
-        | inl e ↦ mended j p q e
+        | inl e ↦ revised j p q e
         | inr e ↦ subst (λ (f : FactorColumn). Holds b j f) (sym (same j p q e))
             (stays-holds (rest j p q e) (column-holds a j (columnAt fs j) (holds-at a fs 1 m old j p (omega arith))))
       ]
 
-  pub mended-holds : holdsFrom b gs 1 m ≡ true
-  mended-holds = holds-make b gs 1 m (λ j p q. holds-column b j (columnAt gs j) (mended-column j p (omega arith)))
+  pub revised-holds : holdsFrom b gs 1 m ≡ true
+  revised-holds = holds-make b gs 1 m (λ j p q. holds-column b j (columnAt gs j) (revised-column j p (omega arith)))
 
 -- and so sound, with a whole pool and free records zero
-pub mended-sound : (cs : List Column) (b : Stored) (m : ℕ) → length (b .heads) ≡ m → Pool (b .next) (b .heads) (b .free) →
+pub revised-sound : (cs : List Column) (b : Stored) (m : ℕ) → length (b .heads) ≡ m → Pool (b .next) (b .heads) (b .free) →
     allZero (valuesAt (b .rows) (chain (b .next) (b .free))) ≡ true → allZero (valuesAt (b .counts) (chain (b .next) (b .free))) ≡ true →
     ((j : ℕ) → 1 ≤ j → j ≤ m → Holds b j (columnAt (factorOf m cs) j)) → isSoundFor cs b ≡ true
-mended-sound cs b m e w x y h =
+revised-sound cs b m e w x y h =
     facts-sound cs b (record {
       pool = w;
       zero-rows = x;
