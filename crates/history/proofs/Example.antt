@@ -15,12 +15,14 @@ use Rattle.pool.specs.Whole.{chains}
 use Rattle.book.specs.Book.{columnsFrom}
 use Rattle.tables.specs.Stored.{holdsFrom}
 use Rattle.calls.specs.Refusals.{batchOf, rowsRefusal, columnsRefusal, idsRefusal}
-use Rattle.calls.specs.Calls.{Call, removing, checking, askPath}
+use Rattle.calls.specs.Calls.{Call, opening, removing, checking, askMultiplicity, askParent, askPath, askColumn}
 use Rattle.calls.specs.Report.{pairsOf}
 use Rattle.calls.specs.Steps.{Answer, World, Amended, Transition}
 use Rattle.calls.proofs.Amends.{amends-passed}
 use Rattle.history.specs.Runs.{Event, Run, Begun, Plain}
-use Rattle.history.specs.Example.{askedSizes, workLent, listLent, add, answered, eventCalls, eventAnswers, eventTouched, eventLabels, eventLists, shownFrom}
+use Rattle.tables.specs.Tables.{Limits}
+use Rattle.tables.specs.Opening.{openedState, openedTables}
+use Rattle.history.specs.Example.{askedSizes, workLent, listLent, add, answered, valued, workLeft, eventCalls, eventAnswers, eventTouched, eventLabels, eventWork, eventLists, shownFrom}
 use Rattle.history.specs.Statements.{ConcreteRun}
 
 -- ---- the worlds
@@ -105,12 +107,8 @@ removal-amended = amends-passed world4 (removing (2 ∷ []) workLent listLent li
 
 -- ---- the run
 
--- the first W places zero, the last as lent
-abbrev workLeft : List ℕ
-workLeft = replicate 1124 0 ++ (7 ∷ [])
-
 abbrev event : Call → Answer → (touched labels : List ℕ) → Event
-event k a ts ls = record { call = k; answer = a; left = record { work = workLeft; touched = ts; labels = ls; list = [] } }
+event k a ts ls = record { call = k; answer = a; left = record { work = workLeft 1124; touched = ts; labels = ls; list = [] } }
 
 abbrev first : Event
 first = event (add 1 (1 ∷ 3 ∷ [])) (answered 0 0 2 3 1) (1 ∷ 3 ∷ 9 ∷ 9 ∷ 9 ∷ 9 ∷ []) (1 ∷ 1 ∷ 9 ∷ 9 ∷ 9 ∷ 9 ∷ [])
@@ -125,19 +123,49 @@ abbrev third : Event
 third = event (add 3 (2 ∷ 3 ∷ [])) (answered 0 0 3 5 1) (2 ∷ 3 ∷ 4 ∷ 9 ∷ 9 ∷ 9 ∷ []) (1 ∷ 1 ∷ 1 ∷ 9 ∷ 9 ∷ 9 ∷ [])
 
 abbrev checked : Event
-checked = record { call = checking workLent; answer = answered 0 0 0 0 0; left = record { work = workLeft; touched = []; labels = []; list = [] } }
+checked = record { call = checking workLent; answer = answered 0 0 0 0 0; left = record { work = workLeft 1124; touched = []; labels = []; list = [] } }
+
+abbrev question : Call → (value : ℕ) → (list : List ℕ) → Event
+question k v xs = record { call = k; answer = valued v; left = record { work = workLeft 1124; touched = []; labels = []; list = xs } }
 
 abbrev path : Event
-path =
-    record {
-      call = askPath 1 1 workLent listLent;
-      answer = record { number = 0; position = 0; touched = 0; entries = 0; grade = 0; value = 3 };
-      left = record { work = workLeft; touched = []; labels = []; list = 9 ∷ 1 ∷ 3 ∷ 4 ∷ 9 ∷ 9 ∷ [] };
-    }
+path = question (askPath 1 1 workLent listLent) 3 (9 ∷ 1 ∷ 3 ∷ 4 ∷ 9 ∷ 9 ∷ [])
+
+abbrev column : Event
+column = question (askColumn 1 0 workLent listLent) 3 (1 ∷ 3 ∷ 3 ∷ 1 ∷ 4 ∷ 1 ∷ [])
+
+abbrev multiplicity : Event
+multiplicity = question (askMultiplicity 3 1 workLent) 1 []
+
+abbrev parent : Event
+parent = question (askParent 1 workLent) 3 []
 
 abbrev removal : Event
 removal =
     event (removing (2 ∷ []) workLent listLent listLent) (answered 0 0 3 4 1) (1 ∷ 3 ∷ 4 ∷ 9 ∷ 9 ∷ 9 ∷ []) (1 ∷ 1 ∷ 1 ∷ 9 ∷ 9 ∷ 9 ∷ [])
+
+abbrev noRows : Event
+noRows =
+    record {
+      call = opening (record { m = 0; n = 8; f = 9; c = 16 }) workLent;
+      answer = answered 1 0 0 0 0;
+      left = record { work = workLent; touched = []; labels = []; list = [] };
+    }
+
+abbrev lastSizes : Limits
+lastSizes = record { m = 1; n = 1; f = 2; c = 1 }
+
+abbrev oneRow : Event
+oneRow =
+    record {
+      call = opening lastSizes workLent;
+      answer = answered 0 0 0 0 0;
+      left = record { work = workLeft 1042; touched = []; labels = []; list = [] };
+    }
+
+-- tables opened anew for one row, the places past it as they were
+abbrev world6 : World
+world6 = record { state = openedState lastSizes; tables = openedTables lastSizes (world5 .tables) }
 
 abbrev plain1 : Plain
 plain1 = record { limits = askedSizes; register = record { m = 5; columns = [] } }
@@ -150,7 +178,7 @@ opened-begun =
       asked = askedSizes;
       work = workLent;
       answer = answered 0 0 0 0 0;
-      left = record { work = workLeft; touched = []; labels = []; list = [] };
+      left = record { work = workLeft 1124; touched = []; labels = []; list = [] };
       step = (refl, refl, (refl, refl));
       taken = refl;
       plain = refl;
@@ -180,12 +208,32 @@ path-step : Transition world4 (path .call) (path .answer) (path .left) world4
 unfolding all any among noRepeats allZero same sumOf valuesAt rises upFrom startingWith childrenWith countsFrom firstAbove buildFrom patternFrom nonZero pathFrom sizeSum touchedFrom labelFrom labelsOf entriesOf idsOf chainFrom lastOf chains columnsFrom holdsFrom batchOf rowsRefusal columnsRefusal
 path-step = (refl, refl, refl)
 
+column-step : Transition world4 (column .call) (column .answer) (column .left) world4
+unfolding all any among noRepeats allZero same sumOf valuesAt rises upFrom startingWith childrenWith countsFrom firstAbove buildFrom patternFrom nonZero pathFrom sizeSum touchedFrom labelFrom labelsOf entriesOf idsOf chainFrom lastOf chains columnsFrom holdsFrom batchOf rowsRefusal columnsRefusal pairsOf
+column-step = (refl, refl, refl)
+
+multiplicity-step : Transition world4 (multiplicity .call) (multiplicity .answer) (multiplicity .left) world4
+unfolding all any among noRepeats allZero same sumOf valuesAt rises upFrom startingWith childrenWith countsFrom firstAbove buildFrom patternFrom nonZero pathFrom sizeSum touchedFrom labelFrom labelsOf entriesOf idsOf chainFrom lastOf chains columnsFrom holdsFrom batchOf rowsRefusal columnsRefusal
+multiplicity-step = (refl, refl, refl)
+
+parent-step : Transition world4 (parent .call) (parent .answer) (parent .left) world4
+unfolding all any among noRepeats allZero same sumOf valuesAt rises upFrom startingWith childrenWith countsFrom firstAbove buildFrom patternFrom nonZero pathFrom sizeSum touchedFrom labelFrom labelsOf entriesOf idsOf chainFrom lastOf chains columnsFrom holdsFrom batchOf rowsRefusal columnsRefusal
+parent-step = (refl, refl, refl)
+
 removal-step : Transition world4 (removal .call) (removal .answer) (removal .left) world5
 unfolding all any among noRepeats allZero same sumOf valuesAt rises upFrom startingWith childrenWith countsFrom firstAbove buildFrom patternFrom nonZero pathFrom sizeSum touchedFrom labelFrom labelsOf entriesOf idsOf chainFrom lastOf chains columnsFrom holdsFrom batchOf rowsRefusal columnsRefusal idsRefusal without columnOf columnsOf
 removal-step = (refl, refl, removal-amended)
 
+no-rows-step : Transition world5 (noRows .call) (noRows .answer) (noRows .left) world5
+unfolding all any among noRepeats allZero same sumOf valuesAt rises upFrom startingWith childrenWith countsFrom firstAbove buildFrom patternFrom nonZero pathFrom sizeSum touchedFrom labelFrom labelsOf entriesOf idsOf chainFrom lastOf chains columnsFrom holdsFrom batchOf rowsRefusal columnsRefusal
+no-rows-step = (refl, refl, refl)
+
+one-row-step : Transition world5 (oneRow .call) (oneRow .answer) (oneRow .left) world6
+unfolding all any among noRepeats allZero same sumOf valuesAt rises upFrom startingWith childrenWith countsFrom firstAbove buildFrom patternFrom nonZero pathFrom sizeSum touchedFrom labelFrom labelsOf entriesOf idsOf chainFrom lastOf chains columnsFrom holdsFrom batchOf rowsRefusal columnsRefusal
+one-row-step = (refl, refl, (refl, refl))
+
 pub concrete-run : ConcreteRun
-unfolding Run eventCalls eventAnswers eventTouched eventLabels eventLists shownFrom chainFrom valuesAt pairsOf opened-begun
+unfolding all same upFrom Run eventCalls eventAnswers eventTouched eventLabels eventWork eventLists shownFrom chainFrom valuesAt pairsOf opened-begun
 concrete-run =
     record {
       start = world1;
@@ -200,12 +248,22 @@ concrete-run =
       touched = refl;
       labels = refl;
       shows = refl;
-      later = checked ∷ path ∷ removal ∷ [];
+      later = checked ∷ path ∷ column ∷ multiplicity ∷ parent ∷ removal ∷ [];
       last = world5;
-      later-run = (world4, (checked-step, (world4, (path-step, (world5, (removal-step, refl))))));
+      later-run =
+          (world4, (checked-step, (world4, (path-step, (world4, (column-step, (world4, (multiplicity-step, (world4, (parent-step, (world5, (removal-step, refl))))))))))));
       later-calls = refl;
       later-answers = refl;
       later-touched = refl;
+      later-labels = refl;
       later-lists = refl;
+      later-work = refl;
       later-shows = refl;
+      openings = noRows ∷ oneRow ∷ [];
+      reopened = world6;
+      last-run = (world5, (no-rows-step, (world6, (one-row-step, refl))));
+      last-calls = refl;
+      last-answers = refl;
+      last-work = refl;
+      last-shows = refl;
     }

@@ -1,13 +1,13 @@
 -- Document 01's listed example, as calls: "open 5 8 9 16", "add 1 1 3", "add 2 1 4", "add 3 2 3", with one more addition among them that is refused; then
 -- a check, the path of 1 and "drop 2", which is case 4 of the instances; and what the listing shows of record and tables. Assumes nothing: these are
 -- definitions.
-use mathlib.Core.List.{List, [], _∷_}
-use Prim.Native.Nat.{ℕ, zero, suc}
+use mathlib.Core.List.{List, [], _∷_, _++_}
+use Prim.Native.Nat.{ℕ, zero, suc, _-_}
 use lib.ListN.{length, replicate}
 use Rattle.lists.specs.Lists.{at, valuesAt}
 use Rattle.tables.specs.Stored.{Stored, recordsOf}
 use Rattle.tables.specs.Tables.{Limits, storedIn}
-use Rattle.calls.specs.Calls.{Call, adding, removing, checking, askPath}
+use Rattle.calls.specs.Calls.{Call, opening, adding, removing, checking, askMultiplicity, askParent, askPath, askColumn}
 use Rattle.calls.specs.Report.{pairsOf}
 use Rattle.calls.specs.Steps.{Answer, World}
 use Rattle.history.specs.Runs.{Event}
@@ -32,9 +32,16 @@ add i rs = adding (i ∷ []) (length rs ∷ []) rs workLent listLent listLent
 abbrev pub listedCalls : List Call
 listedCalls = add 1 (1 ∷ 3 ∷ []) ∷ add 1 (2 ∷ []) ∷ add 2 (1 ∷ 4 ∷ []) ∷ add 3 (2 ∷ 3 ∷ []) ∷ []
 
--- check; path of 1, from place 1 on; "drop 2"
+-- check; path of 1, from place 1 on; column 1, multiplicity of row 3 in it, its parent; removal of 2
 abbrev pub laterCalls : List Call
-laterCalls = checking workLent ∷ askPath 1 1 workLent listLent ∷ removing (2 ∷ []) workLent listLent listLent ∷ []
+laterCalls =
+    checking workLent ∷
+    askPath 1 1 workLent listLent ∷
+    askColumn 1 0 workLent listLent ∷ askMultiplicity 3 1 workLent ∷ askParent 1 workLent ∷ removing (2 ∷ []) workLent listLent listLent ∷ []
+
+-- an opening that is refused, for its m; then one that is accepted, of one row
+abbrev pub lastCalls : List Call
+lastCalls = opening (record { m = 0; n = 8; f = 9; c = 16 }) workLent ∷ opening (record { m = 1; n = 1; f = 2; c = 1 }) workLent ∷ []
 
 -- number, position, touched columns, entries, grade
 abbrev pub answered : (number position touched entries grade : ℕ) → Answer
@@ -44,10 +51,17 @@ answered n p t e g = record { number = n; position = p; touched = t; entries = e
 abbrev pub listedAnswers : List Answer
 listedAnswers = answered 0 0 2 3 1 ∷ answered 10 1 0 0 0 ∷ answered 0 0 3 6 1 ∷ answered 0 0 3 5 1 ∷ []
 
--- "ok", a path of three rows, "ok 3 4 1"
+-- the value of a question
+abbrev pub valued : ℕ → Answer
+valued v = record { number = 0; position = 0; touched = 0; entries = 0; grade = 0; value = v }
+
+-- sound; a path of three rows, a column of three entries, multiplicity 1, parent 3; three columns touched, four entries
 abbrev pub laterAnswers : List Answer
-laterAnswers =
-    answered 0 0 0 0 0 ∷ record { number = 0; position = 0; touched = 0; entries = 0; grade = 0; value = 3 } ∷ answered 0 0 3 4 1 ∷ []
+laterAnswers = answered 0 0 0 0 0 ∷ valued 3 ∷ valued 3 ∷ valued 1 ∷ valued 3 ∷ answered 0 0 3 4 1 ∷ []
+
+-- refused by 1; accepted
+abbrev pub lastAnswers : List Answer
+lastAnswers = answered 1 0 0 0 0 ∷ answered 0 0 0 0 0 ∷ []
 
 -- the lists for touched columns and for labels that each call leaves, and the lists of questions
 abbrev pub listedTouched : List (List ℕ)
@@ -57,10 +71,20 @@ abbrev pub listedLabels : List (List ℕ)
 listedLabels = (1 ∷ 1 ∷ 9 ∷ 9 ∷ 9 ∷ 9 ∷ []) ∷ listLent ∷ (1 ∷ 1 ∷ 1 ∷ 9 ∷ 9 ∷ 9 ∷ []) ∷ (1 ∷ 1 ∷ 1 ∷ 9 ∷ 9 ∷ 9 ∷ []) ∷ []
 
 abbrev pub laterTouched : List (List ℕ)
-laterTouched = [] ∷ [] ∷ (1 ∷ 3 ∷ 4 ∷ 9 ∷ 9 ∷ 9 ∷ []) ∷ []
+laterTouched = [] ∷ [] ∷ [] ∷ [] ∷ [] ∷ (1 ∷ 3 ∷ 4 ∷ 9 ∷ 9 ∷ 9 ∷ []) ∷ []
+
+abbrev pub laterLabels : List (List ℕ)
+laterLabels = [] ∷ [] ∷ [] ∷ [] ∷ [] ∷ (1 ∷ 1 ∷ 1 ∷ 9 ∷ 9 ∷ 9 ∷ []) ∷ []
 
 abbrev pub laterLists : List (List ℕ)
-laterLists = [] ∷ (9 ∷ 1 ∷ 3 ∷ 4 ∷ 9 ∷ 9 ∷ []) ∷ [] ∷ []
+laterLists = [] ∷ (9 ∷ 1 ∷ 3 ∷ 4 ∷ 9 ∷ 9 ∷ []) ∷ (1 ∷ 3 ∷ 3 ∷ 1 ∷ 4 ∷ 1 ∷ []) ∷ [] ∷ [] ∷ [] ∷ []
+
+-- the work table that calls leave: its first W places zero, the rest as lent; as lent under 1; W is 1,042 for the last opening
+abbrev pub workLeft : (w : ℕ) → List ℕ
+workLeft w = replicate w 0 ++ replicate (1125 - w) 7
+
+abbrev pub lastWork : List (List ℕ)
+lastWork = workLent ∷ workLeft 1042 ∷ []
 
 unfoldable pub eventCalls : List Event → List Call
 eventCalls [] = []
@@ -77,6 +101,10 @@ eventTouched (e ∷ es) = e .left .touched ∷ eventTouched es
 unfoldable pub eventLabels : List Event → List (List ℕ)
 eventLabels [] = []
 eventLabels (e ∷ es) = e .left .labels ∷ eventLabels es
+
+unfoldable pub eventWork : List Event → List (List ℕ)
+eventWork [] = []
+eventWork (e ∷ es) = e .left .work ∷ eventWork es
 
 unfoldable pub eventLists : List Event → List (List ℕ)
 eventLists [] = []
@@ -98,3 +126,7 @@ listing =
 -- and after "drop 2"
 abbrev pub laterListing : List (List ℕ)
 laterListing = (1 ∷ 3 ∷ 1 ∷ 2 ∷ 3 ∷ 1 ∷ []) ∷ (2 ∷ 3 ∷ 2 ∷ 2 ∷ 3 ∷ 1 ∷ []) ∷ (3 ∷ 0 ∷ 3 ∷ 3 ∷ []) ∷ (4 ∷ 0 ∷ 4 ∷ 1 ∷ []) ∷ (5 ∷ 0 ∷ 5 ∷ 1 ∷ []) ∷ []
+
+-- and after the last opening
+abbrev pub lastListing : List (List ℕ)
+lastListing = (1 ∷ 0 ∷ 1 ∷ 1 ∷ []) ∷ []

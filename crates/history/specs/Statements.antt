@@ -6,7 +6,7 @@ use mathlib.Core.Logic.{_⊎_, _≢_, _↔_}
 use mathlib.Core.Bool.{true, false, _||_}
 use mathlib.Core.List.{List, [], _∷_, _++_}
 use Prim.Native.Nat.{ℕ, _≤_, _<_}
-use Rattle.lists.specs.Lists.{pick, Mem, among, noRepeats, valuesAt}
+use Rattle.lists.specs.Lists.{pick, Mem, all, same, among, noRepeats, valuesAt}
 use Rattle.symbolic.specs.Columns.{Column, live}
 use Rattle.symbolic.specs.Factor.{factorFor}
 use Rattle.symbolic.specs.Chains.{ChainTo}
@@ -21,7 +21,7 @@ use Rattle.calls.specs.Report.{touchedBy}
 use Rattle.calls.specs.Numbers.{earlyRefusal, callRefusal}
 use Rattle.calls.specs.Steps.{Answer, refusedBy, acceptedBy, Lent, lentTo, listsAfter, workAfter, withWork, World, Transition}
 use Rattle.history.specs.Runs.{Event, Run, Plain, plainAfter, Begun}
-use Rattle.history.specs.Example.{askedSizes, listedCalls, listedAnswers, listedTouched, listedLabels, laterCalls, laterAnswers, laterTouched, laterLists, eventCalls, eventAnswers, eventTouched, eventLabels, eventLists, shown, listing, laterListing}
+use Rattle.history.specs.Example.{askedSizes, listedCalls, listedAnswers, listedTouched, listedLabels, laterCalls, laterAnswers, laterTouched, laterLabels, laterLists, lastCalls, lastAnswers, workLeft, lastWork, eventCalls, eventAnswers, eventTouched, eventLabels, eventWork, eventLists, shown, listing, laterListing, lastListing}
 
 -- ---- what holds of record and tables against a plain register
 
@@ -112,8 +112,8 @@ OpeningSound =
     (u : World) (l : Limits) (w : List ℕ) (a : Answer) (x : Lent) (v : World) → Transition u (opening l w) a x v → a .number ≡ 0 →
     isSound (v .state) (v .tables) ≡ true
 
--- ---- a run that is, so that nothing above is empty: the listed example, with a refused addition among the others, then a check,
--- a question and a removal
+-- ---- a run that is, so that nothing above is empty: the listed example, with a refused addition among the others; then a check, every question and a
+-- removal; then a refused and an accepted opening
 
 pub record ConcreteRun : Type 0 where
   pub start : World
@@ -134,5 +134,14 @@ pub record ConcreteRun : Type 0 where
   pub later-calls : eventCalls later ≡ laterCalls
   pub later-answers : eventAnswers later ≡ laterAnswers
   pub later-touched : eventTouched later ≡ laterTouched
+  pub later-labels : eventLabels later ≡ laterLabels
   pub later-lists : eventLists later ≡ laterLists
+  pub later-work : all (λ w. same w (workLeft 1124)) (eventWork later) ≡ true
   pub later-shows : shown last ≡ laterListing
+  pub openings : List Event
+  pub reopened : World
+  pub last-run : Run last openings reopened
+  pub last-calls : eventCalls openings ≡ lastCalls
+  pub last-answers : eventAnswers openings ≡ lastAnswers
+  pub last-work : eventWork openings ≡ lastWork
+  pub last-shows : shown reopened ≡ lastListing
