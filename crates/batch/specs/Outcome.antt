@@ -15,13 +15,16 @@ use Rattle.batch.specs.declared.Batch.{Batch}
 
 -- ---- tables that are cut to their sizes: a size is a length
 
+-- the eight tables as one record, from the lists that are lent
 abbrev pub tablesOf : (heads parents rows counts next bookHeads bookRows bookNext : List ℕ) → Tables
 tablesOf a b c d e f g h =
     record { heads = a; parents = b; rows = c; counts = d; next = e; bookHeads = f; bookRows = g; bookNext = h }
 
+-- the four sizes of tables that are cut to them: their lengths
 abbrev pub cutLimits : Tables → Limits
 cutLimits t = record { m = length (t .heads); n = length (t .bookHeads); f = length (t .next); c = length (t .bookNext) }
 
+-- record and tables of a factor whose tables are cut to their sizes
 abbrev pub cutWorld : Tables → (free bookFree : ℕ) → World
 cutWorld t f g = record { state = record { limits = cutLimits t; free = f; bookFree = g }; tables = t }
 
@@ -42,7 +45,7 @@ pub record CanFind (u : World) (work : List ℕ) : Type 0 where
   pub long : workFor (u .state .limits) ≤ length work
   pub zero : IsZero work 0 (workFor (u .state .limits))
 
--- and lists long enough for the report
+-- to write it too: the same, and lists long enough for the report
 pub record CanBatch (u : World) (work touched labels : List ℕ) : Type 0 where
   pub find : CanFind u work
   pub touched-long : u .state .limits .m ≤ length touched
@@ -66,6 +69,7 @@ BatchOutcome true u k a x v =
 BatchOutcome false u k a x v =
     (a ≡ refusedBy (callRefusal (u .state .limits) (registerOf (u .state) (u .tables)) k)) × (x ≡ lentTo k) × (v ≡ u)
 
+-- what an unchecked batch promises: accepted exactly if none of 7 to 16 applies
 abbrev pub BatchStep : World → Call → Answer → Lent → World → Type 0
 BatchStep u k a x v =
     BatchOutcome (isAccepted (callRefusal (u .state .limits) (registerOf (u .state) (u .tables)) k)) u k a x v

@@ -25,12 +25,15 @@ use Rattle.batch.specs.declared.Verdict.{Verdict}
 
 -- ---- the two halves of tables that are cut to their sizes
 
+-- the tables of L with their free head, nothing cut off
 abbrev pub storedWhole : Tables → (free : ℕ) → Stored
 storedWhole t f = storedOf (t .heads) (t .parents) (t .rows) (t .counts) (t .next) f
 
+-- the book's tables with its free head, nothing cut off
 abbrev pub bookWhole : Tables → (bookFree : ℕ) → book.Book
 bookWhole t g = book.bookOf (t .bookHeads) (t .bookRows) (t .bookNext) g
 
+-- the register that the book of some tables holds
 abbrev pub registerIn : World → Register
 registerIn u = registerOf (u .state) (u .tables)
 
@@ -40,6 +43,7 @@ registerIn u = registerOf (u .state) (u .tables)
 abbrev pub numberFor : World → Call → Refusal
 numberFor u k = callRefusal (u .state .limits) (registerIn u) k
 
+-- the number and position that a search has found
 abbrev pub verdictNumber : Verdict → Refusal
 verdictNumber x = refusal (x .number) (x .position)
 
@@ -57,11 +61,12 @@ pub record Judged (u : World) (k : Call) (before after : List ℕ) (x : Verdict)
   pub plan : isAccepted (numberFor u k) ≡ true → BatchPlan u k before after (x .first) (x .count) (x .entries) (x .used)
   pub unchanged : isAccepted (numberFor u k) ≡ false → after ≡ before
 
--- what a search asks: for an addition the book's rows, for a removal the free heads are not read, any that suit will do
+-- what an addition's search asks: the book's rows are not read, any that suit will do
 pub record SomeRows (heads parents rows counts next bookHeads bookNext : List ℕ) (free bookFree : ℕ) (work : List ℕ) : Type 0 where
   pub book-rows : List ℕ
   pub can : CanFind (cutWorld (tablesOf heads parents rows counts next bookHeads book-rows bookNext) free bookFree) work
 
+-- what a removal's search asks: the free heads are not read, any that suit will do
 pub record SomeFree (t : Tables) (work : List ℕ) : Type 0 where
   pub free : ℕ
   pub book-free : ℕ
@@ -77,7 +82,7 @@ pub record CanWriteBatch (u : World) (k : Call) (before work touched labels : Li
   pub entries : ℕ
   pub plan : BatchPlan u k before work first count entries used
 
--- for some work table before the plan
+-- what a caller shows: such a batch, for some work table before the plan
 pub record SomePlan (u : World) (call : List ℕ → Call) (work touched labels : List ℕ) (first used : ℕ) : Type 0 where
   pub before : List ℕ
   pub can : CanWriteBatch u (call before) before work touched labels first used

@@ -19,6 +19,7 @@ pub record Book : Type 0 where
   pub next : List ℕ
   pub free : ℕ
 
+-- a book from its tables and its free head
 abbrev pub bookOf : (heads rows next : List ℕ) → (free : ℕ) → Book
 bookOf hs rs ns f = record { heads = hs; rows = rs; next = ns; free = f }
 
@@ -42,6 +43,7 @@ recordsOf b i = chain (b .next) (at (b .heads) i)
 abbrev pub columnFor : Book → (id : ℕ) → Column
 columnFor b i = record { id = i; rows = valuesAt (b .rows) (recordsOf b i) }
 
+-- the columns of the booked ids, of so many ids from one on
 unfoldable pub columnsFrom : Book → (id : ℕ) → ℕ → List Column
 columnsFrom b i zero = []
 columnsFrom b i (suc n) = pick (isBooked (b .heads) i) (columnFor b i ∷ columnsFrom b (suc i) n) (columnsFrom b (suc i) n)

@@ -33,6 +33,7 @@ pub record CanAdd (b : Book) (id : ℕ) (rows : List ℕ) : Type 0 where
   pub narrow : has .m < 65536
   pub room : length rows ≤ length (chain (b .next) (b .free))
 
+-- the book after an addition: still sound, with the new column under its id; every other column stays
 pub record Added (b : Book) (id : ℕ) (rows : List ℕ) (after : Book) : Type 0 where
   pub sized : Sized after
   pub same-heads : length (after .heads) ≡ length (b .heads)
@@ -47,6 +48,7 @@ pub record CanRemove (b : Book) (id : ℕ) : Type 0 where
   pub has : HasId b id
   pub present : isBooked (b .heads) id ≡ true
 
+-- the book after a removal: still sound, with no column under the id; every other column stays
 pub record Removed (b : Book) (id : ℕ) (after : Book) : Type 0 where
   pub sized : Sized after
   pub same-heads : length (after .heads) ≡ length (b .heads)

@@ -48,6 +48,7 @@ limitsAfter l (askParent j w) = l
 limitsAfter l (askPath j p w xs) = l
 limitsAfter l (askColumn j p w xs) = l
 
+-- a call is an opening
 abbrev pub isOpening : Call → Bool
 isOpening (opening l w) = true
 isOpening (adding is ns rs w a b) = false
@@ -58,6 +59,7 @@ isOpening (askParent j w) = false
 isOpening (askPath j p w xs) = false
 isOpening (askColumn j p w xs) = false
 
+-- a call is an addition or a removal
 abbrev pub isBatch : Call → Bool
 isBatch (opening l w) = false
 isBatch (adding is ns rs w a b) = true
@@ -68,7 +70,7 @@ isBatch (askParent j w) = false
 isBatch (askPath j p w xs) = false
 isBatch (askColumn j p w xs) = false
 
--- the columns of a batch, and its ids
+-- the columns of a batch, which enter or leave; none for the other calls
 abbrev pub batchColumns : Register → Call → List Column
 batchColumns r (opening l w) = []
 batchColumns r (adding is ns rs w a b) = batchOf is ns rs
@@ -79,6 +81,7 @@ batchColumns r (askParent j w) = []
 batchColumns r (askPath j p w xs) = []
 batchColumns r (askColumn j p w xs) = []
 
+-- the ids of a batch; none for the other calls
 abbrev pub idsBy : Call → List ℕ
 idsBy (opening l w) = []
 idsBy (adding is ns rs w a b) = is

@@ -1,5 +1,5 @@
--- The number and position of a whole call, in document 01's order: sizes, tables, contents, then the call's own. The first two need the lengths of the
--- tables, the third their contents, the last the register that the book holds.
+-- The number and position of a whole call, in document 01's order: sizes, tables, contents, then the call's own. The first need nothing of the tables, the
+-- second their lengths, the third their contents, the last the register that the book holds.
 -- Assumes nothing: these are definitions.
 use lib.ListN.{length}
 use Rattle.symbolic.specs.Columns.{Register}

@@ -1,5 +1,5 @@
--- Numbers 1 to 18 of document 01's "Where a call is turned down", over naturals: each group as one ordered choice, "the first that applies is given".
--- Numbers.antt puts the groups of a call in order. Positions are from 1, and 0 where a number has none.
+-- Numbers 1 to 5 and 7 to 18 of document 01's "Where a call is turned down", over naturals: each group as one ordered choice, "The first that applies is
+-- given". Numbers.antt has 6 and puts the groups of a call in order. Positions are from 1, and 0 where a number has none.
 -- Assumes nothing: these are definitions.
 use mathlib.Core.Bool.{Bool, _&&_, not}
 use mathlib.Core.List.{List, [], _∷_}
@@ -15,22 +15,28 @@ use Rattle.tables.specs.Tables.{Tables, Limits, longEnough}
 
 -- ---- a refusal: its number, and "the position for the column and row checks and 0 otherwise". Accepted is 0.
 
+-- what the checks of a call give
 pub record Refusal : Type 0 where
   pub number : ℕ
   pub position : ℕ
 
+-- a number given at a position
 abbrev pub refusal : (number position : ℕ) → Refusal
 refusal n p = record { number = n; position = p }
 
+-- "Accepted is 0", at no position
 abbrev pub accepted : Refusal
 accepted = refusal 0 0
 
+-- no check has refused the call
 abbrev pub isAccepted : Refusal → Bool
 isAccepted x = eqb (x .number) 0
 
+-- "The first that applies is given": the first where it refuses, otherwise the second
 abbrev pub orElse : Refusal → Refusal → Refusal
 orElse x y = pick (isAccepted x) y x
 
+-- a number at a position where a condition fails; accepted where it holds
 abbrev pub unless : Bool → (number position : ℕ) → Refusal
 unless z n p = pick z accepted (refusal n p)
 
@@ -43,9 +49,11 @@ pub record Bounds : Type 0 where
   pub f : ℕ
   pub c : ℕ
 
+-- document 01's largest m, n, F and C
 abbrev pub bounds : Bounds
 bounds = record { m = 4096; n = 16384; f = 1048576; c = 262144 }
 
+-- "1: m; 2: n; 3: F; 4: C outside its range"; F is at least m
 abbrev pub sizesRefusal : Bounds → Limits → Refusal
 sizesRefusal b l =
     orElse (unless (isIn 1 (b .m) (l .m)) 1 0)
@@ -57,10 +65,11 @@ sizesRefusal b l =
 abbrev pub workFor : Limits → ℕ
 workFor l = workNeed (l .m) (l .n) (l .f) (l .c)
 
--- some table, or the work table, is too short; a batch also needs its lists for touched columns and labels
+-- "5: some table or list needed is too short": one of the eight tables, or the work table
 abbrev pub shortRefusal : Limits → Tables → (work : List ℕ) → Refusal
 shortRefusal l t w = unless (longEnough l t && leb (workFor l) (length w)) 5 0
 
+-- 5 for a batch, which also needs its lists for touched columns and labels
 abbrev pub shortBatch : Limits → Tables → (work touched labels : List ℕ) → Refusal
 shortBatch l t w a b = unless (longEnough l t && leb (workFor l) (length w) && leb (l .m) (length a) && leb (l .m) (length b)) 5 0
 
@@ -72,6 +81,7 @@ batchOf [] ns rs = []
 batchOf (i ∷ is) [] rs = []
 batchOf (i ∷ is) (n ∷ ns) rs = record { id = i; rows = take n rs } ∷ batchOf is ns (drop n rs)
 
+-- an id is live: the register has a column under it
 abbrev pub isLive : Register → (id : ℕ) → Bool
 isLive r i = among i (idsOf (r .columns))
 
@@ -91,6 +101,7 @@ columnsRefusal r n p bs (i ∷ is) (k ∷ ns) rs =
     (orElse (unless (isIn 1 256 k && leb k (length rs)) 12 p)
     (orElse (rowsRefusal (r .m) p 0 (take k rs)) (columnsRefusal r n (suc p) (i ∷ bs) is ns (drop k rs))))))
 
+-- how many rows some columns have together, which is how many book records they need
 abbrev pub rowSum : List Column → ℕ
 rowSum cs = sumOf (λ (c : Column). length (c .rows)) cs
 
@@ -98,22 +109,26 @@ rowSum cs = sumOf (λ (c : Column). length (c .rows)) cs
 abbrev pub roomRefusal : Limits → Register → Refusal
 roomRefusal l r = orElse (unless (leb (rowSum (r .columns)) (l .c)) 15 0) (unless (leb (sizeSum (factorFor r)) (l .f)) 16 0)
 
+-- 7 to 16 of an addition, in document 01's order
 abbrev pub addRefusal : Limits → Register → (ids counts rows : List ℕ) → Refusal
 addRefusal l r is ns rs =
     orElse (unless (isIn 1 64 (length is) && eqb (length ns) (length is)) 7 0)
     (orElse (columnsRefusal r (l .n) 1 [] is ns rs) (roomRefusal l (added r (batchOf is ns rs))))
 
+-- 8, 9 or 11 of a removal, id by id; before holds the ids of the earlier positions
 unfoldable pub idsRefusal : Register → (n position : ℕ) → (before ids : List ℕ) → Refusal
 idsRefusal r n p bs [] = accepted
 idsRefusal r n p bs (i ∷ is) =
     orElse (unless (isIn 1 n i) 8 p)
     (orElse (unless (not (among i bs)) 9 p) (orElse (unless (isLive r i) 11 p) (idsRefusal r n (suc p) (i ∷ bs) is)))
 
+-- 7, 8, 9 or 11 of a removal, in document 01's order
 abbrev pub removeRefusal : Limits → Register → (ids : List ℕ) → Refusal
 removeRefusal l r is = orElse (unless (isIn 1 64 (length is)) 7 0) (idsRefusal r (l .n) 1 [] is)
 
 -- ---- 17 and 18, questions
 
+-- "17: row or column outside 1 to m"
 abbrev pub rowRefusal : (m row : ℕ) → Refusal
 rowRefusal m i = unless (isIn 1 m i) 17 0
 

@@ -20,9 +20,11 @@ treeFor r (askParent j w) = []
 treeFor r (askPath j p w xs) = []
 treeFor r (askColumn j p w xs) = []
 
+-- "the touched columns ascending" that a batch reports; none for the other calls
 abbrev pub touchedBy : Register → Call → List ℕ
 touchedBy r k = touched (treeFor r k) (batchColumns r k)
 
+-- the labels of the touched columns, in their order
 abbrev pub labelsBy : Register → Call → List ℕ
 labelsBy r k = labelsOf (treeFor r k) (batchColumns r k) (touchedBy r k)
 
@@ -30,6 +32,7 @@ labelsBy r k = labelsOf (treeFor r k) (batchColumns r k) (touchedBy r k)
 abbrev pub entriesBy : Register → Call → ℕ
 entriesBy r k = entriesOf (factorFor (registerAfter r k)) (touchedBy r k)
 
+-- "It also gives a grade": that of the batch's entries
 abbrev pub gradeBy : Register → Call → ℕ
 gradeBy r k = gradeOf (entriesBy r k)
 

@@ -21,6 +21,7 @@ use Rattle.calls.specs.Numbers.{earlyRefusal, refusalOf}
 
 -- ---- the numbers that a call answers; one that a call does not have is 0
 
+-- the number and position of a call, a batch's touched columns, entries and grade, a question's value
 pub record Answer : Type 0 where
   pub number : ℕ
   pub position : ℕ
@@ -33,6 +34,7 @@ pub record Answer : Type 0 where
 abbrev pub refusedBy : Refusal → Answer
 refusedBy x = record { number = x .number; position = x .position; touched = 0; entries = 0; grade = 0; value = 0 }
 
+-- the answer of an accepted call: number 0, with a batch's report or a question's value
 abbrev pub acceptedBy : Register → Call → Answer
 acceptedBy r (opening l w) = record { number = 0; position = 0; touched = 0; entries = 0; grade = 0; value = 0 }
 acceptedBy r (adding is ns rs w a b) =
@@ -62,12 +64,14 @@ acceptedBy r (askColumn j p w xs) = record { number = 0; position = 0; touched =
 
 -- ---- the lent lists; a call without such a list has []
 
+-- the work table, a batch's lists for touched columns and labels, the list of a path or column
 pub record Lent : Type 0 where
   pub work : List ℕ
   pub touched : List ℕ
   pub labels : List ℕ
   pub list : List ℕ
 
+-- the lists that a call is lent
 abbrev pub lentTo : Call → Lent
 lentTo (opening l w) = record { work = w; touched = []; labels = []; list = [] }
 lentTo (adding is ns rs w a b) = record { work = w; touched = a; labels = b; list = [] }
@@ -82,7 +86,7 @@ lentTo (askColumn j p w xs) = record { work = w; touched = []; labels = []; list
 abbrev pub writtenAt : (place : ℕ) → (new old : List ℕ) → List ℕ
 writtenAt p xs old = take p old ++ (xs ++ drop (p + length xs) old)
 
--- the lists after an accepted call, but for the work table
+-- the lists after an accepted call, with the work table as given
 abbrev pub listsAfter : Register → Call → (work : List ℕ) → Lent
 listsAfter r (opening l w) v = record { work = v; touched = []; labels = []; list = [] }
 listsAfter r (adding is ns rs w a b) v =
@@ -100,11 +104,13 @@ abbrev pub workAfter : Limits → Tables → Call → List ℕ
 workAfter l t k =
     pick (isAccepted (earlyRefusal l t k)) (zeroFirst (workFor (limitsAfter l k)) (lentTo k .work)) (lentTo k .work)
 
+-- lent lists with another work table, otherwise as they are
 abbrev pub withWork : Lent → (work : List ℕ) → Lent
 withWork x w = record { work = w; touched = x .touched; labels = x .labels; list = x .list }
 
 -- ---- record and tables
 
+-- the record and the tables, which a call gets "as the calls before it left them"
 pub record World : Type 0 where
   pub state : State
   pub tables : Tables
@@ -134,8 +140,9 @@ AcceptedWorld u (askParent j w) v = v ≡ u
 AcceptedWorld u (askPath j p w xs) v = v ≡ u
 AcceptedWorld u (askColumn j p w xs) v = v ≡ u
 
--- ---- THE STEP: answer, lent lists, record and tables of one call
+-- ---- THE TRANSITION: answer, lent lists, record and tables of one call
 
+-- taken: the accepted answer with its lists and tables; otherwise the refusal, with nothing changed but the work table
 abbrev pub OutcomeFor : (isTaken : Bool) → World → Call → Answer → Lent → World → Type 0
 OutcomeFor true u k a x v =
     (a ≡ acceptedBy (registerOf (u .state) (u .tables)) k) ×
@@ -143,5 +150,6 @@ OutcomeFor true u k a x v =
 OutcomeFor false u k a x v =
     (a ≡ refusedBy (refusalOf (u .state) (u .tables) k)) × (x ≡ withWork (lentTo k) (workAfter (u .state .limits) (u .tables) k)) × (v ≡ u)
 
+-- what every public entry promises of its call: the outcome that its number decides
 abbrev pub Transition : World → Call → Answer → Lent → World → Type 0
 Transition u k a x v = OutcomeFor (isAccepted (refusalOf (u .state) (u .tables) k)) u k a x v

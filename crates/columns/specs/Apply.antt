@@ -13,13 +13,15 @@ use Rattle.pool.specs.Chains.{chain, Linked}
 use Rattle.pool.specs.Changes.{Has, insertAfter, unlinkAfter}
 use Rattle.columns.specs.Search.{lastBelow}
 
--- the last record below an entry's row, and the record after it
+-- the last record below an entry's row, from p on
 abbrev pub recordBefore : (rows next : List ℕ) → (p entry : ℕ) → ℕ
 recordBefore xs ns p e = lastBelow xs p (chain ns (at ns p)) (rowOf e)
 
+-- the record after it: that of the entry's row, where the chain has one
 abbrev pub recordAfter : (rows next : List ℕ) → (p entry : ℕ) → ℕ
 recordAfter xs ns p e = at ns (recordBefore xs ns p e)
 
+-- a chain from p on that ends; a new entry has a free record to take, a changed or gone one its record in the chain
 pub record CanApply (rows counts next : List ℕ) (p free entry : ℕ) : Type 0 where
   pub rows-long : length rows ≡ length next
   pub counts-long : length counts ≡ length next
@@ -50,6 +52,7 @@ pub data Begun (rows counts₀ plan : List ℕ) (head : ℕ) (counts : List ℕ)
       Begun rows counts₀ plan head counts k
   first-stays : (1 ≤ length plan → rowOf (getD plan 0 0) ≢ at rows head) → counts ≡ counts₀ → k ≡ 0 → Begun rows counts₀ plan head counts k
 
+-- the head is a record of both tables, and 16 bits hold the multiplicity of the plan's first entry
 pub record CanBegin (rows counts plan : List ℕ) (head : ℕ) : Type 0 where
   pub some : 1 ≤ head
   pub in-rows : head ≤ length rows

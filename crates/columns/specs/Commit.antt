@@ -28,6 +28,7 @@ pub record HoldsFrom (xs cs : List ℕ) (a : ℕ) (ns records : List ℕ) : Type
 abbrev pub ZeroAt : (rows counts records : List ℕ) → Type 0
 ZeroAt xs cs rs = (x : ℕ) → 1 ≤ times x rs → (at xs x ≡ 0) × (at cs x ≡ 0)
 
+-- a chain that holds the multiplicities ns, a plan that suits them, and zero free records, enough for the new rows
 pub record CanCommitChain (rows counts next : List ℕ) (head free : ℕ) (ns plan : List ℕ) : Type 0 where
   pub rows-long : length rows ≡ length next
   pub counts-long : length counts ≡ length next
@@ -54,6 +55,7 @@ pub record Rewritten (rows₀ counts₀ next₀ : List ℕ) (head free₀ : ℕ)
   pub frame : (x : ℕ) → 1 ≤ x → times x (chain next₀ head) + times x (chain next₀ free₀) ≡ 0 → (at rows x ≡ at rows₀ x) × (at counts x ≡ at counts₀ x)
   pub keep : (x y : ℕ) → 1 ≤ times x (chain next₀ head) → 1 ≤ times y records → at rows₀ x ≡ at rows y → x ≡ y
 
+-- the chain holds the multiplicities as planned; new rows took free records, gone rows gave theirs back
 pub record CommittedChain (rows₀ counts₀ next₀ : List ℕ) (head free₀ : ℕ) (ns plan rows counts next : List ℕ) (free : ℕ) : Type 0 where
   pub records : List ℕ
   pub rest : List ℕ
@@ -73,6 +75,7 @@ pub record Ready (s : Stored) : Type 0 where
   pub pool : Pool (s .next) (s .heads) (s .free)
   pub zero : freeZero s ≡ true
 
+-- stored column j holds the multiplicities ns, the plan suits them, and the free records are enough for the new rows
 pub record CanCommit (s : Stored) (j : ℕ) (ns plan : List ℕ) : Type 0 where
   pub ready : Ready s
   pub low : 1 ≤ j
@@ -91,6 +94,7 @@ pub record ChainStays (before after : Stored) (l : ℕ) : Type 0 where
   pub count : (x : ℕ) → Mem x (recordsOf before l) → at (after .counts) x ≡ at (before .counts) x
   pub next : (x : ℕ) → Mem x (recordsOf before l) → at (after .next) x ≡ at (before .next) x
 
+-- stored column j holds the multiplicities as planned; heads, parents and the chains of all other columns stay
 pub record Committed (s : Stored) (j : ℕ) (ns plan : List ℕ) (after : Stored) : Type 0 where
   pub heads : after .heads ≡ s .heads
   pub parents : after .parents ≡ s .parents

@@ -7,10 +7,11 @@ use lib.ListN.{length, replicate}
 use Rattle.lists.specs.Lists.{upFrom}
 use Rattle.pool.specs.Opening.{openedNexts, freeHead}
 
--- m numbers of a given first part, then 0
+-- rows 1 to m, then 0
 abbrev pub openedRows : (m f : ℕ) → List ℕ
 openedRows m f = upFrom 1 m ++ replicate (f - m) 0
 
+-- m ones, then 0
 abbrev pub openedCounts : (m f : ℕ) → List ℕ
 openedCounts m f = replicate m 1 ++ replicate (f - m) 0
 
@@ -23,6 +24,7 @@ pub record CanOpen (heads parents rows counts next : List ℕ) : Type 0 where
   pub rows-narrow : length heads < 65536
   pub records-narrow : length next < 4294967295
 
+-- the tables of L that an opening leaves: column j is record j alone, every parent is 0, and the free chain rises
 pub record Opened (m f : ℕ) (heads parents rows counts next : List ℕ) (free : ℕ) : Type 0 where
   pub heads-are : heads ≡ upFrom 1 m
   pub parents-are : parents ≡ replicate m 0

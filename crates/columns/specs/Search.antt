@@ -45,13 +45,13 @@ pub record CanSearch (rows next : List ℕ) (head : ℕ) : Type 0 where
   pub linked : Linked next head (chain next head)
   pub rows-long : length rows ≡ length next
 
--- and a multiplicity
+-- the same with a multiplicity for each of its records
 pub record CanRead (rows counts next : List ℕ) (head : ℕ) : Type 0 where
   pub linked : Linked next head (chain next head)
   pub rows-long : length rows ≡ length next
   pub counts-long : length counts ≡ length next
 
--- and rows that rise, so that the first record at or above a row decides
+-- the same with rows that rise, so that the first record at or above a row decides
 pub record CanCount (rows counts next : List ℕ) (head : ℕ) : Type 0 where
   pub read : CanRead rows counts next head
   pub rising : rises 1 65535 (valuesAt rows (chain next head)) ≡ true

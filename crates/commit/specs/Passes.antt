@@ -24,6 +24,7 @@ use Rattle.commit.specs.Writes.{labelsFor}
 abbrev pub endOf : (m : ℕ) (work : List ℕ) (next used : ℕ) → ℕ
 endOf m w next used = pick (eqb next 0) used (cell w (startsAt m) (next - 1))
 
+-- a work table with a plan start for each column, and next is a column or 0
 pub record CanEnd (m : ℕ) (work : List ℕ) (next : ℕ) : Type 0 where
   pub bound : m ≤ 4096
   pub long : planAt m ≤ length work
@@ -71,6 +72,7 @@ unfoldable pub wiped : (m : ℕ) → (columns work : List ℕ) → List ℕ
 wiped m [] w = w
 wiped m (j ∷ js) w = wiped m js (set (set (set w (marksAt m + (j - 1)) 0) (startsAt m + (j - 1)) 0) (nextAt m + (j - 1)) 0)
 
+-- a plan from L to L′ in the work table, and lists for touched columns and labels with a place for each column
 pub record CanReport (L L′ : List FactorColumn) (label : ℕ → ℕ) (columns parents work touched labels : List ℕ) (first used : ℕ) : Type 0 where
   pub m-bound : length parents ≤ 4096
   pub rising : rises 1 (length parents) columns ≡ true
@@ -80,6 +82,7 @@ pub record CanReport (L L′ : List FactorColumn) (label : ℕ → ℕ) (columns
   pub touched-long : length parents ≤ length touched
   pub labels-long : length parents ≤ length labels
 
+-- what a caller shows: that there is such a plan, from some factor to some other
 pub record SomeReport (parents work touched labels : List ℕ) (first : ℕ) : Type 0 where
   pub L : List FactorColumn
   pub L′ : List FactorColumn
@@ -88,6 +91,7 @@ pub record SomeReport (parents work touched labels : List ℕ) (first : ℕ) : T
   pub used : ℕ
   pub can : CanReport L L′ label columns parents work touched labels first used
 
+-- the planned columns have their parents of L′ and zero places in the work table, and the lists begin with columns and labels
 pub record Reported (L′ : List FactorColumn) (label : ℕ → ℕ) (columns parents work touched labels parents′ work′ touched′ labels′ : List ℕ) : Type 0 where
   pub parents-are : parents′ ≡ putAll (parentOf L′) columns parents
   pub work-is : work′ ≡ wiped (length parents) columns work

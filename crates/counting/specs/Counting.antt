@@ -29,6 +29,7 @@ unfoldable pub tallied : (counters rows : List ℕ) → List ℕ
 tallied ns [] = ns
 tallied ns (x ∷ xs) = tallied (put ns x (at ns x + 1)) xs
 
+-- the sum of all counters
 abbrev pub total : List ℕ → ℕ
 total ns = sumOf (λ (n : ℕ). n) ns
 
@@ -38,6 +39,7 @@ total ns = sumOf (λ (n : ℕ). n) ns
 abbrev pub linkedIn : (work : List ℕ) → (a b v i : ℕ) → List ℕ
 linkedIn w a b v i = pick (eqb v 0) w (set (set w (b + (i - 1)) (cell w a (v - 1))) (a + (v - 1)) i)
 
+-- the work table has a place for the head of v's list and one for the next of number i
 pub record CanLink (work : List ℕ) (a b v i : ℕ) : Type 0 where
   pub low : 1 ≤ i
   pub head-in : 1 ≤ v → a + (v - 1) < length work
@@ -61,6 +63,7 @@ pub record CanList (heads rows work : List ℕ) (a m b : ℕ) : Type 0 where
   pub long : b + length heads ≤ length work
   pub empty : IsZero work a m
 
+-- each row of 1 to m has the list of the ids whose column starts there, and only the two regions of these lists changed
 pub record Listed (heads rows work₀ work : List ℕ) (a m b : ℕ) : Type 0 where
   pub only : OnlyTwo a m b (length heads) work₀ work
   pub lists : ListedIn work a m b (length heads) (firstRow heads rows) (length heads)

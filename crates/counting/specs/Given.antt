@@ -34,6 +34,7 @@ pub record Sizes (m f : ℕ) (work : List ℕ) (j : ℕ) : Type 0 where
 
 -- ---- the children of column j
 
+-- the children of column j, as the work table lists them
 abbrev pub childrenIn : (work : List ℕ) → (m j : ℕ) → List ℕ
 childrenIn w m j = chain (region w (childNext m) m) (cell w (childHead m) (j - 1))
 
@@ -48,6 +49,7 @@ pub record Stashed (work : List ℕ) (m f c : ℕ) : Type 0 where
   pub within : cell work (stashStart m) c ≤ f
   pub rows-in : WithinRows m (stashed work m f c)
 
+-- the list of j's children ends, the rows of each stand in the stash, and 32 bits hold the counters
 pub record CanTallyChildren (work : List ℕ) (m f j : ℕ) : Type 0 where
   pub sizes : Sizes m f work j
   pub linked : Linked (region work (childNext m) m) (cell work (childHead m) (j - 1)) (childrenIn work m j)
@@ -56,14 +58,18 @@ pub record CanTallyChildren (work : List ℕ) (m f j : ℕ) : Type 0 where
 
 -- ---- the book columns that start at row j
 
+-- the rows that the book has under an id
 abbrev pub bookRows : (heads rows next : List ℕ) → (id : ℕ) → List ℕ
 bookRows hs rs ns i = columnFor (tablesOf hs rs ns) i .rows
 
+-- the ids whose column starts at row j, as the work table lists them
 abbrev pub startingIn : (work : List ℕ) → (m f n c j : ℕ) → List ℕ
 startingIn w m f n c j = chain (region w (columnNext m f c) n) (cell w (columnHead m) (j - 1))
 
+-- the list of the ids that start at j ends, each has at most 256 rows, all of 1 to m, and 32 bits hold the counters
 pub record CanTallyColumns (heads rows next work : List ℕ) (m f j : ℕ) : Type 0 where
   pub sizes : Sizes m f work j
+  -- ids and book records: loose bounds above document 01's 16,384 and 262,144, which only keep counts within 32 bits
   pub n-bound : length heads ≤ 200000
   pub c-bound : length next ≤ 4194304
   pub table-long : columnNext m f (length next) + length heads ≤ length work
@@ -74,13 +80,16 @@ pub record CanTallyColumns (heads rows next work : List ℕ) (m f j : ℕ) : Typ
 
 -- ---- all of it
 
+-- all rows that column j is given: j, those of each child but its first, those of each book column that starts at j
 abbrev pub givenIn : (heads rows next work : List ℕ) → (m f j : ℕ) → List ℕ
 givenIn hs rs ns w m f j =
     j ∷ (gathered (stashed w m f) (childrenIn w m j) ++ gathered (bookRows hs rs ns) (startingIn w m f (length hs) (length ns) j))
 
+-- zero counters, and what counting the children and the book columns asks
 pub record CanTallyAll (heads rows next work : List ℕ) (m f j : ℕ) : Type 0 where
   pub zero : IsZero work 0 m
   pub sizes : Sizes m f work j
+  -- ids and book records: loose bounds above document 01's 16,384 and 262,144, which only keep counts within 32 bits
   pub n-bound : length heads ≤ 200000
   pub c-bound : length next ≤ 4194304
   pub table-long : columnNext m f (length next) + length heads ≤ length work

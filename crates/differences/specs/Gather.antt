@@ -69,6 +69,7 @@ pub record Gathered (m : ℕ) (before after : List ℕ) (k : ℕ) (p : ℕ → B
 
 -- ---- one step of a gathering, over plain lists: k rows gs stand in the buffer, the rest of it is zero, and nothing else changed
 
+-- the buffer holds the k rows gs and then zeros, and the rest of the work table is as before
 pub record Gathering (m : ℕ) (before after : List ℕ) (k : ℕ) (gs : List ℕ) : Type 0 where
   pub only : OnlyIn (2 * m) m before after
   pub size : length gs ≡ k
@@ -77,6 +78,7 @@ pub record Gathering (m : ℕ) (before after : List ℕ) (k : ℕ) (gs : List �
 
 -- ---- a part of the plan passed up to a bound
 
+-- a part of the plan region, within the work table
 pub record CanPass (m : ℕ) (work : List ℕ) (from to : ℕ) : Type 0 where
   pub order : from ≤ to
   pub long : 8 * m + to ≤ length work
@@ -99,7 +101,7 @@ pub record CanReach (m : ℕ) (work : List ℕ) (k from to kind : ℕ) : Type 0 
   pub rest : IsZero work (2 * m + k) (m - k)
   pub room : k + length (rowsOfKind kind (planPart m work from to)) ≤ m
 
--- they are, up to a bound
+-- the rows of that kind are gathered, up to a bound
 pub record Reached (m : ℕ) (before after : List ℕ) (k from to kind bound k′ stop : ℕ) : Type 0 where
   pub passed : Passed m before from to bound stop
   pub gathering : Gathering m before after k′ (region before (2 * m) k ++ rowsOfKind kind (planPart m before from stop))

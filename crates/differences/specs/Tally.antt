@@ -11,6 +11,7 @@ use lib.ListN.{length}
 use Rattle.lists.specs.Lists.{pick, one, among, at, rises}
 use Rattle.workspace.specs.Regions.{region, IsZero}
 
+-- 2^30, which stands for a difference of 0
 abbrev pub base : ℕ
 base = 1073741824
 

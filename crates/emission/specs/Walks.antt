@@ -15,10 +15,11 @@ use Rattle.emission.specs.declared.Walk.{Walk}
 
 -- ---- the first row above j
 
--- so far, or 0, with one row more, larger than those before
+-- the first row above j so far, or 0, with one row more, larger than those before
 abbrev pub firstOver : (j first row : ℕ) → ℕ
 firstOver j p i = pick (eqb p 0 && ltb j i) i p
 
+-- the same with the rows of a rising list, one after another
 unfoldable pub firstOf : (j first : ℕ) → (rows : List ℕ) → ℕ
 firstOf j p [] = p
 firstOf j p (i ∷ is) = firstOf j (firstOver j p i) is
@@ -41,7 +42,7 @@ longer w = record { at = w .at; used = w .used + 1; size = w .size; parent = w .
 abbrev pub taking : (next : List ℕ) → Walk → Walk
 taking ns w = record { at = w .at; used = w .used; size = w .size; parent = w .parent; avail = at ns (w .avail); fits = w .fits }
 
--- there was none
+-- a free record was needed, and there was none
 abbrev pub full : Walk → Walk
 full w = record { at = w .at; used = w .used; size = w .size; parent = w .parent; avail = w .avail; fits = false }
 
@@ -72,10 +73,11 @@ pub record Passed (rows next : List ℕ) (j bound : ℕ) (before after : Walk) :
 abbrev pub storedAt : (rows counts : List ℕ) → (record₁ row : ℕ) → ℕ
 storedAt xs ns r i = pick (not (eqb r 0) && eqb (at xs r) i) (at ns r) 0
 
--- the walk with a row counted if it stays, and the record of a row that was there left behind
+-- the walk with a row counted if it stays: the new multiplicity is not 0
 abbrev pub counting : (j row new : ℕ) → Walk → Walk
 counting j i n w = pick (eqb n 0) w (stays j i w)
 
+-- the walk with the record at hand left behind if it is the row's: the old multiplicity is not 0
 abbrev pub advanced : (next : List ℕ) → (old : ℕ) → Walk → Walk
 advanced ns n w = pick (eqb n 0) w (onTo (at ns (w .at)) w)
 

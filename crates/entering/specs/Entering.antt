@@ -1,5 +1,5 @@
--- The columns of a batch enter the book or leave it: what that asks of a sound book and of the lists as they are lent, and what it leaves. Positions are
--- places of ids, from 0. Assumes nothing: these are definitions.
+-- The columns of a batch enter the book or leave it: what that asks of a sound book and of the lists as they are lent, and what it leaves. Places
+-- of ids are from 0. Assumes nothing: these are definitions.
 use mathlib.Core.Path.{_≡_}
 use mathlib.Core.Bool.{true, false}
 use mathlib.Core.List.{List, _++_}
@@ -30,6 +30,7 @@ pub record CanEnter (m : ℕ) (b : Book) (ids counts list : List ℕ) : Type 0 w
   pub long : total counts ≤ length list
   pub room : total counts ≤ length (chain (b .next) (b .free))
 
+-- what a caller shows: that the columns can enter, for some m
 pub record SomeEnter (b : Book) (ids counts list : List ℕ) : Type 0 where
   pub m : ℕ
   pub can : CanEnter m b ids counts list
@@ -53,6 +54,7 @@ pub record CanLeave (m : ℕ) (b : Book) (ids : List ℕ) : Type 0 where
   pub named : (k : ℕ) → k < length ids → (1 ≤ getD ids k 0) × (getD ids k 0 ≤ length (b .heads))
   pub booked : (k : ℕ) → k < length ids → isBooked (b .heads) (getD ids k 0) ≡ true
 
+-- what a caller shows: that the ids can leave, for some m
 pub record SomeLeave (b : Book) (ids : List ℕ) : Type 0 where
   pub m : ℕ
   pub can : CanLeave m b ids

@@ -18,5 +18,6 @@ pub record CanChange (s : State) (t : Tables) (work touched labels : List ℕ) :
   pub touched-long : s .limits .m ≤ length touched
   pub labels-long : s .limits .m ≤ length labels
 
+-- the numbers of a batch's answer, without the record
 abbrev pub changedAnswer : Changed → Answer
 changedAnswer x = record { number = x .number; position = x .position; touched = x .touched; entries = x .entries; grade = x .grade; value = 0 }

@@ -9,23 +9,28 @@ use Rattle.factor.specs.declared.Factor.{Factor}
 use Rattle.factor.specs.declared.Opening.{Opening}
 use Rattle.factor.specs.declared.Opening.the-variants.{Opened, Refused}
 
+-- the eight lent tables as one record
 abbrev pub tablesOf : (heads parents rows counts next bookHeads bookRows bookNext : List ℕ) → Tables
 tablesOf a b c d e f g h =
     record { heads = a; parents = b; rows = c; counts = d; next = e; bookHeads = f; bookRows = g; bookNext = h }
 
+-- the four sizes as one record
 abbrev pub limitsOf : (m n f c : ℕ) → Limits
 limitsOf m n f c = record { m = m; n = n; f = f; c = c }
 
+-- the record of sizes and free heads that a factor is
 abbrev pub stateOf : Factor → State
 stateOf x = record { limits = limitsOf (x .m) (x .n) (x .f) (x .c); free = x .free; bookFree = x .«book_free» }
 
+-- a factor with the tables that are lent to its entries
 abbrev pub worldOf : Factor → Tables → World
 worldOf x t = record { state = stateOf x; tables = t }
 
--- the lists of a call that has a work table alone, and of a question that writes a list
+-- the lists of a call that has a work table alone
 abbrev pub workOnly : (work : List ℕ) → Lent
 workOnly w = record { work = w; touched = []; labels = []; list = [] }
 
+-- the lists of a question that writes a list
 abbrev pub workAndList : (work list : List ℕ) → Lent
 workAndList w xs = record { work = w; touched = []; labels = []; list = xs }
 

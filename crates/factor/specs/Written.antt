@@ -23,6 +23,7 @@ pub record HoldColumns (m f : ℕ) (heads parents rows counts next : List ℕ) :
   pub rows-narrow : m < 65536
   pub records-narrow : f < 4294967295
 
+-- the tables of L hold m fresh columns and the free chain; places beyond the sizes are as lent
 pub record ColumnsWritten (m f : ℕ) (heads₀ parents₀ rows₀ counts₀ next₀ heads parents rows counts next : List ℕ) (free : ℕ) : Type 0 where
   pub heads-are : heads ≡ over (upFrom 1 m) heads₀
   pub parents-are : parents ≡ over (replicate m 0) parents₀
@@ -38,13 +39,14 @@ pub record HoldBook (n c : ℕ) (heads rows next : List ℕ) : Type 0 where
   pub next-long : c ≤ length next
   pub records-narrow : c < 4294967295
 
+-- the tables of the book hold no column and the free chain; places beyond the sizes are as lent
 pub record BookWritten (n c : ℕ) (heads₀ rows₀ next₀ heads rows next : List ℕ) (free : ℕ) : Type 0 where
   pub heads-are : heads ≡ over (replicate n 0) heads₀
   pub rows-are : rows ≡ over (replicate c 0) rows₀
   pub next-is : next ≡ over (openedNexts 0 c) next₀
   pub free-is : free ≡ freeHead 0 c
 
--- all of them
+-- all tables, the work table and the two free heads after an opening
 pub record Written (l : Limits) (t₀ : Tables) (work₀ : List ℕ) (t : Tables) (work : List ℕ) (free bookFree : ℕ) : Type 0 where
   pub tables : t ≡ openedTables l t₀
   pub left : work ≡ zeroFirst (workFor l) work₀

@@ -119,7 +119,7 @@ impl Factor {
         })
     }
 
-    // Whether the tables are sound: 0, or 6 for no.
+    // Whether the tables are sound: 0, or 6 for no; 1 to 5 refuse the call as any other.
     pub fn check(
         self,
         heads: &[u32],

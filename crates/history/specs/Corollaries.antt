@@ -21,6 +21,7 @@ use Rattle.calls.specs.Steps.{World, Transition}
 use Rattle.history.specs.Runs.{Event, Run, Plain, plainAfter, Begun}
 use Rattle.history.specs.Statements.{Stands}
 
+-- sound tables that hold the register's columns and its factor, with the chains of rows, and the numbers of any next call
 pub record Keeps (p : Plain) (v : World) : Type 0 where
   pub sound : isSound (v .state) (v .tables) ≡ true
   pub columns : (c : Column) → Mem c (registerOf (v .state) (v .tables) .columns) ↔ Mem c (p .register .columns)
@@ -28,10 +29,11 @@ pub record Keeps (p : Plain) (v : World) : Type 0 where
   pub chains : (i j : ℕ) → 1 ≤ j → j < i → i ≤ p .register .m → Stands v i j ↔ ChainTo (p .register .m) (live (p .register)) i j
   pub numbers : (k : Call) → callRefusal (v .state .limits) (registerOf (v .state) (v .tables)) k ≡ callRefusal (p .limits) (p .register) k
 
+-- after every list of calls from an accepted opening, record and tables are those of the register by then
 abbrev pub KeepsPattern : Type 0
 KeepsPattern = (u : World) (p : Plain) (es : List Event) (v : World) → Begun u p → Run u es v → Keeps (plainAfter p es) v
 
--- "a call that isn't an opening and isn't an accepted batch alters no factor column; an accepted batch only those reported"
+-- a call that is neither an opening nor an accepted batch alters no factor column; an accepted batch alters only those it reports
 abbrev pub AltersOnly : Type 0
 AltersOnly =
     (u : World) (p : Plain) (es : List Event) (v : World) (e : Event) (w : World) (j : ℕ) → Begun u p → Run u es v →
@@ -40,16 +42,19 @@ AltersOnly =
     ColumnStays (storedIn (v .state) (v .tables)) (storedIn (w .state) (w .tables)) j) ×
     ((e .answer .number ≢ 0) ⊎ (isBatch (e .call) ≡ false) → ColumnStays (storedIn (v .state) (v .tables)) (storedIn (w .state) (w .tables)) j)
 
--- the pattern of j is {j}, its children's without the child, and the live columns that start at j
+-- "of L_c without c for every child c of j": row i comes from child c
 abbrev pub fromChild : Register → (i j c : ℕ) → Bool
 fromChild r i j c = isChild (factorFor r) c j && inPattern (factorFor r) i c && not (eqb i c)
 
+-- "of every live column whose smallest row is j": column c is one and holds i
 abbrev pub startsHere : (i j : ℕ) → Column → Bool
 startsHere i j c = eqb (smallest c) j && holds c i
 
+-- row i is in the union of {j}, of the children's patterns without the child, and of the live columns that start at j
 abbrev pub isUnion : Register → (i j : ℕ) → Bool
 isUnion r i j = eqb i j || any (fromChild r i j) (upFrom 1 (r .m)) || any (startsHere i j) (live r)
 
+-- equation 3.1: row i from j on is in L_j exactly if it is in that union
 abbrev pub PatternsAre : Type 0
 PatternsAre =
     (r : Register) (i j : ℕ) → all (fitsRows (r .m)) (live r) ≡ true → 1 ≤ j → j ≤ i → i ≤ r .m → inPattern (factorFor r) i j ≡ isUnion r i j

@@ -1,6 +1,6 @@
 -- Document 01's listed example, as calls: "open 5 8 9 16", "add 1 1 3", "add 2 1 4", "add 3 2 3", with one more addition among them that is refused; then
--- a check, the path of 1 and "drop 2", which is case 4 of the instances; and what the listing shows of record and tables. Assumes nothing: these are
--- definitions.
+-- a check, every question and the removal of 2, which is case 4 of the instances; then two openings; and what the listing shows of record and tables.
+-- Assumes nothing: these are definitions.
 use mathlib.Core.List.{List, [], _∷_, _++_}
 use Prim.Native.Nat.{ℕ, zero, suc, _-_}
 use lib.ListN.{length, replicate}
@@ -47,7 +47,7 @@ lastCalls = opening (record { m = 0; n = 8; f = 9; c = 16 }) workLent ∷ openin
 abbrev pub answered : (number position touched entries grade : ℕ) → Answer
 answered n p t e g = record { number = n; position = p; touched = t; entries = e; grade = g; value = 0 }
 
--- "ok 2 3 1", "no 10 1", "ok 3 6 1", "ok 3 5 1"
+-- as the listing program prints them: ok 2 3 1, no 10 1, ok 3 6 1, ok 3 5 1
 abbrev pub listedAnswers : List Answer
 listedAnswers = answered 0 0 2 3 1 ∷ answered 10 1 0 0 0 ∷ answered 0 0 3 6 1 ∷ answered 0 0 3 5 1 ∷ []
 
@@ -63,19 +63,23 @@ laterAnswers = answered 0 0 0 0 0 ∷ valued 3 ∷ valued 3 ∷ valued 1 ∷ val
 abbrev pub lastAnswers : List Answer
 lastAnswers = answered 1 0 0 0 0 ∷ answered 0 0 0 0 0 ∷ []
 
--- the lists for touched columns and for labels that each call leaves, and the lists of questions
+-- the lists for touched columns that the listed calls leave
 abbrev pub listedTouched : List (List ℕ)
 listedTouched = (1 ∷ 3 ∷ 9 ∷ 9 ∷ 9 ∷ 9 ∷ []) ∷ listLent ∷ (1 ∷ 3 ∷ 4 ∷ 9 ∷ 9 ∷ 9 ∷ []) ∷ (2 ∷ 3 ∷ 4 ∷ 9 ∷ 9 ∷ 9 ∷ []) ∷ []
 
+-- the lists for labels that the listed calls leave
 abbrev pub listedLabels : List (List ℕ)
 listedLabels = (1 ∷ 1 ∷ 9 ∷ 9 ∷ 9 ∷ 9 ∷ []) ∷ listLent ∷ (1 ∷ 1 ∷ 1 ∷ 9 ∷ 9 ∷ 9 ∷ []) ∷ (1 ∷ 1 ∷ 1 ∷ 9 ∷ 9 ∷ 9 ∷ []) ∷ []
 
+-- the lists for touched columns that the later calls leave
 abbrev pub laterTouched : List (List ℕ)
 laterTouched = [] ∷ [] ∷ [] ∷ [] ∷ [] ∷ (1 ∷ 3 ∷ 4 ∷ 9 ∷ 9 ∷ 9 ∷ []) ∷ []
 
+-- the lists for labels that the later calls leave
 abbrev pub laterLabels : List (List ℕ)
 laterLabels = [] ∷ [] ∷ [] ∷ [] ∷ [] ∷ (1 ∷ 1 ∷ 1 ∷ 9 ∷ 9 ∷ 9 ∷ []) ∷ []
 
+-- the lists of questions that the later calls leave
 abbrev pub laterLists : List (List ℕ)
 laterLists = [] ∷ (9 ∷ 1 ∷ 3 ∷ 4 ∷ 9 ∷ 9 ∷ []) ∷ (1 ∷ 3 ∷ 3 ∷ 1 ∷ 4 ∷ 1 ∷ []) ∷ [] ∷ [] ∷ [] ∷ []
 
@@ -83,29 +87,36 @@ laterLists = [] ∷ (9 ∷ 1 ∷ 3 ∷ 4 ∷ 9 ∷ 9 ∷ []) ∷ (1 ∷ 3 ∷ 3 
 abbrev pub workLeft : (w : ℕ) → List ℕ
 workLeft w = replicate w 0 ++ replicate (1125 - w) 7
 
+-- the work tables that the last two calls leave
 abbrev pub lastWork : List (List ℕ)
 lastWork = workLent ∷ workLeft 1042 ∷ []
 
+-- the calls of a run
 unfoldable pub eventCalls : List Event → List Call
 eventCalls [] = []
 eventCalls (e ∷ es) = e .call ∷ eventCalls es
 
+-- the answers of a run
 unfoldable pub eventAnswers : List Event → List Answer
 eventAnswers [] = []
 eventAnswers (e ∷ es) = e .answer ∷ eventAnswers es
 
+-- the lists for touched columns that the calls of a run left
 unfoldable pub eventTouched : List Event → List (List ℕ)
 eventTouched [] = []
 eventTouched (e ∷ es) = e .left .touched ∷ eventTouched es
 
+-- the lists for labels that the calls of a run left
 unfoldable pub eventLabels : List Event → List (List ℕ)
 eventLabels [] = []
 eventLabels (e ∷ es) = e .left .labels ∷ eventLabels es
 
+-- the work table that each event leaves
 unfoldable pub eventWork : List Event → List (List ℕ)
 eventWork [] = []
 eventWork (e ∷ es) = e .left .work ∷ eventWork es
 
+-- the lists of questions that the calls of a run left
 unfoldable pub eventLists : List Event → List (List ℕ)
 eventLists [] = []
 eventLists (e ∷ es) = e .left .list ∷ eventLists es
@@ -115,6 +126,7 @@ unfoldable pub shownFrom : Stored → (j : ℕ) → ℕ → List (List ℕ)
 shownFrom s j zero = []
 shownFrom s j (suc n) = (j ∷ at (s .parents) j ∷ pairsOf (valuesAt (s .rows) (recordsOf s j)) (valuesAt (s .counts) (recordsOf s j))) ∷ shownFrom s (suc j) n
 
+-- "show prints a line for each j": all of them, from record and tables
 abbrev pub shown : World → List (List ℕ)
 shown v = shownFrom (storedIn (v .state) (v .tables)) 1 (v .state .limits .m)
 
@@ -123,7 +135,7 @@ abbrev pub listing : List (List ℕ)
 listing =
     (1 ∷ 3 ∷ 1 ∷ 3 ∷ 3 ∷ 1 ∷ 4 ∷ 1 ∷ []) ∷ (2 ∷ 3 ∷ 2 ∷ 2 ∷ 3 ∷ 1 ∷ []) ∷ (3 ∷ 4 ∷ 3 ∷ 3 ∷ 4 ∷ 1 ∷ []) ∷ (4 ∷ 0 ∷ 4 ∷ 2 ∷ []) ∷ (5 ∷ 0 ∷ 5 ∷ 1 ∷ []) ∷ []
 
--- and after "drop 2"
+-- the listing after the removal of 2
 abbrev pub laterListing : List (List ℕ)
 laterListing = (1 ∷ 3 ∷ 1 ∷ 2 ∷ 3 ∷ 1 ∷ []) ∷ (2 ∷ 3 ∷ 2 ∷ 2 ∷ 3 ∷ 1 ∷ []) ∷ (3 ∷ 0 ∷ 3 ∷ 3 ∷ []) ∷ (4 ∷ 0 ∷ 4 ∷ 1 ∷ []) ∷ (5 ∷ 0 ∷ 5 ∷ 1 ∷ []) ∷ []
 

@@ -18,6 +18,7 @@ use Rattle.history.specs.Example.{answered}
 
 -- ---- the calls: lent lists play no part here
 
+-- sizes with given m and F, and with ids and book records enough for every instance
 abbrev pub sizesOf : (m f : ℕ) → Limits
 sizesOf m f = record { m = m; n = 8; f = f; c = 64 }
 
@@ -25,9 +26,11 @@ sizesOf m f = record { m = m; n = 8; f = f; c = 64 }
 abbrev pub opened : (m : ℕ) → Register
 opened m = registerAfter (record { m = 0; columns = [] }) (opening (sizesOf m 0) [])
 
+-- an addition with no list lent
 abbrev pub adds : (ids counts rows : List ℕ) → Call
 adds is ns rs = adding is ns rs [] [] []
 
+-- a removal with no list lent
 abbrev pub removes : (ids : List ℕ) → Call
 removes is = removing is [] [] []
 
@@ -45,10 +48,11 @@ three = adds (1 ∷ 2 ∷ 3 ∷ []) (2 ∷ 2 ∷ 2 ∷ []) (1 ∷ 3 ∷ 1 ∷ 4 
 abbrev pub oneLeft : Register
 oneLeft = registerAfter (registerAfter (opened 3) (adds (4 ∷ 7 ∷ []) (2 ∷ 2 ∷ []) (1 ∷ 3 ∷ 1 ∷ 3 ∷ []))) (removes (7 ∷ []))
 
--- {1, .., 22}, {23} and {24}: 253 + 1 + 1 entries; {1, .., 22} and {23, 24}: 253 + 3
+-- {1, .., 22}, {23} and {24}: 253 + 1 + 1 entries
 abbrev pub entries255 : Call
 entries255 = adds (1 ∷ 2 ∷ 3 ∷ []) (22 ∷ 1 ∷ 1 ∷ []) (upFrom 1 24)
 
+-- {1, .., 22} and {23, 24}: 253 + 3 entries
 abbrev pub entries256 : Call
 entries256 = adds (1 ∷ 2 ∷ []) (22 ∷ 2 ∷ []) (upFrom 1 24)
 
@@ -58,6 +62,7 @@ ColumnIs r j p es = (parentOf (factorFor r) j ≡ p) × (columnList r j ≡ es)
 
 -- ---- THE STARRED INSTANCES
 
+-- "The starred instances are one table, proved by one theorem over the definitions."
 pub record StarredInstances : Type 0 where
   -- 1. "Fresh, m = 1: L_1 is 1:1, parent 0"
   pub fresh : ColumnIs (opened 1) 1 0 (1 ∷ 1 ∷ [])
@@ -96,6 +101,7 @@ pub record StarredInstances : Type 0 where
 
 -- ---- the ninth: run by a test program, and computed here too
 
+-- the instance that has no star
 pub record NinthInstance : Type 0 where
   -- "Removing every column gives the fresh patterns"
   pub emptied : factorFor (registerAfter listed (removes (1 ∷ 2 ∷ 3 ∷ []))) ≡ factorFor (opened 5)

@@ -17,7 +17,7 @@ pub record Event : Type 0 where
   pub answer : Answer
   pub left : Lent
 
--- "Each call gets the tables, and all but an opening get the record, as the calls before it left them. .. Nobody else writes these meanwhile."
+-- "Each call gets the tables, and all but an opening get the record, as the calls before it left them: .. Nobody else writes these meanwhile."
 unfoldable pub Run : World → List Event → World → Type 0
 Run u [] v = v ≡ u
 Run u (e ∷ es) v = (x : World) × (Transition u (e .call) (e .answer) (e .left) x × Run x es v)
@@ -27,11 +27,13 @@ pub record Plain : Type 0 where
   pub limits : Limits
   pub register : Register
 
+-- the register after one more call: "A refused call, a check or a question: nothing changes."
 abbrev pub plainNext : Plain → Event → Plain
 plainNext p e =
     pick (eqb (e .answer .number) 0)
     (record { limits = limitsAfter (p .limits) (e .call); register = registerAfter (p .register) (e .call) }) p
 
+-- the register after a list of calls
 unfoldable pub plainAfter : Plain → List Event → Plain
 plainAfter p [] = p
 plainAfter p (e ∷ es) = plainAfter (plainNext p e) es

@@ -30,6 +30,7 @@ abbrev pub Stands : World → (i j : ℕ) → Type 0
 Stands v i j =
     Mem i (valuesAt (storedIn (v .state) (v .tables) .rows) (recordsOf (storedIn (v .state) (v .tables)) j))
 
+-- what holds of record and tables after a list of calls, against the register by then
 pub record Consistent (p : Plain) (v : World) : Type 0 where
   -- the sizes are in range, the record has them, and the tables are long enough for them
   pub in-range : sizesRefusal bounds (p .limits) ≡ accepted
@@ -53,6 +54,7 @@ pub record Consistent (p : Plain) (v : World) : Type 0 where
 abbrev pub plainRefusal : Plain → Tables → Call → Refusal
 plainRefusal p t k = orElse (earlyRefusal (p .limits) t k) (callRefusal (p .limits) (p .register) k)
 
+-- what holds of one call, from world u to world v, against the register before it
 pub record Justified (p : Plain) (u : World) (e : Event) (v : World) : Type 0 where
   -- number, position and every other number, from the register
   pub answer : e .answer ≡
@@ -80,6 +82,7 @@ pub record Justified (p : Plain) (u : World) (e : Event) (v : World) : Type 0 wh
 
 -- ---- DEMAND 3, one claim about a list of calls from an accepted opening, refused ones among them
 
+-- "Demand 3 is a single claim about a list of calls": what holds after it, and of every call in it
 abbrev pub Demand3 : Type 0
 Demand3 =
     (u : World) (p : Plain) (es : List Event) (v : World) → Begun u p → Run u es v →
@@ -115,6 +118,7 @@ OpeningSound =
 -- ---- a run that is, so that nothing above is empty: the listed example, with a refused addition among the others; then a check, every question and a
 -- removal; then a refused and an accepted opening
 
+-- the run, with its calls, answers, lists and listings as Example.antt has them
 pub record ConcreteRun : Type 0 where
   pub start : World
   pub plain : Plain

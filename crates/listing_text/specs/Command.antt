@@ -26,6 +26,7 @@ laterWords (b ∷ bs) = pick (eqb b 32) (firstWord bs ∷ laterWords bs) (laterW
 
 -- ---- numbers: a digit or more, and a value below 2^32
 
+-- a byte is a digit
 abbrev pub isDigit : ℕ → Bool
 isDigit b = isIn 48 57 b
 
@@ -34,9 +35,11 @@ unfoldable pub valueAfter : ℕ → List ℕ → ℕ
 valueAfter v [] = v
 valueAfter v (d ∷ ds) = valueAfter (10 * v + (d - 48)) ds
 
+-- the value of a word of digits, decimal
 abbrev pub valueOf : List ℕ → ℕ
 valueOf w = valueAfter 0 w
 
+-- "A number is one digit or more"; "a number not below 2^32 gets 19"
 unfoldable pub isNumber : List ℕ → Bool
 isNumber w = ltb 0 (length w) && (all isDigit w && ltb (valueOf w) (2 ^ 32))
 
@@ -54,6 +57,7 @@ openOf ns = pick (eqb (length ns) 4) (Open (getD ns 0 0) (getD ns 1 0) (getD ns 
 unfoldable pub addOf : (numbers : List ℕ) → Command
 addOf ns = pick (leb 2 (length ns)) (Add (getD ns 0 0) (length ns - 1)) Unknown
 
+-- the rows of an add line: its numbers but the id
 unfoldable pub addedRows : (numbers : List ℕ) → List ℕ
 addedRows ns = pick (leb 2 (length ns)) (drop 1 ns) []
 
@@ -65,16 +69,19 @@ dropOf ns = pick (eqb (length ns) 1) (Drop (getD ns 0 0)) Unknown
 unfoldable pub showOf : (later : List (List ℕ)) → Command
 showOf ws = pick (eqb (length ws) 0) Show Unknown
 
--- the four names, in bytes
+-- `open`, in bytes
 abbrev pub openWord : List ℕ
 openWord = 111 ∷ 112 ∷ 101 ∷ 110 ∷ []
 
+-- `add`, in bytes
 abbrev pub addWord : List ℕ
 addWord = 97 ∷ 100 ∷ 100 ∷ []
 
+-- `drop`, in bytes
 abbrev pub dropWord : List ℕ
 dropWord = 100 ∷ 114 ∷ 111 ∷ 112 ∷ []
 
+-- `show`, in bytes
 abbrev pub showWord : List ℕ
 showWord = 115 ∷ 104 ∷ 111 ∷ 119 ∷ []
 

@@ -21,6 +21,7 @@ decimal n = digits (suc n) n
 
 -- ---- lines
 
+-- the byte that ends a line
 abbrev pub newline : List ℕ
 newline = 10 ∷ []
 

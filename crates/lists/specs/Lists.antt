@@ -8,6 +8,7 @@ use lib.ListN.{length, getD, set, drop}
 
 -- ---- choices and tests
 
+-- the first where a test holds, otherwise the second
 abbrev pub pick : {A : Type 0} → Bool → A → A → A
 pick true x y = x
 pick false x y = y
@@ -16,31 +17,38 @@ pick false x y = y
 abbrev pub one : Bool → ℕ
 one z = pick z 1 0
 
+-- a number lies within two bounds, both included
 abbrev pub isIn : (low high x : ℕ) → Bool
 isIn a b x = leb a x && leb x b
 
 -- ---- members
 
+-- a is an element of a list
 pub data Mem {A : Type 0} (a : A) : List A → Type 0 where
   first : {xs : List A} → Mem a (a ∷ xs)
   later : {x : A} {xs : List A} → Mem a xs → Mem a (x ∷ xs)
 
+-- every element passes a test
 unfoldable pub all : {A : Type 0} → (A → Bool) → List A → Bool
 all f [] = true
 all f (x ∷ xs) = f x && all f xs
 
+-- some element passes a test
 unfoldable pub any : {A : Type 0} → (A → Bool) → List A → Bool
 any f [] = false
 any f (x ∷ xs) = f x || any f xs
 
+-- a number stands in a list
 unfoldable pub among : ℕ → List ℕ → Bool
 among x [] = false
 among x (y ∷ ys) = eqb x y || among x ys
 
+-- no number stands in a list twice
 unfoldable pub noRepeats : List ℕ → Bool
 noRepeats [] = true
 noRepeats (x ∷ xs) = not (among x xs) && noRepeats xs
 
+-- every number in a list is 0
 unfoldable pub allZero : List ℕ → Bool
 allZero [] = true
 allZero (x ∷ xs) = eqb x 0 && allZero xs
@@ -59,23 +67,27 @@ unfoldable pub count : (ℕ → Bool) → ℕ → ℕ
 count f zero = 0
 count f (suc n) = count f n + one (f (suc n))
 
--- how often a number stands in a list; "in" is 1 ≤ times, "not in" times ≡ 0, "no repeats" times ≤ 1 for every number
+-- how often a number stands in a list: in it is 1 ≤ times, not in it times ≡ 0, no repeats times ≤ 1 for every number
 unfoldable pub times : ℕ → List ℕ → ℕ
 times x [] = 0
 times x (y ∷ ys) = one (eqb x y) + times x ys
 
+-- the sum of a value over all elements
 unfoldable pub sumOf : {A : Type 0} → (A → ℕ) → List A → ℕ
 sumOf f [] = 0
 sumOf f (x ∷ xs) = f x + sumOf f xs
 
 -- ---- numbered places: what belongs to number k stands at place k − 1. Numbers are from 1: number 0 would read number 1, so every use excludes it
 
+-- what a list has for a number; 0 past its end
 abbrev pub at : List ℕ → (number : ℕ) → ℕ
 at xs k = getD xs (k - 1) 0
 
+-- a list with a value put in for a number
 abbrev pub put : List ℕ → (number value : ℕ) → List ℕ
 put xs k v = set xs (k - 1) v
 
+-- what a list has for each of some numbers, in their order
 unfoldable pub valuesAt : List ℕ → (numbers : List ℕ) → List ℕ
 valuesAt xs [] = []
 valuesAt xs (r ∷ rs) = at xs r ∷ valuesAt xs rs

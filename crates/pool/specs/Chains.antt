@@ -17,6 +17,7 @@ chainFrom (suc n) ns r = pick (isIn 1 (length ns) r) (r ∷ chainFrom n ns (at n
 abbrev pub chain : (next : List ℕ) → (head : ℕ) → List ℕ
 chain ns h = chainFrom (length ns) ns h
 
+-- the last of the records from r on; r itself where no other follows
 unfoldable pub lastOf : ℕ → List ℕ → ℕ
 lastOf r [] = r
 lastOf r (x ∷ xs) = lastOf x xs

@@ -10,6 +10,7 @@ use Rattle.lists.specs.Lists.{pick, upFrom}
 abbrev pub freeNexts : (used k : ℕ) → List ℕ
 freeNexts a k = pick (ltb a k) (upFrom (a + 2) (k - a - 1) ++ (0 ∷ [])) []
 
+-- the head of the free chain: the first record past the used ones, or 0 if all are used
 abbrev pub freeHead : (used k : ℕ) → ℕ
 freeHead a k = pick (ltb a k) (suc a) 0
 

@@ -21,6 +21,7 @@ unfoldable pub fresh : (marks records : List ℕ) → Bool
 fresh ms [] = true
 fresh ms (r ∷ rs) = eqb (at ms r) 0 && fresh (put ms r 1) rs
 
+-- the marks with a mark at each of some records
 unfoldable pub markAll : (marks records : List ℕ) → List ℕ
 markAll ms [] = ms
 markAll ms (r ∷ rs) = markAll (put ms r 1) rs
@@ -29,19 +30,22 @@ markAll ms (r ∷ rs) = markAll (put ms r 1) rs
 abbrev pub walks : (next marks : List ℕ) → (met head : ℕ) → Bool
 walks ns ms n h = ends ns h && fresh ms (chain ns h) && leb (n + length (chain ns h)) (length ns)
 
--- the answer of one visit: the record after it, and the marks with one more
+-- the answer of one visit: the record after it, or that the chain is broken
 abbrev pub visitAnswer : Bool → (next : List ℕ) → (r : ℕ) → Visit
 visitAnswer true ns r = Next (record { 0 = at ns r })
 visitAnswer false ns r = Broken
 
+-- after one visit: its answer, and one mark more if the record could be met
 pub record Visited (next marks₀ marks : List ℕ) (met r : ℕ) (a : Visit) : Type 0 where
   pub answer : a ≡ visitAnswer (canMeet next marks₀ met r) next r
   pub marked : marks ≡ pick (canMeet next marks₀ met r) (put marks₀ r 1) marks₀
 
+-- the answer of a walk: the number of records met by its end, or that it was cut short
 abbrev pub walkAnswer : Bool → (met : ℕ) → Walk
 walkAnswer true n = Ended n
 walkAnswer false n = Cut
 
+-- after the walk of a chain: its answer and, if it was not cut short, a mark at each record of the chain
 pub record Walked (next marks₀ marks : List ℕ) (met head : ℕ) (a : Walk) : Type 0 where
   pub answer : a ≡ walkAnswer (walks next marks₀ met head) (met + length (chain next head))
   pub marked : walks next marks₀ met head ≡ true → marks ≡ markAll marks₀ (chain next head)

@@ -18,10 +18,12 @@ chains ns (h ∷ hs) = chain ns h ++ chains ns hs
 abbrev pub isWhole : (next heads : List ℕ) → (free : ℕ) → Bool
 isWhole ns hs f = all (ends ns) (f ∷ hs) && eqb (length (chains ns (f ∷ hs))) (length ns) && noRepeats (chains ns (f ∷ hs))
 
+-- the chain from each head lies in the pool and ends
 unfoldable pub AllLinked : (next heads : List ℕ) → Type 0
 AllLinked ns [] = Unit {0}
 AllLinked ns (h ∷ hs) = Linked ns h (chain ns h) × AllLinked ns hs
 
+-- a whole pool, as facts: chains that end, no record in them or the free chain twice, and together all records
 pub record Pool (next heads : List ℕ) (free : ℕ) : Type 0 where
   pub linked : AllLinked next heads
   pub unused : Linked next free (chain next free)

@@ -50,15 +50,18 @@ pub record CanFollow (parents : List ℕ) : Type 0 where
 
 -- ---- the reply, and the list afterwards
 
+-- the answer that a register gives to a question, accepted or refused
 abbrev pub repliedTo : (l : Limits) → Register → Call → Answer
 repliedTo l r k = pick (isAccepted (callRefusal l r k)) (acceptedBy r k) (refusedBy (callRefusal l r k))
 
+-- the question's list afterwards: with the answer written if it is accepted, otherwise as lent
 abbrev pub listLeft : (l : Limits) → Register → Call → List ℕ
 listLeft l r k = pick (isAccepted (callRefusal l r k)) (listsAfter r k [] .list) (lentTo k .list)
 
--- for every register whose tables these are, whatever the limits
+-- the reply is what each register whose tables these are says, whatever the limits
 abbrev pub Replies : (Register → Type 0) → Call → Reply → Type 0
 Replies Fits k a = (l : Limits) (r : Register) → Fits r → replyOf a ≡ repliedTo l r k
 
+-- the list is left as each register whose tables these are says, whatever the limits
 abbrev pub Leaves : (Register → Type 0) → Call → (list : List ℕ) → Type 0
 Leaves Fits k xs = (l : Limits) (r : Register) → Fits r → xs ≡ listLeft l r k

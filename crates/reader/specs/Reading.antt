@@ -14,7 +14,7 @@ use Rattle.reader.specs.declared.Entry.the-variants.{Of, End}
 
 -- ---- one reading
 
--- a record of all three tables that is not free: "free records hold row 0"
+-- a record of all three tables, which are the slices that a reader holds, and not a free one: "Unused records .. hold row and multiplicity 0"
 abbrev pub isRead : (rows counts next : List ℕ) → (r : ℕ) → Bool
 isRead xs cs ns r = isIn 1 (length xs) r && leb r (length cs) && leb r (length ns) && not (eqb (at xs r) 0)
 
@@ -41,10 +41,12 @@ pub data Given : Type 0 where
   entry : (row count : ℕ) → Given
   end : Given
 
+-- what a reading gives, without the record to read next
 abbrev pub given : Entry → Given
 given (Of row count r) = entry row count
 given End = end
 
+-- what each of some readings gives
 unfoldable pub allGiven : List Entry → List Given
 allGiven [] = []
 allGiven (e ∷ es) = given e ∷ allGiven es
@@ -55,6 +57,6 @@ entriesOf [] cs = []
 entriesOf (x ∷ xs) [] = []
 entriesOf (x ∷ xs) (c ∷ cs) = entry x c ∷ entriesOf xs cs
 
--- the entries of a factor column, "row and multiplicity", rising
+-- the entries of a factor column, "row then multiplicity", rising
 abbrev pub entriesIn : FactorColumn → List Given
 entriesIn f = entriesOf (patternOf f) (multiplicitiesOf f)

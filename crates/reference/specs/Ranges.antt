@@ -2,9 +2,11 @@
 -- results are held against the product's by a program. Assumes nothing.
 use Prim.Native.Nat.{ℕ, _≤_}
 
+-- a row that the tables serve
 abbrev pub IsRow : ℕ → Type 0
 IsRow j = (1 ≤ j) × (j ≤ 64)
 
+-- an id that the tables serve
 abbrev pub IsId : ℕ → Type 0
 IsId i = (1 ≤ i) × (i ≤ 256)
 

@@ -11,12 +11,15 @@ use Rattle.lists.specs.Lists.{pick}
 use Rattle.tables.specs.Tables.{Tables, Limits}
 use Rattle.calls.specs.Refusals.{Bounds, isAccepted, roomFor}
 
+-- the four sizes as one record
 abbrev pub limits : (m n f c : ℕ) → Limits
 limits m n f c = record { m = m; n = n; f = f; c = c }
 
+-- the four largest sizes as one record
 abbrev pub largest : (m n f c : ℕ) → Bounds
 largest m n f c = record { m = m; n = n; f = f; c = c }
 
+-- the eight lent tables as one record
 abbrev pub lent : (heads parents rows counts next bookHeads bookRows bookNext : List ℕ) → Tables
 lent hs ps rs cs ns bh br bn =
     record { heads = hs; parents = ps; rows = rs; counts = cs; next = ns; bookHeads = bh; bookRows = br; bookNext = bn }
@@ -27,13 +30,16 @@ defaultRecords m f = pick (leb m 268435455 && eqb f 0) (16 * m) f
 
 -- ---- long enough: the tables of L, those of the book, a batch's lists
 
+-- the tables of L have places for m heads and parents, and for F rows, multiplicities and nexts
 abbrev pub factorLong : (m f : ℕ) → (heads parents rows counts next : List ℕ) → Bool
 factorLong m f hs ps rs cs ns =
     leb m (length hs) && leb m (length ps) && leb f (length rs) && leb f (length cs) && leb f (length ns)
 
+-- the tables of the book have places for n heads, and for C rows and nexts
 abbrev pub bookLong : (n c : ℕ) → (heads rows next : List ℕ) → Bool
 bookLong n c hs rs ns = leb n (length hs) && leb c (length rs) && leb c (length ns)
 
+-- "The lists for touched columns and labels .. need m places each"
 abbrev pub listsLong : (m : ℕ) → (touched labels : List ℕ) → Bool
 listsLong m ts ls = leb m (length ts) && leb m (length ls)
 

@@ -28,6 +28,7 @@ zeroChain rs vs ns f = allZero (valuesAt rs (chain ns f)) && allZero (valuesAt v
 
 -- ---- one entry, against the counters that are the first m places
 
+-- place p, where the row will stand, lies in the work table past the counters
 pub record CanCheckEntry (work : List ℕ) (m p : ℕ) : Type 0 where
   pub before : m ≤ p
   pub inside : p < length work
@@ -39,6 +40,7 @@ pub record EntryChecked (work₀ work : List ℕ) (m p before row count : ℕ) (
 
 -- ---- a column's chain
 
+-- a row and a multiplicity for each record, room for marks and stash, and given is the sum of the counters
 pub record CanCheck (rows counts next work : List ℕ) (m met given : ℕ) : Type 0 where
   pub rows-long : length rows ≡ length next
   pub counts-long : length counts ≡ length next
@@ -48,6 +50,7 @@ pub record CanCheck (rows counts next work : List ℕ) (m met given : ℕ) : Typ
   pub within : met ≤ length next
   pub given-is : given ≡ total (region work 0 m)
 
+-- the marks of the records of L in the work table
 abbrev pub marksIn : (work : List ℕ) → (m f : ℕ) → List ℕ
 marksIn w m f = region w (factorMarks m) f
 
@@ -62,6 +65,7 @@ pub record ChainRead (rows next work₀ work : List ℕ) (m met head : ℕ) : Ty
   pub stash : region work (rowStash m (length next) + met) (length (chain next head)) ≡ valuesAt rows (chain next head)
   pub stash-before : (k : ℕ) → k < met → cell work (rowStash m (length next)) k ≡ cell work₀ (rowStash m (length next)) k
 
+-- after the walk of a column's chain: whether it fits, and what it leaves if so; only counters, marks and stash changed
 pub record Checked (rows counts next work₀ work : List ℕ) (m met head : ℕ) (a : Walk) : Type 0 where
   pub only : OnlyTwo 0 m (factorMarks m) (2 * length next) work₀ work
   pub answer : a ≡ walkAnswer (chainFits rows counts next work₀ m met head) (met + length (chain next head))

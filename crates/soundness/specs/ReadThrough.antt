@@ -14,8 +14,10 @@ pub record CanReadThrough (s : Stored) (b : book.Book) (work : List ℕ) : Type 
   pub booked : book.Sized b
   pub some : 1 ≤ length (s .heads)
   pub m-bound : length (s .heads) ≤ 4096
+  -- of ids: a loose bound above document 01's 16,384, which only keeps counts within 32 bits
   pub n-bound : length (b .heads) ≤ 200000
   pub f-bound : length (s .next) ≤ 1048576
+  -- of book records: a loose bound above document 01's 262,144, likewise
   pub c-bound : length (b .next) ≤ 4194304
   pub long : workNeed (length (s .heads)) (length (b .heads)) (length (s .next)) (length (b .next)) ≤ length work
   pub zero : IsZero work 0 (workNeed (length (s .heads)) (length (b .heads)) (length (s .next)) (length (b .next)))

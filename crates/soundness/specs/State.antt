@@ -20,6 +20,7 @@ use Rattle.tables.specs.Stored.{Stored, Sized, recordsOf, holdsColumn, isSoundF
 use Rattle.counting.specs.Counting.{ListedIn}
 use Rattle.soundness.specs.Checking.{marksIn}
 
+-- the tables of L with their free head as one record
 abbrev pub storedOf : (heads parents rows counts next : List ℕ) → (free : ℕ) → Stored
 storedOf hs ps rs vs ns f = record { heads = hs; parents = ps; rows = rs; counts = vs; next = ns; free = f }
 
@@ -29,8 +30,10 @@ pub record Sizes (s : Stored) (b : book.Book) (work : List ℕ) : Type 0 where
   pub booked : book.Sized b
   pub some : 1 ≤ length (s .heads)
   pub m-bound : length (s .heads) ≤ 4096
+  -- of ids: a loose bound above document 01's 16,384, which only keeps counts within 32 bits
   pub n-bound : length (b .heads) ≤ 200000
   pub f-bound : length (s .next) ≤ 1048576
+  -- of book records: a loose bound above document 01's 262,144, likewise
   pub c-bound : length (b .next) ≤ 4194304
   pub long : workNeed (length (s .heads)) (length (b .heads)) (length (s .next)) (length (b .next)) ≤ length work
 
@@ -38,6 +41,7 @@ pub record Sizes (s : Stored) (b : book.Book) (work : List ℕ) : Type 0 where
 abbrev pub walked : Stored → (j : ℕ) → List ℕ
 walked s j = s .free ∷ take (j - 1) (s .heads)
 
+-- the chains from these heads end and share no record; met is the number of their records, and just these are marked
 pub record Walked (s : Stored) (marks : List ℕ) (j met : ℕ) : Type 0 where
   pub marks₀ : List ℕ
   pub none : NoMarks (s .next) marks₀
@@ -56,6 +60,7 @@ pub record Stash (s : Stored) (work : List ℕ) (j met : ℕ) : Type 0 where
   pub rows-are : (c : ℕ) → 1 ≤ c → c < j →
       region work (rowStash (length (s .heads)) (length (s .next)) + cell work (stashStart (length (s .heads))) (c - 1)) (length (recordsOf s c)) ≡ valuesAt (s .rows) (recordsOf s c)
 
+-- all that is known before column j is read
 pub record State (s : Stored) (b : book.Book) (work : List ℕ) (j met : ℕ) : Type 0 where
   pub sizes : Sizes s b work
   pub low : 1 ≤ j
@@ -68,11 +73,11 @@ pub record State (s : Stored) (b : book.Book) (work : List ℕ) (j met : ℕ) : 
   pub stash : Stash s work j met
   pub holds : (c : ℕ) → 1 ≤ c → c < j → holdsColumn s c (columnAt (factorOf (length (s .heads)) (book.columnsIn b)) c) ≡ true
 
--- any content of the first W places
+-- the work table is the same but for its first W places
 abbrev pub WithinWork : Stored → book.Book → (before after : List ℕ) → Type 0
 WithinWork s b w₀ w = OnlyIn 0 (workNeed (length (s .heads)) (length (b .heads)) (length (s .next)) (length (b .next))) w₀ w
 
--- column j read
+-- what reading column j asks
 pub record CanReadColumn (s : Stored) (b : book.Book) (work : List ℕ) (j met : ℕ) : Type 0 where
   pub state : State s b work j met
   pub inside : j ≤ length (s .heads)
@@ -94,7 +99,7 @@ pub record Prepared (s : Stored) (b : book.Book) (work : List ℕ) : Type 0 wher
   pub marks-zero : IsZero work (factorMarks (length (s .heads))) (length (s .next))
   pub columns : ListedIn work (columnHead (length (s .heads))) (length (s .heads)) (columnNext (length (s .heads)) (length (s .next)) (length (b .next))) (length (b .heads)) (firstRow (b .heads) (b .rows)) (length (b .heads))
 
--- the stored columns decided
+-- after all columns were read: the answer is whether the stored columns are sound for the book's
 pub record FactorRead (s : Stored) (b : book.Book) (work₀ work : List ℕ) (a : Bool) : Type 0 where
   pub only : WithinWork s b work₀ work
   pub answer : a ≡ isSoundFor (book.columnsIn b) s

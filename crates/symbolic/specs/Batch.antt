@@ -21,6 +21,7 @@ passes fs j c = among j (pathOf fs (smallest c))
 abbrev pub isTouched : List FactorColumn → (batch : List Column) → (j : ℕ) → Bool
 isTouched fs cs j = any (passes fs j) cs
 
+-- the touched columns among so many columns from j on, rising
 unfoldable pub touchedFrom : List FactorColumn → (batch : List Column) → (j : ℕ) → ℕ → List ℕ
 touchedFrom fs cs j zero = []
 touchedFrom fs cs j (suc n) = pick (isTouched fs cs j) (j ∷ touchedFrom fs cs (suc j) n) (touchedFrom fs cs (suc j) n)
@@ -29,11 +30,12 @@ touchedFrom fs cs j (suc n) = pick (isTouched fs cs j) (j ∷ touchedFrom fs cs 
 abbrev pub touched : List FactorColumn → (batch : List Column) → List ℕ
 touched fs cs = touchedFrom fs cs 1 (length fs)
 
--- "The label of a touched column is the largest position whose path passes through it", positions from 1; 0 where none does
+-- the largest position whose path passes through j, of columns with positions from a given one on; 0 where none does
 unfoldable pub labelFrom : List FactorColumn → (j position : ℕ) → List Column → ℕ
 labelFrom fs j i [] = 0
 labelFrom fs j i (c ∷ cs) = pick (eqb (labelFrom fs j (suc i) cs) 0) (pick (passes fs j c) i 0) (labelFrom fs j (suc i) cs)
 
+-- "The label of a touched column is the largest position whose path passes through it"; 0 for the other columns
 abbrev pub labelOf : List FactorColumn → (batch : List Column) → (j : ℕ) → ℕ
 labelOf fs cs j = labelFrom fs j 1 cs
 

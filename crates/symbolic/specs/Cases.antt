@@ -1,5 +1,5 @@
--- Document 01's instances over these definitions, computed: the state listed there, the same columns as one batch, a removal, equal columns, sizes,
--- grades, a path. proofs/Instances.antt has a term. Assumes nothing.
+-- Document 01's instances as far as the factor alone decides them; the table of starred instances is history/specs/Instances.antt. Computed here: the
+-- state listed there, the same columns as one batch, a removal, equal columns, sizes, grades, a path. proofs/Instances.antt has a term. Assumes nothing.
 use mathlib.Core.Path.{_≡_}
 use mathlib.Core.List.{List, [], _∷_}
 use Prim.Native.Nat.{ℕ}
@@ -12,9 +12,11 @@ use Rattle.symbolic.specs.Change.{without, columnsOf}
 abbrev pub listed : List Column
 listed = record { id = 1; rows = 1 ∷ 3 ∷ [] } ∷ record { id = 2; rows = 1 ∷ 4 ∷ [] } ∷ record { id = 3; rows = 2 ∷ 3 ∷ [] } ∷ []
 
+-- a factor column with a given parent and given multiplicities of rows 1 to m
 abbrev pub column : (parent : ℕ) → (counts : List ℕ) → FactorColumn
 column p ns = record { counts = ns; parent = p }
 
+-- document 01's instances that the factor alone decides
 pub record Cases : Type 0 where
   -- 1. "Fresh, m = 1: L_1 is 1:1, parent 0"
   pub fresh : factorOf 1 [] ≡ column 0 (1 ∷ []) ∷ []

@@ -11,6 +11,7 @@ use Rattle.symbolic.specs.Columns.{Column, holds}
 abbrev pub share : List Column → (x y : ℕ) → Bool
 share cs x y = any (λ (c : Column). holds c x && holds c y) cs
 
+-- of some rows, each two neighbours share a live column
 unfoldable pub isChain : List Column → (rows : List ℕ) → Bool
 isChain cs [] = true
 isChain cs (x ∷ []) = true
@@ -21,7 +22,7 @@ abbrev pub ChainTo : (m : ℕ) → List Column → (i j : ℕ) → Type 0
 ChainTo m cs i j =
     (xs : List ℕ) × ((all (λ (x : ℕ). isIn 1 m x && ltb x j) xs ≡ true) × (isChain cs ((j ∷ xs) ++ (i ∷ [])) ≡ true))
 
--- a pattern C (C i j: row i in column j) is closed
+-- a pattern C (C i j: row i in column j) is closed: the diagonal, rows that share a live column, and row i in column k if a column below has both
 pub record Closed (m : ℕ) (cs : List Column) (C : ℕ → ℕ → Type 0) : Type 0 where
   pub diagonal : (j : ℕ) → 1 ≤ j → j ≤ m → C j j
   pub shared : (i j : ℕ) → 1 ≤ j → j < i → i ≤ m → share cs j i ≡ true → C i j

@@ -6,6 +6,7 @@ use lib.Dec.{eqb}
 use Rattle.lists.specs.Lists.{pick, among, sumOf}
 use Rattle.symbolic.specs.Columns.{Column, Register}
 
+-- the ids of some columns, in the columns' order
 unfoldable pub idsOf : List Column → List ℕ
 idsOf [] = []
 idsOf (c ∷ cs) = c .id ∷ idsOf cs
@@ -20,13 +21,16 @@ unfoldable pub columnOf : (id : ℕ) → List Column → Column
 columnOf i [] = record { id = i; rows = [] }
 columnOf i (c ∷ cs) = pick (eqb (c .id) i) c (columnOf i cs)
 
+-- the columns of some ids, in the ids' order
 unfoldable pub columnsOf : (ids : List ℕ) → List Column → List Column
 columnsOf [] cs = []
 columnsOf (i ∷ is) cs = columnOf i cs ∷ columnsOf is cs
 
+-- the register after an accepted addition: the batch's columns enter
 abbrev pub added : Register → (batch : List Column) → Register
 added r cs = record { m = r .m; columns = r .columns ++ cs }
 
+-- the register after an accepted removal: the columns of the ids leave
 abbrev pub removed : Register → (ids : List ℕ) → Register
 removed r is = record { m = r .m; columns = without is (r .columns) }
 

@@ -11,10 +11,11 @@ pub record Column : Type 0 where
   pub id : ℕ
   pub rows : List ℕ
 
--- its smallest row; 0 for a column with no row, which starts nowhere
+-- the smallest row of a column; 0 for a column with no row, which starts nowhere
 abbrev pub smallest : Column → ℕ
 smallest c = getD (c .rows) 0 0
 
+-- a column holds a row
 abbrev pub holds : Column → (row : ℕ) → Bool
 holds c i = among i (c .rows)
 
@@ -32,6 +33,7 @@ pub record Register : Type 0 where
   pub m : ℕ
   pub columns : List Column
 
--- the columns that count; what a later rule leaves out or shortens is left out or shortened here, and nowhere else
+-- the "live" columns of document 01: the definitions of the factor take what this gives, so what a later rule leaves out or shortens is left out or
+-- shortened here; check 6 reads the book's own columns, in soundness/specs
 abbrev pub live : Register → List Column
 live r = r .columns

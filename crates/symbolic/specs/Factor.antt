@@ -15,6 +15,7 @@ pub record FactorColumn : Type 0 where
   pub counts : List ℕ
   pub parent : ℕ
 
+-- the multiplicity of a row in a factor column; 0 for a row above m
 abbrev pub countIn : FactorColumn → (row : ℕ) → ℕ
 countIn f i = getD (f .counts) (i - 1) 0
 
@@ -27,6 +28,7 @@ childrenWith j i (f ∷ fs) = one (eqb (f .parent) j && not (eqb (countIn f i) 0
 abbrev pub countFor : List Column → (before : List FactorColumn) → (j row : ℕ) → ℕ
 countFor cs fs j i = pick (ltb i j) 0 (childrenWith j i fs + startingWith j i cs + one (eqb i j))
 
+-- the multiplicities in column j of so many rows from one on
 unfoldable pub countsFrom : List Column → (before : List FactorColumn) → (j row : ℕ) → ℕ → List ℕ
 countsFrom cs fs j i zero = []
 countsFrom cs fs j i (suc n) = countFor cs fs j i ∷ countsFrom cs fs j (suc i) n
@@ -36,9 +38,11 @@ unfoldable pub firstAbove : (j row : ℕ) → List ℕ → ℕ
 firstAbove j i [] = 0
 firstAbove j i (n ∷ ns) = pick (ltb j i && not (eqb n 0)) i (firstAbove j (suc i) ns)
 
+-- factor column j with its multiplicities, and the parent that they give
 abbrev pub columnBy : (j : ℕ) → (counts : List ℕ) → FactorColumn
 columnBy j ns = record { counts = ns; parent = firstAbove j 1 ns }
 
+-- the columns before j, then so many columns from j on, each counted by those before it
 unfoldable pub buildFrom : (m : ℕ) → List Column → (before : List FactorColumn) → (j : ℕ) → ℕ → List FactorColumn
 buildFrom m cs fs j zero = fs
 buildFrom m cs fs j (suc n) = buildFrom m cs (fs ++ (columnBy j (countsFrom cs fs j 1 m) ∷ [])) (suc j) n
@@ -51,6 +55,7 @@ factorOf m cs = buildFrom m cs [] 1 m
 abbrev pub factorFor : Register → List FactorColumn
 factorFor r = factorOf (r .m) (live r)
 
+-- what is read past column m: no row, and parent 0
 abbrev pub noColumn : FactorColumn
 noColumn = record { counts = []; parent = 0 }
 
@@ -58,9 +63,11 @@ noColumn = record { counts = []; parent = 0 }
 abbrev pub columnAt : List FactorColumn → (j : ℕ) → FactorColumn
 columnAt fs j = getD fs (j - 1) noColumn
 
+-- the multiplicity of a row in L_j
 abbrev pub multiplicity : List FactorColumn → (row j : ℕ) → ℕ
 multiplicity fs i j = countIn (columnAt fs j) i
 
+-- the parent of j, 0 if j is a root
 abbrev pub parentOf : List FactorColumn → (j : ℕ) → ℕ
 parentOf fs j = columnAt fs j .parent
 
@@ -74,32 +81,38 @@ isChild fs c j = eqb (parentOf fs c) j
 
 -- ---- patterns as rising lists: the rows of a column, and their multiplicities in the same order
 
+-- the rows with a multiplicity other than 0, the first multiplicity being that of a given row
 unfoldable pub patternFrom : (row : ℕ) → (counts : List ℕ) → List ℕ
 patternFrom i [] = []
 patternFrom i (n ∷ ns) = pick (eqb n 0) (patternFrom (suc i) ns) (i ∷ patternFrom (suc i) ns)
 
+-- the multiplicities other than 0, in their order
 unfoldable pub nonZero : (counts : List ℕ) → List ℕ
 nonZero [] = []
 nonZero (n ∷ ns) = pick (eqb n 0) (nonZero ns) (n ∷ nonZero ns)
 
+-- "L_j, the pattern of factor column j": its rows, rising
 abbrev pub patternOf : FactorColumn → List ℕ
 patternOf f = patternFrom 1 (f .counts)
 
+-- the multiplicities of the pattern's rows, in the same order
 abbrev pub multiplicitiesOf : FactorColumn → List ℕ
 multiplicitiesOf f = nonZero (f .counts)
 
 -- ---- paths
 
--- "The path of j is j, its parent, and so on up to its root"; as many steps as there are columns are enough
+-- the path of j, at most so many columns of it; as many as there are in all are enough
 unfoldable pub pathFrom : ℕ → List FactorColumn → (j : ℕ) → List ℕ
 pathFrom zero fs j = []
 pathFrom (suc n) fs j = pick (eqb j 0) [] (j ∷ pathFrom n fs (parentOf fs j))
 
+-- "The path of j is j, its parent, and so on up to its root"
 abbrev pub pathOf : List FactorColumn → (j : ℕ) → List ℕ
 pathOf fs j = pathFrom (length fs) fs j
 
 -- ---- sizes
 
+-- the size of a column's pattern
 abbrev pub sizeOf : FactorColumn → ℕ
 sizeOf f = length (patternOf f)
 

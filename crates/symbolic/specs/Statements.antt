@@ -17,9 +17,11 @@ use Rattle.symbolic.specs.Steps.{StepsAt}
 
 -- ---- the definition: what is computed is what document 01 says, and nothing else is
 
+-- the multiplicities and parents that are computed are as the definition says
 abbrev pub Defined : Type 0
 Defined = (m : ℕ) (cs : List Column) → IsFactor m (λ j i. startingWith j i cs) (multiplicity (factorOf m cs)) (parentOf (factorOf m cs))
 
+-- all multiplicities and parents that are as the definition says are those that are computed
 abbrev pub Unique : Type 0
 Unique =
     (m : ℕ) (cs : List Column) (M : ℕ → ℕ → ℕ) (P : ℕ → ℕ) → IsFactor m (λ j i. startingWith j i cs) M P →
@@ -27,6 +29,7 @@ Unique =
 
 -- ---- 1. diagonal and parents
 
+-- row j is in L_j
 abbrev pub DiagonalStands : Type 0
 DiagonalStands = (m : ℕ) (cs : List Column) (j : ℕ) → 1 ≤ j → j ≤ m → inPattern (factorOf m cs) j j ≡ true
 
@@ -44,6 +47,7 @@ ParentHolds =
 
 -- ---- 2. equation 3.1: "L_j .. is the union of {j}, of L_c without c for every child c of j, and of every live column whose smallest row is j"
 
+-- row i is in L_j exactly if it is j, is another row than c in L_c of a child c, or is in a column whose smallest row is j
 abbrev pub Equation31 : Type 0
 Equation31 =
     (m : ℕ) (cs : List Column) → all (fitsRows m) cs ≡ true → (i j : ℕ) → 1 ≤ i → i ≤ m → 1 ≤ j → j ≤ m →
@@ -54,6 +58,7 @@ Equation31 =
 
 -- ---- 3. growth and locality, of a batch W beside the columns R: adding goes from R to R ++ W, removing from R ++ W to R
 
+-- a row that is in L_j for the columns R is in it for R ++ W
 abbrev pub Growth : Type 0
 Growth =
     (m : ℕ) (R W : List Column) (i j : ℕ) → 1 ≤ i → i ≤ m → 1 ≤ j → j ≤ m → inPattern (factorOf m R) i j ≡ true →
@@ -67,12 +72,14 @@ Locality =
 
 -- ---- 4. the steps of Algorithm 3 (update) and Algorithm 4 (downdate) at a column, over touched children
 
+-- Algorithm 3: the steps at column j lead from the multiplicities for R to those for R ++ W
 abbrev pub UpdateSteps : Type 0
 UpdateSteps =
     (m : ℕ) (R W : List Column) (i j : ℕ) → 1 ≤ j → j ≤ i → i ≤ m →
     StepsAt m (λ j i. startingWith j i R) (multiplicity (factorOf m R)) (parentOf (factorOf m R))
     (λ j i. startingWith j i (R ++ W)) (multiplicity (factorOf m (R ++ W))) (parentOf (factorOf m (R ++ W))) (isTouched (factorOf m (R ++ W)) W) i j
 
+-- Algorithm 4: the steps at column j lead from the multiplicities for R ++ W to those for R
 abbrev pub DowndateSteps : Type 0
 DowndateSteps =
     (m : ℕ) (R W : List Column) (i j : ℕ) → 1 ≤ j → j ≤ i → i ≤ m →
@@ -81,6 +88,7 @@ DowndateSteps =
 
 -- ---- 5. order and bound
 
+-- the factor does not depend on the order of the columns
 abbrev pub OrderFree : Type 0
 OrderFree = (m : ℕ) (cs ds : List Column) → Bag cs ds → factorOf m cs ≡ factorOf m ds
 
@@ -96,14 +104,17 @@ MultiplicityBound = (m : ℕ) (cs : List Column) (i j : ℕ) → 1 ≤ i → i �
 
 -- ---- 6. row i in column j exactly if a chain of rows leads there (demand 3); the pattern is closed, and the least that is
 
+-- a row i above j is in L_j exactly if a chain of rows leads from j to i
 abbrev pub ChainRule : Type 0
 ChainRule =
     (m : ℕ) (cs : List Column) → all (fitsRows m) cs ≡ true → (i j : ℕ) → 1 ≤ j → j < i → i ≤ m →
     (inPattern (factorOf m cs) i j ≡ true) ↔ ChainTo m cs i j
 
+-- the pattern of the factor is closed
 abbrev pub PatternClosed : Type 0
 PatternClosed = (m : ℕ) (cs : List Column) → all (fitsRows m) cs ≡ true → Closed m cs (λ i j. inPattern (factorOf m cs) i j ≡ true)
 
+-- every closed pattern holds the factor's
 abbrev pub PatternLeast : Type 1
 PatternLeast =
     (m : ℕ) (cs : List Column) (C : ℕ → ℕ → Type 0) → Closed m cs C → (i j : ℕ) → 1 ≤ j → j ≤ i → i ≤ m → inPattern (factorOf m cs) i j ≡ true → C i j
@@ -116,11 +127,13 @@ PathIs =
     (m : ℕ) (cs : List Column) (j k : ℕ) → 1 ≤ j → j ≤ m →
     (among k (pathOf (factorOf m cs) j) ≡ true) ↔ OnPath (parentOf (factorOf m cs)) j k
 
+-- the list of touched columns holds just the columns of 1 to m that are touched
 abbrev pub TouchedIs : Type 0
 TouchedIs =
     (m : ℕ) (cs batch : List Column) (j : ℕ) →
     (among j (touched (factorOf m cs) batch) ≡ true) ↔ ((1 ≤ j) × (j ≤ m) × (isTouched (factorOf m cs) batch j ≡ true))
 
+-- the list of touched columns rises, so it has each once
 abbrev pub TouchedRises : Type 0
 TouchedRises = (m : ℕ) (cs batch : List Column) → rises 1 m (touched (factorOf m cs) batch) ≡ true
 
@@ -141,6 +154,7 @@ LabelsFollow =
 
 -- ---- 8. sizes
 
+-- more columns never make the sum of all pattern sizes smaller
 abbrev pub SizesGrow : Type 0
 SizesGrow = (m : ℕ) (R W : List Column) → sizeSum (factorOf m R) ≤ sizeSum (factorOf m (R ++ W))
 

@@ -16,8 +16,9 @@ childSoFar H M P M′ P′ j i c = pick (H c) (childWith M′ P′ j i c) (child
 abbrev pub countSoFar : (m : ℕ) (H : ℕ → Bool) (M : ℕ → ℕ → ℕ) (P : ℕ → ℕ) (M′ : ℕ → ℕ → ℕ) (P′ : ℕ → ℕ) (s i j : ℕ) → ℕ
 countSoFar m H M P M′ P′ s i j = count (childSoFar H M P M′ P′ j i) m + s + one (eqb i j)
 
--- The steps at column j, T the touched columns: nothing handled gives the multiplicities before; A moves s; B, C and D handle one child more;
--- with every touched child of before or after handled, the multiplicities are those after
+-- The steps at column j, T the touched columns, by document 000's cases. A: the batch columns that start at j, which move s. B: a child of j before and
+-- after. C: a child in the tree with the batch alone, gained when adding, lost when removing. D: a child in the tree without it alone, lost when adding,
+-- gained when removing. Each of B to D handles one child more. Nothing handled gives the multiplicities before, every touched child handled those after
 pub record StepsAt (m : ℕ) (S M : ℕ → ℕ → ℕ) (P : ℕ → ℕ) (S′ M′ : ℕ → ℕ → ℕ) (P′ : ℕ → ℕ) (T : ℕ → Bool) (i j : ℕ) : Type 0 where
   pub start : (H : ℕ → Bool) → ((c : ℕ) → 1 ≤ c → c ≤ m → H c ≡ false) → countSoFar m H M P M′ P′ (S j i) i j ≡ M i j
   pub child : (H K : ℕ → Bool) (c s : ℕ) → 1 ≤ c → c ≤ m → H c ≡ false → K c ≡ true → ((d : ℕ) → d ≢ c → H d ≡ K d) →

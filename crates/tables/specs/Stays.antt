@@ -28,6 +28,7 @@ pub record Beyond (n : ℕ) (before after : List ℕ) : Type 0 where
   pub same-length : length after ≡ length before
   pub same-tail : drop n after ≡ drop n before
 
+-- each of the eight tables keeps what stands beyond its size
 pub record TailsStay (l : Limits) (before after : Tables) : Type 0 where
   pub heads : Beyond (l .m) (before .heads) (after .heads)
   pub parents : Beyond (l .m) (before .parents) (after .parents)

@@ -1,5 +1,5 @@
--- The stored columns of L: "Factor column j is a chain: a head, then records of row, multiplicity and next. .. Rows rise strictly, so the first record is
--- the diagonal." When they are those of given columns of A, as a test, column by column; proofs/Stored.antt has the same as facts.
+-- The stored columns of L: "Factor column j is a chain: a head .., then records of row .., multiplicity .. and next .. Rows rise strictly, so the first
+-- record is the diagonal." When they are those of given columns of A, as a test, column by column; proofs/Stored.antt has the same as facts.
 -- Assumes nothing: these are definitions.
 use mathlib.Core.Path.{_≡_}
 use mathlib.Core.Bool.{Bool, true, _&&_}
@@ -38,6 +38,7 @@ holdsColumn s j f =
     same (valuesAt (s .rows) (recordsOf s j)) (patternOf f) && same (valuesAt (s .counts) (recordsOf s j)) (multiplicitiesOf f) &&
     eqb (at (s .parents) j) (f .parent)
 
+-- the same of so many columns from j on, against a factor
 unfoldable pub holdsFrom : Stored → List FactorColumn → (j : ℕ) → ℕ → Bool
 holdsFrom s fs j zero = true
 holdsFrom s fs j (suc n) = holdsColumn s j (columnAt fs j) && holdsFrom s fs (suc j) n

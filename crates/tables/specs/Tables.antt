@@ -15,6 +15,7 @@ pub record Tables : Type 0 where
   pub heads : List ℕ
   pub parents : List ℕ
   pub rows : List ℕ
+  -- the multiplicities
   pub counts : List ℕ
   pub next : List ℕ
   pub bookHeads : List ℕ
@@ -34,6 +35,7 @@ pub record State : Type 0 where
   pub free : ℕ
   pub bookFree : ℕ
 
+-- "tables need m, n, F or C places": each has at least so many
 abbrev pub longEnough : Limits → Tables → Bool
 longEnough l t =
     leb (l .m) (length (t .heads)) && leb (l .m) (length (t .parents)) && leb (l .f) (length (t .rows)) && leb (l .f) (length (t .counts)) &&
@@ -60,6 +62,6 @@ bookIn s t =
 abbrev pub registerOf : State → Tables → Register
 registerOf s t = record { m = s .limits .m; columns = book.columnsIn (bookIn s t) }
 
--- "Tables are sound if .." both pools and the book are, and L is the factor of the columns that count
+-- "Tables are sound if ..": the book is sound, and the stored columns are the definition's for the live columns
 abbrev pub isSound : State → Tables → Bool
 isSound s t = book.isSound (s .limits .m) (bookIn s t) && isSoundFor (live (registerOf s t)) (storedIn s t)

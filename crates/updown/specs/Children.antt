@@ -30,6 +30,7 @@ pub record Bumps (m : ℕ) (before after : List ℕ) (n : ℕ) (up : Bool) (p : 
 
 -- ---- a column's multiplicities, its plan, its chain
 
+-- column c with the batch (more) and without it (less): 16 bits hold its multiplicities, its diagonal stands, more has all rows of less
 pub record Counts (m c : ℕ) (more less : List ℕ) : Type 0 where
   pub low : 1 ≤ c
   pub high : c ≤ m
@@ -42,14 +43,15 @@ pub record Counts (m c : ℕ) (more less : List ℕ) : Type 0 where
   pub below : (i : ℕ) → 1 ≤ i → i < c → (at more i ≡ 0) × (at less i ≡ 0)
   pub grows : (i : ℕ) → 1 ≤ i → i ≤ m → 0 < at less i → 0 < at more i
 
--- before and after the batch
+-- multiplicities before the batch: without it when adding, with it when removing
 abbrev pub oldOf : (adding : Bool) (more less : List ℕ) → List ℕ
 oldOf z xs ys = pick z ys xs
 
+-- multiplicities after the batch: with it when adding, without it when removing
 abbrev pub newOf : (adding : Bool) (more less : List ℕ) → List ℕ
 newOf z xs ys = pick z xs ys
 
--- its plan, which ends where that of the next touched column starts
+-- the plan of column c, which ends where that of the next touched column starts
 pub record PlanOf (work : List ℕ) (m c : ℕ) (adding : Bool) (more less : List ℕ) : Type 0 where
   pub column : Counts m c more less
   pub long : 8 * m + endAt m work c ≤ length work
@@ -58,7 +60,7 @@ pub record PlanOf (work : List ℕ) (m c : ℕ) (adding : Bool) (more less : Lis
   pub order : cell work (4 * m) (c - 1) ≤ endAt m work c
   pub entries : planPart m work (cell work (4 * m) (c - 1)) (endAt m work c) ≡ planFrom 1 (oldOf adding more less) (newOf adding more less)
 
--- its chain
+-- the chain of column c, which holds its rows before the batch
 pub record ChainOf (heads rows next : List ℕ) (m c : ℕ) (old : List ℕ) : Type 0 where
   pub heads-long : length heads ≡ m
   pub rows-long : length rows ≡ length next
@@ -67,18 +69,21 @@ pub record ChainOf (heads rows next : List ℕ) (m c : ℕ) (old : List ℕ) : T
 
 -- ---- what it brings
 
--- B: the rows that it has with the batch alone; C: its rows with the batch but its own; D: its rows without the batch but its own
+-- B: a row that c has with the batch and not without it
 abbrev pub keptRow : (more less : List ℕ) (i : ℕ) → Bool
 keptRow xs ys i = eqb (at ys i) 0 && not (eqb (at xs i) 0)
 
+-- C, by its multiplicities with the batch, and D, by those without it: a row of c other than c itself
 abbrev pub wholeRow : (counts : List ℕ) (c i : ℕ) → Bool
 wholeRow xs c i = not (eqb (at xs i) 0) && not (eqb i c)
 
+-- what a caller shows: a plan of column c, for some multiplicities
 pub record SomePlan (work : List ℕ) (m c : ℕ) (adding : Bool) : Type 0 where
   pub more : List ℕ
   pub less : List ℕ
   pub plan : PlanOf work m c adding more less
 
+-- what a caller shows: a plan and a chain of column c, for some multiplicities
 pub record SomeColumn (heads rows next work : List ℕ) (m c : ℕ) (adding : Bool) : Type 0 where
   pub more : List ℕ
   pub less : List ℕ

@@ -17,6 +17,7 @@ use Rattle.book.specs.Book as book
 use Rattle.tables.specs.Stored.{Stored, Sized, isSoundFor}
 use Rattle.updown.specs.Plans.{PlanIs}
 
+-- the tables of L with their free head as one record
 abbrev pub storedOf : (heads parents rows counts next : List ℕ) → (free : ℕ) → Stored
 storedOf hs ps rs cs ns f = record { heads = hs; parents = ps; rows = rs; counts = cs; next = ns; free = f }
 
@@ -42,6 +43,7 @@ Booked b (i ∷ is) (w ∷ ws) = (w .rows ≡ book.columnFor b i .rows) × (1 �
 
 -- ---- what planning asks: stored columns that are sound for columns cs, a batch, and a work table whose places for it are zero
 
+-- what planning asks, of an addition and of a removal alike
 pub record CanPlan (s : Stored) (cs batch : List Column) (work : List ℕ) : Type 0 where
   pub sized : Sized s
   pub sound : isSoundFor cs s ≡ true
@@ -50,6 +52,7 @@ pub record CanPlan (s : Stored) (cs batch : List Column) (work : List ℕ) : Typ
   pub some : 1 ≤ length (s .heads)
   pub m-bound : length (s .heads) ≤ 4096
   pub f-bound : length (s .next) ≤ 1048576
+  -- a loose bound above document 01's 16,384 ids and 64 positions, which only keeps multiplicities within 16 bits
   pub few : length cs + length batch ≤ 60000
   pub positions : (1 ≤ length batch) × (length batch ≤ 64)
   pub long : planNeed (length (s .heads)) (length (s .next)) ≤ length work
@@ -60,6 +63,7 @@ pub record CanAdd (s : Stored) (counts list work : List ℕ) (R W : List Column)
   pub can : CanPlan s R W work
   pub listed : Listed counts list W
 
+-- what a caller shows: that W can be added to R, for some R and W
 pub record SomeAdd (s : Stored) (counts list work : List ℕ) : Type 0 where
   pub R : List Column
   pub W : List Column
@@ -76,6 +80,7 @@ pub record CanRemove (s : Stored) (b : book.Book) (ids work : List ℕ) (R W : L
   pub book-sized : book.Sized b
   pub book-sound : book.isSound (length (s .heads)) (book.bookOf (b .heads) (b .rows) (b .next) book-free) ≡ true
 
+-- what a caller shows: that W can be removed and R stays, for some R and W
 pub record SomeRemove (s : Stored) (b : book.Book) (ids work : List ℕ) : Type 0 where
   pub R : List Column
   pub W : List Column

@@ -16,9 +16,11 @@ pub record Room (m flags : ℕ) (work : List ℕ) : Type 0 where
   pub low : 8 * m ≤ flags
   pub long : flags + 64 ≤ length work
 
+-- the mark of a row, 0 for none
 abbrev pub markAt : (m : ℕ) (work : List ℕ) (row : ℕ) → ℕ
 markAt m w q = cell w (3 * m) (q - 1)
 
+-- the flag of a row's block
 abbrev pub flagAt : (flags : ℕ) (work : List ℕ) (row : ℕ) → ℕ
 flagAt f w q = cell w f ((q - 1) / 64)
 
@@ -45,6 +47,7 @@ pub record Next (m : ℕ) (work : List ℕ) (from row : ℕ) : Type 0 where
 abbrev pub endAt : (m : ℕ) (work : List ℕ) (c : ℕ) → ℕ
 endAt m w c = cell w (4 * m) (cell w (5 * m) (c - 1) - 1)
 
+-- the other parent of a done column: the stored one when adding, the new one in its mark when removing
 abbrev pub otherAt : (parents work : List ℕ) (m c : ℕ) (adding : Bool) → ℕ
 otherAt ps w m c z = pick z (at ps c) (markAt m w c / 262144)
 
@@ -61,9 +64,10 @@ queued m w c q = set (set w (7 * m + (c - 1)) (cell w (5 * m) (q - 1))) (5 * m +
 abbrev pub begun : (m : ℕ) (work : List ℕ) (last j used : ℕ) → List ℕ
 begun m w l j u = set (pick (eqb l 0) w (set w (5 * m + (l - 1)) j)) (4 * m + (j - 1)) u
 
--- one step up from j, with its new parent, to its tree parent
+-- the new parent of j kept in its mark
 abbrev pub kept : (m : ℕ) (work : List ℕ) (j parent : ℕ) → List ℕ
 kept m w j p = set w (3 * m + (j - 1)) (markAt m w j + 262144 * p)
 
+-- one step up from j: its new parent is kept; its tree parent, if it has one, is marked with j's label, and j waits in its queue
 abbrev pub steppedUp : (m flags : ℕ) (work : List ℕ) (j parent up : ℕ) → List ℕ
 steppedUp m f w j p q = pick (eqb q 0) (kept m w j p) (queued m (raised m f (kept m w j p) q (markAt m w j / 4)) j q)

@@ -13,28 +13,35 @@ use Rattle.columns.specs.Plan.{planned, Suits, ofKind}
 
 -- ---- places of the work table, by m: m places each for marks, plan starts, first children (after the walk: the next touched column); the plan
 
+-- where the marks begin
 abbrev pub marksAt : (m : ℕ) → ℕ
 marksAt m = 3 * m
 
+-- where the plan starts begin
 abbrev pub startsAt : (m : ℕ) → ℕ
 startsAt m = 4 * m
 
+-- where the first children begin, after the walk the next touched columns
 abbrev pub nextAt : (m : ℕ) → ℕ
 nextAt m = 5 * m
 
+-- where the plan begins
 abbrev pub planAt : (m : ℕ) → ℕ
 planAt m = 8 * m
 
 -- ---- a mark: 2 for a column where a batch column starts, the label from 4 on, the new parent from 2^18 on
 
+-- the label in a mark
 abbrev pub labelIn : (mark : ℕ) → ℕ
 labelIn x = x / 4 % 65536
 
+-- the new parent in a mark
 abbrev pub parentIn : (mark : ℕ) → ℕ
 parentIn x = x / 262144
 
 -- ---- the plan of column j: its entries stand from start to end
 
+-- label, new parent and next touched column of j, and entries that make its multiplicities in L those in L′
 pub record ColumnPlan (m : ℕ) (L L′ : List FactorColumn) (label : ℕ → ℕ) (work : List ℕ) (j start end next : ℕ) : Type 0 where
   pub rises : start ≤ end
   pub label-is : labelIn (cell work (marksAt m) (j - 1)) ≡ label j
@@ -44,6 +51,7 @@ pub record ColumnPlan (m : ℕ) (L L′ : List FactorColumn) (label : ℕ → �
   pub suits : Suits (columnAt L j .counts) j (region work (planAt m + start) (end - start))
   pub becomes : planned (columnAt L j .counts) (region work (planAt m + start) (end - start)) ≡ columnAt L′ j .counts
 
+-- the first of some columns, 0 if there is none
 abbrev pub firstOf : List ℕ → ℕ
 firstOf js = getD js 0 0
 

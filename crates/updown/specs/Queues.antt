@@ -12,6 +12,7 @@ use Rattle.lists.specs.Lists.{pick, one, times}
 use Rattle.workspace.specs.Regions.{cell, region}
 use Rattle.pool.specs.Chains.{Linked}
 
+-- for each column the next one in its queue
 abbrev pub links : (m : ℕ) (work : List ℕ) → List ℕ
 links m w = region w (7 * m) m
 
@@ -26,6 +27,6 @@ pub record Queues (m : ℕ) (work : List ℕ) (from except : ℕ) (place : ℕ �
   pub queue : (x : ℕ) → from ≤ x → x ≤ 2 * m → x ≢ except → Queue (links m work) (cell work (5 * m) (x - 1)) (λ c. eqb (place c) x)
   pub idle : (c : ℕ) → 1 ≤ c → c ≤ m → place c ≡ 0 → cell work (7 * m) (c - 1) ≡ 0
 
--- one column moved
+-- where each column waits once one has moved
 abbrev pub moved : (place : ℕ → ℕ) (c x : ℕ) → ℕ → ℕ
 moved place c x d = pick (eqb d c) x (place d)

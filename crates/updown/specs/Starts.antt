@@ -36,6 +36,7 @@ pub record CanMark (counts list : List ℕ) (m flags : ℕ) (work : List ℕ) (W
   pub room : Room m flags work
   pub bare : IsZero work (3 * m) m
 
+-- what a caller shows: that the starts can be marked, for some batch
 pub record SomeMark (counts list : List ℕ) (m flags : ℕ) (work : List ℕ) : Type 0 where
   pub W : List Column
   pub can : CanMark counts list m flags work W
@@ -47,14 +48,17 @@ pub record CanStart (m : ℕ) (R W : List Column) (adding : Bool) (work : List �
   pub low : 1 ≤ j
   pub high : j ≤ m
   pub narrow : m ≤ 4096
+  -- a loose bound above document 01's, as in Entries.antt
   pub few : length R + length W ≤ 60000
   pub fits : all (book.columnFits m) W ≡ true
   pub tallied : Tallied m R W adding work 0 j (λ i. startingWith j i R) place
 
+-- all batch columns that start at j are counted, and nothing but the differences changed
 pub record Started (m : ℕ) (R W : List Column) (adding : Bool) (before after : List ℕ) (n j : ℕ) (place : ℕ → ℕ) : Type 0 where
   pub tallied : Tallied m R W adding after n j (λ i. startingWith j i (R ++ W)) place
   pub only : OnlyIn 0 (3 * m) before after
 
+-- what a caller shows: that listed columns that start at j can be counted, for some R and W
 pub record SomeStart (counts list : List ℕ) (m : ℕ) (work : List ℕ) (j : ℕ) : Type 0 where
   pub R : List Column
   pub W : List Column
@@ -64,6 +68,7 @@ pub record SomeStart (counts list : List ℕ) (m : ℕ) (work : List ℕ) (j : �
 
 -- ---- booked columns: a sound book that has them
 
+-- a sound book that has the batch's columns under the ids
 pub record BookHolds (heads rows next ids : List ℕ) (m : ℕ) (W : List Column) : Type 0 where
   pub booked : Booked (book.tablesOf heads rows next) ids W
   pub sized : length rows ≡ length next
@@ -71,17 +76,20 @@ pub record BookHolds (heads rows next ids : List ℕ) (m : ℕ) (W : List Column
   pub sound : book.isSound m (book.bookOf heads rows next free) ≡ true
   pub fits : all (book.columnFits m) W ≡ true
 
+-- a batch in the book, and a table without marks
 pub record CanMarkBooked (heads rows next ids : List ℕ) (m flags : ℕ) (work : List ℕ) (W : List Column) : Type 0 where
   pub holds : BookHolds heads rows next ids m W
   pub few : length W ≤ 64
   pub room : Room m flags work
   pub bare : IsZero work (3 * m) m
 
+-- what a caller shows: that the starts can be marked, for some batch; nexts are not read, any that suit will do
 pub record SomeMarkBooked (heads rows ids : List ℕ) (m flags : ℕ) (work : List ℕ) : Type 0 where
   pub next : List ℕ
   pub W : List Column
   pub can : CanMarkBooked heads rows next ids m flags work W
 
+-- what a caller shows: that booked columns that start at j can be counted, for some R and W
 pub record SomeStartBooked (heads rows next ids : List ℕ) (m : ℕ) (work : List ℕ) (j : ℕ) : Type 0 where
   pub R : List Column
   pub W : List Column
@@ -91,11 +99,13 @@ pub record SomeStartBooked (heads rows next ids : List ℕ) (m : ℕ) (work : Li
 
 -- ---- a walk over booked columns that leave
 
+-- tables that hold the factor of R ++ W, a book that has W, and a work table where its starts are marked and no turn has begun
 pub record CanLeave (heads parents rows counts next book-heads book-rows book-next work₀ work ids : List ℕ) (m flags : ℕ) (R W : List Column) : Type 0 where
   pub setting : Setting heads parents rows counts next m flags R W false 0
   pub holds : BookHolds book-heads book-rows book-next ids m W
   pub walking : Walking m flags R W false work₀ work 1 0
 
+-- what a caller shows: that the walk can go, for some R and W
 pub record SomeLeave (heads parents rows counts next book-heads book-rows book-next work ids : List ℕ) (m flags : ℕ) : Type 0 where
   pub R : List Column
   pub W : List Column
@@ -104,6 +114,7 @@ pub record SomeLeave (heads parents rows counts next book-heads book-rows book-n
 
 -- ---- a walk over listed columns that enter
 
+-- tables that hold the factor of R, all other records free, lists that have W, and a work table where its starts are marked
 pub record CanEnter (heads parents rows counts next work₀ work row-counts row-list : List ℕ) (m flags free : ℕ) (R W : List Column) : Type 0 where
   pub setting : Setting heads parents rows counts next m flags R W true (length (chain next free))
   pub listed : Listed row-counts row-list W
@@ -112,6 +123,7 @@ pub record CanEnter (heads parents rows counts next work₀ work row-counts row-
   pub linked : Linked next free (chain next free)
   pub size : sizeSum (smaller m R) + length (chain next free) ≡ length next
 
+-- what a caller shows: that the walk can go, for some R and W
 pub record SomeEnter (heads parents rows counts next work row-counts row-list : List ℕ) (m flags free : ℕ) : Type 0 where
   pub R : List Column
   pub W : List Column

@@ -37,6 +37,7 @@ Fitting next m R W adding free = (j : ℕ) → 1 ≤ j → j ≤ suc m → entri
 
 -- ---- the numbers of a walk, before the turn of j; free is the number of free records at first
 
+-- first, last, number and entries of the done columns, and how much of plan and free records is used
 pub record Numbers (next work : List ℕ) (m : ℕ) (R W : List Column) (adding : Bool) (free j first last count entries used avail : ℕ) : Type 0 where
   pub first-is : first ≡ firstOf (done m R W j)
   pub last-is : last ≡ lastOf 0 (done m R W j)
@@ -50,6 +51,7 @@ pub record Numbers (next work : List ℕ) (m : ℕ) (R W : List Column) (adding 
 
 -- ---- marks
 
+-- the row where the batch column of a position starts
 abbrev pub startOf : (W : List Column) (position : ℕ) → ℕ
 startOf W k = smallest (atPosition W k)
 
@@ -73,6 +75,7 @@ pub data Busy (m flags used : ℕ) (columns : List ℕ) (j k : ℕ) : Type 0 whe
   queues : 5 * m + (j - 1) ≤ k → k < 8 * m → Busy m flags used columns j k
   flagged : flags ≤ k → k < flags + 64 → Busy m flags used columns j k
 
+-- the work table before the turn of j: plans of the done columns, marks and queues of the rows to come, no differences
 pub record Walking (m flags : ℕ) (R W : List Column) (adding : Bool) (work₀ work : List ℕ) (j used : ℕ) : Type 0 where
   pub low : 1 ≤ j
   pub high : j ≤ suc m
@@ -135,6 +138,7 @@ pub record Halted (m flags : ℕ) (R W : List Column) (work₀ work : List ℕ) 
 
 -- ---- column j planned: its queues are empty, the differences cleared, and but for them only the queues and the plan changed
 
+-- after the work on column j: where each column waits then, and j's plan if there are free records for it
 pub record Planned (next before-work after-work : List ℕ) (m : ℕ) (R W : List Column) (adding : Bool) (j used avail : ℕ) (e : Emission) : Type 0 where
   pub place : ℕ → ℕ
   pub queues : Queues m after-work j 0 place
@@ -149,6 +153,7 @@ pub record Planned (next before-work after-work : List ℕ) (m : ℕ) (R W : Lis
   pub fits : e .fits ≡ leb (ofKind 1 (planFrom 1 (columnAt (before adding m R W) j .counts) (columnAt (after adding m R W) j .counts))) (length (chain next avail))
   pub plan : e .fits ≡ true → emit.Plan next m j used avail (columnAt (before adding m R W) j .counts) (columnAt (after adding m R W) j .counts) after-work e
 
+-- what a caller shows: tables that hold the factor and the turn of j with room for its plan, for some R and W
 pub record SomePlanned (heads parents rows counts next work : List ℕ) (m n j used avail : ℕ) (adding : Bool) : Type 0 where
   pub R : List Column
   pub W : List Column
@@ -172,11 +177,13 @@ pub record Setting (heads parents rows counts next : List ℕ) (m flags : ℕ) (
   pub records : length next ≤ 1048576
   pub starts : (k : ℕ) → 1 ≤ k → k ≤ length W → (1 ≤ startOf W k) × (startOf W k ≤ m)
 
+-- the turn of j with its batch columns counted, and the numbers before it
 pub record Turning (next work₀ work : List ℕ) (m flags : ℕ) (R W : List Column) (adding : Bool) (free n j first last count entries used avail : ℕ) : Type 0 where
   pub begun : Begun m flags R W adding work₀ work j used
   pub tallied : Tallied m R W adding work n j (λ i. startingWith j i (R ++ W)) (standing m R W j)
   pub numbers : Numbers next work m R W adding free j first last count entries used avail
 
+-- what a caller shows: tables that hold the factor and such a turn, for some R and W
 pub record SomeTurning (heads parents rows counts next work : List ℕ) (m flags : ℕ) (adding : Bool) (n j first last count entries used avail : ℕ) : Type 0 where
   pub R : List Column
   pub W : List Column
@@ -198,6 +205,7 @@ pub record Turned (next work₀ work : List ℕ) (m flags : ℕ) (R W : List Col
 
 -- ---- the walk, from the marked starts to the end
 
+-- what a caller shows: tables that hold the factor and a work table where the starts are marked, for some R and W
 pub record SomeWalk (heads parents rows counts next work : List ℕ) (m flags : ℕ) (adding : Bool) (avail : ℕ) : Type 0 where
   pub R : List Column
   pub W : List Column

@@ -18,25 +18,31 @@ use Rattle.updown.specs.Plans.{ColumnPlan, firstOf}
 
 -- ---- the two factors
 
+-- the factor with the batch
 abbrev pub larger : (m : ℕ) (R W : List Column) → List FactorColumn
 larger m R W = factorOf m (R ++ W)
 
+-- the factor without the batch
 abbrev pub smaller : (m : ℕ) (R : List Column) → List FactorColumn
 smaller m R = factorOf m R
 
+-- the factor before the call: without the batch when adding, with it when removing
 abbrev pub before : (adding : Bool) (m : ℕ) (R W : List Column) → List FactorColumn
 before z m R W = pick z (smaller m R) (larger m R W)
 
+-- the factor after the call: with the batch when adding, without it when removing
 abbrev pub after : (adding : Bool) (m : ℕ) (R W : List Column) → List FactorColumn
 after z m R W = pick z (larger m R W) (smaller m R)
 
--- the parent with the batch, along which the walk goes, and the parent without it
+-- the parent with the batch: the walk goes up this tree
 abbrev pub treeParent : (m : ℕ) (R W : List Column) (c : ℕ) → ℕ
 treeParent m R W c = parentOf (larger m R W) c
 
+-- the parent without the batch
 abbrev pub otherParent : (m : ℕ) (R : List Column) (c : ℕ) → ℕ
 otherParent m R c = parentOf (smaller m R) c
 
+-- the label of a column, in the tree with the batch
 abbrev pub labelAt : (m : ℕ) (R W : List Column) (c : ℕ) → ℕ
 labelAt m R W c = labelOf (larger m R W) W c
 
@@ -46,6 +52,7 @@ labelAt m R W c = labelOf (larger m R W) W c
 abbrev pub done : (m : ℕ) (R W : List Column) (j : ℕ) → List ℕ
 done m R W j = touchedFrom (larger m R W) W 1 (j - 1)
 
+-- a column is touched and below j
 abbrev pub isDone : (m : ℕ) (R W : List Column) (j c : ℕ) → Bool
 isDone m R W j c = isTouched (larger m R W) W c && ltb c j
 
@@ -88,6 +95,7 @@ abbrev pub Shift : (adding : Bool) (d a x : ℕ) → Type 0
 Shift true d a x = d + a ≡ base + x
 Shift false d a x = d + x ≡ base + a
 
+-- the differences in the turn of j: rows from j on as far as they are counted, none below
 pub record Tallied (m : ℕ) (R W : List Column) (adding : Bool) (work : List ℕ) (n j : ℕ) (s : ℕ → ℕ) (place : ℕ → ℕ) : Type 0 where
   pub tally : Tally m work n (differenceAt work)
   pub shifts : (i : ℕ) → j ≤ i → i ≤ m → Shift adding (differenceAt work i) (multiplicity (smaller m R) i j) (soFar m R W j place (s i) i)

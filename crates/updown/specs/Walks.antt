@@ -17,19 +17,23 @@ use Rattle.updown.specs.Turns.{before, after, labelAt, done, standing, i
 
 -- ---- the tables
 
+-- the chains hold the rows of the factor before the batch, and columns and positions are few enough
 pub record Columns (heads rows next : List ℕ) (m : ℕ) (R W : List Column) (adding : Bool) : Type 0 where
   pub some : 1 ≤ m
   pub narrow : m ≤ 4096
+  -- a loose bound above document 01's, as in Entries.antt
   pub few : length R + length W ≤ 60000
   pub positions : length W ≤ 64
   pub chains : (c : ℕ) → 1 ≤ c → c ≤ m → ChainOf heads rows next m c (columnAt (before adding m R W) c .counts)
 
+-- the parents are those of the factor before the batch
 pub record Parents (parents : List ℕ) (m : ℕ) (R W : List Column) (adding : Bool) : Type 0 where
   pub long : length parents ≡ m
   pub are : (c : ℕ) → 1 ≤ c → c ≤ m → at parents c ≡ parentOf (before adding m R W) c
 
 -- ---- the turn of j: the plans of the columns before it, the queues but for the one that is emptied, the differences so far
 
+-- in the turn of j: place says where each column waits now, n rows have a difference
 pub record Turn (m : ℕ) (R W : List Column) (adding : Bool) (work : List ℕ) (j used n except : ℕ) (place : ℕ → ℕ) : Type 0 where
   pub low : 1 ≤ j
   pub high : j ≤ m
@@ -58,6 +62,7 @@ pub record Emptied (m : ℕ) (R W : List Column) (adding : Bool) (before after :
   pub same-length : length after ≡ length before
   pub still : Still m j before after
 
+-- what a caller shows: tables that hold the factor's columns and the turn of j, for some R and W
 pub record SomeTurn (heads rows next work : List ℕ) (m j n : ℕ) (adding : Bool) : Type 0 where
   pub R : List Column
   pub W : List Column
@@ -66,6 +71,7 @@ pub record SomeTurn (heads rows next work : List ℕ) (m j n : ℕ) (adding : Bo
   pub columns : Columns heads rows next m R W adding
   pub turn : Turn m R W adding work j used n 0 place
 
+-- the same with the parents, for columns that go on to wait for their other parent
 pub record SomeTurnUp (heads parents rows next work : List ℕ) (m j n : ℕ) (adding : Bool) : Type 0 where
   pub R : List Column
   pub W : List Column

@@ -4,15 +4,19 @@
 use mathlib.Core.Path.{_≡_}
 use Prim.Native.Nat.{ℕ, _+_, _*_, _-_, _/_, _%_, _≤_, _<_}
 
+-- a planned entry of row, new multiplicity and kind, as one number
 abbrev pub packed : (row multiplicity kind : ℕ) → ℕ
 packed i n k = i - 1 + 4096 * n + 1073741824 * k
 
+-- the row of a planned entry
 abbrev pub rowOf : (entry : ℕ) → ℕ
 rowOf x = x % 4096 + 1
 
+-- the new multiplicity of a planned entry
 abbrev pub multiplicityOf : (entry : ℕ) → ℕ
 multiplicityOf x = x / 4096 % 262144
 
+-- the kind of a planned entry
 abbrev pub kindOf : (entry : ℕ) → ℕ
 kindOf x = x / 1073741824
 
