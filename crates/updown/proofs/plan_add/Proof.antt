@@ -9,73 +9,57 @@ use Rattle.updown.proofs.plan_add.Statement.{statement}
 use Rattle.updown.proofs.plan_add.Tie as tie
 use Rattle.updown.proofs.plan_add.Reads as reads
 use Rattle.updown.proofs.plan_add.Lts as lts
-use Rattle.updown.proofs.clear_starts.Reads as clear-starts-reads
-use Rattle.updown.proofs.clear_turns.Reads as clear-turns-reads
-use Rattle.updown.proofs.mark_listed.Reads as mark-listed-reads
-use Rattle.updown.proofs.walk_add.Reads as walk-add-reads
+use Rattle.updown.proofs.clears.clear_starts.Reads as clear-starts-reads
+use Rattle.updown.proofs.clears.clear_turns.Reads as clear-turns-reads
+use Rattle.updown.proofs.starts.mark_listed.Reads as mark-listed-reads
+use Rattle.updown.proofs.walks.walk_add.Reads as walk-add-reads
 use Rattle.workspace.proofs.clear.Reads as clear-reads
 
--- src/lib.rt:704:17
 mul-flags : tie.Need-mul-flags
 mul-flags c = search needs
 
--- src/lib.rt:704:25
 mul-flags-2 : tie.Need-mul-flags-2
 mul-flags-2 c = search needs
 
--- src/lib.rt:704:17
 add-flags : tie.Need-add-flags
 add-flags c = search needs
 
--- src/lib.rt:705:5
 mark-listed-requires : tie.Need-mark-listed-requires
 mark-listed-requires c κs = let s = c .before .before .before .before .before .before .before .before .before .pre in record { W = s .W; can = add-mark (s .can) }
 
--- src/lib.rt:706:9
 walk-add-requires : tie.Need-walk-add-requires
 walk-add-requires c κs = let s = c .before .before .before .before .before .before .before .before .before .before .before .before .before .pre in record { R = s .R; W = s .W; work₀ = c .before .before .before .before .before .before .before .before .before .before .before .before .before .args .work .now; can = add-enter (s .can) (c .before .before .before .mark-listed .ensures (s .W) (add-mark (s .can))) }
 
--- src/lib.rt:708:9
 clear-requires : tie.Need-clear-requires
 clear-requires c κs = let s = c .before .before .before .before .before .before .before .before .before .before .before .before .before .before .before .before .before .before .pre in add-made (s .can) (c .before .before .before .before .walk-add .ensures (s .R) (s .W) (c .before .before .before .before .before .before .before .before .before .before .before .before .before .before .before .before .before .before .args .work .now) (add-enter (s .can) (c .before .before .before .before .before .before .before .before .mark-listed .ensures (s .W) (add-mark (s .can))))) (c .before .if1 .taken) .0
 
--- src/lib.rt:714:19
 cast-t25 : tie.Need-cast-t25
 cast-t25 c = let s = c .before .before .before .before .before .before .before .before .before .before .before .before .before .before .before .before .before .before .before .before .before .before .pre in let f = add-made (s .can) (c .before .before .before .before .before .before .before .before .walk-add .ensures (s .R) (s .W) (c .before .before .before .before .before .before .before .before .before .before .before .before .before .before .before .before .before .before .before .before .before .before .args .work .now) (add-enter (s .can) (c .before .before .before .before .before .before .before .before .before .before .before .before .mark-listed .ensures (s .W) (add-mark (s .can))))) (c .before .before .before .before .before .if1 .taken) in omega arith
 
--- src/lib.rt:709:9
 same-length : tie.Need-same-length
 same-length c = search needs
 
--- src/lib.rt:709:9
 returns : tie.Need-returns
 returns c = λ R W can. add-planned can (c .before .before .before .before .before .before .before .before .walk-add .ensures (R) (W) (c .before .before .before .before .before .before .before .before .before .before .before .before .before .before .before .before .before .before .before .before .before .before .args .work .now) (add-enter (can) (c .before .before .before .before .before .before .before .before .before .before .before .before .mark-listed .ensures (W) (add-mark (can))))) (c .before .before .before .before .before .if1 .taken) (c .before .before .before .clear .ensures) true refl
 
--- src/lib.rt:717:5
 clear-turns-requires : tie.Need-clear-turns-requires
 clear-turns-requires c κs = let s = c .before .before .before .before .before .before .before .before .before .before .before .before .before .before .before .before .before .before .pre in add-halted (s .can) (c .before .before .before .before .walk-add .ensures (s .R) (s .W) (c .before .before .before .before .before .before .before .before .before .before .before .before .before .before .before .before .before .before .args .work .now) (add-enter (s .can) (c .before .before .before .before .before .before .before .before .mark-listed .ensures (s .W) (add-mark (s .can))))) (c .before .if1 .left)
 
--- src/lib.rt:718:5
 clear-starts-requires : tie.Need-clear-starts-requires
 clear-starts-requires c κs = let s = c .before .before .before .before .before .before .before .before .before .before .before .before .before .before .before .before .before .before .before .before .before .before .pre in record { W = s .W; can = add-clear (s .can) (c .before .before .before .before .before .before .before .before .walk-add .ensures (s .R) (s .W) (c .before .before .before .before .before .before .before .before .before .before .before .before .before .before .before .before .before .before .before .before .before .before .args .work .now) (add-enter (s .can) (c .before .before .before .before .before .before .before .before .before .before .before .before .mark-listed .ensures (s .W) (add-mark (s .can))))) (c .before .before .before .before .before .if1 .left) (c .before .before .before .clear-turns .ensures (8 * length (c .before .before .before .before .before .before .before .before .before .before .before .before .before .before .before .before .before .before .before .before .before .before .args .heads .now) + 4 * length (c .before .before .before .before .before .before .before .before .before .before .before .before .before .before .before .before .before .before .before .before .before .before .args .next .now)) (s .R) (s .W) (c .before .before .before .before .before .before .before .before .before .before .before .before .before .before .before .before .before .before .before .before .before .before .args .work .now) (c .before .before .before .before .before .before .before .before .walk-add .result .used) (add-parents (s .can)) (add-stopped (s .can) (c .before .before .before .before .before .before .before .before .walk-add .ensures (s .R) (s .W) (c .before .before .before .before .before .before .before .before .before .before .before .before .before .before .before .before .before .before .before .before .before .before .args .work .now) (add-enter (s .can) (c .before .before .before .before .before .before .before .before .before .before .before .before .mark-listed .ensures (s .W) (add-mark (s .can))))) (c .before .before .before .before .before .if1 .left) .0) (add-stopped (s .can) (c .before .before .before .before .before .before .before .before .walk-add .ensures (s .R) (s .W) (c .before .before .before .before .before .before .before .before .before .before .before .before .before .before .before .before .before .before .before .before .before .before .args .work .now) (add-enter (s .can) (c .before .before .before .before .before .before .before .before .before .before .before .before .mark-listed .ensures (s .W) (add-mark (s .can))))) (c .before .before .before .before .before .if1 .left) .1)) }
 
--- src/lib.rt:719:28
 mul-clear : tie.Need-mul-clear
 mul-clear c = let s = c .before .before .before .before .before .before .before .before .before .before .before .before .before .before .before .before .before .before .before .before .before .before .before .before .before .before .pre in omega (arith, s .can .can .m-bound)
 
--- src/lib.rt:719:5
 clear-requires-2 : tie.Need-clear-requires-2
 clear-requires-2 c κs = let s = c .before .before .before .before .before .before .before .before .before .before .before .before .before .before .before .before .before .before .before .before .before .before .before .before .before .before .pre in add-rooms (s .can) (c .before .before .before .before .before .before .before .before .before .before .before .before .walk-add .ensures (s .R) (s .W) (c .before .before .before .before .before .before .before .before .before .before .before .before .before .before .before .before .before .before .before .before .before .before .before .before .before .before .args .work .now) (add-enter (s .can) (c .before .before .before .before .before .before .before .before .before .before .before .before .before .before .before .before .mark-listed .ensures (s .W) (add-mark (s .can))))) (c .before .before .before .before .before .before .before .before .before .if1 .left) (c .before .before .before .before .before .before .before .clear-turns .ensures (8 * length (c .before .before .before .before .before .before .before .before .before .before .before .before .before .before .before .before .before .before .before .before .before .before .before .before .before .before .args .heads .now) + 4 * length (c .before .before .before .before .before .before .before .before .before .before .before .before .before .before .before .before .before .before .before .before .before .before .before .before .before .before .args .next .now)) (s .R) (s .W) (c .before .before .before .before .before .before .before .before .before .before .before .before .before .before .before .before .before .before .before .before .before .before .before .before .before .before .args .work .now) (c .before .before .before .before .before .before .before .before .before .before .before .before .walk-add .result .used) (add-parents (s .can)) (add-stopped (s .can) (c .before .before .before .before .before .before .before .before .before .before .before .before .walk-add .ensures (s .R) (s .W) (c .before .before .before .before .before .before .before .before .before .before .before .before .before .before .before .before .before .before .before .before .before .before .before .before .before .before .args .work .now) (add-enter (s .can) (c .before .before .before .before .before .before .before .before .before .before .before .before .before .before .before .before .mark-listed .ensures (s .W) (add-mark (s .can))))) (c .before .before .before .before .before .before .before .before .before .if1 .left) .0) (add-stopped (s .can) (c .before .before .before .before .before .before .before .before .before .before .before .before .walk-add .ensures (s .R) (s .W) (c .before .before .before .before .before .before .before .before .before .before .before .before .before .before .before .before .before .before .before .before .before .before .before .before .before .before .args .work .now) (add-enter (s .can) (c .before .before .before .before .before .before .before .before .before .before .before .before .before .before .before .before .mark-listed .ensures (s .W) (add-mark (s .can))))) (c .before .before .before .before .before .before .before .before .before .if1 .left) .1)) (c .before .before .before .clear-starts .ensures (s .W) (add-clear (s .can) (c .before .before .before .before .before .before .before .before .before .before .before .before .walk-add .ensures (s .R) (s .W) (c .before .before .before .before .before .before .before .before .before .before .before .before .before .before .before .before .before .before .before .before .before .before .before .before .before .before .args .work .now) (add-enter (s .can) (c .before .before .before .before .before .before .before .before .before .before .before .before .before .before .before .before .mark-listed .ensures (s .W) (add-mark (s .can))))) (c .before .before .before .before .before .before .before .before .before .if1 .left) (c .before .before .before .before .before .before .before .clear-turns .ensures (8 * length (c .before .before .before .before .before .before .before .before .before .before .before .before .before .before .before .before .before .before .before .before .before .before .before .before .before .before .args .heads .now) + 4 * length (c .before .before .before .before .before .before .before .before .before .before .before .before .before .before .before .before .before .before .before .before .before .before .before .before .before .before .args .next .now)) (s .R) (s .W) (c .before .before .before .before .before .before .before .before .before .before .before .before .before .before .before .before .before .before .before .before .before .before .before .before .before .before .args .work .now) (c .before .before .before .before .before .before .before .before .before .before .before .before .walk-add .result .used) (add-parents (s .can)) (add-stopped (s .can) (c .before .before .before .before .before .before .before .before .before .before .before .before .walk-add .ensures (s .R) (s .W) (c .before .before .before .before .before .before .before .before .before .before .before .before .before .before .before .before .before .before .before .before .before .before .before .before .before .before .args .work .now) (add-enter (s .can) (c .before .before .before .before .before .before .before .before .before .before .before .before .before .before .before .before .mark-listed .ensures (s .W) (add-mark (s .can))))) (c .before .before .before .before .before .before .before .before .before .if1 .left) .0) (add-stopped (s .can) (c .before .before .before .before .before .before .before .before .before .before .before .before .walk-add .ensures (s .R) (s .W) (c .before .before .before .before .before .before .before .before .before .before .before .before .before .before .before .before .before .before .before .before .before .before .before .before .before .before .args .work .now) (add-enter (s .can) (c .before .before .before .before .before .before .before .before .before .before .before .before .before .before .before .before .mark-listed .ensures (s .W) (add-mark (s .can))))) (c .before .before .before .before .before .before .before .before .before .if1 .left) .1)))) .0
 
--- src/lib.rt:720:5
 clear-requires-3 : tie.Need-clear-requires-3
 clear-requires-3 c κs = let s = c .before .before .before .before .before .before .before .before .before .before .before .before .before .before .before .before .before .before .before .before .before .before .before .before .before .before .before .before .before .before .pre in add-last (s .can) (c .before .before .before .before .before .before .before .before .before .before .before .before .before .before .before .before .walk-add .ensures (s .R) (s .W) (c .before .before .before .before .before .before .before .before .before .before .before .before .before .before .before .before .before .before .before .before .before .before .before .before .before .before .before .before .before .before .args .work .now) (add-enter (s .can) (c .before .before .before .before .before .before .before .before .before .before .before .before .before .before .before .before .before .before .before .before .mark-listed .ensures (s .W) (add-mark (s .can))))) (c .before .before .before .before .before .before .before .before .before .before .before .before .before .if1 .left) (c .before .before .before .before .before .before .before .before .before .before .before .clear-turns .ensures (8 * length (c .before .before .before .before .before .before .before .before .before .before .before .before .before .before .before .before .before .before .before .before .before .before .before .before .before .before .before .before .before .before .args .heads .now) + 4 * length (c .before .before .before .before .before .before .before .before .before .before .before .before .before .before .before .before .before .before .before .before .before .before .before .before .before .before .before .before .before .before .args .next .now)) (s .R) (s .W) (c .before .before .before .before .before .before .before .before .before .before .before .before .before .before .before .before .before .before .before .before .before .before .before .before .before .before .before .before .before .before .args .work .now) (c .before .before .before .before .before .before .before .before .before .before .before .before .before .before .before .before .walk-add .result .used) (add-parents (s .can)) (add-stopped (s .can) (c .before .before .before .before .before .before .before .before .before .before .before .before .before .before .before .before .walk-add .ensures (s .R) (s .W) (c .before .before .before .before .before .before .before .before .before .before .before .before .before .before .before .before .before .before .before .before .before .before .before .before .before .before .before .before .before .before .args .work .now) (add-enter (s .can) (c .before .before .before .before .before .before .before .before .before .before .before .before .before .before .before .before .before .before .before .before .mark-listed .ensures (s .W) (add-mark (s .can))))) (c .before .before .before .before .before .before .before .before .before .before .before .before .before .if1 .left) .0) (add-stopped (s .can) (c .before .before .before .before .before .before .before .before .before .before .before .before .before .before .before .before .walk-add .ensures (s .R) (s .W) (c .before .before .before .before .before .before .before .before .before .before .before .before .before .before .before .before .before .before .before .before .before .before .before .before .before .before .before .before .before .before .args .work .now) (add-enter (s .can) (c .before .before .before .before .before .before .before .before .before .before .before .before .before .before .before .before .before .before .before .before .mark-listed .ensures (s .W) (add-mark (s .can))))) (c .before .before .before .before .before .before .before .before .before .before .before .before .before .if1 .left) .1)) (c .before .before .before .before .before .before .before .clear-starts .ensures (s .W) (add-clear (s .can) (c .before .before .before .before .before .before .before .before .before .before .before .before .before .before .before .before .walk-add .ensures (s .R) (s .W) (c .before .before .before .before .before .before .before .before .before .before .before .before .before .before .before .before .before .before .before .before .before .before .before .before .before .before .before .before .before .before .args .work .now) (add-enter (s .can) (c .before .before .before .before .before .before .before .before .before .before .before .before .before .before .before .before .before .before .before .before .mark-listed .ensures (s .W) (add-mark (s .can))))) (c .before .before .before .before .before .before .before .before .before .before .before .before .before .if1 .left) (c .before .before .before .before .before .before .before .before .before .before .before .clear-turns .ensures (8 * length (c .before .before .before .before .before .before .before .before .before .before .before .before .before .before .before .before .before .before .before .before .before .before .before .before .before .before .before .before .before .before .args .heads .now) + 4 * length (c .before .before .before .before .before .before .before .before .before .before .before .before .before .before .before .before .before .before .before .before .before .before .before .before .before .before .before .before .before .before .args .next .now)) (s .R) (s .W) (c .before .before .before .before .before .before .before .before .before .before .before .before .before .before .before .before .before .before .before .before .before .before .before .before .before .before .before .before .before .before .args .work .now) (c .before .before .before .before .before .before .before .before .before .before .before .before .before .before .before .before .walk-add .result .used) (add-parents (s .can)) (add-stopped (s .can) (c .before .before .before .before .before .before .before .before .before .before .before .before .before .before .before .before .walk-add .ensures (s .R) (s .W) (c .before .before .before .before .before .before .before .before .before .before .before .before .before .before .before .before .before .before .before .before .before .before .before .before .before .before .before .before .before .before .args .work .now) (add-enter (s .can) (c .before .before .before .before .before .before .before .before .before .before .before .before .before .before .before .before .before .before .before .before .mark-listed .ensures (s .W) (add-mark (s .can))))) (c .before .before .before .before .before .before .before .before .before .before .before .before .before .if1 .left) .0) (add-stopped (s .can) (c .before .before .before .before .before .before .before .before .before .before .before .before .before .before .before .before .walk-add .ensures (s .R) (s .W) (c .before .before .before .before .before .before .before .before .before .before .before .before .before .before .before .before .before .before .before .before .before .before .before .before .before .before .before .before .before .before .args .work .now) (add-enter (s .can) (c .before .before .before .before .before .before .before .before .before .before .before .before .before .before .before .before .before .before .before .before .mark-listed .ensures (s .W) (add-mark (s .can))))) (c .before .before .before .before .before .before .before .before .before .before .before .before .before .if1 .left) .1)))) (c .before .before .before .clear2 .ensures)
 
--- src/lib.rt:689:1
 same-length-2 : tie.Need-same-length-2
 same-length-2 c = search needs
 
--- src/lib.rt:689:1
 returns-2 : tie.Need-returns-2
 returns-2 c = λ R W can. add-refused can (c .before .before .before .before .before .before .before .before .before .before .before .before .before .before .before .before .before .before .before .walk-add .ensures (R) (W) (c .before .before .before .before .before .before .before .before .before .before .before .before .before .before .before .before .before .before .before .before .before .before .before .before .before .before .before .before .before .before .before .before .before .args .work .now) (add-enter (can) (c .before .before .before .before .before .before .before .before .before .before .before .before .before .before .before .before .before .before .before .before .before .before .before .mark-listed .ensures (W) (add-mark (can))))) (c .before .before .before .before .before .before .before .before .before .before .before .before .before .before .before .before .if1 .left) (c .before .before .before .before .before .before .before .before .before .before .before .before .before .before .clear-turns .ensures (8 * length (c .before .before .before .before .before .before .before .before .before .before .before .before .before .before .before .before .before .before .before .before .before .before .before .before .before .before .before .before .before .before .before .before .before .args .heads .now) + 4 * length (c .before .before .before .before .before .before .before .before .before .before .before .before .before .before .before .before .before .before .before .before .before .before .before .before .before .before .before .before .before .before .before .before .before .args .next .now)) (R) (W) (c .before .before .before .before .before .before .before .before .before .before .before .before .before .before .before .before .before .before .before .before .before .before .before .before .before .before .before .before .before .before .before .before .before .args .work .now) (c .before .before .before .before .before .before .before .before .before .before .before .before .before .before .before .before .before .before .before .walk-add .result .used) (add-parents (can)) (add-stopped (can) (c .before .before .before .before .before .before .before .before .before .before .before .before .before .before .before .before .before .before .before .walk-add .ensures (R) (W) (c .before .before .before .before .before .before .before .before .before .before .before .before .before .before .before .before .before .before .before .before .before .before .before .before .before .before .before .before .before .before .before .before .before .args .work .now) (add-enter (can) (c .before .before .before .before .before .before .before .before .before .before .before .before .before .before .before .before .before .before .before .before .before .before .before .mark-listed .ensures (W) (add-mark (can))))) (c .before .before .before .before .before .before .before .before .before .before .before .before .before .before .before .before .if1 .left) .0) (add-stopped (can) (c .before .before .before .before .before .before .before .before .before .before .before .before .before .before .before .before .before .before .before .walk-add .ensures (R) (W) (c .before .before .before .before .before .before .before .before .before .before .before .before .before .before .before .before .before .before .before .before .before .before .before .before .before .before .before .before .before .before .before .before .before .args .work .now) (add-enter (can) (c .before .before .before .before .before .before .before .before .before .before .before .before .before .before .before .before .before .before .before .before .before .before .before .mark-listed .ensures (W) (add-mark (can))))) (c .before .before .before .before .before .before .before .before .before .before .before .before .before .before .before .before .if1 .left) .1)) (c .before .before .before .before .before .before .before .before .before .before .clear-starts .ensures (W) (add-clear (can) (c .before .before .before .before .before .before .before .before .before .before .before .before .before .before .before .before .before .before .before .walk-add .ensures (R) (W) (c .before .before .before .before .before .before .before .before .before .before .before .before .before .before .before .before .before .before .before .before .before .before .before .before .before .before .before .before .before .before .before .before .before .args .work .now) (add-enter (can) (c .before .before .before .before .before .before .before .before .before .before .before .before .before .before .before .before .before .before .before .before .before .before .before .mark-listed .ensures (W) (add-mark (can))))) (c .before .before .before .before .before .before .before .before .before .before .before .before .before .before .before .before .if1 .left) (c .before .before .before .before .before .before .before .before .before .before .before .before .before .before .clear-turns .ensures (8 * length (c .before .before .before .before .before .before .before .before .before .before .before .before .before .before .before .before .before .before .before .before .before .before .before .before .before .before .before .before .before .before .before .before .before .args .heads .now) + 4 * length (c .before .before .before .before .before .before .before .before .before .before .before .before .before .before .before .before .before .before .before .before .before .before .before .before .before .before .before .before .before .before .before .before .before .args .next .now)) (R) (W) (c .before .before .before .before .before .before .before .before .before .before .before .before .before .before .before .before .before .before .before .before .before .before .before .before .before .before .before .before .before .before .before .before .before .args .work .now) (c .before .before .before .before .before .before .before .before .before .before .before .before .before .before .before .before .before .before .before .walk-add .result .used) (add-parents (can)) (add-stopped (can) (c .before .before .before .before .before .before .before .before .before .before .before .before .before .before .before .before .before .before .before .walk-add .ensures (R) (W) (c .before .before .before .before .before .before .before .before .before .before .before .before .before .before .before .before .before .before .before .before .before .before .before .before .before .before .before .before .before .before .before .before .before .args .work .now) (add-enter (can) (c .before .before .before .before .before .before .before .before .before .before .before .before .before .before .before .before .before .before .before .before .before .before .before .mark-listed .ensures (W) (add-mark (can))))) (c .before .before .before .before .before .before .before .before .before .before .before .before .before .before .before .before .if1 .left) .0) (add-stopped (can) (c .before .before .before .before .before .before .before .before .before .before .before .before .before .before .before .before .before .before .before .walk-add .ensures (R) (W) (c .before .before .before .before .before .before .before .before .before .before .before .before .before .before .before .before .before .before .before .before .before .before .before .before .before .before .before .before .before .before .before .before .before .args .work .now) (add-enter (can) (c .before .before .before .before .before .before .before .before .before .before .before .before .before .before .before .before .before .before .before .before .before .before .before .mark-listed .ensures (W) (add-mark (can))))) (c .before .before .before .before .before .before .before .before .before .before .before .before .before .before .before .before .if1 .left) .1)))) (c .before .before .before .before .before .before .clear2 .ensures) (c .before .before .clear3 .ensures) false refl
 

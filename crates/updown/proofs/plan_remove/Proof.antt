@@ -9,43 +9,34 @@ use Rattle.updown.proofs.plan_remove.Statement.{statement}
 use Rattle.updown.proofs.plan_remove.Tie as tie
 use Rattle.updown.proofs.plan_remove.Reads as reads
 use Rattle.updown.proofs.plan_remove.Lts as lts
-use Rattle.updown.proofs.mark_booked.Reads as mark-booked-reads
-use Rattle.updown.proofs.walk_remove.Reads as walk-remove-reads
+use Rattle.updown.proofs.starts.mark_booked.Reads as mark-booked-reads
+use Rattle.updown.proofs.walks.walk_remove.Reads as walk-remove-reads
 use Rattle.workspace.proofs.clear.Reads as clear-reads
 
--- src/lib.rt:572:17
 mul-flags : tie.Need-mul-flags
 mul-flags c = search needs
 
--- src/lib.rt:572:25
 mul-flags-2 : tie.Need-mul-flags-2
 mul-flags-2 c = search needs
 
--- src/lib.rt:572:17
 add-flags : tie.Need-add-flags
 add-flags c = search needs
 
--- src/lib.rt:573:5
 mark-booked-requires : tie.Need-mark-booked-requires
 mark-booked-requires c κs = let s = c .before .before .before .before .before .before .before .before .before .before .before .pre in record { next = c .before .before .before .before .before .before .before .before .before .before .before .args .book-next .now; W = s .W; can = remove-mark (s .can) }
 
--- src/lib.rt:574:9
 walk-remove-requires : tie.Need-walk-remove-requires
 walk-remove-requires c κs = let s = c .before .before .before .before .before .before .before .before .before .before .before .before .before .before .before .pre in record { R = s .R; W = s .W; work₀ = c .before .before .before .before .before .before .before .before .before .before .before .before .before .before .before .args .work .now; can = remove-leave (s .can) (c .before .before .before .mark-booked .ensures (c .before .before .before .before .before .before .before .before .before .before .before .before .before .before .before .args .book-next .now) (s .W) (remove-mark (s .can))) }
 
--- src/lib.rt:588:5
 clear-requires : tie.Need-clear-requires
 clear-requires c κs = let s = c .before .before .before .before .before .before .before .before .before .before .before .before .before .before .before .before .before .before .before .pre in (c .before .before .before .walk-remove .ensures (s .R) (s .W) (c .before .before .before .before .before .before .before .before .before .before .before .before .before .before .before .before .before .before .before .args .work .now) (remove-leave (s .can) (c .before .before .before .before .before .before .before .mark-booked .ensures (c .before .before .before .before .before .before .before .before .before .before .before .before .before .before .before .before .before .before .before .args .book-next .now) (s .W) (remove-mark (s .can))))) .walking .room .long
 
--- src/lib.rt:594:15
 cast-t24 : tie.Need-cast-t24
 cast-t24 c = let s = c .before .before .before .before .before .before .before .before .before .before .before .before .before .before .before .before .before .before .before .before .before .before .before .pre in let b = (c .before .before .before .before .before .before .before .walk-remove .ensures (s .R) (s .W) (c .before .before .before .before .before .before .before .before .before .before .before .before .before .before .before .before .before .before .before .before .before .before .before .args .work .now) (remove-leave (s .can) (c .before .before .before .before .before .before .before .before .before .before .before .mark-booked .ensures (c .before .before .before .before .before .before .before .before .before .before .before .before .before .before .before .before .before .before .before .before .before .before .before .args .book-next .now) (s .W) (remove-mark (s .can))))) in let g = remove-leave (s .can) (c .before .before .before .before .before .before .before .before .before .before .before .mark-booked .ensures (c .before .before .before .before .before .before .before .before .before .before .before .before .before .before .before .before .before .before .before .before .before .before .before .args .book-next .now) (s .W) (remove-mark (s .can))) in omega (arith, b .numbers .room, g .setting .fitting (suc (length (c .before .before .before .before .before .before .before .before .before .before .before .before .before .before .before .before .before .before .before .before .before .before .before .args .heads .now))) (omega arith) (omega arith), g .setting .records)
 
--- src/lib.rt:556:1
 same-length : tie.Need-same-length
 same-length c = search needs
 
--- src/lib.rt:556:1
 returns : tie.Need-returns
 returns c = λ R W can. remove-planned can (c .before .before .before .before .before .before .before .before .before .before .before .mark-booked .ensures (c .before .before .before .before .before .before .before .before .before .before .before .before .before .before .before .before .before .before .before .before .before .before .before .args .book-next .now) (W) (remove-mark (can))) (c .before .before .before .before .before .before .before .walk-remove .ensures (R) (W) (c .before .before .before .before .before .before .before .before .before .before .before .before .before .before .before .before .before .before .before .before .before .before .before .args .work .now) (remove-leave (can) (c .before .before .before .before .before .before .before .before .before .before .before .mark-booked .ensures (c .before .before .before .before .before .before .before .before .before .before .before .before .before .before .before .before .before .before .before .before .before .before .before .args .book-next .now) (W) (remove-mark (can))))) (c .before .before .before .clear .ensures) true refl
 

@@ -1,0 +1,81 @@
+use Rattle.updown.proofs.Bringing.{plan-read, kept-up, kept-down}
+use Rattle.updown.proofs.Children.{can-gather, can-count}
+use mathlib.Core.Path.{_≡_, refl, sym, ap}
+use native.Mathlib.Omega.{arith}
+use borrow.Author.Needs.{needs}
+use Rattle.updown.proofs.queues.count_kept.Statement.{statement}
+use Rattle.updown.proofs.queues.count_kept.Tie as tie
+use Rattle.updown.proofs.queues.count_kept.Reads as reads
+use Rattle.updown.proofs.queues.count_kept.Lts as lts
+use Rattle.differences.proofs.count_rows.Reads as count-rows-reads
+use Rattle.differences.proofs.gather_plan.Reads as gather-plan-reads
+use Rattle.updown.proofs.queues.plan_end.Reads as plan-end-reads
+
+mul-from : tie.Need-mul-from
+mul-from c = search needs
+
+sub-from : tie.Need-sub-from
+sub-from c = search needs
+
+cast-from : tie.Need-cast-from
+cast-from c = search needs
+
+add-from : tie.Need-add-from
+add-from c = search needs
+
+mul-from-2 : tie.Need-mul-from-2
+mul-from-2 c = search needs
+
+slice-read-from : tie.Need-slice-read-from
+slice-read-from c = search needs
+
+cast-from-2 : tie.Need-cast-from-2
+cast-from-2 c = search needs
+
+plan-end-requires : tie.Need-plan-end-requires
+plan-end-requires c κs = search needs
+
+gather-plan-requires : tie.Need-gather-plan-requires
+gather-plan-requires c κs = (can-gather (c .before .before .before .before .before .before .pre .0), plan-read _ (c .before .before .plan-end .ensures) (c .before .before .before .before .before .before .pre .1 .plan))
+
+count-rows-requires : tie.Need-count-rows-requires
+count-rows-requires c κs = can-count (c .before .before .before .gather-plan .ensures) (c .before .before .before .before .before .before .before .before .before .before .pre .0)
+
+same-length : tie.Need-same-length
+same-length c = search needs
+
+returns : tie.Need-returns
+returns c = kept-up _ (c .before .before .before .before .before .before .before .before .before .plan-end .ensures) _ (c .before .before .before .before .before .before .before .before .if1 .taken) (c .before .before .before .before .before .before .gather-plan .ensures) (c .before .before .count-rows .ensures)
+
+gather-plan-requires-2 : tie.Need-gather-plan-requires-2
+gather-plan-requires-2 c κs = (can-gather (c .before .before .before .before .before .before .pre .0), plan-read _ (c .before .before .plan-end .ensures) (c .before .before .before .before .before .before .pre .1 .plan))
+
+count-rows-requires-2 : tie.Need-count-rows-requires-2
+count-rows-requires-2 c κs = can-count (c .before .before .before .gather-plan2 .ensures) (c .before .before .before .before .before .before .before .before .before .before .pre .0)
+
+same-length-2 : tie.Need-same-length-2
+same-length-2 c = search needs
+
+returns-2 : tie.Need-returns-2
+returns-2 c = kept-down _ (c .before .before .before .before .before .before .before .before .before .plan-end .ensures) _ (c .before .before .before .before .before .before .before .before .if1 .left) (c .before .before .before .before .before .before .gather-plan2 .ensures) (c .before .before .count-rows2 .ensures)
+
+pub count-kept-spec : {M : Type 1} → statement M
+count-kept-spec =
+    tie.close
+    (tie.spec
+    mul-from
+    sub-from
+    cast-from
+    add-from
+    mul-from-2
+    slice-read-from
+    cast-from-2
+    plan-end-requires
+    gather-plan-requires
+    count-rows-requires
+    same-length
+    returns
+    gather-plan-requires-2
+    count-rows-requires-2
+    same-length-2
+    returns-2)

@@ -1,0 +1,17 @@
+use mathlib.Core.Bool.{true≢false}
+use borrow.Author.Tests.{eq-eqb, ne-eqb}
+use mathlib.Core.Path.{_≡_, refl, sym, ap, _∙_}
+use native.Mathlib.Omega.{arith}
+use Rattle.updown.proofs.turns.first_of.Statement.{statement}
+use Rattle.updown.proofs.turns.first_of.Tie as tie
+use Rattle.updown.proofs.turns.first_of.Reads as reads
+use Rattle.updown.proofs.turns.first_of.Lts as lts
+
+returns : tie.Need-returns
+returns c = rw (eq-eqb (c .before .args .first) 0 (c .if1 .taken)) refl
+
+returns-2 : tie.Need-returns-2
+returns-2 c = rw (ne-eqb (c .before .args .first) 0 (c .if1 .left)) refl
+
+pub first-of-spec : {M : Type 1} → statement M
+first-of-spec = tie.close (tie.spec returns returns-2)

@@ -1,0 +1,46 @@
+// The marks of the rows to visit, and a flag for each block of 64 rows that has one: a mark is set with its flag, and the next marked row is found.
+ghost use mathlib.Core.Path.{_≡_};
+ghost use Prim.Native.Nat.{_+_, _*_, _≤_};
+ghost use Rattle.updown.specs.Marks.{Room, marked, raised, Flagged, Next};
+
+// Marks a row where the batch column at position k starts; positions come rising.
+pub fn mark_start(work: &mut [u32], m: usize, flags: usize, row: u32, k: u32)
+    requires { ⌜ Room m flags (now work) × (1 ≤ row) × (row ≤ m) × (k ≤ 64) ⌝ }
+    ensures { λ r. ⌜ now (work .exit) ≡ marked m flags (now (work .entry)) row (4 * k + 2) ⌝ }
+{
+    let i = (row - 1) as usize;
+    work[3 * m + i] = 4 * k + 2;
+    work[flags + i / 64] = 1;
+}
+
+// Marks a tree parent with at least a child's label.
+pub fn mark_parent(work: &mut [u32], m: usize, flags: usize, row: u32, label: u32)
+    requires { ⌜ Room m flags (now work) × (1 ≤ row) × (row ≤ m) × (label ≤ 64) ⌝ }
+    ensures { λ r. ⌜ now (work .exit) ≡ raised m flags (now (work .entry)) row label ⌝ }
+{
+    let i = (row - 1) as usize;
+    let x = work[3 * m + i];
+    if x / 4 < label {
+        work[3 * m + i] = 4 * label + x % 4;
+        work[flags + i / 64] = 1;
+    }
+}
+
+// The first marked row past the first `from` rows, or 0.
+pub fn next_marked(work: &[u32], m: usize, flags: usize, from: usize) -> u32
+    requires { ⌜ Room m flags (now work) × Flagged m flags (now work) from ⌝ }
+    ensures { λ r. ⌜ Next m (now (work .entry)) from r ⌝ }
+{
+    let mut i = from;
+    while i < m {
+        if work[flags + i / 64] == 0 {
+            i = i / 64 * 64 + 64;
+        } else {
+            if work[3 * m + i] != 0 {
+                return (i + 1) as u32;
+            }
+            i += 1;
+        }
+    }
+    0
+}

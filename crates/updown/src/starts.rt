@@ -1,0 +1,138 @@
+// Where the columns of a batch start: their starts are marked, and A of Algorithms 3 and 4 counts the batch columns that start at j.
+ghost use mathlib.Core.Path.{_≡_};
+ghost use mathlib.Core.Bool.{true, false};
+ghost use mathlib.Core.List.{List};
+ghost use Prim.Native.Nat.{ℕ, _*_, _%_, _≤_};
+ghost use lib.ListN.{length};
+ghost use Rattle.updown.specs.Marks.{markAt};
+ghost use Rattle.symbolic.specs.Columns.{Column};
+ghost use Rattle.updown.specs.States.{startOf};
+ghost use Rattle.updown.specs.Entries.{Listed};
+ghost use Rattle.updown.specs.Starts.{StartsTo, CanMark, SomeMark, CanStart, Started, SomeStart, BookHolds, CanMarkBooked, SomeMarkBooked, SomeStartBooked};
+use crate::marks;
+use book::Id;
+
+// Marks where the columns start whose rows stand one after another in a list.
+pub fn mark_listed(work: &mut [u32], row_counts: &[u32], row_list: &[u32], m: usize, flags: usize)
+    requires { ⌜ SomeMark (now «row_counts») (now «row_list») m flags (now work) ⌝ }
+    ensures { λ _. ⌜ ((W : List Column) → CanMark (now («row_counts» .entry)) (now («row_list» .entry)) m flags (now (work .entry)) W → StartsTo m flags W (now (work .entry)) (now (work .exit)) (length W)) ⌝ }
+{
+    let mut k: usize = 0;
+    let mut at: usize = 0;
+    while k < row_counts.len() {
+        let row = row_list[at];
+        marks::mark_start(work, m, flags, row, (k + 1) as u32);
+        at += row_counts[k] as usize;
+        k += 1;
+    }
+}
+
+// Marks where the columns start that the book has under some ids.
+pub fn mark_booked(
+    book_heads: &[u32],
+    book_rows: &[u16],
+    work: &mut [u32],
+    ids: &[u32],
+    m: usize,
+    flags: usize,
+)
+    requires { ⌜ SomeMarkBooked (now «book_heads») (now «book_rows») (now ids) m flags (now work) ⌝ }
+    ensures { λ _. ⌜ ((next : List ℕ) (W : List Column) → CanMarkBooked (now («book_heads» .entry)) (now («book_rows» .entry)) next (now (ids .entry)) m flags (now (work .entry)) W → StartsTo m flags W (now (work .entry)) (now (work .exit)) (length W)) ⌝ }
+{
+    let mut k: usize = 0;
+    while k < ids.len() {
+        let row = book::lowest_row(book_heads, book_rows, Id(ids[k]));
+        marks::mark_start(work, m, flags, row.0, (k + 1) as u32);
+        k += 1;
+    }
+}
+
+// Counts up the listed columns that start at j, and gives the number of touched rows.
+fn count_listed(work: &mut [u32], row_counts: &[u32], row_list: &[u32], m: usize, j: u32) -> usize
+    requires { ⌜ SomeStart (now «row_counts») (now «row_list») m (now work) j ⌝ }
+    ensures { λ r. ⌜ ((R W : List Column) (place : ℕ → ℕ) → Listed (now («row_counts» .entry)) (now («row_list» .entry)) W → CanStart m R W true (now (work .entry)) j place → Started m R W true (now (work .entry)) (now (work .exit)) r j place) ⌝ }
+{
+    let mut n: usize = 0;
+    let mut k: usize = 0;
+    let mut at: usize = 0;
+    while k < row_counts.len() {
+        let end = at + row_counts[k] as usize;
+        if row_list[at] == j {
+            let g = differences::gather_rows(work, &row_list[at..end], m);
+            n = differences::count_rows(work, m, n, g, true);
+            at = end;
+            k += 1;
+        } else {
+            at = end;
+            k += 1;
+        }
+    }
+    n
+}
+
+// Counts down the booked columns that start at j, and gives the number of touched rows.
+fn count_booked(
+    book_heads: &[u32],
+    book_rows: &[u16],
+    book_next: &[u32],
+    work: &mut [u32],
+    ids: &[u32],
+    m: usize,
+    j: u32,
+) -> usize
+    requires { ⌜ SomeStartBooked (now «book_heads») (now «book_rows») (now «book_next») (now ids) m (now work) j ⌝ }
+    ensures { λ r. ⌜ ((R W : List Column) (place : ℕ → ℕ) → BookHolds (now («book_heads» .entry)) (now («book_rows» .entry)) (now («book_next» .entry)) (now (ids .entry)) m W → CanStart m R W false (now (work .entry)) j place → Started m R W false (now (work .entry)) (now (work .exit)) r j place) ⌝ }
+{
+    let mut n: usize = 0;
+    let mut k: usize = 0;
+    while k < ids.len() {
+        let id = ids[k];
+        let row = book::lowest_row(book_heads, book_rows, Id(id));
+        if row.0 == j {
+            let a = 2 * m;
+            let e = 3 * m;
+            let g = book::copy_rows(book_heads, book_rows, book_next, &mut work[a..e], Id(id));
+            n = differences::count_rows(work, m, n, g as usize, false);
+            k += 1;
+        } else {
+            k += 1;
+        }
+    }
+    n
+}
+
+// A for column j, if batch columns start there: the listed ones.
+pub fn start_listed(
+    work: &mut [u32],
+    row_counts: &[u32],
+    row_list: &[u32],
+    m: usize,
+    j: u32,
+) -> usize
+    requires { ⌜ SomeStart (now «row_counts») (now «row_list») m (now work) j × (4 * m ≤ length (now work)) ⌝ }
+    ensures { λ r. ⌜ ((R W : List Column) (place : ℕ → ℕ) → Listed (now («row_counts» .entry)) (now («row_list» .entry)) W → CanStart m R W true (now (work .entry)) j place → ((i : ℕ) → 1 ≤ i → i ≤ length W → startOf W i ≡ j → markAt m (now (work .entry)) j % 4 ≡ 2) → Started m R W true (now (work .entry)) (now (work .exit)) r j place) ⌝ }
+{
+    if work[3 * m + (j - 1) as usize] % 4 == 2 {
+        return count_listed(work, row_counts, row_list, m, j);
+    }
+    0
+}
+
+// A for column j, if batch columns start there: the booked ones.
+pub fn start_booked(
+    book_heads: &[u32],
+    book_rows: &[u16],
+    book_next: &[u32],
+    work: &mut [u32],
+    ids: &[u32],
+    m: usize,
+    j: u32,
+) -> usize
+    requires { ⌜ SomeStartBooked (now «book_heads») (now «book_rows») (now «book_next») (now ids) m (now work) j × (4 * m ≤ length (now work)) ⌝ }
+    ensures { λ r. ⌜ ((R W : List Column) (place : ℕ → ℕ) → BookHolds (now («book_heads» .entry)) (now («book_rows» .entry)) (now («book_next» .entry)) (now (ids .entry)) m W → CanStart m R W false (now (work .entry)) j place → ((i : ℕ) → 1 ≤ i → i ≤ length W → startOf W i ≡ j → markAt m (now (work .entry)) j % 4 ≡ 2) → Started m R W false (now (work .entry)) (now (work .exit)) r j place) ⌝ }
+{
+    if work[3 * m + (j - 1) as usize] % 4 == 2 {
+        return count_booked(book_heads, book_rows, book_next, work, ids, m, j);
+    }
+    0
+}
