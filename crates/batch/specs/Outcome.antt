@@ -15,11 +15,6 @@ use Rattle.batch.specs.declared.Batch.{Batch}
 
 -- ---- tables that are cut to their sizes: a size is a length
 
--- the eight tables as one record, from the lists that are lent
-abbrev pub tablesOf : (heads parents rows counts next bookHeads bookRows bookNext : List ℕ) → Tables
-tablesOf a b c d e f g h =
-    record { heads = a; parents = b; rows = c; counts = d; next = e; bookHeads = f; bookRows = g; bookNext = h }
-
 -- the four sizes of tables that are cut to them: their lengths
 abbrev pub cutLimits : Tables → Limits
 cutLimits t = record { m = length (t .heads); n = length (t .bookHeads); f = length (t .next); c = length (t .bookNext) }

@@ -11,16 +11,15 @@ use Rattle.symbolic.specs.Factor.{factorFor}
 use Rattle.symbolic.specs.Batch.{labelOf}
 use Rattle.pool.specs.Chains.{chain}
 use Rattle.book.specs.Book as book
-use Rattle.tables.specs.Stored.{Stored}
-use Rattle.tables.specs.Tables.{Tables, registerOf}
+use Rattle.tables.specs.Stored.{Stored, storedOf}
+use Rattle.tables.specs.Tables.{Tables, registerOf, tablesOf}
 use Rattle.calls.specs.Refusals.{Refusal, refusal, isAccepted}
 use Rattle.calls.specs.Calls.{Call, registerAfter, batchColumns}
 use Rattle.calls.specs.Report.{treeFor, touchedBy, labelsBy, entriesBy}
 use Rattle.calls.specs.Numbers.{callRefusal}
 use Rattle.calls.specs.Steps.{World, Amended}
 use Rattle.updown.specs.Plans.{PlanIs}
-use Rattle.updown.specs.Entries.{storedOf}
-use Rattle.batch.specs.Outcome.{tablesOf, cutWorld, CanFind, CanBatch}
+use Rattle.batch.specs.Outcome.{cutWorld, CanFind, CanBatch}
 use Rattle.batch.specs.declared.Verdict.{Verdict}
 
 -- ---- the two halves of tables that are cut to their sizes

@@ -2,8 +2,9 @@
 ghost use mathlib.Core.Path.{_≡_};
 ghost use mathlib.Core.List.{List};
 ghost use Prim.Native.Nat.{ℕ};
+ghost use Rattle.tables.specs.Tables.{tablesOf};
 ghost use Rattle.calls.specs.Calls.Call.{adding, removing};
-ghost use Rattle.batch.specs.Outcome.{tablesOf, cutWorld, CanFind};
+ghost use Rattle.batch.specs.Outcome.{cutWorld, CanFind};
 ghost use Rattle.batch.specs.Parts.{Judged, SomeRows, SomeFree};
 use crate::Verdict;
 use pool::Rec;

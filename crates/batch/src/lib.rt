@@ -1,9 +1,10 @@
 // Adding and removing a batch on sound tables: find the refusal and plan (judging), write the plan and change the book (writing), report. Costs only the
 // touched paths. Nothing of the tables is written before the last refusal is excluded.
 ghost use mathlib.Core.Path.{_≡_};
+ghost use Rattle.tables.specs.Tables.{tablesOf};
 ghost use Rattle.symbolic.specs.Batch.{gradeOf};
 ghost use Rattle.calls.specs.Calls.Call.{adding, removing};
-ghost use Rattle.batch.specs.Outcome.{tablesOf, cutWorld, CanBatch, batchAnswer, batchLists, BatchStep};
+ghost use Rattle.batch.specs.Outcome.{cutWorld, CanBatch, batchAnswer, batchLists, BatchStep};
 
 mod judging;
 mod writing;

@@ -1,8 +1,9 @@
 // An accepted batch written: the plan to the stored columns, then the batch's columns into the book or out of it.
 ghost use mathlib.Core.List.{List};
 ghost use Prim.Native.Nat.{ℕ};
+ghost use Rattle.tables.specs.Tables.{tablesOf};
 ghost use Rattle.calls.specs.Calls.Call.{adding, removing};
-ghost use Rattle.batch.specs.Outcome.{tablesOf, cutWorld};
+ghost use Rattle.batch.specs.Outcome.{cutWorld};
 ghost use Rattle.batch.specs.Parts.{CanWriteBatch, SomePlan, BatchWritten};
 use crate::FreeHeads;
 use pool::Rec;

@@ -19,13 +19,12 @@ use Rattle.symbolic.proofs.Laws.{diagonal-in}
 use Rattle.workspace.specs.Regions.{cleared}
 use Rattle.workspace.proofs.Regions.{table-ext, place-cases, zero-at, cleared-length, cleared-zero, cleared-outside}
 use Rattle.pool.specs.Chains.{chain}
-use Rattle.tables.specs.Stored.{Stored, Sized, isSoundFor}
+use Rattle.tables.specs.Stored.{Stored, Sized, isSoundFor, storedOf}
 use Rattle.tables.proofs.Stored as stored
 use Rattle.tables.proofs.Revised.{revised-sound}
 use Rattle.columns.specs.Commit.{Holds, Ready, ChainStays}
 use Rattle.columns.proofs.Stored.{stays-holds, held-keep}
 use Rattle.updown.specs.Plans.{planAt, PlansFrom}
-use Rattle.updown.specs.Entries.{storedOf}
 use Rattle.commit.specs.Writes.{CanWrite, Written}
 use Rattle.commit.specs.Passes.{putAll, wiped, CanCommitPlans, PlansCommitted, CanReport, Reported}
 use Rattle.commit.proofs.Wiped.{PlaceOf, all-length, all-other, all-at, wiped-length, wiped-cases}

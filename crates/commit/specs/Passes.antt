@@ -10,12 +10,11 @@ use Rattle.lists.specs.Lists.{pick, at, put, times, rises, over}
 use Rattle.symbolic.specs.Factor.{FactorColumn, columnAt, parentOf}
 use Rattle.workspace.specs.Regions.{cell, region}
 use Rattle.pool.specs.Chains.{chain}
-use Rattle.tables.specs.Stored.{Stored}
+use Rattle.tables.specs.Stored.{Stored, storedOf}
 use Rattle.tables.specs.Stays.{EntriesKeep}
 use Rattle.columns.specs.Plan.{ofKind}
 use Rattle.columns.specs.Commit.{Holds, Ready, ChainStays}
 use Rattle.updown.specs.Plans.{marksAt, startsAt, nextAt, planAt, firstOf, PlansFrom}
-use Rattle.updown.specs.Entries.{storedOf}
 use Rattle.commit.specs.Writes.{labelsFor}
 
 -- ---- the commits

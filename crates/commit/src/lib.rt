@@ -5,7 +5,7 @@ ghost use mathlib.Core.List.{List};
 ghost use Prim.Native.Nat.{ℕ, _+_};
 ghost use Rattle.symbolic.specs.Factor.{FactorColumn};
 ghost use Rattle.updown.specs.Plans.{planAt};
-ghost use Rattle.updown.specs.Entries.{storedOf};
+ghost use Rattle.tables.specs.Stored.{storedOf};
 ghost use Rattle.commit.specs.Writes.{SomeWrite, WrittenAll};
 ghost use Rattle.commit.specs.Passes.{endOf, CanEnd, CanCommitPlans, SomeCommits, PlansCommitted, CanReport, SomeReport, Reported};
 use pool::Rec;

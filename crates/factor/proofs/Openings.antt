@@ -9,7 +9,7 @@ use borrow.Author.Tests.{eq-eqb, ne-eqb}
 use Rattle.lists.specs.Lists.{pick, isIn}
 use Rattle.lists.proofs.Tests.{lt-or-le, refute, in-range}
 use Rattle.workspace.specs.Regions.{zeroFirst}
-use Rattle.tables.specs.Tables.{Tables, Limits}
+use Rattle.tables.specs.Tables.{Tables, Limits, limitsOf}
 use Rattle.tables.specs.Opening.{openedState, openedTables}
 use Rattle.calls.specs.Refusals.{Refusal, accepted, isAccepted, orElse, unless, bounds, sizesRefusal, workFor, shortRefusal}
 use Rattle.calls.specs.Calls.{opening, withDefault}
@@ -20,7 +20,7 @@ use Rattle.calls.proofs.Refusals.{HasRoom, sizes-facts}
 use Rattle.calls.proofs.Steps.{accepted-step, refused-step}
 use Rattle.refusals.specs.Early.{defaultRecords}
 use Rattle.refusals.proofs.Early.{default-allowed, default-refusal}
-use Rattle.factor.specs.Entries.{limitsOf, stateOf, workOnly, openingAnswer, OpenStep}
+use Rattle.factor.specs.Entries.{stateOf, workOnly, openingAnswer, OpenStep}
 use Rattle.factor.specs.Admission.{earlyFor, HasPlaces}
 use Rattle.factor.specs.Written.{Written}
 use Rattle.factor.specs.declared.Factor.{Factor}

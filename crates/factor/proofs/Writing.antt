@@ -14,13 +14,12 @@ use Rattle.pool.specs.Opening.{openedNexts}
 use Rattle.pool.proofs.Opening.{opened-length}
 use Rattle.book.specs.Book.{Book, bookOf}
 use Rattle.book.specs.Entries.{opened}
-use Rattle.tables.specs.Tables.{Tables, Limits}
+use Rattle.tables.specs.Tables.{Tables, Limits, tablesOf}
 use Rattle.tables.proofs.Tables.{Long, long-facts}
 use Rattle.columns.specs.Opened.{openedRows, openedCounts, CanOpen, Opened}
 use Rattle.columns.proofs.Filling.{rows-length, counts-length}
 use Rattle.calls.specs.Refusals.{workFor}
 use Rattle.calls.proofs.Refusals.{InRange}
-use Rattle.factor.specs.Entries.{tablesOf}
 use Rattle.factor.specs.Admission.{HasPlaces}
 use Rattle.factor.specs.Written.{HoldColumns, ColumnsWritten, HoldBook, BookWritten, Written}
 use Rattle.factor.proofs.Cutting.{in-range}

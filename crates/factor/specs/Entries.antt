@@ -2,21 +2,12 @@
 -- entry's call over these, and nothing else. Assumes nothing: these are definitions.
 use mathlib.Core.List.{List, []}
 use Prim.Native.Nat.{ℕ}
-use Rattle.tables.specs.Tables.{Tables, Limits, State}
+use Rattle.tables.specs.Tables.{Tables, Limits, State, limitsOf}
 use Rattle.calls.specs.Calls.{opening}
 use Rattle.calls.specs.Steps.{Answer, Lent, World, Transition}
 use Rattle.factor.specs.declared.Factor.{Factor}
 use Rattle.factor.specs.declared.Opening.{Opening}
 use Rattle.factor.specs.declared.Opening.the-variants.{Opened, Refused}
-
--- the eight lent tables as one record
-abbrev pub tablesOf : (heads parents rows counts next bookHeads bookRows bookNext : List ℕ) → Tables
-tablesOf a b c d e f g h =
-    record { heads = a; parents = b; rows = c; counts = d; next = e; bookHeads = f; bookRows = g; bookNext = h }
-
--- the four sizes as one record
-abbrev pub limitsOf : (m n f c : ℕ) → Limits
-limitsOf m n f c = record { m = m; n = n; f = f; c = c }
 
 -- the record of sizes and free heads that a factor is
 abbrev pub stateOf : Factor → State

@@ -1,9 +1,9 @@
 // What is found before a call is answered: numbers 1 to 5, the tables read through within their sizes for number 6, and both.
 ghost use mathlib.Core.Path.{_≡_};
 ghost use Rattle.workspace.specs.Regions.{zeroFirst};
-ghost use Rattle.tables.specs.Tables.{isSound};
+ghost use Rattle.tables.specs.Tables.{isSound, limitsOf, tablesOf};
 ghost use Rattle.calls.specs.Refusals.{workFor};
-ghost use Rattle.factor.specs.Entries.{tablesOf, limitsOf, stateOf};
+ghost use Rattle.factor.specs.Entries.{stateOf};
 ghost use Rattle.factor.specs.Admission.{earlyFor, Admitted, HasPlaces};
 use crate::Factor;
 use pool::Rec;

@@ -1,9 +1,10 @@
 // Adding and removing batches, with all input checked: an entry refuses by 1 to 6 and hands on to its unchecked twin.
 ghost use mathlib.Core.Path.{_≡_};
+ghost use Rattle.tables.specs.Tables.{tablesOf};
 ghost use Rattle.calls.specs.Calls.Call.{adding, removing};
 ghost use Rattle.calls.specs.Steps.{Transition};
 ghost use Rattle.batch.specs.Outcome.{batchLists};
-ghost use Rattle.factor.specs.Entries.{tablesOf, worldOf};
+ghost use Rattle.factor.specs.Entries.{worldOf};
 ghost use Rattle.factor.specs.Batches.{changedAnswer};
 use crate::Changed;
 use crate::Factor;

@@ -1,5 +1,5 @@
 // What an accepted opening writes, within the sizes: the tables of L, those of the book, and zeros in the work table.
-ghost use Rattle.factor.specs.Entries.{tablesOf, limitsOf};
+ghost use Rattle.tables.specs.Tables.{limitsOf, tablesOf};
 ghost use Rattle.factor.specs.Admission.{HasPlaces};
 ghost use Rattle.factor.specs.Written.{HoldColumns, ColumnsWritten, HoldBook, BookWritten, Written};
 use pool::Rec;

@@ -1,9 +1,10 @@
 // The factor's public entries: opening, the check of all tables, questions, and in batches.rt adding and removing. Each refuses unusable input by number
 // and fixes everything lent. A caller that has proved its tables sound uses the unchecked twins of unchecked.rt.
+ghost use Rattle.tables.specs.Tables.{limitsOf, tablesOf};
 ghost use Rattle.questions.specs.Asked.{replyOf};
 ghost use Rattle.calls.specs.Calls.Call.{checking, askMultiplicity, askParent, askPath, askColumn};
 ghost use Rattle.calls.specs.Steps.{Transition};
-ghost use Rattle.factor.specs.Entries.{tablesOf, limitsOf, worldOf, workOnly, workAndList, OpenStep};
+ghost use Rattle.factor.specs.Entries.{worldOf, workOnly, workAndList, OpenStep};
 
 mod admission;
 mod batches;

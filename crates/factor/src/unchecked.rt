@@ -2,11 +2,11 @@
 // are zero and its lists long enough. A question needs no work table and reads no more than its answer takes; a batch costs what it touches.
 ghost use mathlib.Core.Path.{_≡_};
 ghost use mathlib.Core.List.{[]};
-ghost use Rattle.tables.specs.Tables.{registerOf};
+ghost use Rattle.tables.specs.Tables.{registerOf, limitsOf, tablesOf};
 ghost use Rattle.calls.specs.Calls.Call.{adding, removing, askMultiplicity, askParent, askPath, askColumn};
 ghost use Rattle.batch.specs.Outcome.{batchLists, BatchStep};
 ghost use Rattle.questions.specs.Asked.{replyOf, repliedTo, listLeft};
-ghost use Rattle.factor.specs.Entries.{tablesOf, limitsOf, stateOf, worldOf};
+ghost use Rattle.factor.specs.Entries.{stateOf, worldOf};
 ghost use Rattle.factor.specs.Admission.{Usable};
 ghost use Rattle.factor.specs.Batches.{CanChange, changedAnswer};
 use crate::Changed;

@@ -12,11 +12,11 @@ use lib.ListN.{length}
 use borrow.Author.Tests.{le-leb}
 use Rattle.lists.specs.Lists.{isIn}
 use Rattle.lists.proofs.Tests.{lt-or-le, refute, in-range}
-use Rattle.tables.specs.Tables.{Tables, Limits, longEnough}
+use Rattle.tables.specs.Tables.{Tables, Limits, longEnough, limitsOf}
 use Rattle.calls.specs.Refusals.{Refusal, refusal, Bounds, isAccepted, orElse, unless, bounds, sizesRefusal, workFor, shortRefusal, shortBatch, rowRefusal, roomFor}
 use Rattle.calls.specs.Calls.{withDefault}
 use Rattle.calls.proofs.Choices.{or-first}
-use Rattle.refusals.specs.Early.{limits, defaultRecords, factorLong, bookLong, listsLong, NoRoom}
+use Rattle.refusals.specs.Early.{defaultRecords, factorLong, bookLong, listsLong, NoRoom}
 use Rattle.refusals.proofs.Tests.{below-not, is-out, is-in, unless-accepted, test-refusal}
 
 -- ---- 1 to 4
@@ -29,7 +29,7 @@ in-order w x y z e f g h = rw (e, f, g, h) refl
 
 module _ (b : Bounds) (m n f c : ℕ) where
   abbrev pub numberOf : ℕ
-  numberOf = sizesRefusal b (limits m n f c) .number
+  numberOf = sizesRefusal b (limitsOf m n f c) .number
 
   abbrev onM : Bool
   onM = isIn 1 (b .m) m
@@ -144,11 +144,11 @@ pub room-refusal : (xs : List ℕ) (p n : ℕ) {x : Bool} → NoRoom (length xs)
 room-refusal xs p n e = test-refusal (leb (p + n) (length xs)) 18 refl (e xs refl)
 
 -- an m that is allowed gets document 01's default
-pub default-allowed : (m n f c : ℕ) → m ≤ 4096 → limits m n (defaultRecords m f) c ≡ withDefault (limits m n f c)
+pub default-allowed : (m n f c : ℕ) → m ≤ 4096 → limitsOf m n (defaultRecords m f) c ≡ withDefault (limitsOf m n f c)
 default-allowed m n f c h = rw (le-leb m 268435455 (omega arith)) refl
 
 -- the default changes no number: any other m is refused by 1
-pub default-refusal : (m n f c : ℕ) → sizesRefusal bounds (limits m n (defaultRecords m f) c) ≡ sizesRefusal bounds (withDefault (limits m n f c))
+pub default-refusal : (m n f c : ℕ) → sizesRefusal bounds (limitsOf m n (defaultRecords m f) c) ≡ sizesRefusal bounds (withDefault (limitsOf m n f c))
 default-refusal m n f c =
     elim (lt-or-le 4096 m) [
       | inl h ↦

@@ -11,18 +11,9 @@ use Rattle.lists.specs.Lists.{pick}
 use Rattle.tables.specs.Tables.{Tables, Limits}
 use Rattle.calls.specs.Refusals.{Bounds, isAccepted, roomFor}
 
--- the four sizes as one record
-abbrev pub limits : (m n f c : ℕ) → Limits
-limits m n f c = record { m = m; n = n; f = f; c = c }
-
 -- the four largest sizes as one record
 abbrev pub largest : (m n f c : ℕ) → Bounds
 largest m n f c = record { m = m; n = n; f = f; c = c }
-
--- the eight lent tables as one record
-abbrev pub lent : (heads parents rows counts next bookHeads bookRows bookNext : List ℕ) → Tables
-lent hs ps rs cs ns bh br bn =
-    record { heads = hs; parents = ps; rows = rs; counts = cs; next = ns; bookHeads = bh; bookRows = br; bookNext = bn }
 
 -- "F .. at opening 0 means 16 × m", for an m whose 16 × m fits 32 bits; number 1 refuses any other, whatever F is
 abbrev pub defaultRecords : (m f : ℕ) → ℕ

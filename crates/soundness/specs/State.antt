@@ -20,10 +20,6 @@ use Rattle.tables.specs.Stored.{Stored, Sized, recordsOf, holdsColumn, isSoundF
 use Rattle.counting.specs.Counting.{ListedIn}
 use Rattle.soundness.specs.Checking.{marksIn}
 
--- the tables of L with their free head as one record
-abbrev pub storedOf : (heads parents rows counts next : List ℕ) → (free : ℕ) → Stored
-storedOf hs ps rs vs ns f = record { heads = hs; parents = ps; rows = rs; counts = vs; next = ns; free = f }
-
 -- tables cut to their sizes, sizes that 32 bits hold with room, and a work table of W places
 pub record Sizes (s : Stored) (b : book.Book) (work : List ℕ) : Type 0 where
   pub stored : Sized s

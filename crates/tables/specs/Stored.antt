@@ -22,6 +22,10 @@ pub record Stored : Type 0 where
   pub next : List ℕ
   pub free : ℕ
 
+-- five tables and a free head as one
+abbrev pub storedOf : (heads parents rows counts next : List ℕ) → (free : ℕ) → Stored
+storedOf hs ps rs cs ns f = record { heads = hs; parents = ps; rows = rs; counts = cs; next = ns; free = f }
+
 -- every column has a parent, every record a row and a multiplicity
 pub record Sized (s : Stored) : Type 0 where
   pub parents-long : length (s .parents) ≡ length (s .heads)

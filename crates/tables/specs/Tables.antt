@@ -29,6 +29,15 @@ pub record Limits : Type 0 where
   pub f : ℕ
   pub c : ℕ
 
+-- four sizes as one
+abbrev pub limitsOf : (m n f c : ℕ) → Limits
+limitsOf m n f c = record { m = m; n = n; f = f; c = c }
+
+-- eight tables as one
+abbrev pub tablesOf : (heads parents rows counts next bookHeads bookRows bookNext : List ℕ) → Tables
+tablesOf hs ps rs cs ns bh br bn =
+    record { heads = hs; parents = ps; rows = rs; counts = cs; next = ns; bookHeads = bh; bookRows = br; bookNext = bn }
+
 -- the record of sizes and free heads
 pub record State : Type 0 where
   pub limits : Limits

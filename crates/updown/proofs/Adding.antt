@@ -15,8 +15,8 @@ use Rattle.symbolic.specs.Batch.{touched, labelOf}
 use Rattle.workspace.specs.Regions.{cleared}
 use Rattle.workspace.proofs.Regions.{cleared-length}
 use Rattle.pool.specs.Chains.{chain, Linked}
-use Rattle.tables.specs.Stored.{Stored}
-use Rattle.updown.specs.Entries.{storedOf, CanAdd, AddPlanned}
+use Rattle.tables.specs.Stored.{Stored, storedOf}
+use Rattle.updown.specs.Entries.{CanAdd, AddPlanned}
 use Rattle.updown.specs.Plans.{PlanIs, firstOf}
 use Rattle.updown.specs.Turns.{done}
 use Rattle.updown.specs.Walks.{Parents}

@@ -18,8 +18,8 @@ use Rattle.workspace.specs.Regions.{cell, IsZero, cleared}
 use Rattle.workspace.proofs.Regions.{zero-at, zero-part}
 use Rattle.pool.specs.Chains.{chain, Linked}
 use Rattle.book.specs.Book as book
-use Rattle.tables.specs.Stored.{Stored, Sized, isSoundFor}
-use Rattle.updown.specs.Entries.{storedOf, planNeed, Booked, CanPlan, CanRemove, RemovePlanned}
+use Rattle.tables.specs.Stored.{Stored, Sized, isSoundFor, storedOf}
+use Rattle.updown.specs.Entries.{planNeed, Booked, CanPlan, CanRemove, RemovePlanned}
 use Rattle.updown.specs.Plans.{PlanIs}
 use Rattle.updown.specs.Children.{ChainOf}
 use Rattle.updown.specs.Marks.{Room}

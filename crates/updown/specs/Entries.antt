@@ -14,12 +14,8 @@ use Rattle.symbolic.specs.Change.{Bag}
 use Rattle.workspace.specs.Regions.{IsZero}
 use Rattle.pool.specs.Chains.{chain}
 use Rattle.book.specs.Book as book
-use Rattle.tables.specs.Stored.{Stored, Sized, isSoundFor}
+use Rattle.tables.specs.Stored.{Stored, Sized, storedOf, isSoundFor}
 use Rattle.updown.specs.Plans.{PlanIs}
-
--- the tables of L with their free head as one record
-abbrev pub storedOf : (heads parents rows counts next : List ℕ) → (free : ℕ) → Stored
-storedOf hs ps rs cs ns f = record { heads = hs; parents = ps; rows = rs; counts = cs; next = ns; free = f }
 
 -- the places of the work table that planning may use
 abbrev pub planNeed : (m f : ℕ) → ℕ

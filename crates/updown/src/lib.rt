@@ -3,9 +3,10 @@
 // Both walk the tree of all columns, those of the batch among them: in it, a touched column stands in the queue of its parent, and, once that is done and
 // where its parent without the batch is another one, in that one's queue of lost children (removing: gained).
 ghost use mathlib.Core.List.{List};
+ghost use Rattle.tables.specs.Stored.{storedOf};
 ghost use Rattle.symbolic.specs.Columns.{Column};
 ghost use Rattle.book.specs.Book.{tablesOf};
-ghost use Rattle.updown.specs.Entries.{storedOf, CanAdd, SomeAdd, AddPlanned, CanRemove, SomeRemove, RemovePlanned};
+ghost use Rattle.updown.specs.Entries.{CanAdd, SomeAdd, AddPlanned, CanRemove, SomeRemove, RemovePlanned};
 
 mod clears;
 mod marks;

@@ -2,9 +2,10 @@
 -- laws of Stepping.antt. Assumes nothing.
 use mathlib.Core.Path.{refl, _∙_}
 use borrow.Author.Needs.{needs}
+use Rattle.tables.specs.Tables.{tablesOf}
 use Rattle.calls.specs.Calls.{Call, removing}
 use Rattle.calls.specs.Steps.{World}
-use Rattle.batch.specs.Outcome.{tablesOf, cutWorld}
+use Rattle.batch.specs.Outcome.{cutWorld}
 use Rattle.batch.specs.Parts.{Judged}
 use Rattle.batch.proofs.Verdicts.{judged-can}
 use Rattle.batch.proofs.Stepping.{batch-refused, batch-taken}

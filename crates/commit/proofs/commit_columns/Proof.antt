@@ -6,7 +6,7 @@ use Prim.Native.Nat.{ℕ}
 use native.Mathlib.Omega.{arith}
 use lib.ListN.{length}
 use Rattle.symbolic.specs.Factor.{FactorColumn}
-use Rattle.updown.specs.Entries.{storedOf}
+use Rattle.tables.specs.Stored.{storedOf}
 use Rattle.commit.specs.Passes.{CanCommitPlans}
 use Rattle.commit.proofs.Standing.{left, left-less}
 use Rattle.commit.proofs.Committing.{Committing, AtColumn, committing-start, committing-long, committing-counts, committing-end, at-column, committing-ready, committing-turn}

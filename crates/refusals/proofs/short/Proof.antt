@@ -1,7 +1,6 @@
 -- `refusals::short` meets its contract: the tables of L, those of the book, then the work table. Assumes nothing.
 use borrow.Author.Needs.{needs}
-use Rattle.tables.specs.Tables.{Tables, Limits}
-use Rattle.refusals.specs.Early.{limits, lent}
+use Rattle.tables.specs.Tables.{Tables, Limits, limitsOf, tablesOf}
 use Rattle.refusals.proofs.Early.{short-first, short-second, short-third}
 use Rattle.refusals.proofs.short.Statement.{statement}
 use Rattle.refusals.proofs.short.Tie as tie
@@ -10,11 +9,11 @@ abbrev entry : tie.After-short-factor → tie.Start
 entry c = c .before .before .before .before .before .before .before .before .before .before
 
 abbrev limitsAt : tie.Start → Limits
-limitsAt s = limits (s .args .m) (s .args .n) (s .args .f) (s .args .c)
+limitsAt s = limitsOf (s .args .m) (s .args .n) (s .args .f) (s .args .c)
 
 abbrev tablesAt : tie.Start → Tables
 tablesAt s =
-    lent (s .args .heads .now) (s .args .parents .now) (s .args .rows .now) (s .args .counts .now) (s .args .next .now) (s .args .book-heads .now) (s .args .book-rows .now)
+    tablesOf (s .args .heads .now) (s .args .parents .now) (s .args .rows .now) (s .args .counts .now) (s .args .next .now) (s .args .book-heads .now) (s .args .book-rows .now)
     (s .args .book-next .now)
 
 short-factor-requires : tie.Need-short-factor-requires

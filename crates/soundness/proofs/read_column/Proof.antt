@@ -5,8 +5,7 @@ use mathlib.Core.Path.{refl, sym, _∙_}
 use Prim.Native.Nat.{_+_, _-_}
 use native.Mathlib.Omega.{arith}
 use Rattle.book.specs.Book.{Book, bookOf}
-use Rattle.tables.specs.Stored.{Stored}
-use Rattle.soundness.specs.State.{storedOf}
+use Rattle.tables.specs.Stored.{Stored, storedOf}
 use Rattle.soundness.proofs.Ready.{ready-tally, ready-check}
 use Rattle.soundness.proofs.Column.{Found, column-cut, column-ended}
 use Rattle.soundness.proofs.Closing.{CloseFacts, closing-cut, closing-differs, closing-facts, closing-second, closing-link, closing-only, closing-end}

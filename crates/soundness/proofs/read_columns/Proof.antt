@@ -4,7 +4,7 @@ use Prim.Native.Nat.{_-_}
 use native.Mathlib.Omega.{arith}
 use lib.ListN.{length}
 use Rattle.book.specs.Book.{bookOf}
-use Rattle.soundness.specs.State.{storedOf}
+use Rattle.tables.specs.Stored.{storedOf}
 use Rattle.soundness.proofs.Through.{ColumnsReading, columns-start, columns-can, columns-cut, columns-next, columns-end}
 use borrow.Author.Needs.{needs}
 use Rattle.soundness.proofs.read_columns.Statement.{statement}

@@ -7,10 +7,10 @@ use native.Mathlib.Omega.{arith}
 use borrow.Author.Needs.{needs}
 use borrow.Author.Tests.{eq-eqb, ne-eqb}
 use lib.ListN.{length}
-use Rattle.tables.specs.Tables.{Tables}
+use Rattle.tables.specs.Tables.{Tables, tablesOf}
 use Rattle.calls.specs.Refusals.{isAccepted, batchOf}
 use Rattle.refusals.specs.Found.{addFound}
-use Rattle.batch.specs.Outcome.{tablesOf, cutWorld, CanFind}
+use Rattle.batch.specs.Outcome.{cutWorld, CanFind}
 use Rattle.batch.specs.Parts.{bookWhole, registerIn, verdictNumber}
 use Rattle.batch.specs.declared.Verdict.{Verdict}
 use Rattle.batch.proofs.Cut.{sizes-are, book-sound}

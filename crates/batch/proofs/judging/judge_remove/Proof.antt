@@ -7,10 +7,10 @@ use borrow.Author.Needs.{needs}
 use borrow.Author.Tests.{eq-eqb, ne-eqb}
 use lib.ListN.{length}
 use Rattle.symbolic.specs.Change.{without, columnsOf}
-use Rattle.tables.specs.Tables.{Tables}
+use Rattle.tables.specs.Tables.{Tables, tablesOf}
 use Rattle.calls.specs.Refusals.{isAccepted}
 use Rattle.refusals.specs.Found.{removeFound}
-use Rattle.batch.specs.Outcome.{tablesOf, cutWorld}
+use Rattle.batch.specs.Outcome.{cutWorld}
 use Rattle.batch.specs.Parts.{bookWhole, registerIn, verdictNumber}
 use Rattle.batch.specs.declared.Verdict.{Verdict}
 use Rattle.batch.proofs.Removing.{remove-refused, remove-can, remove-planned}

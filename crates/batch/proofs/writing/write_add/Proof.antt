@@ -4,12 +4,13 @@ use mathlib.Core.Path.{refl}
 use mathlib.Core.List.{List}
 use Prim.Native.Nat.{ℕ}
 use lib.ListN.{length}
+use Rattle.tables.specs.Tables.{tablesOf}
 use Rattle.symbolic.specs.Columns.{Register}
 use Rattle.symbolic.specs.Batch.{labelOf}
 use Rattle.calls.specs.Calls.{Call, adding, registerAfter, batchColumns}
 use Rattle.calls.specs.Report.{treeFor, touchedBy}
 use Rattle.calls.specs.Steps.{World}
-use Rattle.batch.specs.Outcome.{tablesOf, cutWorld}
+use Rattle.batch.specs.Outcome.{cutWorld}
 use Rattle.batch.specs.Parts.{registerIn}
 use Rattle.batch.proofs.Amending.{write-can, batch-written}
 use Rattle.batch.proofs.Booking.{enter-can, entered-after}

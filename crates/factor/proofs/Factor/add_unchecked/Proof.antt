@@ -3,11 +3,11 @@
 use mathlib.Core.Path.{refl, sym}
 use borrow.Author.Needs.{needs}
 use lib.ListN.{take}
-use Rattle.tables.specs.Tables.{Tables, State}
+use Rattle.tables.specs.Tables.{Tables, State, tablesOf}
 use Rattle.tables.proofs.Tables.{Long}
 use Rattle.calls.specs.Calls.{adding}
 use Rattle.batch.specs.Outcome.{batchLists}
-use Rattle.factor.specs.Entries.{tablesOf, stateOf}
+use Rattle.factor.specs.Entries.{stateOf}
 use Rattle.factor.proofs.Cutting.{Cut, cut}
 use Rattle.factor.proofs.Batching.{change-long, change-can, change-step, joined-length}
 use Rattle.factor.proofs.Factor.add_unchecked.Statement.{statement}

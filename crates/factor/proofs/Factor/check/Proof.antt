@@ -1,7 +1,7 @@
 -- `Factor::check` meets its contract: the number is that of its admission. Assumes nothing.
 use borrow.Author.Needs.{needs}
-use Rattle.tables.specs.Tables.{Tables, State}
-use Rattle.factor.specs.Entries.{tablesOf, stateOf}
+use Rattle.tables.specs.Tables.{Tables, State, tablesOf}
+use Rattle.factor.specs.Entries.{stateOf}
 use Rattle.factor.proofs.Asking.{check-step}
 use Rattle.factor.proofs.Factor.check.Statement.{statement}
 use Rattle.factor.proofs.Factor.check.Tie as tie

@@ -1,8 +1,7 @@
 -- `Factor::open` meets its contract: refused by 1 to 5 with everything as lent, or all tables are written. Assumes nothing.
 use mathlib.Core.Path.{refl}
 use borrow.Author.Needs.{needs}
-use Rattle.tables.specs.Tables.{Tables}
-use Rattle.factor.specs.Entries.{tablesOf}
+use Rattle.tables.specs.Tables.{Tables, tablesOf}
 use Rattle.factor.proofs.Openings.{open-refused, open-writes, open-done}
 use Rattle.factor.proofs.Factor.open.Statement.{statement}
 use Rattle.factor.proofs.Factor.open.Tie as tie

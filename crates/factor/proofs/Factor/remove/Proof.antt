@@ -1,9 +1,9 @@
 -- `Factor::remove` meets its contract: refused by its admission, or handed on to the unchecked twin, by the laws of Changing.antt. Assumes nothing.
 use mathlib.Core.Path.{refl, _∙_}
 use borrow.Author.Needs.{needs}
-use Rattle.tables.specs.Tables.{Tables, State}
+use Rattle.tables.specs.Tables.{Tables, State, tablesOf}
 use Rattle.batch.specs.Outcome.{batchLists}
-use Rattle.factor.specs.Entries.{tablesOf, stateOf, worldOf}
+use Rattle.factor.specs.Entries.{stateOf, worldOf}
 use Rattle.factor.specs.Batches.{changedAnswer}
 use Rattle.factor.proofs.Changing.{admits-remove, change-refused, admitted-can, remove-changed}
 use Rattle.factor.proofs.Factor.remove.Statement.{statement}

@@ -1,8 +1,8 @@
 -- `admission::admit` meets its contract: refused by 1 to 5 with the work table as lent, else the tables are read through. Assumes nothing.
 use mathlib.Core.Path.{refl}
 use borrow.Author.Needs.{needs}
-use Rattle.tables.specs.Tables.{Tables, State}
-use Rattle.factor.specs.Entries.{tablesOf, stateOf}
+use Rattle.tables.specs.Tables.{Tables, State, tablesOf}
+use Rattle.factor.specs.Entries.{stateOf}
 use Rattle.factor.proofs.Admitting.{admit-early, admit-reads, admit-sound, admit-unsound}
 use Rattle.factor.proofs.admission.admit.Statement.{statement}
 use Rattle.factor.proofs.admission.admit.Tie as tie

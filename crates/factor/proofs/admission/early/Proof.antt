@@ -1,7 +1,6 @@
 -- `admission::early` meets its contract: sizes, tables, then the lists of a batch. Assumes nothing.
 use borrow.Author.Needs.{needs}
-use Rattle.tables.specs.Tables.{Tables, Limits}
-use Rattle.factor.specs.Entries.{tablesOf, limitsOf}
+use Rattle.tables.specs.Tables.{Tables, Limits, limitsOf, tablesOf}
 use Rattle.factor.proofs.Admitting.{early-sizes, early-short, early-none, early-lists}
 use Rattle.factor.proofs.admission.early.Statement.{statement}
 use Rattle.factor.proofs.admission.early.Tie as tie

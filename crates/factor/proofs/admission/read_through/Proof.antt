@@ -6,9 +6,9 @@ use Prim.Native.Nat.{ℕ}
 use native.Mathlib.Omega.{arith}
 use borrow.Author.Needs.{needs}
 use Rattle.workspace.specs.Regions.{cleared}
-use Rattle.tables.specs.Tables.{Tables, State}
+use Rattle.tables.specs.Tables.{Tables, State, tablesOf}
 use Rattle.calls.specs.Refusals.{workFor}
-use Rattle.factor.specs.Entries.{tablesOf, stateOf}
+use Rattle.factor.specs.Entries.{stateOf}
 use Rattle.factor.proofs.Cutting.{Cut, cut, read-sound, can-read-through, read-room, read-clears}
 use Rattle.factor.proofs.admission.read_through.Statement.{statement}
 use Rattle.factor.proofs.admission.read_through.Tie as tie
