@@ -1,0 +1,91 @@
+/* A host of Nigvalds: opens a factor, adds and removes columns, asks, reads columns, and meets refusals. */
+#include <inttypes.h>
+#include <stdio.h>
+
+#include "../include/nigvalds.h"
+
+enum { M = 5, N = 8, F = 9, C = 16 };
+
+NIGVALDS_STATIC_TABLES(tables, M, N, F, C);
+
+/* Every column as the listing program shows it: j, parent, then row:multiplicity pairs. */
+static void show(nigvalds_factor factor) {
+    for (uint32_t j = 1; j <= factor.m; j++) {
+        printf("%" PRIu32 " %u", j, (unsigned)tables.parents[j - 1]);
+        nigvalds_entry e = nigvalds_read_in(&tables, tables.heads[j - 1]);
+        for (; e.row != 0; e = nigvalds_read_in(&tables, e.next)) {
+            printf(" %" PRIu32 ":%" PRIu32, e.row, e.multiplicity);
+        }
+        printf("\n");
+    }
+}
+
+/* What a batch answers: its numbers and the touched columns with their labels, or the refusal. */
+static void report(const char *what, nigvalds_changed a) {
+    if (a.number != NIGVALDS_ACCEPTED) {
+        printf("%s: no %" PRIu32 " %" PRIu32 "\n", what, a.number, a.position);
+        return;
+    }
+    printf("%s: ok %" PRIu32 " %" PRIu32 " %" PRIu32 ", touched", what, a.touched, a.entries, a.grade);
+    for (uint32_t k = 0; k < a.touched; k++) {
+        printf(" %u:%u", (unsigned)tables.touched[k], (unsigned)tables.labels[k]);
+    }
+    printf("\n");
+}
+
+/* The path of column j, from the second place of a list on. */
+static void path(nigvalds_factor factor, uint32_t j) {
+    uint32_t list[M + 1] = {99};
+    nigvalds_reply p = nigvalds_path_in(&tables, factor, list, M + 1, j, 1);
+    printf("path of %" PRIu32 ":", j);
+    for (uint32_t k = 1; k <= p.value; k++) {
+        printf(" %" PRIu32, list[k]);
+    }
+    printf(", first place still %" PRIu32 "\n", list[0]);
+}
+
+/* Numbers that questions answer. */
+static void ask(nigvalds_factor factor) {
+    uint32_t list[4];
+    nigvalds_reply r = nigvalds_multiplicity_in(&tables, factor, 3, 1);
+    printf("multiplicity of 3 in 1: %" PRIu32 "\n", r.value);
+    r = nigvalds_parent_in(&tables, factor, 2);
+    printf("parent of 2: %" PRIu32 "\n", r.value);
+    r = nigvalds_parent_in(&tables, factor, 6);
+    printf("parent of 6: no %" PRIu32 "\n", r.number);
+    r = nigvalds_column_in(&tables, factor, list, 4, 1, 0);
+    printf("column 1 in a list of 4: no %" PRIu32 "\n", r.number);
+    r = nigvalds_column_in(&tables, factor, list, 4, 2, 0);
+    printf("column 2: %" PRIu32 " entries, %" PRIu32 ":%" PRIu32 " %" PRIu32 ":%" PRIu32 "\n", r.value, list[0], list[1], list[2], list[3]);
+}
+
+int main(void) {
+    nigvalds_opened o = nigvalds_open_in(&tables, M, N, F + 1, C);
+    printf("open with a larger F: no %" PRIu32 "\n", o.number);
+    o = nigvalds_open_in(&tables, M, N, F, C);
+    if (o.number != NIGVALDS_ACCEPTED) {
+        return 1;
+    }
+    nigvalds_factor factor = o.factor;
+
+    const uint32_t ids[] = {1, 2, 3}, counts[] = {2, 2, 2}, rows[] = {1, 3, 1, 4, 2, 3};
+    nigvalds_changed a = nigvalds_add_in(&tables, factor, ids, 3, counts, 3, rows, 6);
+    report("add 1 2 3", a);
+    factor = a.factor;
+    show(factor);
+    path(factor, 1);
+    ask(factor);
+
+    const uint32_t id[] = {4}, count[] = {2}, pair[] = {4, 4}, repeated[] = {3, 3};
+    report("add 4 with rows 4 4", nigvalds_add_in(&tables, factor, id, 1, count, 1, pair, 2));
+    report("remove 3 3", nigvalds_remove_in(&tables, factor, repeated, 2));
+    a = nigvalds_remove_in(&tables, factor, ids + 1, 1);
+    report("remove 2", a);
+    factor = a.factor;
+    show(factor);
+
+    printf("check: %" PRIu32 "\n", nigvalds_check_in(&tables, factor).number);
+    tables.parents[0] = 2;
+    printf("check of a damaged parent: %" PRIu32 "\n", nigvalds_check_in(&tables, factor).number);
+    return 0;
+}

@@ -1,0 +1,117 @@
+//! What is read of a factor: entries of a column, whole columns, paths.
+use crate::lent::Tables;
+use std::fmt;
+
+/// An entry of a factor column: a row and its multiplicity.
+#[derive(Clone, Copy, Debug, PartialEq, Eq)]
+pub struct Entry {
+    pub row: u32,
+    pub multiplicity: u32,
+}
+
+/// The entries of one column, rows rising: a step of the library's reader for each.
+#[derive(Clone)]
+pub struct Entries<'a> {
+    tables: &'a Tables,
+    record: u32,
+}
+
+impl<'a> Entries<'a> {
+    pub(crate) fn new(tables: &'a Tables, record: u32) -> Entries<'a> {
+        Entries { tables, record }
+    }
+}
+
+impl Iterator for Entries<'_> {
+    type Item = Entry;
+
+    fn next(&mut self) -> Option<Entry> {
+        let e = self.tables.read(self.record);
+        self.record = e.next;
+        (e.row != 0).then_some(Entry { row: e.row, multiplicity: e.multiplicity })
+    }
+}
+
+impl std::iter::FusedIterator for Entries<'_> {}
+
+/// A factor column. Its `Debug` is a line of the listing: j, parent, then row:multiplicity pairs.
+#[derive(Clone, Copy)]
+pub struct Column<'a> {
+    tables: &'a Tables,
+    j: u32,
+}
+
+impl<'a> Column<'a> {
+    /// Its number, 1 to m.
+    pub fn number(&self) -> u32 {
+        self.j
+    }
+
+    /// Its parent; none for a root.
+    pub fn parent(&self) -> Option<u32> {
+        let p = self.tables.parents[self.j as usize - 1] as u32;
+        (p != 0).then_some(p)
+    }
+
+    /// Its entries.
+    pub fn entries(&self) -> Entries<'a> {
+        Entries::new(self.tables, self.tables.heads[self.j as usize - 1])
+    }
+}
+
+impl fmt::Debug for Column<'_> {
+    fn fmt(&self, f: &mut fmt::Formatter<'_>) -> fmt::Result {
+        write!(f, "{} {}", self.j, self.parent().unwrap_or(0))?;
+        self.entries().try_for_each(|e| write!(f, " {}:{}", e.row, e.multiplicity))
+    }
+}
+
+/// All columns, 1 to m.
+#[derive(Clone)]
+pub struct Columns<'a> {
+    tables: &'a Tables,
+    left: std::ops::RangeInclusive<u32>,
+}
+
+impl<'a> Columns<'a> {
+    pub(crate) fn new(tables: &'a Tables, m: u32) -> Columns<'a> {
+        Columns { tables, left: 1..=m }
+    }
+}
+
+impl<'a> Iterator for Columns<'a> {
+    type Item = Column<'a>;
+
+    fn next(&mut self) -> Option<Column<'a>> {
+        self.left.next().map(|j| Column { tables: self.tables, j })
+    }
+
+    fn size_hint(&self) -> (usize, Option<usize>) {
+        self.left.size_hint()
+    }
+}
+
+/// The rows of a path, from its column up to the root.
+pub struct Path {
+    rows: std::vec::IntoIter<u32>,
+}
+
+impl Path {
+    pub(crate) fn new(rows: Vec<u32>) -> Path {
+        Path { rows: rows.into_iter() }
+    }
+}
+
+impl Iterator for Path {
+    type Item = u32;
+
+    fn next(&mut self) -> Option<u32> {
+        self.rows.next()
+    }
+
+    fn size_hint(&self) -> (usize, Option<usize>) {
+        self.rows.size_hint()
+    }
+}
+
+impl ExactSizeIterator for Path {}

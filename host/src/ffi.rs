@@ -1,0 +1,104 @@
+//! The library's functions as `include/nigvalds.h` declares them. Nothing checks these lines against the library: crates/host/src has the signatures.
+//! A slice crosses as a pointer and a length in places; structs cross by value.
+
+/// The record of sizes and free heads. It goes with the tables.
+#[repr(C)]
+#[derive(Clone, Copy, Debug, Default, PartialEq, Eq)]
+pub struct Record {
+    pub m: u32,
+    pub n: u32,
+    pub f: u32,
+    pub c: u32,
+    pub free: u32,
+    pub book_free: u32,
+}
+
+/// What an opening answers: number 0 and the record, or the refusal's number and a record of zeros.
+#[repr(C)]
+#[derive(Clone, Copy, Debug, PartialEq, Eq)]
+pub struct Opened {
+    pub number: u32,
+    pub record: Record,
+}
+
+/// What a batch answers, with the record after it.
+#[repr(C)]
+#[derive(Clone, Copy, Debug, PartialEq, Eq)]
+pub struct Changed {
+    pub number: u32,
+    pub position: u32,
+    pub touched: u32,
+    pub entries: u32,
+    pub grade: u32,
+    pub record: Record,
+}
+
+/// What a check or a question answers.
+#[repr(C)]
+#[derive(Clone, Copy, Debug, PartialEq, Eq)]
+pub struct Reply {
+    pub number: u32,
+    pub value: u32,
+}
+
+/// What is read at a record; row 0 is the end.
+#[repr(C)]
+#[derive(Clone, Copy, Debug, PartialEq, Eq)]
+pub struct Read {
+    pub row: u32,
+    pub multiplicity: u32,
+    pub next: u32,
+}
+
+// A function with its first parameters, the eight tables and the work table (whether the heads and the other tables are written), and its last parameters.
+macro_rules! declare {
+    ($($(#[$doc:meta])* fn $name:ident($($first:ident: $first_type:ty),*; $heads:ident $rest:ident; $($last:ident: $last_type:ty),*) -> $answer:ty;)*) => {
+        extern "C" {
+            $($(#[$doc])*
+            pub fn $name(
+                $($first: $first_type,)*
+                heads: pointer!($heads u32), heads_length: usize,
+                parents: pointer!($rest u16), parents_length: usize,
+                rows: pointer!($rest u16), rows_length: usize,
+                counts: pointer!($rest u16), counts_length: usize,
+                next: pointer!($rest u32), next_length: usize,
+                book_heads: pointer!($rest u32), book_heads_length: usize,
+                book_rows: pointer!($rest u16), book_rows_length: usize,
+                book_next: pointer!($rest u32), book_next_length: usize,
+                work: *mut u32, work_length: usize,
+                $($last: $last_type,)*
+            ) -> $answer;)*
+        }
+    };
+}
+
+macro_rules! pointer {
+    (written $t:ty) => { *mut $t };
+    (read $t:ty) => { *const $t };
+}
+
+declare! {
+    fn nigvalds_open(m: u32, n: u32, f: u32, c: u32; written written;) -> Opened;
+    fn nigvalds_add(factor: Record; read written;
+        touched: *mut u16, touched_length: usize, labels: *mut u16, labels_length: usize, ids: *const u32, ids_length: usize,
+        row_counts: *const u32, row_counts_length: usize, row_list: *const u32, row_list_length: usize) -> Changed;
+    fn nigvalds_remove(factor: Record; read written;
+        touched: *mut u16, touched_length: usize, labels: *mut u16, labels_length: usize, ids: *const u32, ids_length: usize) -> Changed;
+    fn nigvalds_check(factor: Record; read read;) -> Reply;
+    fn nigvalds_multiplicity(factor: Record; read read; i: u32, j: u32) -> Reply;
+    fn nigvalds_parent(factor: Record; read read; j: u32) -> Reply;
+    fn nigvalds_path(factor: Record; read read; list: *mut u32, list_length: usize, j: u32, place: usize) -> Reply;
+    fn nigvalds_column(factor: Record; read read; list: *mut u32, list_length: usize, j: u32, place: usize) -> Reply;
+}
+
+extern "C" {
+    pub fn nigvalds_read(
+        rows: *const u16,
+        rows_length: usize,
+        counts: *const u16,
+        counts_length: usize,
+        next: *const u32,
+        next_length: usize,
+        record: u32,
+    ) -> Read;
+}

@@ -1,0 +1,116 @@
+//! The calls over tables of any lengths and contents, as numbers: safe, since the library asks nothing of what is lent, and Rust's references are valid and
+//! apart. [`crate::Factor`] stands on these; a host that keeps its tables elsewhere uses them itself.
+use crate::ffi;
+pub use crate::ffi::{Changed, Opened, Read, Record, Reply};
+
+/// The places of the work table.
+pub fn work_places(m: u32, n: u32, f: u32, c: u32) -> usize {
+    8 * m as usize + 4 * f as usize + c as usize + n as usize + 1024
+}
+
+/// The eight tables; what belongs to number k stands at place k - 1.
+#[derive(Clone, Debug, Default, PartialEq, Eq)]
+pub struct Tables {
+    pub heads: Vec<u32>,
+    pub parents: Vec<u16>,
+    pub rows: Vec<u16>,
+    pub counts: Vec<u16>,
+    pub next: Vec<u32>,
+    pub book_heads: Vec<u32>,
+    pub book_rows: Vec<u16>,
+    pub book_next: Vec<u32>,
+}
+
+macro_rules! written {
+    ($($table:expr),*; $f:ident($($first:expr),*) $($last:expr),*) => {
+        // SAFETY: each pointer comes from a vector or slice of its length, and the borrows show that what is written is apart from the rest.
+        unsafe { ffi::$f($($first,)* $($table.as_mut_ptr(), $table.len(),)* $($last,)*) }
+    };
+}
+
+macro_rules! read {
+    ($t:expr, $work:expr; $f:ident($($first:expr),*) $($last:expr),*) => {
+        // SAFETY: as above; the tables are only read.
+        unsafe {
+            ffi::$f(
+                $($first,)*
+                $t.heads.as_ptr(), $t.heads.len(),
+                $t.parents.as_ptr(), $t.parents.len(),
+                $t.rows.as_ptr(), $t.rows.len(),
+                $t.counts.as_ptr(), $t.counts.len(),
+                $t.next.as_ptr(), $t.next.len(),
+                $t.book_heads.as_ptr(), $t.book_heads.len(),
+                $t.book_rows.as_ptr(), $t.book_rows.len(),
+                $t.book_next.as_ptr(), $t.book_next.len(),
+                $work.as_mut_ptr(), $work.len(),
+                $($last,)*
+            )
+        }
+    };
+}
+
+impl Tables {
+    /// Tables of zeros with the places that these sizes need.
+    pub fn for_sizes(m: u32, n: u32, f: u32, c: u32) -> Tables {
+        let (m, n, f, c) = (m as usize, n as usize, f as usize, c as usize);
+        Tables {
+            heads: vec![0; m],
+            parents: vec![0; m],
+            rows: vec![0; f],
+            counts: vec![0; f],
+            next: vec![0; f],
+            book_heads: vec![0; n],
+            book_rows: vec![0; c],
+            book_next: vec![0; c],
+        }
+    }
+
+    /// Opens a fresh factor: writes all tables. f = 0 means 16 × m.
+    pub fn open(&mut self, m: u32, n: u32, f: u32, c: u32, work: &mut [u32]) -> Opened {
+        written!(self.heads, self.parents, self.rows, self.counts, self.next, self.book_heads, self.book_rows, self.book_next, work; nigvalds_open(m, n, f, c))
+    }
+
+    /// Adds a batch: by position, each id with as many of the rows not yet used as its count says.
+    #[allow(clippy::too_many_arguments)]
+    pub fn add(&mut self, record: Record, work: &mut [u32], touched: &mut [u16], labels: &mut [u16], ids: &[u32], counts: &[u32], rows: &[u32]) -> Changed {
+        written!(self.heads, self.parents, self.rows, self.counts, self.next, self.book_heads, self.book_rows, self.book_next, work, touched, labels;
+            nigvalds_add(record) ids.as_ptr(), ids.len(), counts.as_ptr(), counts.len(), rows.as_ptr(), rows.len())
+    }
+
+    /// Removes the columns of a batch of ids.
+    pub fn remove(&mut self, record: Record, work: &mut [u32], touched: &mut [u16], labels: &mut [u16], ids: &[u32]) -> Changed {
+        written!(self.heads, self.parents, self.rows, self.counts, self.next, self.book_heads, self.book_rows, self.book_next, work, touched, labels;
+            nigvalds_remove(record) ids.as_ptr(), ids.len())
+    }
+
+    /// Whether the tables are sound: number 0, or 6 for no.
+    pub fn check(&self, record: Record, work: &mut [u32]) -> Reply {
+        read!(self, work; nigvalds_check(record))
+    }
+
+    /// The multiplicity of row i in column j.
+    pub fn multiplicity(&self, record: Record, work: &mut [u32], i: u32, j: u32) -> Reply {
+        read!(self, work; nigvalds_multiplicity(record) i, j)
+    }
+
+    /// The parent of j, 0 for a root.
+    pub fn parent(&self, record: Record, work: &mut [u32], j: u32) -> Reply {
+        read!(self, work; nigvalds_parent(record) j)
+    }
+
+    /// The path of j, a row to a place from the given place of the list on.
+    pub fn path(&self, record: Record, work: &mut [u32], list: &mut [u32], j: u32, place: usize) -> Reply {
+        read!(self, work; nigvalds_path(record) list.as_mut_ptr(), list.len(), j, place)
+    }
+
+    /// Column j, row then multiplicity from the given place of the list on.
+    pub fn column(&self, record: Record, work: &mut [u32], list: &mut [u32], j: u32, place: usize) -> Reply {
+        read!(self, work; nigvalds_column(record) list.as_mut_ptr(), list.len(), j, place)
+    }
+
+    /// The entry at a record.
+    pub fn read(&self, record: u32) -> Read {
+        // SAFETY: each pointer comes from a vector of its length, and the library only reads.
+        unsafe { ffi::nigvalds_read(self.rows.as_ptr(), self.rows.len(), self.counts.as_ptr(), self.counts.len(), self.next.as_ptr(), self.next.len(), record) }
+    }
+}

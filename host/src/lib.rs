@@ -1,0 +1,172 @@
+//! The pattern of the sparse Cholesky factor of I + AA^T, kept while columns of A enter and leave.
+//!
+//! A [`Factor`] owns its tables. Each call goes to the proved library, which reads the tables through first; what it refuses comes back as a [`Refusal`].
+//!
+//! ```
+//! let mut factor = nigvalds::Factor::open(5, 8, 0, 16)?;
+//! let report = factor.add(&[(1, &[1, 3]), (2, &[1, 4]), (3, &[2, 3])])?;
+//! assert_eq!((report.touched, report.entries, report.grade), (&[1, 2, 3, 4][..], 8, 1));
+//! assert_eq!(factor.path(1)?.collect::<Vec<_>>(), [1, 3, 4]);
+//! assert_eq!(format!("{:?}", factor.columns().next().unwrap()), "1 3 1:3 3:1 4:1");
+//! assert_eq!(factor.remove(&[3, 3]).unwrap_err(), nigvalds::Refusal::IdRepeated { position: 2 });
+//! # Ok::<(), nigvalds::Refusal>(())
+//! ```
+mod columns;
+mod ffi;
+pub mod lent;
+mod refusal;
+
+pub use columns::{Column, Columns, Entries, Entry, Path};
+pub use refusal::Refusal;
+
+use lent::{Changed, Record, Tables};
+use std::cell::RefCell;
+use std::fmt;
+
+/// A factor of m rows for columns with ids 1 to n, in F factor records and C book records.
+pub struct Factor {
+    record: Record,
+    tables: Tables,
+    work: RefCell<Vec<u32>>,
+    touched: Vec<u16>,
+    labels: Vec<u16>,
+}
+
+/// What an accepted batch reports.
+#[derive(Clone, Copy, Debug, PartialEq, Eq)]
+pub struct Report<'a> {
+    /// The touched columns, rising.
+    pub touched: &'a [u16],
+    /// For each, the largest position in the batch whose path passes through it.
+    pub labels: &'a [u16],
+    /// The sum of the sizes of the touched columns after the call.
+    pub entries: u32,
+    /// 1 to 4, by the entries.
+    pub grade: u32,
+}
+
+impl Factor {
+    /// The largest m.
+    pub const MOST_ROWS: u32 = 4096;
+    /// The largest n.
+    pub const MOST_IDS: u32 = 16384;
+    /// The largest F.
+    pub const MOST_RECORDS: u32 = 1048576;
+    /// The largest C.
+    pub const MOST_BOOKED: u32 = 262144;
+
+    /// A fresh factor; f = 0 means 16 × m.
+    pub fn open(m: u32, n: u32, f: u32, c: u32) -> Result<Factor, Refusal> {
+        let places = |x: u32, most: u32| x.min(most);
+        let (rows, ids, booked) = (places(m, Self::MOST_ROWS), places(n, Self::MOST_IDS), places(c, Self::MOST_BOOKED));
+        let records = if f == 0 { 16 * rows } else { places(f, Self::MOST_RECORDS) };
+        let mut factor = Factor {
+            record: Record::default(),
+            tables: Tables::for_sizes(rows, ids, records, booked),
+            work: RefCell::new(vec![0; lent::work_places(rows, ids, records, booked)]),
+            touched: vec![0; rows as usize],
+            labels: vec![0; rows as usize],
+        };
+        factor.reopen(m, n, f, c)?;
+        Ok(factor)
+    }
+
+    /// Opens anew in the tables there are, without a column; where they are too short for the sizes, it is refused and the factor stays.
+    pub fn reopen(&mut self, m: u32, n: u32, f: u32, c: u32) -> Result<(), Refusal> {
+        let opened = self.tables.open(m, n, f, c, self.work.get_mut());
+        answered(opened.number, 0)?;
+        self.record = opened.record;
+        Ok(())
+    }
+
+    /// Adds columns, each an id with its rows, as one batch.
+    pub fn add(&mut self, columns: &[(u32, &[u32])]) -> Result<Report<'_>, Refusal> {
+        let ids: Vec<u32> = columns.iter().map(|c| c.0).collect();
+        let counts: Vec<u32> = columns.iter().map(|c| c.1.len().min(u32::MAX as usize) as u32).collect();
+        let rows: Vec<u32> = columns.iter().flat_map(|c| c.1.iter().copied()).collect();
+        self.add_lists(&ids, &counts, &rows)
+    }
+
+    /// Adds a batch: by position, each id with as many of the rows not yet used as its count says.
+    pub fn add_lists(&mut self, ids: &[u32], counts: &[u32], rows: &[u32]) -> Result<Report<'_>, Refusal> {
+        let changed = self.tables.add(self.record, self.work.get_mut(), &mut self.touched, &mut self.labels, ids, counts, rows);
+        self.report(changed)
+    }
+
+    /// Removes the columns of these ids, as one batch.
+    pub fn remove(&mut self, ids: &[u32]) -> Result<Report<'_>, Refusal> {
+        let changed = self.tables.remove(self.record, self.work.get_mut(), &mut self.touched, &mut self.labels, ids);
+        self.report(changed)
+    }
+
+    fn report(&mut self, changed: Changed) -> Result<Report<'_>, Refusal> {
+        answered(changed.number, changed.position)?;
+        self.record = changed.record;
+        let k = changed.touched as usize;
+        Ok(Report { touched: &self.touched[..k], labels: &self.labels[..k], entries: changed.entries, grade: changed.grade })
+    }
+
+    /// Reads all tables through. They are this value's own, so it finds them sound.
+    pub fn check(&self) -> Result<(), Refusal> {
+        answered(self.tables.check(self.record, &mut self.work.borrow_mut()).number, 0)
+    }
+
+    /// The multiplicity of row i in column j, 0 when absent.
+    pub fn multiplicity(&self, i: u32, j: u32) -> Result<u32, Refusal> {
+        let reply = self.tables.multiplicity(self.record, &mut self.work.borrow_mut(), i, j);
+        answered(reply.number, 0).map(|()| reply.value)
+    }
+
+    /// The parent of column j; none for a root.
+    pub fn parent(&self, j: u32) -> Result<Option<u32>, Refusal> {
+        let reply = self.tables.parent(self.record, &mut self.work.borrow_mut(), j);
+        answered(reply.number, 0).map(|()| (reply.value != 0).then_some(reply.value))
+    }
+
+    /// The path of column j, up to its root.
+    pub fn path(&self, j: u32) -> Result<Path, Refusal> {
+        let mut list = vec![0; self.record.m as usize];
+        let reply = self.tables.path(self.record, &mut self.work.borrow_mut(), &mut list, j, 0);
+        answered(reply.number, 0)?;
+        list.truncate(reply.value as usize);
+        Ok(Path::new(list))
+    }
+
+    /// The entries of column j, asked for as one answer.
+    pub fn column(&self, j: u32) -> Result<Vec<Entry>, Refusal> {
+        let mut list = vec![0; 2 * self.record.m as usize];
+        let reply = self.tables.column(self.record, &mut self.work.borrow_mut(), &mut list, j, 0);
+        answered(reply.number, 0)?;
+        Ok(list.chunks_exact(2).take(reply.value as usize).map(|e| Entry { row: e[0], multiplicity: e[1] }).collect())
+    }
+
+    /// All columns, read entry by entry without a look at the rest of the tables.
+    pub fn columns(&self) -> Columns<'_> {
+        Columns::new(&self.tables, self.record.m)
+    }
+
+    /// The record of sizes and free heads.
+    pub fn record(&self) -> Record {
+        self.record
+    }
+
+    /// The tables.
+    pub fn tables(&self) -> &Tables {
+        &self.tables
+    }
+}
+
+/// The listing: a line for each column.
+impl fmt::Debug for Factor {
+    fn fmt(&self, f: &mut fmt::Formatter<'_>) -> fmt::Result {
+        self.columns().try_for_each(|column| writeln!(f, "{column:?}"))
+    }
+}
+
+// Accepted, or the refusal of an answer.
+fn answered(number: u32, position: u32) -> Result<(), Refusal> {
+    match number {
+        0 => Ok(()),
+        _ => Err(Refusal::of(number, position).expect("the library gives numbers 0 to 18")),
+    }
+}

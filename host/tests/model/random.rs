@@ -1,0 +1,113 @@
+//! Random numbers that are the same in every run, and random batches.
+use super::{Live, Sizes};
+
+/// A generator (xorshift).
+pub struct Random(u64);
+
+impl Random {
+    pub fn new(seed: u64) -> Random {
+        Random(seed.wrapping_mul(0x9e37_79b9_7f4a_7c15) | 1)
+    }
+
+    pub fn next(&mut self) -> u64 {
+        self.0 ^= self.0 << 13;
+        self.0 ^= self.0 >> 7;
+        self.0 ^= self.0 << 17;
+        self.0.wrapping_mul(0x2545_f491_4f6c_dd1d) >> 16
+    }
+
+    /// From low to high, both included.
+    pub fn within(&mut self, low: u32, high: u32) -> u32 {
+        low + (self.next() % (high - low + 1) as u64) as u32
+    }
+
+    /// True once in so many calls.
+    pub fn once_in(&mut self, k: u32) -> bool {
+        self.within(1, k) == 1
+    }
+
+    /// One of a list.
+    pub fn one<T: Copy>(&mut self, list: &[T]) -> T {
+        list[self.within(0, list.len() as u32 - 1) as usize]
+    }
+
+    /// So many different numbers of 1 to most, rising.
+    pub fn rising(&mut self, count: u32, most: u32) -> Vec<u32> {
+        let mut rows = std::collections::BTreeSet::new();
+        while rows.len() < count as usize {
+            rows.insert(self.within(1, most));
+        }
+        rows.into_iter().collect()
+    }
+
+    /// Any contents.
+    pub fn contents(&mut self, length: usize) -> Vec<u32> {
+        (0..length).map(|_| self.next() as u32).collect()
+    }
+
+    /// Small sizes with room for some patterns and not for all.
+    pub fn sizes(&mut self) -> Sizes {
+        let m = self.within(1, 14);
+        Sizes { m, n: self.within(1, 12), f: m + self.within(0, m * 4), c: self.within(1, 40) }
+    }
+
+    /// Ids, counts and rows of an addition, mostly acceptable, with a slip now and then.
+    pub fn addition(&mut self, s: Sizes, live: &Live) -> (Vec<u32>, Vec<u32>, Vec<u32>) {
+        let mut free: Vec<u32> = (1..=s.n).filter(|i| !live.contains_key(i)).collect();
+        let (mut ids, mut counts, mut rows) = (Vec::new(), Vec::new(), Vec::new());
+        for _ in 0..self.within(1, 4) {
+            if free.is_empty() {
+                break;
+            }
+            let k = self.within(0, free.len() as u32 - 1) as usize;
+            ids.push(free.swap_remove(k));
+            let count = self.within(1, s.m.min(4));
+            counts.push(count);
+            rows.extend(self.rising(count, s.m));
+        }
+        if self.once_in(4) {
+            self.slip(s, &mut ids, &mut counts, &mut rows);
+        }
+        (ids, counts, rows)
+    }
+
+    // Spoils one of the three lists at one place, or their lengths.
+    fn slip(&mut self, s: Sizes, ids: &mut Vec<u32>, counts: &mut Vec<u32>, rows: &mut Vec<u32>) {
+        let odd = [0, 1, s.m, s.m + 1, s.n, s.n + 1, 257, u32::MAX, 65537];
+        let value = self.one(&odd);
+        let list = match self.within(1, 3) {
+            1 => ids,
+            2 => counts,
+            _ => rows,
+        };
+        match self.within(1, 5) {
+            1 => list.push(value),
+            2 => {
+                list.pop();
+            }
+            3 if self.once_in(4) => *list = vec![value; 65],
+            _ if list.is_empty() => {}
+            _ => {
+                let k = self.within(0, list.len() as u32 - 1) as usize;
+                list[k] = value;
+            }
+        }
+    }
+
+    /// Ids of a removal.
+    pub fn removal(&mut self, s: Sizes, live: &Live) -> Vec<u32> {
+        let mut left: Vec<u32> = live.keys().copied().collect();
+        let mut ids = Vec::new();
+        for _ in 0..self.within(1, 3) {
+            if left.is_empty() {
+                break;
+            }
+            let k = self.within(0, left.len() as u32 - 1) as usize;
+            ids.push(left.swap_remove(k));
+        }
+        if self.once_in(6) {
+            ids.push(self.within(0, s.n + 1));
+        }
+        ids
+    }
+}

@@ -1,0 +1,63 @@
+//! Soundness of tables by the words of its definition.
+use super::{factor, Live, Pattern};
+use nigvalds::lent::{Record, Tables};
+
+// The records of a chain, if all lie in range and it ends.
+fn chain(next: &[u32], most: usize, head: u32) -> Option<Vec<usize>> {
+    let (mut records, mut at) = (Vec::new(), head as usize);
+    while at != 0 {
+        if at > most || records.len() == most {
+            return None;
+        }
+        records.push(at);
+        at = next[at - 1] as usize;
+    }
+    Some(records)
+}
+
+// The chains from all heads, if they and the free chain share no record, hold each once, and free records are zero.
+fn chains(next: &[u32], most: usize, heads: &[u32], free: u32, is_zero: impl Fn(usize) -> bool) -> Option<Vec<Vec<usize>>> {
+    let all: Vec<Vec<usize>> = heads.iter().map(|h| chain(next, most, *h)).collect::<Option<_>>()?;
+    let unused = chain(next, most, free)?;
+    let mut seen: Vec<usize> = all.iter().flatten().chain(&unused).copied().collect();
+    seen.sort_unstable();
+    let once = seen.iter().copied().eq(1..=most);
+    (once && unused.iter().all(|r| is_zero(*r))).then_some(all)
+}
+
+/// The columns that the book holds, if its part of the tables is sound.
+pub fn live(r: Record, t: &Tables) -> Option<Live> {
+    let free = |k: usize| t.book_rows[k - 1] == 0;
+    let all = chains(&t.book_next, r.c as usize, &t.book_heads[..r.n as usize], r.book_free, free)?;
+    let mut live = Live::new();
+    for (id, records) in all.iter().enumerate().filter(|c| !c.1.is_empty()) {
+        let rows: Vec<u32> = records.iter().map(|k| t.book_rows[k - 1] as u32).collect();
+        let in_range = rows.iter().all(|i| (1..=r.m).contains(i));
+        if !in_range || rows.len() > 256 || rows.windows(2).any(|w| w[0] >= w[1]) {
+            return None;
+        }
+        live.insert(id as u32 + 1, rows);
+    }
+    Some(live)
+}
+
+/// The stored columns, if their part of the tables is sound.
+pub fn stored(r: Record, t: &Tables) -> Option<Vec<Pattern>> {
+    let free = |k: usize| t.rows[k - 1] == 0 && t.counts[k - 1] == 0;
+    let all = chains(&t.next, r.f as usize, &t.heads[..r.m as usize], r.free, free)?;
+    let entry = |k: &usize| (t.rows[k - 1] as u32, t.counts[k - 1] as u32);
+    Some(all.iter().zip(&t.parents).map(|(records, p)| Pattern { entries: records.iter().map(entry).collect(), parent: *p as u32 }).collect())
+}
+
+/// The records of each stored column.
+pub fn records(r: Record, t: &Tables) -> Vec<Vec<usize>> {
+    t.heads[..r.m as usize].iter().map(|h| chain(&t.next, r.f as usize, *h).expect("sound tables")).collect()
+}
+
+/// "Tables are sound if ..", of tables that are long enough.
+pub fn is_sound(r: Record, t: &Tables) -> bool {
+    match (live(r, t), stored(r, t)) {
+        (Some(live), Some(stored)) => stored == factor(r.m, &live),
+        _ => false,
+    }
+}

@@ -1,0 +1,243 @@
+/* Nigvalds: the pattern of the sparse Cholesky factor of I + AA^T, kept while columns of A enter and leave.
+ *
+ * Link with libhost.a (`rt staticlib host` writes target/staticlib/libhost.a; x86-64, System V calling convention; it needs memset alone). C99; usable from C++.
+ * Every function is proved to meet its contract (crates/host), asks nothing of the contents or lengths of what is lent, always returns and
+ * keeps no pointer. Unusable input is refused by number.
+ *
+ * WHAT IS ASSUMED OF A CALLER. Nothing checks this header against the library, and no proof covers the caller:
+ *   - each pointer is valid for its length, aligned for its type and not NULL, also where the length is 0;
+ *   - a length counts places of the pointer's type, not bytes, and the places take less than 2^63 bytes;
+ *   - what a call may write (a pointer without const) overlaps nothing else that is lent to the same call, and nobody else uses it meanwhile.
+ *
+ * TABLES. Rows are 1 to m, ids 1 to n, factor records 1 to F, book records 1 to C; what belongs to number k stands at place k - 1. A factor column is a
+ * chain of records from its head, rows rising; next 0 ends it. The book keeps the rows of each live column likewise. Tables may be longer than the sizes ask:
+ * places beyond keep their content. The host may read all tables at any time, store them and lend them again with their record; every call but an opening
+ * reads them through and answers 6 if they are not sound.
+ *
+ * EXAMPLE. A factor of 5 rows, two columns added as one batch, one question.
+ *
+ *     NIGVALDS_STATIC_TABLES(t, 5, 8, 80, 16);
+ *     nigvalds_opened o = nigvalds_open_in(&t, 5, 8, 80, 16);              // o.number is 0
+ *     uint32_t ids[] = {1, 2}, counts[] = {2, 2}, rows[] = {1, 3, 1, 4};   // column 1 is {1, 3}, column 2 is {1, 4}
+ *     nigvalds_changed a = nigvalds_add_in(&t, o.factor, ids, 2, counts, 2, rows, 4);
+ *     if (a.number) { ... }                                                // refused: a.position says at which column, and nothing changed
+ *     nigvalds_reply p = nigvalds_parent_in(&t, a.factor, 1);              // p.value is 3; a.factor is the record from here on
+ *
+ * examples/host.c is a whole program.
+ */
+#ifndef NIGVALDS_H
+#define NIGVALDS_H
+
+#include <stddef.h>
+#include <stdint.h>
+
+#ifdef __cplusplus
+extern "C" {
+#endif
+
+/* ---- sizes */
+
+#define NIGVALDS_MOST_ROWS 4096u      /* m: 1 to this */
+#define NIGVALDS_MOST_IDS 16384u      /* n: 1 to this */
+#define NIGVALDS_MOST_RECORDS 1048576u /* F: m to this */
+#define NIGVALDS_MOST_BOOKED 262144u  /* C: 1 to this */
+#define NIGVALDS_MOST_COLUMNS 64u     /* columns in a batch */
+#define NIGVALDS_MOST_COLUMN_ROWS 256u /* rows in a column */
+
+/* F when an opening asks for 0. */
+#define NIGVALDS_DEFAULT_RECORDS(m) (16u * (m))
+
+/* W, the places of the work table; f is F itself, not 0. */
+#define NIGVALDS_WORK_PLACES(m, n, f, c) (8u * (size_t)(m) + 4u * (size_t)(f) + (size_t)(c) + (size_t)(n) + 1024u)
+
+/* ---- numbers. The first that applies is given. A refusal's other numbers are 0, and nothing lent changes except that from 6 on the first W work places are
+   zero; they are zero after an accepted call too. */
+
+enum {
+    NIGVALDS_ACCEPTED = 0,
+    NIGVALDS_ROWS = 1,          /* m outside its range */
+    NIGVALDS_IDS = 2,           /* n outside its range */
+    NIGVALDS_RECORDS = 3,       /* F outside its range */
+    NIGVALDS_BOOKED = 4,        /* C outside its range */
+    NIGVALDS_SHORT = 5,         /* some table or list needed is too short */
+    NIGVALDS_UNSOUND = 6,       /* the tables are not sound; in check, the answer no */
+    NIGVALDS_SHAPE = 7,         /* not 1 to 64 ids, or not as many counts as ids */
+    NIGVALDS_ID_OUTSIDE = 8,    /* at position: id outside 1 to n */
+    NIGVALDS_ID_REPEATED = 9,   /* at position: id earlier in this batch */
+    NIGVALDS_ID_LIVE = 10,      /* at position: id to add is live */
+    NIGVALDS_ID_NOT_LIVE = 11,  /* at position: id to remove is not live */
+    NIGVALDS_COUNT = 12,        /* at position: count outside 1 to 256, or fewer rows remain; at 0: rows left over */
+    NIGVALDS_ROW_OUTSIDE = 13,  /* at position: row outside 1 to m */
+    NIGVALDS_ROW_ORDER = 14,    /* at position: row not above the row before */
+    NIGVALDS_BOOK_FULL = 15,    /* book rows would exceed C */
+    NIGVALDS_FACTOR_FULL = 16,  /* the sum of all pattern sizes would exceed F */
+    NIGVALDS_ASKED_OUTSIDE = 17, /* question: row or column outside 1 to m */
+    NIGVALDS_LIST_ENDS = 18,    /* question: the list ends before the answer does */
+    NIGVALDS_NO_COMMAND = 19    /* the listing program alone: a line that is no command */
+};
+
+/* ---- records and answers, by value */
+
+/* The record of sizes and free heads. It goes with the tables: each call takes the one that the call before left. */
+typedef struct nigvalds_factor {
+    uint32_t m, n, f, c;
+    uint32_t free, book_free;
+} nigvalds_factor;
+
+/* An opening: accepted, number 0 and the record; refused, the number and a record of zeros (the record from before serves on). */
+typedef struct nigvalds_opened {
+    uint32_t number;
+    nigvalds_factor factor;
+} nigvalds_opened;
+
+/* A batch: touched is how many columns the lists report, entries the sum of their sizes after the call, grade 1 to 4 by the entries; factor is the record
+   after the call, under a refusal the one that was given. */
+typedef struct nigvalds_changed {
+    uint32_t number, position;
+    uint32_t touched, entries, grade;
+    nigvalds_factor factor;
+} nigvalds_changed;
+
+/* A check or a question: number, and the value if it is 0. */
+typedef struct nigvalds_reply {
+    uint32_t number, value;
+} nigvalds_reply;
+
+/* An entry of a column, and the record after it (0: none). Row 0 is the end. */
+typedef struct nigvalds_entry {
+    uint32_t row, multiplicity, next;
+} nigvalds_entry;
+
+/* ---- the library's functions. Each pointer is followed by its length. */
+
+#define NIGVALDS_WRITTEN_TABLES                                                                                                                     \
+    uint32_t *heads, size_t heads_length, uint16_t *parents, size_t parents_length, uint16_t *rows, size_t rows_length, uint16_t *counts,           \
+        size_t counts_length, uint32_t *next, size_t next_length, uint32_t *book_heads, size_t book_heads_length, uint16_t *book_rows,              \
+        size_t book_rows_length, uint32_t *book_next, size_t book_next_length, uint32_t *work, size_t work_length
+#define NIGVALDS_CHANGED_TABLES                                                                                                                     \
+    const uint32_t *heads, size_t heads_length, uint16_t *parents, size_t parents_length, uint16_t *rows, size_t rows_length, uint16_t *counts,     \
+        size_t counts_length, uint32_t *next, size_t next_length, uint32_t *book_heads, size_t book_heads_length, uint16_t *book_rows,              \
+        size_t book_rows_length, uint32_t *book_next, size_t book_next_length, uint32_t *work, size_t work_length
+#define NIGVALDS_READ_TABLES                                                                                                                        \
+    const uint32_t *heads, size_t heads_length, const uint16_t *parents, size_t parents_length, const uint16_t *rows, size_t rows_length,           \
+        const uint16_t *counts, size_t counts_length, const uint32_t *next, size_t next_length, const uint32_t *book_heads,                         \
+        size_t book_heads_length, const uint16_t *book_rows, size_t book_rows_length, const uint32_t *book_next, size_t book_next_length,           \
+        uint32_t *work, size_t work_length
+
+/* Opens a fresh factor: writes all tables. f = 0 means 16 x m. Refusals 1 to 5. */
+nigvalds_opened nigvalds_open(uint32_t m, uint32_t n, uint32_t f, uint32_t c, NIGVALDS_WRITTEN_TABLES);
+
+/* Adds a batch: by position, each id enters with as many of the rows not yet used as its count says. touched receives the touched columns, rising, and labels
+   the largest position whose path passes through each; both need m places. Refusals 1 to 10 and 12 to 16. */
+nigvalds_changed nigvalds_add(nigvalds_factor factor, NIGVALDS_CHANGED_TABLES, uint16_t *touched, size_t touched_length, uint16_t *labels,
+                              size_t labels_length, const uint32_t *ids, size_t ids_length, const uint32_t *row_counts, size_t row_counts_length,
+                              const uint32_t *row_list, size_t row_list_length);
+
+/* Removes the columns of a batch of ids. Refusals 1 to 9 and 11. */
+nigvalds_changed nigvalds_remove(nigvalds_factor factor, NIGVALDS_CHANGED_TABLES, uint16_t *touched, size_t touched_length, uint16_t *labels,
+                                 size_t labels_length, const uint32_t *ids, size_t ids_length);
+
+/* Whether the tables are sound: number 0, or 6 for no. */
+nigvalds_reply nigvalds_check(nigvalds_factor factor, NIGVALDS_READ_TABLES);
+
+/* The multiplicity of row i in column j, 0 when absent. Refusals 1 to 6 and 17, as of parent. */
+nigvalds_reply nigvalds_multiplicity(nigvalds_factor factor, NIGVALDS_READ_TABLES, uint32_t i, uint32_t j);
+
+/* The parent of j, 0 for a root. */
+nigvalds_reply nigvalds_parent(nigvalds_factor factor, NIGVALDS_READ_TABLES, uint32_t j);
+
+/* The path of j, a row to a place from the given place of the list on (places from 0), and its number of rows. Refusals 1 to 6, 17, 18. */
+nigvalds_reply nigvalds_path(nigvalds_factor factor, NIGVALDS_READ_TABLES, uint32_t *list, size_t list_length, uint32_t j, size_t place);
+
+/* Column j likewise, row then multiplicity, two places an entry, and its number of entries. */
+nigvalds_reply nigvalds_column(nigvalds_factor factor, NIGVALDS_READ_TABLES, uint32_t *list, size_t list_length, uint32_t j, size_t place);
+
+/* The entry at a record: start at heads[j - 1], go on at the entry's next. Reads nothing else and checks nothing; a record that is 0, past a table or free
+   gives the end. */
+nigvalds_entry nigvalds_read(const uint16_t *rows, size_t rows_length, const uint16_t *counts, size_t counts_length, const uint32_t *next,
+                             size_t next_length, uint32_t record);
+
+/* ---- all tables and a batch's lists in one place, with their lengths, and the same functions over it */
+
+typedef struct nigvalds_tables {
+    uint32_t *heads;
+    size_t heads_length;
+    uint16_t *parents;
+    size_t parents_length;
+    uint16_t *rows;
+    size_t rows_length;
+    uint16_t *counts;
+    size_t counts_length;
+    uint32_t *next;
+    size_t next_length;
+    uint32_t *book_heads;
+    size_t book_heads_length;
+    uint16_t *book_rows;
+    size_t book_rows_length;
+    uint32_t *book_next;
+    size_t book_next_length;
+    uint32_t *work;
+    size_t work_length;
+    uint16_t *touched;
+    size_t touched_length;
+    uint16_t *labels;
+    size_t labels_length;
+} nigvalds_tables;
+
+/* Static tables for sizes known when compiling, f not 0: `NIGVALDS_STATIC_TABLES(t, 5, 8, 80, 16);` declares a nigvalds_tables t. */
+#define NIGVALDS_STATIC_TABLES(name, m, n, f, c)                                                                                                    \
+    static uint32_t name##_heads[m], name##_next[f], name##_book_heads[n], name##_book_next[c];                                                     \
+    static uint16_t name##_parents[m], name##_rows[f], name##_counts[f], name##_book_rows[c], name##_touched[m], name##_labels[m];                  \
+    static uint32_t name##_work[NIGVALDS_WORK_PLACES(m, n, f, c)];                                                                                  \
+    static nigvalds_tables name = {name##_heads, (m), name##_parents, (m), name##_rows, (f), name##_counts, (f), name##_next, (f),                  \
+                                   name##_book_heads, (n), name##_book_rows, (c), name##_book_next, (c), name##_work,                               \
+                                   NIGVALDS_WORK_PLACES(m, n, f, c), name##_touched, (m), name##_labels, (m)}
+
+#define NIGVALDS_PARTS(t)                                                                                                                           \
+    (t)->heads, (t)->heads_length, (t)->parents, (t)->parents_length, (t)->rows, (t)->rows_length, (t)->counts, (t)->counts_length, (t)->next,      \
+        (t)->next_length, (t)->book_heads, (t)->book_heads_length, (t)->book_rows, (t)->book_rows_length, (t)->book_next, (t)->book_next_length,    \
+        (t)->work, (t)->work_length
+#define NIGVALDS_REPORT(t) (t)->touched, (t)->touched_length, (t)->labels, (t)->labels_length
+
+static inline nigvalds_opened nigvalds_open_in(const nigvalds_tables *t, uint32_t m, uint32_t n, uint32_t f, uint32_t c) {
+    return nigvalds_open(m, n, f, c, NIGVALDS_PARTS(t));
+}
+
+static inline nigvalds_changed nigvalds_add_in(const nigvalds_tables *t, nigvalds_factor factor, const uint32_t *ids, size_t ids_length,
+                                               const uint32_t *row_counts, size_t row_counts_length, const uint32_t *row_list, size_t row_list_length) {
+    return nigvalds_add(factor, NIGVALDS_PARTS(t), NIGVALDS_REPORT(t), ids, ids_length, row_counts, row_counts_length, row_list, row_list_length);
+}
+
+static inline nigvalds_changed nigvalds_remove_in(const nigvalds_tables *t, nigvalds_factor factor, const uint32_t *ids, size_t ids_length) {
+    return nigvalds_remove(factor, NIGVALDS_PARTS(t), NIGVALDS_REPORT(t), ids, ids_length);
+}
+
+static inline nigvalds_reply nigvalds_check_in(const nigvalds_tables *t, nigvalds_factor factor) {
+    return nigvalds_check(factor, NIGVALDS_PARTS(t));
+}
+
+static inline nigvalds_reply nigvalds_multiplicity_in(const nigvalds_tables *t, nigvalds_factor factor, uint32_t i, uint32_t j) {
+    return nigvalds_multiplicity(factor, NIGVALDS_PARTS(t), i, j);
+}
+
+static inline nigvalds_reply nigvalds_parent_in(const nigvalds_tables *t, nigvalds_factor factor, uint32_t j) {
+    return nigvalds_parent(factor, NIGVALDS_PARTS(t), j);
+}
+
+static inline nigvalds_reply nigvalds_path_in(const nigvalds_tables *t, nigvalds_factor factor, uint32_t *list, size_t list_length, uint32_t j, size_t place) {
+    return nigvalds_path(factor, NIGVALDS_PARTS(t), list, list_length, j, place);
+}
+
+static inline nigvalds_reply nigvalds_column_in(const nigvalds_tables *t, nigvalds_factor factor, uint32_t *list, size_t list_length, uint32_t j, size_t place) {
+    return nigvalds_column(factor, NIGVALDS_PARTS(t), list, list_length, j, place);
+}
+
+static inline nigvalds_entry nigvalds_read_in(const nigvalds_tables *t, uint32_t record) {
+    return nigvalds_read(t->rows, t->rows_length, t->counts, t->counts_length, t->next, t->next_length, record);
+}
+
+#ifdef __cplusplus
+}
+#endif
+
+#endif
