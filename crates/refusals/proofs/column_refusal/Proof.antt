@@ -1,5 +1,6 @@
 -- `refusals::column_refusal` meets its contract: the id, whether it is booked, then its count and rows. Assumes nothing.
 use mathlib.Core.Bool.{Bool}
+use native.Mathlib.Omega.{arith}
 use borrow.Author.Needs.{needs}
 use lib.ListN.{length, getD, drop}
 use Rattle.book.specs.Book.{isBooked}
@@ -21,7 +22,7 @@ returns c =
     let i : tie.After-id-refusal = c .before in
     let s : tie.Start = entry i in
     column-id (length (s .args .book-heads .now)) (idBooked s) (s .args .ids .now) (s .args .k) (i .id-refusal .ensures) (s .args .m) (s .args .row-counts .now)
-    (drop (s .args .from) (s .args .row-list .now)) (c .if1 .taken)
+    (drop (s .args .from) (s .args .row-list .now)) (λ e. omega (arith, c .if1 .taken, e))
 
 mul-id : tie.Need-mul-id
 mul-id c = search needs

@@ -34,7 +34,7 @@ returns c =
 returns-2 : tie.Need-returns-2 Inv-loop μ-loop
 returns-2 c =
     let t : tie.In-loop Inv-loop μ-loop = c .before .before .before .before in
-    rows-low (t .before .loop .inv) (t .loop-test .taken) (c .before .before .outside .ensures) (c .before .if1 .left) (c .if2 .taken)
+    rows-low (t .before .loop .inv) (t .loop-test .taken) (c .before .before .outside .ensures) (c .before .if1 .left) (omega (arith, c .if2 .taken))
 
 add-i : tie.Need-add-i Inv-loop μ-loop
 add-i c = omega arith
