@@ -1,23 +1,24 @@
 -- The tables within their sizes, as the code lends them: their lengths are the sizes (`Cut`), usable tables can be asked and followed, tables that are long
 -- enough can be read through, and what is read through is soundness. Assumes nothing.
 use mathlib.Core.Path.{_≡_, sym, ap, _∙_, subst}
+use mathlib.Core.Logic.{inr}
 use mathlib.Core.Bool.{true, _&&_}
 use mathlib.Core.List.{List}
-use Prim.Native.Nat.{ℕ, _+_, _≤_}
+use Prim.Native.Nat.{ℕ, _+_, _*_, _≤_}
 use native.Mathlib.Omega.{arith}
 use lib.ListN.{length}
 use lib.Seq.{length-take-le}
 use Rattle.symbolic.specs.Columns.{live}
-use Rattle.workspace.specs.Layout.{workNeed}
-use Rattle.workspace.specs.Regions.{OnlyIn, cleared, zeroFirst}
-use Rattle.workspace.proofs.Regions.{cleared-length, cleared-zero, cleared-only, cleared-unique, only-trans, first-cleared}
+use Rattle.workspace.specs.Layout.{workNeed, bookMarks}
+use Rattle.workspace.specs.Regions.{IsZero, OnlyIn, cleared, zeroFirst}
+use Rattle.workspace.proofs.Regions.{cleared-zero, cleared-only, cleared-unique, only-trans, only-wider, only-zero, zero-part, first-cleared}
 use Rattle.book.specs.Book as book
 use Rattle.tables.specs.Stored.{Sized, isSoundFor}
 use Rattle.tables.specs.Tables.{Tables, Limits, State, longEnough, storedIn, bookIn, registerOf, isSound}
 use Rattle.tables.proofs.Tables.{Long, long-facts, sound-stored}
 use Rattle.calls.specs.Refusals.{accepted, isAccepted, bounds, sizesRefusal, workFor}
 use Rattle.calls.proofs.Refusals.{InRange, sizes-facts}
-use Rattle.soundness.specs.ReadThrough.{CanReadThrough, areSound}
+use Rattle.soundness.specs.ReadThrough.{CanReadThrough, madeReady, areSound}
 use Rattle.questions.specs.Asked.{ColumnsFor, ParentsFor, CanAsk, CanFollow}
 use Rattle.questions.proofs.Reading.{stored-columns, stored-parents, can-ask, can-follow}
 use Rattle.factor.specs.Admission.{HasPlaces, Usable}
@@ -101,9 +102,22 @@ module _ (s : State) {t : Tables} {w : List ℕ} (r : HasPlaces (s .limits) t w)
   room : 0 + workFor (s .limits) ≤ length w
   room = omega (arith, r .room)
 
-  module _ {x : List ℕ} (e : x ≡ cleared w 0 (workFor (s .limits))) where
+  -- the work table made ready
+  module _ {x : List ℕ} (e : x ≡ madeReady w (s .limits .m) (s .limits .f) (s .limits .c)) where
+    abbrev front : List ℕ
+    front = cleared w 0 (8 * s .limits .m + s .limits .f)
+
+    front-only : OnlyIn 0 (8 * s .limits .m + s .limits .f) w front
+    front-only = cleared-only w 0 (8 * s .limits .m + s .limits .f) (omega (arith, r .room))
+
+    marks-room : bookMarks (s .limits .m) (s .limits .f) + s .limits .c ≤ length front
+    marks-room = omega (arith, r .room, front-only .same-length)
+
+    marks-only : OnlyIn (bookMarks (s .limits .m) (s .limits .f)) (s .limits .c) front x
+    marks-only = rw e (cleared-only front (bookMarks (s .limits .m) (s .limits .f)) (s .limits .c) marks-room)
+
     long : length x ≡ length w
-    long = ap length e ∙ cleared-length w 0 (workFor (s .limits)) room
+    long = marks-only .same-length ∙ front-only .same-length
 
     pub can-read-through : CanReadThrough (storedIn s t) (bookIn s t) x
     can-read-through =
@@ -118,7 +132,15 @@ module _ (s : State) {t : Tables} {w : List ℕ} (r : HasPlaces (s .limits) t w)
           f-bound = omega (arith, c .next, i .f-high);
           c-bound = omega (arith, c .bookNext, i .c-high);
           long = omega (arith, need-is, r .room, long);
-          zero = λ j h. rw e (cleared-zero w 0 (workFor (s .limits)) room j (omega (arith, need-is)));
+          front-zero =
+              let z : IsZero front 0 (8 * s .limits .m + s .limits .f) = cleared-zero w 0 (8 * s .limits .m + s .limits .f) (omega (arith, r .room)) in
+              zero-part x 0 (8 * s .limits .m + s .limits .f) 0 (8 * length (storedIn s t .heads) + length (storedIn s t .next))
+              (only-zero marks-only 0 (8 * s .limits .m + s .limits .f) (inr (omega arith)) z) (omega arith) (omega (arith, c .heads, c .next));
+          marks-zero =
+              let z : IsZero x (bookMarks (s .limits .m) (s .limits .f)) (s .limits .c) =
+              rw e (cleared-zero front (bookMarks (s .limits .m) (s .limits .f)) (s .limits .c) marks-room) in
+              zero-part x (bookMarks (s .limits .m) (s .limits .f)) (s .limits .c) (bookMarks (length (storedIn s t .heads)) (length (storedIn s t .next)))
+              (length (bookIn s t .next)) z (omega (arith, c .heads, c .next)) (omega (arith, c .heads, c .next, c .bookNext));
         }
 
     module _ {y : List ℕ} (o : OnlyIn 0 need x y) where
@@ -129,6 +151,7 @@ module _ (s : State) {t : Tables} {w : List ℕ} (r : HasPlaces (s .limits) t w)
       pub read-clears : {n : ℕ} → n ≡ workFor (s .limits) → cleared y 0 n ≡ zeroFirst (workFor (s .limits)) w
       read-clears z =
           let W : ℕ = workFor (s .limits) in
-          let p : OnlyIn 0 W w x = rw e (cleared-only w 0 W room) in
+          let p : OnlyIn 0 W w x =
+          only-trans (only-wider 0 W (omega arith) (omega arith) front-only) (only-wider 0 W (omega arith) (omega arith) marks-only) in
           let q : OnlyIn 0 W x y = subst (λ (n : ℕ). OnlyIn 0 n x y) need-is o in
           ap (λ (n : ℕ). cleared y 0 n) z ∙ cleared-unique w 0 W room (only-trans (only-trans p q) (cleared-only y 0 W read-room)) (cleared-zero y 0 W read-room) ∙ sym (first-cleared W w (r .room))

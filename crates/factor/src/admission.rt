@@ -81,8 +81,7 @@ pub fn read_through(
     let n = factor.n as usize;
     let f = factor.f as usize;
     let c = factor.c as usize;
-    let w = workspace::work_need(factor.m, factor.n, factor.f, factor.c);
-    workspace::clear(work, 0, w);
+    soundness::make_ready(work, m, f, c);
     let sound = soundness::read_through(
         &heads[..m],
         &parents[..m],
@@ -96,7 +95,11 @@ pub fn read_through(
         Rec(factor.free),
         Rec(factor.book_free),
     );
-    workspace::clear(work, 0, w);
+    workspace::clear(
+        work,
+        0,
+        workspace::work_need(factor.m, factor.n, factor.f, factor.c),
+    );
     sound
 }
 

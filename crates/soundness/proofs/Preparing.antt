@@ -10,7 +10,7 @@ use native.Mathlib.Omega.{arith}
 use lib.ListN.{length, List·getD-eq-default}
 use borrow.Rule.Slice.PartMut.{putMid}
 use Rattle.lists.proofs.Tests.{lt-or-le}
-use Rattle.workspace.specs.Layout.{workNeed, childHead, factorMarks, columnNext}
+use Rattle.workspace.specs.Layout.{childHead, factorMarks, bookMarks, columnNext}
 use Rattle.workspace.specs.Regions.{cell, region, IsZero, OnlyIn}
 use Rattle.workspace.proofs.Regions.{region-length, region-cell, zero-part, only-trans, only-zero}
 use Rattle.pool.specs.Chains.{Linked}
@@ -36,7 +36,7 @@ module _ {s : Stored} {b : book.Book} {w : List ℕ} (pre : CanReadThrough s b w
     pub preparing-marks : NoMarks (b .next) (region w a (e - a))
     preparing-marks =
         let l : length (region w a (e - a)) ≡ e - a = region-length w a (e - a) (omega (arith, pre .long)) in
-        let z : IsZero w a (e - a) = zero-part w 0 (workNeed m (length (b .heads)) f (length (b .next))) a (e - a) (pre .zero) (omega arith) (omega arith) in
+        let z : IsZero w a (e - a) = zero-part w (bookMarks m f) (length (b .next)) a (e - a) (pre .marks-zero) (omega arith) (omega arith) in
         record {
           long = omega arith;
           zero = λ x. elim (lt-or-le (x - 1) (e - a)) [
@@ -60,9 +60,9 @@ module _ {s : Stored} {b : book.Book} {w : List ℕ} (pre : CanReadThrough s b w
       preparing-unsound r p q = sym (ap (λ (t : Bool). t && isSoundFor (book.columnsIn b) s) (sym p ∙ q))
 
       -- a region that was zero, before the book's marks
-      zero-before : (c l : ℕ) → c + l ≤ 8 * m + 4 * f → IsZero (putMid a (e - a) w ms) c l
+      zero-before : (c l : ℕ) → c + l ≤ 8 * m + f → IsZero (putMid a (e - a) w ms) c l
       zero-before c l h =
-          only-zero marked-only c l (inr (omega arith)) (zero-part w 0 (workNeed m (length (b .heads)) f (length (b .next))) c l (pre .zero) (omega arith) (omega arith))
+          only-zero marked-only c l (inr (omega arith)) (zero-part w 0 (8 * m + f) c l (pre .front-zero) (omega arith) (omega arith))
 
       module _ (sound : book.isSound (length (s .heads)) b ≡ true) where
         book-sound : Sound m b

@@ -1,14 +1,14 @@
 -- What the read-through of all tables asks and answers. Assumes nothing: these are definitions.
 use mathlib.Core.Bool.{Bool, _&&_}
 use mathlib.Core.List.{List}
-use Prim.Native.Nat.{ℕ, _≤_}
+use Prim.Native.Nat.{ℕ, _+_, _*_, _≤_}
 use lib.ListN.{length}
-use Rattle.workspace.specs.Layout.{workNeed}
-use Rattle.workspace.specs.Regions.{IsZero}
+use Rattle.workspace.specs.Layout.{workNeed, bookMarks}
+use Rattle.workspace.specs.Regions.{IsZero, cleared}
 use Rattle.book.specs.Book as book
 use Rattle.tables.specs.Stored.{Stored, Sized, isSoundFor}
 
--- tables cut to their sizes, sizes that 32 bits hold with room, and a work table whose first W places are zero
+-- tables cut to their sizes, sizes that 32 bits hold with room, and a work table that is ready
 pub record CanReadThrough (s : Stored) (b : book.Book) (work : List ℕ) : Type 0 where
   pub stored : Sized s
   pub booked : book.Sized b
@@ -20,7 +20,13 @@ pub record CanReadThrough (s : Stored) (b : book.Book) (work : List ℕ) : Type 
   -- of book records: a loose bound above document 01's 262,144, likewise
   pub c-bound : length (b .next) ≤ 4194304
   pub long : workNeed (length (s .heads)) (length (b .heads)) (length (s .next)) (length (b .next)) ≤ length work
-  pub zero : IsZero work 0 (workNeed (length (s .heads)) (length (b .heads)) (length (s .next)) (length (b .next)))
+  -- counters, heads of lists and marks of L; then the marks of the book
+  pub front-zero : IsZero work 0 (8 * length (s .heads) + length (s .next))
+  pub marks-zero : IsZero work (bookMarks (length (s .heads)) (length (s .next))) (length (b .next))
+
+-- a work table made ready, by the sizes m, F and C
+abbrev pub madeReady : (work : List ℕ) → (m f c : ℕ) → List ℕ
+madeReady w m f c = cleared (cleared w 0 (8 * m + f)) (bookMarks m f) c
 
 -- "Tables are sound if .."
 abbrev pub areSound : Stored → book.Book → Bool

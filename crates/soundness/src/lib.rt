@@ -1,7 +1,7 @@
 // Decides number 6: for any contents of all tables, whether they are sound, in time proportional to m + n + F + C. Every chain is walked once, with marks.
 // Columns of L are read by rising number: what the definition gives for a column is counted from the book and from its children, which were read before.
 ghost use mathlib.Core.Path.{_≡_};
-ghost use Prim.Native.Nat.{_+_, _-_, _≤_};
+ghost use Prim.Native.Nat.{_+_, _*_, _-_, _≤_};
 ghost use lib.ListN.{length, getD};
 ghost use Rattle.tables.specs.Stored.{storedOf};
 ghost use Rattle.workspace.specs.Regions.{region};
@@ -9,7 +9,7 @@ ghost use Rattle.book.specs.Book.{bookOf};
 ghost use Rattle.book.specs.Walks.{WalkedWith};
 ghost use Rattle.soundness.specs.Checking.{CanCheckFree, zeroChain, CanCheckEntry, EntryChecked, CanCheck, Checked};
 ghost use Rattle.soundness.specs.State.{State, CanReadColumn, ColumnsRead, Prepared, FactorRead, WithinWork};
-ghost use Rattle.soundness.specs.ReadThrough.{CanReadThrough, areSound};
+ghost use Rattle.soundness.specs.ReadThrough.{CanReadThrough, areSound, madeReady};
 use pool::Rec;
 use pool::Visit;
 use pool::Walk;
@@ -264,7 +264,16 @@ fn read_factor(
     }
 }
 
-// Decides number 6: whether all tables are sound, for any contents. The work table is zero in its first W places before, and holds anything there after.
+// Makes a work table of any content ready to be read through with, by the sizes m, F and C: what the pass counts and marks in is zero.
+pub fn make_ready(work: &mut [u32], m: usize, f: usize, c: usize)
+    requires { ⌜ 8 * m + 4 * f + 1024 + c ≤ length (now work) ⌝ }
+    ensures { λ _. ⌜ now (work .exit) ≡ madeReady (now (work .entry)) m f c ⌝ }
+{
+    workspace::clear(work, 0, 8 * m + f);
+    workspace::clear(work, 8 * m + 4 * f + 1024, c);
+}
+
+// Decides number 6: whether all tables are sound, for any contents. The work table was made ready, and holds anything in its first W places after.
 pub fn read_through(
     heads: &[u32],
     parents: &[u16],

@@ -1,11 +1,12 @@
--- `admission::read_through` meets its contract: the first W work places are cleared before and after the tables are read through within their sizes.
+-- `admission::read_through` meets its contract: the work table is made ready, the tables are read through within their sizes, and the first W work places are
+-- cleared.
 -- Assumes nothing.
 use mathlib.Core.Path.{_≡_, sym, ap, _∙_}
 use mathlib.Core.List.{List}
 use Prim.Native.Nat.{ℕ}
 use native.Mathlib.Omega.{arith}
 use borrow.Author.Needs.{needs}
-use Rattle.workspace.specs.Regions.{cleared}
+use Rattle.soundness.specs.ReadThrough.{madeReady}
 use Rattle.tables.specs.Tables.{Tables, State, tablesOf}
 use Rattle.calls.specs.Refusals.{workFor}
 use Rattle.factor.specs.Entries.{stateOf}
@@ -14,19 +15,16 @@ use Rattle.factor.proofs.admission.read_through.Statement.{statement}
 use Rattle.factor.proofs.admission.read_through.Tie as tie
 
 -- ---- the places, named
-abbrev entry : tie.After-work-need → tie.Start
-entry c = c .before .before .before .before .before .before .before .before .before .before .before .before .before .before
+abbrev entry : tie.After-make-ready → tie.Start
+entry c = c .before .before .before .before .before .before .before .before .before .before .before .before .before .before .before
 
-abbrev needed : tie.After-clear → tie.After-work-need
-needed c = c .before .before
-
-abbrev first : tie.After-read-through-arg → tie.After-clear
+abbrev first : tie.After-read-through-arg → tie.After-make-ready
 first c = c .before .before .before
 
-abbrev lent : tie.After-read-through → tie.After-clear
+abbrev lent : tie.After-read-through → tie.After-make-ready
 lent c = first (c .before .before .before .before .before .before .before .before .before)
 
-abbrev read : tie.After-clear2 → tie.After-read-through
+abbrev read : tie.After-work-need → tie.After-read-through
 read c = c .before .before .before .before
 
 abbrev stateAt : tie.Start → State
@@ -35,14 +33,13 @@ stateAt s = stateOf (s .args .factor)
 abbrev tablesAt : tie.Start → Tables
 tablesAt s = tablesOf (s .args .heads .now) (s .args .parents .now) (s .args .rows .now) (s .args .counts .now) (s .args .next .now) (s .args .book-heads .now) (s .args .book-rows .now) (s .args .book-next .now)
 
-lengths : (c : tie.After-read-through-arg) → Cut (stateAt (entry (needed (first c)))) (tablesAt (entry (needed (first c))))
-lengths c = let s : tie.Start = entry (needed (first c)) in cut (stateAt s) (tablesAt s) (s .pre .long)
+lengths : (c : tie.After-read-through-arg) → Cut (stateAt (entry (first c))) (tablesAt (entry (first c)))
+lengths c = let s : tie.Start = entry (first c) in cut (stateAt s) (tablesAt s) (s .pre .long)
 
 -- the work table that is read with
-cleared-is : (c : tie.After-clear) →
-    c .clear .last .0 ≡ cleared (entry (needed c) .args .work .now) 0 (workFor (stateAt (entry (needed c)) .limits))
-cleared-is c =
-    let w : List ℕ = entry (needed c) .args .work .now in c .clear .ensures ∙ ap (λ (n : ℕ). cleared w 0 n) (needed c .work-need .ensures)
+ready-is : (c : tie.After-make-ready) →
+    c .make-ready .last .0 ≡ madeReady (entry c .args .work .now) (entry c .args .factor .m) (entry c .args .factor .f) (entry c .args .factor .c)
+ready-is c = c .make-ready .ensures
 
 cast-m : tie.Need-cast-m
 cast-m c = search needs
@@ -56,11 +53,8 @@ cast-f c = search needs
 cast-c : tie.Need-cast-c
 cast-c c = search needs
 
-work-need-requires : tie.Need-work-need-requires
-work-need-requires c κs = search needs
-
-clear-requires : tie.Need-clear-requires
-clear-requires c κs = let s : tie.Start = entry (c .before) in omega (arith, c .before .work-need .ensures, s .pre .room)
+make-ready-requires : tie.Need-make-ready-requires
+make-ready-requires c κs = let s : tie.Start = c .before .before .before .before .before .before .before .before .before .before .before .before .before .before in omega (arith, s .pre .room)
 
 slice-aggregate-read-through : tie.Need-slice-aggregate-read-through
 slice-aggregate-read-through c = sym (lengths c .heads)
@@ -88,25 +82,29 @@ slice-aggregate-read-through-8 c = sym (lengths (c .before .before .before .befo
 
 read-through-requires : tie.Need-read-through-requires
 read-through-requires c κs =
-    let d : tie.After-clear = first (c .before .before .before .before .before .before .before .before) in can-read-through (stateAt (entry (needed d))) (entry (needed d) .pre) (cleared-is d)
+    let d : tie.After-make-ready = first (c .before .before .before .before .before .before .before .before) in can-read-through (stateAt (entry d)) (entry d .pre) (ready-is d)
 
-clear-requires-2 : tie.Need-clear-requires-2
-clear-requires-2 c κs =
-    let r : tie.After-read-through = c .before .before .before in
-    let d : tie.After-clear = lent r in
-    omega (arith, read-room (stateAt (entry (needed d))) (entry (needed d) .pre) (cleared-is d) (r .read-through .ensures .1), needed d .work-need .ensures)
+work-need-requires : tie.Need-work-need-requires
+work-need-requires c κs = search needs
+
+clear-requires : tie.Need-clear-requires
+clear-requires c κs =
+    let r : tie.After-read-through = read c in
+    let d : tie.After-make-ready = lent r in
+    omega (arith, read-room (stateAt (entry d)) (entry d .pre) (ready-is d) (r .read-through .ensures .1), c .work-need .ensures)
 
 same-length : tie.Need-same-length
 same-length c = search needs
 
 returns : tie.Need-returns
 returns c =
-    let k : tie.After-clear2 = c .before .before in
-    let r : tie.After-read-through = read k in
-    let d : tie.After-clear = lent r in
-    let s : tie.Start = entry (needed d) in
+    let k : tie.After-clear = c .before .before in
+    let n : tie.After-work-need = k .before in
+    let r : tie.After-read-through = read n in
+    let d : tie.After-make-ready = lent r in
+    let s : tie.Start = entry d in
     let o = r .read-through .ensures .1 in
-    (r .read-through .ensures .0 ∙ read-sound (stateAt s) (s .pre), k .clear2 .ensures ∙ read-clears (stateAt s) (s .pre) (cleared-is d) o (needed d .work-need .ensures))
+    (r .read-through .ensures .0 ∙ read-sound (stateAt s) (s .pre), k .clear .ensures ∙ read-clears (stateAt s) (s .pre) (ready-is d) o (n .work-need .ensures))
 
 pub read-through-spec : {M : Type 1} → statement M
 read-through-spec =
@@ -116,8 +114,7 @@ read-through-spec =
     cast-n
     cast-f
     cast-c
-    work-need-requires
-    clear-requires
+    make-ready-requires
     slice-aggregate-read-through
     slice-aggregate-read-through-2
     slice-aggregate-read-through-3
@@ -127,6 +124,7 @@ read-through-spec =
     slice-aggregate-read-through-7
     slice-aggregate-read-through-8
     read-through-requires
-    clear-requires-2
+    work-need-requires
+    clear-requires
     same-length
     returns)
