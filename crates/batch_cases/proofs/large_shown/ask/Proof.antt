@@ -1,0 +1,62 @@
+-- `ask` is safe and ends. The measure is the questions that are left. Assumes nothing.
+use Prim.Native.Nat.{_-_, _≤_}
+use borrow.Author.Needs.{needs}
+use Rattle.batch_cases.proofs.large_shown.ask.Statement.{statement}
+use Rattle.batch_cases.proofs.large_shown.ask.Tie as tie
+
+abbrev Inv-loop : tie.InvT-loop
+Inv-loop «record» heads parents rows counts next book-heads book-rows book-next work₀ k₀ work k = k ≤ 6
+
+abbrev μ-loop : tie.MeasureT-loop
+μ-loop «record» heads parents rows counts next book-heads book-rows book-next work₀ k₀ work k = 6 - k
+
+lengths-requires : tie.Need-lengths-requires Inv-loop μ-loop
+lengths-requires c κs = search needs
+
+loop-holds : tie.Need-loop-holds Inv-loop μ-loop
+loop-holds c = search needs
+
+mul-multiplicity : tie.Need-mul-multiplicity Inv-loop μ-loop
+mul-multiplicity c = search needs
+
+array-read-multiplicity : tie.Need-array-read-multiplicity Inv-loop μ-loop
+array-read-multiplicity c = search needs
+
+mul-multiplicity-2 : tie.Need-mul-multiplicity-2 Inv-loop μ-loop
+mul-multiplicity-2 c = search needs
+
+array-read-multiplicity-2 : tie.Need-array-read-multiplicity-2 Inv-loop μ-loop
+array-read-multiplicity-2 c = search needs
+
+multiplicity-requires : tie.Need-multiplicity-requires Inv-loop μ-loop
+multiplicity-requires c κs = search needs
+
+add-k : tie.Need-add-k Inv-loop μ-loop
+add-k c = search needs
+
+loop-less : tie.Need-loop-less Inv-loop μ-loop
+loop-less c = search needs
+
+loop-again : tie.Need-loop-again Inv-loop μ-loop
+loop-again c = search needs
+
+returns : tie.Need-returns Inv-loop μ-loop
+returns c = search needs
+
+pub ask-spec : {M : Type 1} → statement M
+ask-spec =
+    tie.close
+    (tie.spec
+    Inv-loop
+    μ-loop
+    lengths-requires
+    loop-holds
+    mul-multiplicity
+    array-read-multiplicity
+    mul-multiplicity-2
+    array-read-multiplicity-2
+    multiplicity-requires
+    add-k
+    loop-less
+    loop-again
+    returns)

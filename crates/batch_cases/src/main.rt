@@ -1,0 +1,171 @@
+// Batches through the factor's public entries, as lines: the document's instances, batches whose paths merge, a refusal of each number, and 64 columns of
+// 256 rows each in a factor of 4,096 rows. A batch gives `ok touched entries grade`, then its touched columns and labels, or `no number position`.
+mod large;
+mod large_shown;
+mod large_tables;
+mod lines;
+mod refused;
+mod steps;
+
+use case_tables::Host;
+use lines::title;
+use steps::add;
+use steps::open;
+use steps::remove;
+use steps::show;
+
+// ---- instances
+
+// 1: fresh, one row. 6: {5} alone.
+fn small() {
+    title(b"1");
+    show(open(1, 1, 1, 1));
+    title(b"6");
+    let h = open(5, 8, 9, 16);
+    show(add(h, &[1], &[1], &[5]));
+}
+
+// 2: the listed example.
+fn listed() -> Host {
+    let h = open(5, 8, 9, 16);
+    let one = add(h, &[1], &[2], &[1, 3]);
+    let two = add(one, &[2], &[2], &[1, 4]);
+    add(two, &[3], &[2], &[2, 3])
+}
+
+// The three columns of the listed example as one batch.
+fn batch(h: Host) -> Host {
+    add(h, &[1, 2, 3], &[2, 2, 2], &[1, 3, 1, 4, 2, 3])
+}
+
+// 3: one batch. 4: then remove 2. 7: with one factor record fewer.
+fn batches() {
+    title(b"3");
+    let all = batch(open(5, 8, 9, 16));
+    show(all);
+    title(b"4");
+    show(remove(all, &[2]));
+    title(b"7");
+    show(batch(open(5, 8, 8, 16)));
+}
+
+// 5: one column twice under two ids, one removed.
+fn twice() {
+    title(b"5");
+    let h = open(5, 8, 9, 16);
+    let both = add(h, &[1, 2], &[2, 2], &[1, 3, 1, 3]);
+    show(remove(both, &[1]));
+}
+
+// 8: 255 entries, and 256: {1 .. 22} fills 253, and each column of one row adds 1.
+fn grades() {
+    title(b"8");
+    let rows = [
+        1,
+        2,
+        3,
+        4,
+        5,
+        6,
+        7,
+        8,
+        9,
+        10,
+        11,
+        12,
+        13,
+        14,
+        15,
+        16,
+        17,
+        18,
+        19,
+        20,
+        21,
+        22,
+        23,
+        24,
+        25,
+    ];
+    let h = open(25, 8, 0, 32);
+    add(h, &[1, 2, 3], &[22, 1, 1], &rows[..24]);
+    add(h, &[1, 2, 3, 4], &[22, 1, 1, 1], &rows);
+}
+
+// Paths and columns in full, in a list too short, from a place past it, and of no row.
+fn asked(h: Host) {
+    steps::path(h, 0, 1);
+    steps::path(h, 3, 1);
+    steps::path(h, 4, 1);
+    steps::path(h, 7, 5);
+    steps::path(h, 0, 6);
+    steps::column(h, 0, 1);
+    steps::column(h, 1, 1);
+    steps::column(h, 2, 3);
+    steps::column(h, 6, 5);
+    steps::column(h, 0, 0);
+    steps::multiplicity(h, 3, 1);
+    steps::multiplicity(h, 1, 3);
+    steps::multiplicity(h, 0, 5);
+    steps::multiplicity(h, 5, 6);
+}
+
+// 2 and 9: the listed example with its questions, a removal that repeats an id, rows 4 4, and every column removed.
+fn emptied() {
+    title(b"2");
+    let h = listed();
+    show(h);
+    title(b"questions");
+    asked(h);
+    title(b"9");
+    remove(h, &[3, 3]);
+    add(h, &[4], &[2], &[4, 4]);
+    show(remove(h, &[3, 1, 2]));
+}
+
+// ---- more batches
+
+// Row 4 in column 3 stays when {1, 2, 4} leaves, though its one child is another afterwards: its record is the same.
+fn staying() {
+    title(b"an entry that stays");
+    let h = open(4, 2, 10, 6);
+    let both = add(h, &[1, 2], &[3, 3], &[1, 3, 4, 1, 2, 4]);
+    show(both);
+    let left = remove(both, &[2]);
+    show(left);
+    if steps::second_record(left, 3) == steps::second_record(both, 3) {
+        io::write_all(1, b"the same record\n");
+    } else {
+        io::write_all(1, b"another record\n");
+    }
+}
+
+// Paths that merge, of columns added in one batch and removed in two.
+fn merging() {
+    title(b"paths that merge");
+    let h = open(9, 6, 0, 32);
+    let first = add(
+        h,
+        &[5, 1, 3, 2],
+        &[3, 2, 3, 2],
+        &[1, 4, 7, 2, 4, 3, 5, 8, 6, 9],
+    );
+    show(first);
+    let second = add(first, &[4, 6], &[2, 2], &[4, 6, 5, 7]);
+    show(second);
+    let third = remove(second, &[6, 1, 5]);
+    show(third);
+    show(remove(third, &[2, 4, 3]));
+}
+
+fn main() {
+    small();
+    batches();
+    twice();
+    grades();
+    emptied();
+    staying();
+    merging();
+    refused::all(listed());
+    large::run();
+}

@@ -1,0 +1,107 @@
+// The calls of the factor, each with its lines.
+use crate::lines;
+use case_tables::Host;
+
+// Opens anew, and gives the host from now on.
+pub fn open(m: u32, n: u32, f: u32, c: u32) -> Host {
+    let opened = case_tables::open(case_tables::unopened(), m, n, f, c);
+    if opened.number == 0 {
+        io::write_all(1, b"open\n");
+    } else {
+        lines::no(opened.number, 0);
+    }
+    let after = opened.host;
+    after
+}
+
+pub fn add(before: Host, ids: &[u32], counts: &[u32], rows: &[u32]) -> Host {
+    let b = case_tables::add(before, ids, counts, rows);
+    lines::tell(b);
+    let after = b.host;
+    after
+}
+
+pub fn remove(before: Host, ids: &[u32]) -> Host {
+    let b = case_tables::remove(before, ids);
+    lines::tell(b);
+    let after = b.host;
+    after
+}
+
+// ---- the factor, as the listing shows it
+
+// Column j: j, its parent, its entries.
+fn show_column(h: Host, j: u32) {
+    let mut list = [0u32; 128];
+    let parent = case_tables::parent(h, j);
+    let column = case_tables::column(h, &mut list, j, 0);
+    io::print_decimal(1, j as u64);
+    lines::reply(parent);
+    lines::pairs(&list, column.value);
+    lines::end();
+}
+
+// What check answers, then every column.
+pub fn show(h: Host) {
+    let sound = case_tables::check(h);
+    io::write_all(1, b"check");
+    lines::word(sound.number);
+    lines::end();
+    let record = h.factor;
+    let m = record.m;
+    let mut j: u32 = 0;
+    while j < m {
+        j += 1;
+        show_column(h, j);
+    }
+}
+
+// The second record of column j, by the tables themselves; 0 where there is none.
+pub fn second_record(h: Host, j: u32) -> u32 {
+    let heads = h.heads;
+    let next = h.next;
+    if j < 1 {
+        return 0;
+    }
+    if 64 < j {
+        return 0;
+    }
+    let head = heads[(j - 1) as usize];
+    if head < 1 {
+        return 0;
+    }
+    if 2080 < head {
+        return 0;
+    }
+    next[(head - 1) as usize]
+}
+
+// ---- questions; a list is one of six places that hold 9, shown whole
+
+pub fn path(h: Host, at: usize, j: u32) {
+    let mut list = [9u32; 6];
+    let reply = case_tables::path(h, &mut list, j, at);
+    io::write_all(1, b"path");
+    lines::reply(reply);
+    io::write_all(1, b":");
+    lines::places(&list);
+    lines::end();
+}
+
+pub fn column(h: Host, at: usize, j: u32) {
+    let mut list = [9u32; 6];
+    let reply = case_tables::column(h, &mut list, j, at);
+    io::write_all(1, b"column");
+    lines::reply(reply);
+    io::write_all(1, b":");
+    lines::places(&list);
+    lines::end();
+}
+
+// The multiplicity of i in column j, and the parent of j.
+pub fn multiplicity(h: Host, i: u32, j: u32) {
+    io::write_all(1, b"multiplicity and parent");
+    lines::reply(case_tables::multiplicity(h, i, j));
+    lines::reply(case_tables::parent(h, j));
+    lines::end();
+}

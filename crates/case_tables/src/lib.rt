@@ -1,0 +1,338 @@
+// A factor of at most 64 rows with its tables, held by value: each public entry of the factor on them, for programs that run cases. The work table is
+// made anew for each call and holds no zeros before it.
+use book::Row;
+use factor::Changed;
+use factor::Factor;
+use factor::Opening;
+use questions::Reply;
+
+// The record, and tables for m 64, n 256, F 2,080 and C 2,048.
+pub struct Host {
+    pub factor: Factor,
+    pub heads: [u32; 64],
+    pub parents: [u16; 64],
+    pub rows: [u16; 2080],
+    pub counts: [u16; 2080],
+    pub next: [u32; 2080],
+    pub book_heads: [u32; 256],
+    pub book_rows: [u16; 2048],
+    pub book_next: [u32; 2048],
+}
+
+// What an opening gives: its number, and the host from now on.
+pub struct Opened {
+    pub number: u32,
+    pub host: Host,
+}
+
+// What a batch gives: its answer, the two lists, which hold 9 wherever it writes nothing, and the host after it.
+pub struct Batched {
+    pub changed: Changed,
+    pub touched: [u16; 64],
+    pub labels: [u16; 64],
+    pub host: Host,
+}
+
+// Before any opening: sizes of 0, and tables of any content.
+pub fn unopened() -> Host {
+    Host {
+        factor: Factor {
+            m: 0,
+            n: 0,
+            f: 0,
+            c: 0,
+            free: 0,
+            book_free: 0,
+        },
+        heads: [9; 64],
+        parents: [9; 64],
+        rows: [9; 2080],
+        counts: [9; 2080],
+        next: [9; 2080],
+        book_heads: [9; 256],
+        book_rows: [9; 2048],
+        book_next: [9; 2048],
+    }
+}
+
+// ---- opening and batches
+
+// Opens. After a refused opening the record from before it serves on.
+pub fn open(host: Host, m: u32, n: u32, f: u32, c: u32) -> Opened {
+    let mut heads = host.heads;
+    let mut parents = host.parents;
+    let mut rows = host.rows;
+    let mut counts = host.counts;
+    let mut next = host.next;
+    let mut book_heads = host.book_heads;
+    let mut book_rows = host.book_rows;
+    let mut book_next = host.book_next;
+    let mut work = [7u32; 12160];
+    let opening = Factor::open(
+        m,
+        n,
+        f,
+        c,
+        &mut heads,
+        &mut parents,
+        &mut rows,
+        &mut counts,
+        &mut next,
+        &mut book_heads,
+        &mut book_rows,
+        &mut book_next,
+        &mut work,
+    );
+    let mut number = 0;
+    let mut factor = host.factor;
+    match opening {
+        Opening::Opened(record) => factor = record,
+        Opening::Refused(refusal) => number = refusal,
+    }
+    let host = Host {
+        factor,
+        heads,
+        parents,
+        rows,
+        counts,
+        next,
+        book_heads,
+        book_rows,
+        book_next,
+    };
+    Opened { number, host }
+}
+
+// Adds a batch.
+pub fn add(host: Host, ids: &[u32], row_counts: &[u32], row_list: &[u32]) -> Batched {
+    let heads = host.heads;
+    let mut parents = host.parents;
+    let mut rows = host.rows;
+    let mut counts = host.counts;
+    let mut next = host.next;
+    let mut book_heads = host.book_heads;
+    let mut book_rows = host.book_rows;
+    let mut book_next = host.book_next;
+    let mut work = [7u32; 12160];
+    let mut touched = [9u16; 64];
+    let mut labels = [9u16; 64];
+    let record = host.factor;
+    let changed = record.add(
+        &heads,
+        &mut parents,
+        &mut rows,
+        &mut counts,
+        &mut next,
+        &mut book_heads,
+        &mut book_rows,
+        &mut book_next,
+        &mut work,
+        &mut touched,
+        &mut labels,
+        ids,
+        row_counts,
+        row_list,
+    );
+    let factor = changed.factor;
+    let host = Host {
+        factor,
+        heads,
+        parents,
+        rows,
+        counts,
+        next,
+        book_heads,
+        book_rows,
+        book_next,
+    };
+    Batched {
+        changed,
+        touched,
+        labels,
+        host,
+    }
+}
+
+// Removes a batch.
+pub fn remove(host: Host, ids: &[u32]) -> Batched {
+    let heads = host.heads;
+    let mut parents = host.parents;
+    let mut rows = host.rows;
+    let mut counts = host.counts;
+    let mut next = host.next;
+    let mut book_heads = host.book_heads;
+    let mut book_rows = host.book_rows;
+    let mut book_next = host.book_next;
+    let mut work = [7u32; 12160];
+    let mut touched = [9u16; 64];
+    let mut labels = [9u16; 64];
+    let record = host.factor;
+    let changed = record.remove(
+        &heads,
+        &mut parents,
+        &mut rows,
+        &mut counts,
+        &mut next,
+        &mut book_heads,
+        &mut book_rows,
+        &mut book_next,
+        &mut work,
+        &mut touched,
+        &mut labels,
+        ids,
+    );
+    let factor = changed.factor;
+    let host = Host {
+        factor,
+        heads,
+        parents,
+        rows,
+        counts,
+        next,
+        book_heads,
+        book_rows,
+        book_next,
+    };
+    Batched {
+        changed,
+        touched,
+        labels,
+        host,
+    }
+}
+
+// ---- the check and questions
+
+// Whether the tables are sound: 0, or 6 for no.
+pub fn check(host: Host) -> Reply {
+    let heads = host.heads;
+    let parents = host.parents;
+    let rows = host.rows;
+    let counts = host.counts;
+    let next = host.next;
+    let book_heads = host.book_heads;
+    let book_rows = host.book_rows;
+    let book_next = host.book_next;
+    let mut work = [7u32; 12160];
+    let record = host.factor;
+    record.check(
+        &heads,
+        &parents,
+        &rows,
+        &counts,
+        &next,
+        &book_heads,
+        &book_rows,
+        &book_next,
+        &mut work,
+    )
+}
+
+// The multiplicity of row i in column j.
+pub fn multiplicity(host: Host, i: u32, j: u32) -> Reply {
+    let heads = host.heads;
+    let parents = host.parents;
+    let rows = host.rows;
+    let counts = host.counts;
+    let next = host.next;
+    let book_heads = host.book_heads;
+    let book_rows = host.book_rows;
+    let book_next = host.book_next;
+    let mut work = [7u32; 12160];
+    let record = host.factor;
+    record.multiplicity(
+        &heads,
+        &parents,
+        &rows,
+        &counts,
+        &next,
+        &book_heads,
+        &book_rows,
+        &book_next,
+        &mut work,
+        Row(i),
+        Row(j),
+    )
+}
+
+// The parent of row j.
+pub fn parent(host: Host, j: u32) -> Reply {
+    let heads = host.heads;
+    let parents = host.parents;
+    let rows = host.rows;
+    let counts = host.counts;
+    let next = host.next;
+    let book_heads = host.book_heads;
+    let book_rows = host.book_rows;
+    let book_next = host.book_next;
+    let mut work = [7u32; 12160];
+    let record = host.factor;
+    record.parent(
+        &heads,
+        &parents,
+        &rows,
+        &counts,
+        &next,
+        &book_heads,
+        &book_rows,
+        &book_next,
+        &mut work,
+        Row(j),
+    )
+}
+
+// The path of row j, from the given place of the list onward.
+pub fn path(host: Host, list: &mut [u32], j: u32, place: usize) -> Reply {
+    let heads = host.heads;
+    let parents = host.parents;
+    let rows = host.rows;
+    let counts = host.counts;
+    let next = host.next;
+    let book_heads = host.book_heads;
+    let book_rows = host.book_rows;
+    let book_next = host.book_next;
+    let mut work = [7u32; 12160];
+    let record = host.factor;
+    record.path(
+        &heads,
+        &parents,
+        &rows,
+        &counts,
+        &next,
+        &book_heads,
+        &book_rows,
+        &book_next,
+        &mut work,
+        list,
+        Row(j),
+        place,
+    )
+}
+
+// Column j, from the given place of the list onward.
+pub fn column(host: Host, list: &mut [u32], j: u32, place: usize) -> Reply {
+    let heads = host.heads;
+    let parents = host.parents;
+    let rows = host.rows;
+    let counts = host.counts;
+    let next = host.next;
+    let book_heads = host.book_heads;
+    let book_rows = host.book_rows;
+    let book_next = host.book_next;
+    let mut work = [7u32; 12160];
+    let record = host.factor;
+    record.column(
+        &heads,
+        &parents,
+        &rows,
+        &counts,
+        &next,
+        &book_heads,
+        &book_rows,
+        &book_next,
+        &mut work,
+        list,
+        Row(j),
+        place,
+    )
+}

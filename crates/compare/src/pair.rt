@@ -1,0 +1,219 @@
+// Both implementations at the same point of a history, by value, and each call on both: opening and batches. After each of these all columns are
+// compared.
+ghost use Rattle.reference.specs.Ranges.{Served};
+use crate::same;
+use crate::tally::Tally;
+use crate::tally::more;
+use case_tables::Host;
+use reference::Holds;
+use reference::Live;
+use reference::Sizes;
+use reference::Square;
+
+pub struct Pair {
+    pub host: Host,
+    pub holds: Holds,
+    pub live: Live,
+    pub sizes: Sizes,
+    pub tally: Tally,
+}
+
+// Before any opening.
+pub fn unopened() -> Pair {
+    Pair {
+        host: case_tables::unopened(),
+        holds: [0; 16384],
+        live: [0; 256],
+        sizes: none(),
+        tally: Tally::new(),
+    }
+}
+
+fn none() -> Sizes
+    ensures { λ r. ⌜ Served (r .m) (r .n) ⌝ }
+{
+    Sizes {
+        m: 0,
+        n: 0,
+        f: 0,
+        c: 0,
+    }
+}
+
+// The sizes, which the reference serves; none otherwise, which no opening leaves.
+pub fn served(s: Sizes) -> Sizes
+    ensures { λ r. ⌜ Served (r .m) (r .n) ⌝ }
+{
+    if 64 < s.m {
+        return none();
+    }
+    if 256 < s.n {
+        return none();
+    }
+    s
+}
+
+// ---- all columns
+
+// Column j, its parent and its entries.
+fn same_column(p: Pair, pattern: &Square, j: u32) -> bool {
+    let ours = p.host;
+    let holds = p.holds;
+    let live = p.live;
+    let sizes = served(p.sizes);
+    let mut list = [9u32; 160];
+    let mut other = [9u32; 160];
+    let reply = case_tables::column(ours, &mut list, j, 0);
+    let theirs = reference::questions::column(
+        &holds,
+        &live,
+        pattern,
+        &mut other,
+        sizes,
+        0,
+        j as usize,
+    );
+    let a = same::replies(b"size of a column", reply, theirs);
+    let b = same::lists(b"entries of a column", &list, &other);
+    let parent = reference::questions::parent(pattern, sizes, j as usize);
+    let c = same::replies(b"parent of a column", case_tables::parent(ours, j), parent);
+    a & b & c
+}
+
+// Columns 1 to m.
+fn same_columns(p: Pair, pattern: &Square) -> bool {
+    let ours = p.host;
+    let record = ours.factor;
+    let m = record.m;
+    let mut j: u32 = 0;
+    while j < m {
+        j += 1;
+        if !same_column(p, pattern, j) {
+            return false;
+        }
+    }
+    true
+}
+
+// Whether the check gives what the sizes say and no more, and the tables hold the reference's columns.
+fn same_factor(p: Pair) -> bool {
+    let ours = p.host;
+    let holds = p.holds;
+    let live = p.live;
+    let sizes = served(p.sizes);
+    let mut pattern = [0u8; 4096];
+    reference::pattern::fills(&holds, &live, &mut pattern, sizes);
+    let sound = case_tables::check(ours);
+    let a = same::numbers(b"check", sound.number, reference::refusals::of_sizes(sizes));
+    let b = same_columns(p, &pattern);
+    a & b
+}
+
+// The pair with a call counted, once all columns are compared.
+fn compared(p: Pair, number: u32, same: bool) -> Pair {
+    let mut q = p;
+    let mut t = p.tally;
+    let ours = p.host;
+    let record = ours.factor;
+    t.columns = sum(t.columns, record.m);
+    let all = same_factor(p);
+    q.tally = t.counted(number, same & all);
+    q
+}
+
+// The same of a batch.
+fn batch_compared(p: Pair, number: u32, same: bool) -> Pair {
+    let mut q = p;
+    let mut t = p.tally;
+    if number == 0 {
+        t.batches = more(t.batches);
+    }
+    q.tally = t;
+    compared(q, number, same)
+}
+
+// A sum up to a thousand million.
+fn sum(a: u32, b: u32) -> u32 {
+    if 1000000000 < a {
+        return a;
+    }
+    if 1000000000 < b {
+        return a;
+    }
+    a + b
+}
+
+// ---- calls
+
+// The sizes asked for.
+fn asked(m: u32, n: u32, f: u32, c: u32) -> Sizes {
+    Sizes {
+        m: m as usize,
+        n: n as usize,
+        f: f as usize,
+        c: c as usize,
+    }
+}
+
+pub fn open(p: Pair, m: u32, n: u32, f: u32, c: u32) -> Pair {
+    let mut q = p;
+    let mut live = p.live;
+    let opened = case_tables::open(p.host, m, n, f, c);
+    let theirs = reference::open(&mut live, served(p.sizes), asked(m, n, f, c));
+    let after = opened.host;
+    let sizes = theirs.sizes;
+    q.host = after;
+    q.live = live;
+    q.sizes = sizes;
+    let same = same::numbers(b"opening", opened.number, theirs.number);
+    compared(q, opened.number, same)
+}
+
+pub fn add(p: Pair, ids: &[u32], counts: &[u32], rows: &[u32]) -> Pair {
+    let mut q = p;
+    let mut holds = p.holds;
+    let mut live = p.live;
+    let mut touched = [9u16; 64];
+    let mut labels = [9u16; 64];
+    let ours = case_tables::add(p.host, ids, counts, rows);
+    let theirs = reference::add(
+        &mut holds,
+        &mut live,
+        &mut touched,
+        &mut labels,
+        ids,
+        counts,
+        rows,
+        served(p.sizes),
+    );
+    let after = ours.host;
+    q.host = after;
+    q.holds = holds;
+    q.live = live;
+    let same = same::batches(ours, theirs, &touched, &labels);
+    let changed = ours.changed;
+    batch_compared(q, changed.number, same)
+}
+
+pub fn remove(p: Pair, ids: &[u32]) -> Pair {
+    let mut q = p;
+    let holds = p.holds;
+    let mut live = p.live;
+    let mut touched = [9u16; 64];
+    let mut labels = [9u16; 64];
+    let ours = case_tables::remove(p.host, ids);
+    let theirs = reference::remove(
+        &holds,
+        &mut live,
+        &mut touched,
+        &mut labels,
+        ids,
+        served(p.sizes),
+    );
+    let after = ours.host;
+    q.host = after;
+    q.live = live;
+    let same = same::batches(ours, theirs, &touched, &labels);
+    let changed = ours.changed;
+    batch_compared(q, changed.number, same)
+}

@@ -1,0 +1,99 @@
+// Whether both gave the same; where not, a line says what differs.
+use reference::Answer;
+use reference::Rows;
+
+fn wide(n: u32) -> usize {
+    n as usize
+}
+
+fn tell(what: &[u8], ours: usize, theirs: usize) {
+    io::write_all(1, b"differs: ");
+    io::write_all(1, what);
+    io::write_all(1, b" ");
+    io::print_decimal(1, ours as u64);
+    io::write_all(1, b", reference ");
+    io::print_decimal(1, theirs as u64);
+    io::write_all(1, b"\n");
+}
+
+// A number of the factor and one of the reference.
+pub fn numbers(what: &[u8], ours: u32, theirs: usize) -> bool {
+    if wide(ours) == theirs {
+        return true;
+    }
+    tell(what, wide(ours), theirs);
+    false
+}
+
+// One place of two lists.
+fn places(what: &[u8], place: usize, ours: u32, theirs: u32) -> bool {
+    if ours == theirs {
+        return true;
+    }
+    io::write_all(1, b"at place ");
+    io::print_decimal(1, place as u64);
+    io::write_all(1, b" ");
+    tell(what, wide(ours), wide(theirs));
+    false
+}
+
+fn short(n: u16) -> u32 {
+    n as u32
+}
+
+// One place of two lists of touched columns or labels.
+fn short_places(what: &[u8], place: usize, ours: u16, theirs: u16) -> bool {
+    places(what, place, short(ours), short(theirs))
+}
+
+// Every place of two lists of touched columns or labels.
+fn reports(what: &[u8], ours: &Rows, theirs: &Rows) -> bool {
+    let mut k: usize = 0;
+    while k < 64 {
+        if !short_places(what, k, ours[k], theirs[k]) {
+            return false;
+        }
+        k += 1;
+    }
+    true
+}
+
+// Every place of two lists of answers.
+pub fn lists(what: &[u8], ours: &[u32; 160], theirs: &[u32; 160]) -> bool {
+    let mut k: usize = 0;
+    while k < 160 {
+        if !places(what, k, ours[k], theirs[k]) {
+            return false;
+        }
+        k += 1;
+    }
+    true
+}
+
+// What a batch answers.
+fn answers(ours: factor::Changed, theirs: Answer) -> bool {
+    let a = numbers(b"number", ours.number, theirs.number);
+    let b = numbers(b"position", ours.position, theirs.position);
+    let c = numbers(b"touched", ours.touched, theirs.touched);
+    let d = numbers(b"entries", ours.entries, theirs.entries);
+    let e = numbers(b"grade", ours.grade, theirs.grade);
+    a & b & c & d & e
+}
+
+// A batch: its answer, touched columns and labels.
+pub fn batches(ours: case_tables::Batched, theirs: Answer, touched: &Rows, labels: &Rows) -> bool {
+    let our_touched = ours.touched;
+    let our_labels = ours.labels;
+    let changed = ours.changed;
+    let a = answers(changed, theirs);
+    let b = reports(b"touched column", &our_touched, touched);
+    let c = reports(b"label", &our_labels, labels);
+    a & b & c
+}
+
+// What a question answers.
+pub fn replies(what: &[u8], ours: questions::Reply, theirs: reference::Reply) -> bool {
+    let a = numbers(what, ours.number, theirs.number);
+    let b = numbers(what, ours.value, theirs.value);
+    a & b
+}

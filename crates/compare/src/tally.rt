@@ -1,0 +1,78 @@
+// What the program counts, and its summary.
+
+pub struct Tally {
+    // Calls on both.
+    pub calls: u32,
+    // Accepted batches.
+    pub batches: u32,
+    // Columns compared after openings and batches.
+    pub columns: u32,
+    // Calls in which something differed.
+    pub differences: u32,
+    // Calls by their number, 0 to 18.
+    pub numbers: [u32; 19],
+}
+
+impl Tally {
+    pub fn new() -> Self {
+        Tally {
+            calls: 0,
+            batches: 0,
+            columns: 0,
+            differences: 0,
+            numbers: [0; 19],
+        }
+    }
+
+    // One call more, with its number, and whether nothing differed.
+    pub fn counted(self, number: u32, same: bool) -> Self {
+        let mut t = self;
+        t.calls = more(t.calls);
+        if number < 19 {
+            let k = number as usize;
+            t.numbers[k] = more(t.numbers[k]);
+        }
+        if same {
+            return t;
+        }
+        t.differences = more(t.differences);
+        t
+    }
+}
+
+// One more, up to a thousand million.
+pub fn more(n: u32) -> u32 {
+    if n < 1000000000 { n + 1 } else { n }
+}
+
+fn wide(n: u32) -> u64 {
+    n as u64
+}
+
+fn line(name: &[u8], n: u32) {
+    io::write_all(1, name);
+    io::write_all(1, b" ");
+    io::print_decimal(1, wide(n));
+    io::write_all(1, b"\n");
+}
+
+// How many calls were refused by each number.
+fn print_refused(numbers: &[u32; 19]) {
+    let mut k: u32 = 1;
+    while k < 19 {
+        io::write_all(1, b"refused by ");
+        io::print_decimal(1, wide(k));
+        line(b":", numbers[k as usize]);
+        k += 1;
+    }
+}
+
+pub fn print(t: Tally) {
+    let numbers = t.numbers;
+    line(b"calls", t.calls);
+    line(b"accepted", numbers[0]);
+    line(b"accepted batches", t.batches);
+    line(b"columns compared", t.columns);
+    print_refused(&numbers);
+    line(b"calls that differ", t.differences);
+}

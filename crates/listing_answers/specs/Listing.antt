@@ -1,0 +1,115 @@
+-- What the listing program answers to a line, and what it keeps between lines: "The listing program" of document 01. A line is answered by the command that
+-- it is (listing_text); a command that calls the factor prints the answer of that call's `Transition`. Assumes nothing: these are definitions.
+use mathlib.Core.Path.{_≡_}
+use mathlib.Core.Logic.{_⊎_}
+use mathlib.Core.List.{List, [], _∷_}
+use Prim.Native.Nat.{ℕ}
+use lib.ListN.{length}
+use Rattle.tables.specs.Tables.{Tables, Limits, limitsOf}
+use Rattle.calls.specs.Calls.{Call, opening, adding, removing}
+use Rattle.calls.specs.Steps.{Answer, World, Transition}
+use Rattle.batch.specs.Outcome.{batchLists}
+use Rattle.factor.specs.Entries.{worldOf, workOnly, OpenStep}
+use Rattle.factor.specs.Batches.{CanChange}
+use Rattle.factor.specs.declared.Factor.{Factor}
+use Rattle.factor.specs.declared.Opening.{Opening}
+use Rattle.factor.specs.declared.Opening.the-variants.{Opened, Refused}
+use Rattle.listing_text.specs.Command.{commandOf, rowsOf}
+use Rattle.listing_text.specs.Text.{okLine, noLine, Written}
+use Rattle.listing_text.specs.declared.command.Command.{Command}
+use Rattle.listing_text.specs.declared.command.Command.the-variants.{Open, Add, Drop, Show, Unknown}
+use Rattle.listing_show.specs.Showing.{noState, answerLine, shownBy}
+use Rattle.listing_answers.specs.declared.Printed.{Printed}
+
+-- ---- what the program keeps
+
+-- record and tables, the work table, the lists for touched columns and labels
+pub record Memory : Type 0 where
+  pub world : World
+  pub work : List ℕ
+  pub touched : List ℕ
+  pub labels : List ℕ
+
+abbrev pub memoryOf : Factor → Tables → (work touched labels : List ℕ) → Memory
+memoryOf x t w a b = record { world = worldOf x t; work = w; touched = a; labels = b }
+
+-- "Its tables serve m 64, n 256, F 2,048, C 2,048": a table for just these, and W for them
+pub record Lengths (u : Memory) : Type 0 where
+  pub heads : length (u .world .tables .heads) ≡ 64
+  pub parents : length (u .world .tables .parents) ≡ 64
+  pub rows : length (u .world .tables .rows) ≡ 2048
+  pub counts : length (u .world .tables .counts) ≡ 2048
+  pub next : length (u .world .tables .next) ≡ 2048
+  pub book-heads : length (u .world .tables .bookHeads) ≡ 256
+  pub book-rows : length (u .world .tables .bookRows) ≡ 2048
+  pub book-next : length (u .world .tables .bookNext) ≡ 2048
+  pub work : length (u .work) ≡ 12032
+  pub touched : length (u .touched) ≡ 64
+  pub labels : length (u .labels) ≡ 64
+
+-- no factor is open, or one that a batch may change
+abbrev pub IsReady : Memory → Type 0
+IsReady u = (u .world .state ≡ noState) ⊎ CanChange (u .world .state) (u .world .tables) (u .work) (u .touched) (u .labels)
+
+-- between lines
+pub record Ready (u : Memory) : Type 0 where
+  pub lengths : Lengths u
+  pub usable : IsReady u
+
+-- ---- what it answers
+
+-- an opening: the lists of a batch stay
+pub record OpenAnswered (u : Memory) (asked : Limits) (bytes : List ℕ) (v : Memory) : Type 0 where
+  pub answer : Answer
+  pub step : Transition (u .world) (opening asked (u .work)) answer (workOnly (v .work)) (v .world)
+  pub printed : bytes ≡ answerLine answer
+  pub touched : v .touched ≡ u .touched
+  pub labels : v .labels ≡ u .labels
+
+-- an addition or a removal
+pub record BatchAnswered (u : Memory) (k : Call) (bytes : List ℕ) (v : Memory) : Type 0 where
+  pub answer : Answer
+  pub step : Transition (u .world) k answer (batchLists (v .work) (v .touched) (v .labels)) (v .world)
+  pub printed : bytes ≡ answerLine answer
+
+-- a command, with the rows of an add line
+abbrev pub CommandAnswered : Command → (rows : List ℕ) → Memory → (bytes : List ℕ) → Memory → Type 0
+CommandAnswered (Open m n f c) rs u bs v = OpenAnswered u (limitsOf m n f c) bs v
+CommandAnswered (Add i n) rs u bs v = BatchAnswered u (adding (i ∷ []) (n ∷ []) rs (u .work) (u .touched) (u .labels)) bs v
+CommandAnswered (Drop i) rs u bs v = BatchAnswered u (removing (i ∷ []) (u .work) (u .touched) (u .labels)) bs v
+CommandAnswered Show rs u bs v = (bs ≡ shownBy (u .world)) × (v ≡ u)
+CommandAnswered Unknown rs u bs v = (bs ≡ noLine 19 0) × (v ≡ u)
+
+-- THE ANSWER TO A LINE
+abbrev pub Answered : Memory → (line bytes : List ℕ) → Memory → Type 0
+Answered u line bs v = CommandAnswered (commandOf line) (rowsOf line) u bs v
+
+-- ---- what the functions promise
+
+-- bytes that say so stand at the front of a list, and the next line may follow
+pub record Answers (Says : (bytes : List ℕ) → Memory → Type 0) (out₀ out : List ℕ) (x : Printed) (v : Memory) : Type 0 where
+  pub bytes : List ℕ
+  pub says : Says bytes v
+  pub written : Written out₀ 0 bytes out (x .end)
+  pub usable : IsReady v
+
+-- the factor after an opening: "A refused open keeps the factor there was"
+abbrev pub factorAfter : Opening → Factor → Factor
+factorAfter (Opened y) x = y
+factorAfter (Refused n) x = x
+
+-- `ok 0 0 0`, or the number
+abbrev pub openingLine : Opening → List ℕ
+openingLine (Opened y) = okLine 0 0 0
+openingLine (Refused n) = noLine n 0
+
+-- the factor and the line after an opening
+pub record OpeningPrinted (x₀ : Factor) (opened : Opening) (out₀ out : List ℕ) (x : Printed) : Type 0 where
+  pub factor-is : x .factor ≡ factorAfter opened x₀
+  pub line : Written out₀ 0 (openingLine opened) out (x .end)
+
+-- an opening, whatever factor there was, with the line of its answer
+pub record OpenPrinted (asked : Limits) (t : Tables) (work : List ℕ) (x₀ : Factor) (out₀ : List ℕ) (t′ : Tables) (work′ out : List ℕ) (x : Printed) : Type 0 where
+  pub opened : Opening
+  pub step : OpenStep asked t work opened t′ work′
+  pub printed : OpeningPrinted x₀ opened out₀ out x

@@ -1,0 +1,131 @@
+-- `answer_next` meets its contract: a line that is ended is answered, and the place moves on. Assumes nothing.
+use mathlib.Core.Path.{sym}
+use Prim.Native.Nat.{_≤_}
+use native.Mathlib.Omega.{arith}
+use lib.ListN.{length}
+use lib.Seq.{length-take-le}
+use Rattle.listing_lines.proofs.Lines.{grown-within, grown-moves}
+use Rattle.listing_loop.proofs.answer_next.Statement.{statement}
+use Rattle.listing_loop.proofs.answer_next.Tie as tie
+
+abbrev entry : tie.After-take-line → tie.Start
+entry c = c .before .before .before .before .before .before .before .before .before .before .before .before .before .before .before .before .before
+
+abbrev taken : tie.Then1 → tie.After-take-line
+taken c = c .before .before .before
+
+abbrev taken-else : tie.Else1 → tie.After-take-line
+taken-else c = c .before .before .before
+
+abbrev ended : tie.After-write-answer → tie.Then1
+ended c = c .before .before .before .before .before .before .before .before .before .before .before .before .before .before .before
+
+-- the line is one that its list holds
+held : (c : tie.After-take-line) → c .take-line .result .length ≤ length (c .take-line .last .1 .0)
+held c = omega (arith, c .take-line .ensures .fits, c .take-line .kept .1 .0)
+
+take-line-requires : tie.Need-take-line-requires
+take-line-requires c κs =
+    let s = c .before .before .before .before .before .before .before .before .before .before .before .before .before .before .before .before in
+    record { within = omega (arith, s .pre .1 .1 .1 .1); fits = s .pre .1 .1 .1 .0 }
+
+slice-reshare-prefix-write-answer : tie.Need-slice-reshare-prefix-write-answer
+slice-reshare-prefix-write-answer c = held (taken (c .before .before .before .before .before .before .before .before .before .before .before .before .before))
+
+slice-aggregate-write-answer : tie.Need-slice-aggregate-write-answer
+slice-aggregate-write-answer c =
+    let t = taken (c .before .before .before .before .before .before .before .before .before .before .before .before .before .before) in
+    sym (length-take-le (t .take-line .result .length) (t .take-line .last .1 .0) (held t))
+
+write-answer-requires : tie.Need-write-answer-requires
+write-answer-requires c κs =
+    let s = entry (taken (c .before .before .before .before .before .before .before .before .before .before .before .before .before .before)) in
+    (s .pre .0, (s .pre .1 .0, s .pre .1 .1 .0))
+
+same-length : tie.Need-same-length
+same-length c = c .before .before .before .before .before .before .before .before .before .before .before .before .before .before .before .before .before .before .before .before .before .before .before .before .before .before .write-answer .kept .1 .0
+
+same-length-2 : tie.Need-same-length-2
+same-length-2 c = c .before .before .before .before .before .before .before .before .before .before .before .before .before .before .before .before .before .before .before .before .before .before .before .before .before .before .write-answer .kept .1 .1 .0
+
+same-length-3 : tie.Need-same-length-3
+same-length-3 c = c .before .before .before .before .before .before .before .before .before .before .before .before .before .before .before .before .before .before .before .before .before .before .before .before .before .before .write-answer .kept .1 .1 .1 .0
+
+same-length-4 : tie.Need-same-length-4
+same-length-4 c = c .before .before .before .before .before .before .before .before .before .before .before .before .before .before .before .before .before .before .before .before .before .before .before .before .before .before .write-answer .kept .1 .1 .1 .1 .0
+
+same-length-5 : tie.Need-same-length-5
+same-length-5 c = c .before .before .before .before .before .before .before .before .before .before .before .before .before .before .before .before .before .before .before .before .before .before .before .before .before .before .write-answer .kept .1 .1 .1 .1 .1 .0
+
+same-length-6 : tie.Need-same-length-6
+same-length-6 c = c .before .before .before .before .before .before .before .before .before .before .before .before .before .before .before .before .before .before .before .before .before .before .before .before .before .before .write-answer .kept .1 .1 .1 .1 .1 .1 .0
+
+same-length-7 : tie.Need-same-length-7
+same-length-7 c = c .before .before .before .before .before .before .before .before .before .before .before .before .before .before .before .before .before .before .before .before .before .before .before .before .before .before .write-answer .kept .1 .1 .1 .1 .1 .1 .1 .0
+
+same-length-8 : tie.Need-same-length-8
+same-length-8 c = c .before .before .before .before .before .before .before .before .before .before .before .before .before .before .before .before .before .before .before .before .before .before .before .before .before .before .write-answer .kept .1 .1 .1 .1 .1 .1 .1 .1 .0
+
+same-length-9 : tie.Need-same-length-9
+same-length-9 c = c .before .before .before .before .before .before .before .before .before .before .before .before .before .before .before .before .before .before .before .before .before .before .before .before .before .before .write-answer .kept .1 .1 .1 .1 .1 .1 .1 .1 .1 .0
+
+same-length-10 : tie.Need-same-length-10
+same-length-10 c = c .before .before .before .before .before .before .before .before .before .before .before .before .before .before .before .before .before .before .before .before .before .before .before .before .before .before .write-answer .kept .1 .1 .1 .1 .1 .1 .1 .1 .1 .1 .0
+
+same-length-11 : tie.Need-same-length-11
+same-length-11 c = c .before .before .before .before .before .before .before .before .before .before .before .before .before .before .before .before .before .before .before .before .before .before .before .before .before .before .write-answer .kept .1 .1 .1 .1 .1 .1 .1 .1 .1 .1 .1 .0
+
+same-length-12 : tie.Need-same-length-12
+same-length-12 c = c .before .before .before .before .before .before .before .before .before .before .before .before .before .before .before .before .before .before .before .before .before .before .before .before .before .before .write-answer .kept .1 .1 .1 .1 .1 .1 .1 .1 .1 .1 .1 .1 .0
+
+same-length-13 : tie.Need-same-length-13
+same-length-13 c = c .before .before .before .before .before .before .before .before .before .before .before .before .before .before .before .before .before .before .before .before .before .before .before .before .before .before .write-answer .kept .1 .1 .1 .1 .1 .1 .1 .1 .1 .1 .1 .1 .1 .0
+
+same-length-14 : tie.Need-same-length-14
+same-length-14 c = taken (ended (c .before .before .before .before .before .before .before .before .before .before .before .before .before .before .before .before .before .before .before .before .before .before .before .before .before .before)) .take-line .kept .1 .0
+
+returns : tie.Need-returns
+returns c =
+    let w = c .before .before .before .before .before .before .before .before .before .before .before .before .before .before .before .before .before .before .before .before .before .before .before .before .before .before in
+    let t = taken (ended w) in
+    let s = entry t in (
+      w .write-answer .ensures,
+      (omega arith, (grown-moves (t .take-line .ensures) (s .pre .1 .1 .1 .1), grown-within (t .take-line .ensures) (s .pre .1 .1 .1 .1))),
+    )
+
+same-length-15 : tie.Need-same-length-15
+same-length-15 c = taken-else c .take-line .kept .1 .0
+
+returns-2 : tie.Need-returns-2
+returns-2 c =
+    let t = taken-else c in
+    let s = entry t in (
+      s .pre .1 .1 .0,
+      (t .take-line .ensures .fits, (grown-moves (t .take-line .ensures) (s .pre .1 .1 .1 .1), grown-within (t .take-line .ensures) (s .pre .1 .1 .1 .1))),
+    )
+
+pub answer-next-spec : {M : Type 1} → statement M
+answer-next-spec =
+    tie.close
+    (tie.spec
+    take-line-requires
+    slice-reshare-prefix-write-answer
+    slice-aggregate-write-answer
+    write-answer-requires
+    same-length
+    same-length-2
+    same-length-3
+    same-length-4
+    same-length-5
+    same-length-6
+    same-length-7
+    same-length-8
+    same-length-9
+    same-length-10
+    same-length-11
+    same-length-12
+    same-length-13
+    same-length-14
+    returns
+    same-length-15
+    returns-2)

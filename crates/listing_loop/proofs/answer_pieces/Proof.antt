@@ -1,0 +1,228 @@
+-- `answer_pieces` meets its contract. The loop's invariant: the next line may follow (`Keeping`), and the piece's list keeps its length. The measure is the
+-- number of reads left. Assumes nothing.
+use mathlib.Core.Path.{_≡_, refl, sym, _∙_}
+use Prim.Native.Nat.{_≤_}
+use native.Mathlib.Omega.{arith}
+use borrow.Author.Needs.{needs}
+use lib.ListN.{length}
+use lib.Seq.{length-take-le}
+use Rattle.tables.specs.Tables.{tablesOf}
+use Rattle.listing_answers.specs.Listing.{memoryOf}
+use Rattle.listing_loop.proofs.Keeping.{Keeping}
+use Rattle.listing_loop.proofs.answer_pieces.Statement.{statement}
+use Rattle.listing_loop.proofs.answer_pieces.Tie as tie
+
+abbrev Inv-loop : tie.InvT-loop
+Inv-loop heads₀ parents₀ rows₀ counts₀ next₀ book-heads₀ book-rows₀ book-next₀ work₀ touched₀ labels₀ list₀ out₀ line₀ piece₀ current₀ held₀ reads₀ heads parents rows counts next book-heads book-rows book-next work touched labels list out line piece current held reads =
+    Keeping (memoryOf current (tablesOf heads parents rows counts next book-heads book-rows book-next) work touched labels) list₀ out₀ line₀ list out line held × (length piece ≡ length piece₀)
+
+abbrev μ-loop : tie.MeasureT-loop
+μ-loop heads₀ parents₀ rows₀ counts₀ next₀ book-heads₀ book-rows₀ book-next₀ work₀ touched₀ labels₀ list₀ out₀ line₀ piece₀ current₀ held₀ reads₀ heads parents rows counts next book-heads book-rows book-next work touched labels list out line piece current held reads =
+    reads
+
+abbrev entry : tie.At-loop Inv-loop μ-loop → tie.Start Inv-loop μ-loop
+entry c = c .before .before .before .before .before .before .before .before .before .before .before .before .before .before .before .before
+
+abbrev ended : tie.Then1 Inv-loop μ-loop → tie.In-loop Inv-loop μ-loop
+ended c = c .before .before .before .before .before .before .before
+
+abbrev read : tie.Else1 Inv-loop μ-loop → tie.In-loop Inv-loop μ-loop
+read c = c .before .before .before .before .before .before .before
+
+abbrev chosen : tie.After-answer-piece Inv-loop μ-loop → tie.Else1 Inv-loop μ-loop
+chosen c = c .before .before .before .before .before .before .before .before .before .before .before .before .before .before .before .before
+
+-- the piece has as many bytes as were read
+counted : (c : tie.Else1 Inv-loop μ-loop) → c .before .count .result ≤ length (c .before .before .before .before .before .read .last .1 .0)
+counted c = c .before .count .ensures .0 .0
+
+loop-holds : tie.Need-loop-holds Inv-loop μ-loop
+loop-holds c =
+    let s = c .before .before .before .before .before .before .before .before .before .before .before .before .before .before .before in
+    (record { ready = s .pre .1 .1; list-long = refl; out-long = refl; line-long = refl; fits = omega arith }, refl)
+
+sub-reads : tie.Need-sub-reads Inv-loop μ-loop
+sub-reads c = omega arith
+
+read-requires : tie.Need-read-requires Inv-loop μ-loop
+read-requires c κs = search needs
+
+count-requires : tie.Need-count-requires Inv-loop μ-loop
+count-requires c κs = search needs
+
+same-length : tie.Need-same-length Inv-loop μ-loop
+same-length c = ended c .before .loop .inv .0 .ready .lengths .heads ∙ sym (entry (ended c .before) .pre .1 .1 .lengths .heads)
+
+same-length-2 : tie.Need-same-length-2 Inv-loop μ-loop
+same-length-2 c = ended c .before .loop .inv .0 .ready .lengths .parents ∙ sym (entry (ended c .before) .pre .1 .1 .lengths .parents)
+
+same-length-3 : tie.Need-same-length-3 Inv-loop μ-loop
+same-length-3 c = ended c .before .loop .inv .0 .ready .lengths .rows ∙ sym (entry (ended c .before) .pre .1 .1 .lengths .rows)
+
+same-length-4 : tie.Need-same-length-4 Inv-loop μ-loop
+same-length-4 c = ended c .before .loop .inv .0 .ready .lengths .counts ∙ sym (entry (ended c .before) .pre .1 .1 .lengths .counts)
+
+same-length-5 : tie.Need-same-length-5 Inv-loop μ-loop
+same-length-5 c = ended c .before .loop .inv .0 .ready .lengths .next ∙ sym (entry (ended c .before) .pre .1 .1 .lengths .next)
+
+same-length-6 : tie.Need-same-length-6 Inv-loop μ-loop
+same-length-6 c = ended c .before .loop .inv .0 .ready .lengths .book-heads ∙ sym (entry (ended c .before) .pre .1 .1 .lengths .book-heads)
+
+same-length-7 : tie.Need-same-length-7 Inv-loop μ-loop
+same-length-7 c = ended c .before .loop .inv .0 .ready .lengths .book-rows ∙ sym (entry (ended c .before) .pre .1 .1 .lengths .book-rows)
+
+same-length-8 : tie.Need-same-length-8 Inv-loop μ-loop
+same-length-8 c = ended c .before .loop .inv .0 .ready .lengths .book-next ∙ sym (entry (ended c .before) .pre .1 .1 .lengths .book-next)
+
+same-length-9 : tie.Need-same-length-9 Inv-loop μ-loop
+same-length-9 c = ended c .before .loop .inv .0 .ready .lengths .work ∙ sym (entry (ended c .before) .pre .1 .1 .lengths .work)
+
+same-length-10 : tie.Need-same-length-10 Inv-loop μ-loop
+same-length-10 c = ended c .before .loop .inv .0 .ready .lengths .touched ∙ sym (entry (ended c .before) .pre .1 .1 .lengths .touched)
+
+same-length-11 : tie.Need-same-length-11 Inv-loop μ-loop
+same-length-11 c = ended c .before .loop .inv .0 .ready .lengths .labels ∙ sym (entry (ended c .before) .pre .1 .1 .lengths .labels)
+
+same-length-12 : tie.Need-same-length-12 Inv-loop μ-loop
+same-length-12 c = ended c .before .loop .inv .0 .list-long
+
+same-length-13 : tie.Need-same-length-13 Inv-loop μ-loop
+same-length-13 c = ended c .before .loop .inv .0 .out-long
+
+same-length-14 : tie.Need-same-length-14 Inv-loop μ-loop
+same-length-14 c = ended c .before .loop .inv .0 .line-long
+
+same-length-15 : tie.Need-same-length-15 Inv-loop μ-loop
+same-length-15 c = c .before .before .before .before .before .read .kept .1 .0 ∙ ended c .before .loop .inv .1
+
+returns : tie.Need-returns Inv-loop μ-loop
+returns c = let i = ended c .before .loop .inv .0 in (i .ready, i .fits)
+
+slice-reshare-prefix-answer-piece : tie.Need-slice-reshare-prefix-answer-piece Inv-loop μ-loop
+slice-reshare-prefix-answer-piece c = counted (c .before .before .before .before .before .before .before .before .before .before .before .before .before .before)
+
+slice-aggregate-answer-piece : tie.Need-slice-aggregate-answer-piece Inv-loop μ-loop
+slice-aggregate-answer-piece c =
+    let e = c .before .before .before .before .before .before .before .before .before .before .before .before .before .before .before in
+    sym (length-take-le (e .before .count .result) (e .before .before .before .before .before .read .last .1 .0) (counted e))
+
+answer-piece-requires : tie.Need-answer-piece-requires Inv-loop μ-loop
+answer-piece-requires c κs =
+    let l = read (c .before .before .before .before .before .before .before .before .before .before .before .before .before .before .before) in
+    let s = entry (l .before) in
+    let i = l .before .loop .inv .0 in
+    (omega (arith, s .pre .0, i .list-long), (omega (arith, s .pre .1 .0, i .out-long), (i .ready, omega (arith, i .fits, i .line-long))))
+
+loop-less : tie.Need-loop-less Inv-loop μ-loop
+loop-less c = let l = read (chosen (c .before .before .before .before .before .before .before .before .before .before .before .before .before .before .before .before .before .before .before .before .before .before .before .before .before .before .before .before .before)) in omega (arith, l .loop-test .taken)
+
+loop-again : tie.Need-loop-again Inv-loop μ-loop
+loop-again c =
+    let x = c .before .before .before .before .before .before .before .before .before .before .before .before .before .before .before .before .before .before .before .before .before .before .before .before .before .before .before .before .before in
+    let e = chosen x in
+    let i = read e .before .loop .inv .0 in (
+      record {
+        ready = x .answer-piece .ensures .0;
+        list-long = x .answer-piece .kept .1 .1 .1 .1 .1 .1 .1 .1 .1 .1 .1 .1 .0 ∙ i .list-long;
+        out-long = x .answer-piece .kept .1 .1 .1 .1 .1 .1 .1 .1 .1 .1 .1 .1 .1 .0 ∙ i .out-long;
+        line-long = x .answer-piece .kept .1 .1 .1 .1 .1 .1 .1 .1 .1 .1 .1 .1 .1 .1 .0 ∙ i .line-long;
+        fits = omega (arith, x .answer-piece .ensures .1, i .line-long);
+      },
+      e .before .before .before .before .before .read .kept .1 .0 ∙ read e .before .loop .inv .1,
+    )
+
+same-length-16 : tie.Need-same-length-16 Inv-loop μ-loop
+same-length-16 c = c .before .loop .inv .0 .ready .lengths .heads ∙ sym (entry (c .before) .pre .1 .1 .lengths .heads)
+
+same-length-17 : tie.Need-same-length-17 Inv-loop μ-loop
+same-length-17 c = c .before .loop .inv .0 .ready .lengths .parents ∙ sym (entry (c .before) .pre .1 .1 .lengths .parents)
+
+same-length-18 : tie.Need-same-length-18 Inv-loop μ-loop
+same-length-18 c = c .before .loop .inv .0 .ready .lengths .rows ∙ sym (entry (c .before) .pre .1 .1 .lengths .rows)
+
+same-length-19 : tie.Need-same-length-19 Inv-loop μ-loop
+same-length-19 c = c .before .loop .inv .0 .ready .lengths .counts ∙ sym (entry (c .before) .pre .1 .1 .lengths .counts)
+
+same-length-20 : tie.Need-same-length-20 Inv-loop μ-loop
+same-length-20 c = c .before .loop .inv .0 .ready .lengths .next ∙ sym (entry (c .before) .pre .1 .1 .lengths .next)
+
+same-length-21 : tie.Need-same-length-21 Inv-loop μ-loop
+same-length-21 c = c .before .loop .inv .0 .ready .lengths .book-heads ∙ sym (entry (c .before) .pre .1 .1 .lengths .book-heads)
+
+same-length-22 : tie.Need-same-length-22 Inv-loop μ-loop
+same-length-22 c = c .before .loop .inv .0 .ready .lengths .book-rows ∙ sym (entry (c .before) .pre .1 .1 .lengths .book-rows)
+
+same-length-23 : tie.Need-same-length-23 Inv-loop μ-loop
+same-length-23 c = c .before .loop .inv .0 .ready .lengths .book-next ∙ sym (entry (c .before) .pre .1 .1 .lengths .book-next)
+
+same-length-24 : tie.Need-same-length-24 Inv-loop μ-loop
+same-length-24 c = c .before .loop .inv .0 .ready .lengths .work ∙ sym (entry (c .before) .pre .1 .1 .lengths .work)
+
+same-length-25 : tie.Need-same-length-25 Inv-loop μ-loop
+same-length-25 c = c .before .loop .inv .0 .ready .lengths .touched ∙ sym (entry (c .before) .pre .1 .1 .lengths .touched)
+
+same-length-26 : tie.Need-same-length-26 Inv-loop μ-loop
+same-length-26 c = c .before .loop .inv .0 .ready .lengths .labels ∙ sym (entry (c .before) .pre .1 .1 .lengths .labels)
+
+same-length-27 : tie.Need-same-length-27 Inv-loop μ-loop
+same-length-27 c = c .before .loop .inv .0 .list-long
+
+same-length-28 : tie.Need-same-length-28 Inv-loop μ-loop
+same-length-28 c = c .before .loop .inv .0 .out-long
+
+same-length-29 : tie.Need-same-length-29 Inv-loop μ-loop
+same-length-29 c = c .before .loop .inv .0 .line-long
+
+same-length-30 : tie.Need-same-length-30 Inv-loop μ-loop
+same-length-30 c = c .before .loop .inv .1
+
+returns-2 : tie.Need-returns-2 Inv-loop μ-loop
+returns-2 c = let i = c .before .loop .inv .0 in (i .ready, i .fits)
+
+pub answer-pieces-spec : {M : Type 1} → statement M
+answer-pieces-spec =
+    tie.close
+    (tie.spec
+    Inv-loop
+    μ-loop
+    loop-holds
+    sub-reads
+    read-requires
+    count-requires
+    same-length
+    same-length-2
+    same-length-3
+    same-length-4
+    same-length-5
+    same-length-6
+    same-length-7
+    same-length-8
+    same-length-9
+    same-length-10
+    same-length-11
+    same-length-12
+    same-length-13
+    same-length-14
+    same-length-15
+    returns
+    slice-reshare-prefix-answer-piece
+    slice-aggregate-answer-piece
+    answer-piece-requires
+    loop-less
+    loop-again
+    same-length-16
+    same-length-17
+    same-length-18
+    same-length-19
+    same-length-20
+    same-length-21
+    same-length-22
+    same-length-23
+    same-length-24
+    same-length-25
+    same-length-26
+    same-length-27
+    same-length-28
+    same-length-29
+    same-length-30
+    returns-2)
