@@ -20,7 +20,7 @@
  *     nigvalds_opened o = nigvalds_open_in(&t, 5, 8, 80, 16);              // o.number is 0
  *     uint32_t ids[] = {1, 2}, counts[] = {2, 2}, rows[] = {1, 3, 1, 4};   // column 1 is {1, 3}, column 2 is {1, 4}
  *     nigvalds_changed a = nigvalds_add_in(&t, o.factor, ids, 2, counts, 2, rows, 4);
- *     if (a.number) { ... }                                                // refused: a.position says at which column, and nothing changed
+ *     if (a.number) { ... }                                                // refused: a.position is the column's, or 0; tables and record are as before
  *     nigvalds_reply p = nigvalds_parent_in(&t, a.factor, 1);              // p.value is 3; a.factor is the record from here on
  *
  * examples/host.c is a whole program.
@@ -137,7 +137,7 @@ nigvalds_changed nigvalds_add(nigvalds_factor factor, NIGVALDS_CHANGED_TABLES, u
 nigvalds_changed nigvalds_remove(nigvalds_factor factor, NIGVALDS_CHANGED_TABLES, uint16_t *touched, size_t touched_length, uint16_t *labels,
                                  size_t labels_length, const uint32_t *ids, size_t ids_length);
 
-/* Whether the tables are sound: number 0, or 6 for no. */
+/* Whether the tables are sound: number 0, 6 for no, or 1 to 5 where sizes or tables cannot be used. */
 nigvalds_reply nigvalds_check(nigvalds_factor factor, NIGVALDS_READ_TABLES);
 
 /* The multiplicity of row i in column j, 0 when absent. Refusals 1 to 6 and 17, as of parent. */

@@ -1,0 +1,1 @@
+-- No definitions: laws alone, in proofs/Continuing.antt.

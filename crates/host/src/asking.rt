@@ -8,7 +8,7 @@ use book::Row;
 use factor::Factor;
 use questions::Reply;
 
-// Whether the tables are sound: 0, or 6 for no.
+// Whether the tables are sound: 0, 6 for no, or 1 to 5.
 #[no_mangle]
 pub extern "C" fn nigvalds_check(
     factor: Factor,

@@ -30,6 +30,7 @@ pub record Memory : Type 0 where
   pub touched : List ℕ
   pub labels : List ℕ
 
+-- a factor with its tables and lists as one record
 abbrev pub memoryOf : Factor → Tables → (work touched labels : List ℕ) → Memory
 memoryOf x t w a b = record { world = worldOf x t; work = w; touched = a; labels = b }
 
@@ -86,7 +87,7 @@ Answered u line bs v = CommandAnswered (commandOf line) (rowsOf line) u bs v
 
 -- ---- what the functions promise
 
--- bytes that say so stand at the front of a list, and the next line may follow
+-- bytes with the property `Says` stand at the front of the list, and another line may follow
 pub record Answers (Says : (bytes : List ℕ) → Memory → Type 0) (out₀ out : List ℕ) (x : Printed) (v : Memory) : Type 0 where
   pub bytes : List ℕ
   pub says : Says bytes v

@@ -9,6 +9,7 @@ use Rattle.listing_text.specs.Text.{Written}
 use Rattle.listing_answers.specs.Listing.{Memory, Ready, Answers}
 use Rattle.listing_answers.specs.declared.Printed.{Printed}
 
+-- what a loop keeps beside the state: lengths, and a line that fits its list
 pub record Keeping (u : Memory) (list₀ out₀ line₀ list out line : List ℕ) (held : ℕ) : Type 0 where
   pub ready : Ready u
   pub list-long : length list ≡ length list₀
@@ -16,6 +17,7 @@ pub record Keeping (u : Memory) (list₀ out₀ line₀ list out line : List ℕ
   pub line-long : length line ≡ length line₀
   pub fits : held ≤ length line₀
 
+-- the bytes of an answer end within the list
 pub answers-within : {Says : (bytes : List ℕ) → Memory → Type 0} {out₀ out : List ℕ} {x : Printed} {v : Memory} → Answers Says out₀ out x v → x .end ≤ length out
 answers-within {out₀ = out₀} {out = out} {x = x} a =
     omega (arith, a .written .next-is, ap length (a .written .out-is), length-append (a .bytes) (drop (0 + length (a .bytes)) out₀))

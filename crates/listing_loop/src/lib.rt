@@ -1,6 +1,6 @@
 // The listing program: reads standard input in pieces of any size and answers it line by line. The tables serve m 64, n 256, F 2,048 and C 2,048. A loop
-// needs a number that falls: at most 2^64 - 1 reads are made. What is proved is that every line is answered in the state that the lines before it left
-// (`Ready`), so that the unchecked entries may be called; a line's own answer is the contract of `listing_answers::answer`.
+// needs a number that falls: at most 2^64 - 1 reads are made. What is proved is that between lines the unchecked entries may be called (`Ready`); a line's own
+// answer is the contract of `listing_answers::answer`. That each line is handed on once and in order, and its answer written, is shown by the stored runs.
 ghost use Prim.Native.Nat.{_≤_, _<_};
 ghost use lib.ListN.{length};
 ghost use Rattle.tables.specs.Tables.{tablesOf};
@@ -9,7 +9,7 @@ use factor::Factor;
 use libc::STDIN_FILENO;
 use libc::STDOUT_FILENO;
 
-// The factor after a line or a part of one: the place after it in the piece, and how much there is of a line that is not ended.
+// After a line or a part of one: the factor, the place after it in the piece, and how much is held of a line that is not ended.
 struct Turn {
     factor: Factor,
     place: usize,

@@ -17,8 +17,8 @@ use Rattle.calls.specs.Report.{columnList}
 use Rattle.calls.specs.Steps.{refusedBy, World}
 use Rattle.calls.proofs.Refusals.{InRange, sizes-facts}
 use Rattle.factor.specs.Admission.{Usable}
-use Rattle.listing_text.specs.Text.{newline, noLine, showHead, showPair, showPairs, showLine, written, Written}
-use Rattle.listing_text.proofs.Printing.{written-length, written-join, pairs-push, head-room, pair-room}
+use Rattle.listing_text.specs.Text.{newline, okLine, noLine, showHead, showPair, showPairs, showLine, Room, Written}
+use Rattle.listing_text.proofs.Printing.{written-join, pairs-push, ok-room, no-room, head-room, pair-room}
 use Rattle.listing_show.specs.Showing.{answerLine, shownLine, shownTo, shownBy, noState, PairsRoom, PairsWritten, CanShowAll, LineWritten}
 
 -- nothing is written
@@ -26,6 +26,20 @@ pub written-none : (out : List ℕ) (at : ℕ) → at ≤ length out → Written
 written-none out at h =
     let q : at ≡ at + 0 = omega arith in
     record { out-is = sym (take-append-drop at out) ∙ ap (λ (n : ℕ). take at out ++ drop n out) q; next-is = q }
+
+-- ---- room for a line, whatever its numbers
+
+pub ok-fits : {out : List ℕ} {t e g : ℕ} → t < 2 ^ 32 → e < 2 ^ 32 → g < 2 ^ 32 → 40 ≤ length out → Room out 0 (okLine t e g)
+ok-fits {out} {t} {e} {g} p q r h = record { room = omega (arith, ok-room t e g p q r) }
+
+pub no-fits : {out : List ℕ} {n k : ℕ} → n < 2 ^ 32 → k < 2 ^ 32 → 40 ≤ length out → Room out 0 (noLine n k)
+no-fits {out} {n} {k} p q h = record { room = omega (arith, no-room n k p q) }
+
+pub head-fits : {out : List ℕ} {at j k : ℕ} → j < 2 ^ 32 → k < 2 ^ 32 → at + 21 ≤ length out → Room out at (showHead j k)
+head-fits {out} {at} {j} {k} p q h = record { room = omega (arith, head-room j k p q) }
+
+pub head-within : {out₀ out : List ℕ} {at next j k : ℕ} → Written out₀ at (showHead j k) out next → j < 2 ^ 32 → k < 2 ^ 32 → next ≤ at + 21
+head-within {j = j} {k = k} w p q = omega (arith, w .next-is, head-room j k p q)
 
 -- ---- the pairs of a column
 

@@ -71,7 +71,7 @@ fn show_column(
     text::line_end(out, end)
 }
 
-// Writes the lines of all columns; no factor is open: the refusal by 1.
+// Writes the lines of all columns or, where no factor is open, the refusal by 1.
 pub fn show(
     factor: Factor,
     heads: &[u32],

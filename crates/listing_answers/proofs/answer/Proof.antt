@@ -1,5 +1,6 @@
 -- `answer` meets its contract: the command that was parsed is the line's, and the function that is called for it answers so (proofs/Answering.antt). Each
--- arm ends in the same two facts: the answer, and that the lengths stay. Assumes nothing.
+-- arm ends in the same two facts: the answer, and that the lengths stay. That each list keeps its length is said where the parts are put together. Assumes
+-- nothing.
 use mathlib.Core.Path.{_≡_, refl, sym, _∙_}
 use mathlib.Core.List.{List}
 use Prim.Native.Nat.{ℕ, _≤_}
@@ -9,7 +10,7 @@ use lib.ListN.{length, take}
 use Rattle.tables.specs.Tables.{Tables, limitsOf, tablesOf}
 use Rattle.listing_text.specs.Command.{commandOf}
 use Rattle.listing_text.specs.declared.command.Command.the-variants.{Open, Add, Drop, Show, Unknown}
-use Rattle.listing_text.proofs.Printing.{no-room}
+use Rattle.listing_show.proofs.Showing.{no-fits}
 use Rattle.listing_answers.specs.Listing.{Memory, memoryOf, Lengths}
 use Rattle.listing_answers.proofs.Lines.{rows-fit, rows-listed}
 use Rattle.listing_answers.proofs.Answering.{by-command, unknown, shows, can-show, adds, opens}
@@ -19,6 +20,23 @@ use Rattle.listing_answers.proofs.answer.Tie as tie
 abbrev entry : tie.After-parse → tie.Start
 entry c = c .before .before .before .before .before .before .before .before .before .before .before .before .before .before .before .before
 
+-- at the end of each arm, its call
+abbrev open-done : tie.After-slice-known24 → tie.After-open-line
+open-done c = c .before .before .before .before .before .before .before .before .before .before .before .before .before .before .before .before .before .before .before .before
+
+abbrev add-done : tie.After-slice-known35 → tie.After-add-line
+add-done c = c .before .before .before .before .before .before .before .before .before .before .before .before .before .before .before .before .before .before .before .before .before .before
+
+abbrev drop-done : tie.After-slice-known46 → tie.After-drop-line
+drop-done c = c .before .before .before .before .before .before .before .before .before .before .before .before .before .before .before .before .before .before .before .before .before .before
+
+abbrev show-done : tie.After-slice-known48 → tie.After-show
+show-done c = c .before .before .before .before
+
+abbrev no-done : tie.After-slice-known49 → tie.After-no-line
+no-done c = c .before .before
+
+-- the command that an arm has, and the parsing before it
 abbrev opened : tie.After-open-line → tie.After-asked
 opened c = c .before .before .before .before .before .before .before .before .before .before .before .before
 
@@ -119,44 +137,11 @@ enum-told-2 : tie.Need-enum-told-2
 enum-told-2 c = search needs
 
 no-line-requires : tie.Need-no-line-requires
-no-line-requires c κs = record { room = omega (arith, entry (parsed-other (c .before)) .pre .1 .0, no-room 19 0 (omega arith) (omega arith)) }
-
-same-length : tie.Need-same-length
-same-length c = c .before .before .before .before .before .before .before .before .before .before .before .before .before .before .before .before .before .before .before .before .open-line .kept .1 .0
-
-same-length-2 : tie.Need-same-length-2
-same-length-2 c = c .before .before .before .before .before .before .before .before .before .before .before .before .before .before .before .before .before .before .before .before .open-line .kept .1 .1 .0
-
-same-length-3 : tie.Need-same-length-3
-same-length-3 c = c .before .before .before .before .before .before .before .before .before .before .before .before .before .before .before .before .before .before .before .before .open-line .kept .1 .1 .1 .0
-
-same-length-4 : tie.Need-same-length-4
-same-length-4 c = c .before .before .before .before .before .before .before .before .before .before .before .before .before .before .before .before .before .before .before .before .open-line .kept .1 .1 .1 .1 .0
-
-same-length-5 : tie.Need-same-length-5
-same-length-5 c = c .before .before .before .before .before .before .before .before .before .before .before .before .before .before .before .before .before .before .before .before .open-line .kept .1 .1 .1 .1 .1 .0
-
-same-length-6 : tie.Need-same-length-6
-same-length-6 c = c .before .before .before .before .before .before .before .before .before .before .before .before .before .before .before .before .before .before .before .before .open-line .kept .1 .1 .1 .1 .1 .1 .0
-
-same-length-7 : tie.Need-same-length-7
-same-length-7 c = c .before .before .before .before .before .before .before .before .before .before .before .before .before .before .before .before .before .before .before .before .open-line .kept .1 .1 .1 .1 .1 .1 .1 .0
-
-same-length-8 : tie.Need-same-length-8
-same-length-8 c = c .before .before .before .before .before .before .before .before .before .before .before .before .before .before .before .before .before .before .before .before .open-line .kept .1 .1 .1 .1 .1 .1 .1 .1 .0
-
-same-length-9 : tie.Need-same-length-9
-same-length-9 c = c .before .before .before .before .before .before .before .before .before .before .before .before .before .before .before .before .before .before .before .before .open-line .kept .1 .1 .1 .1 .1 .1 .1 .1 .1 .0
-
-same-length-10 : tie.Need-same-length-10
-same-length-10 c = parsed-open (opened (c .before .before .before .before .before .before .before .before .before .before .before .before .before .before .before .before .before .before .before .before)) .parse .kept .1 .0
-
-same-length-11 : tie.Need-same-length-11
-same-length-11 c = c .before .before .before .before .before .before .before .before .before .before .before .before .before .before .before .before .before .before .before .before .open-line .kept .1 .1 .1 .1 .1 .1 .1 .1 .1 .1 .0
+no-line-requires c κs = no-fits (omega arith) (omega arith) (omega (arith, entry (parsed-other (c .before)) .pre .1 .0))
 
 returns : tie.Need-returns
 returns c =
-    let o = c .before .before .before .before .before .before .before .before .before .before .before .before .before .before .before .before .before .before .before .before in
+    let o = open-done c in
     let q = opened o in
     let s = entry (parsed-open q) in
     let v = q .asked .given .0 in
@@ -184,48 +169,9 @@ returns c =
       },
     )
 
-same-length-12 : tie.Need-same-length-12
-same-length-12 c = refl
-
-same-length-13 : tie.Need-same-length-13
-same-length-13 c = c .before .before .before .before .before .before .before .before .before .before .before .before .before .before .before .before .before .before .before .before .before .before .add-line .kept .1 .1 .0
-
-same-length-14 : tie.Need-same-length-14
-same-length-14 c = c .before .before .before .before .before .before .before .before .before .before .before .before .before .before .before .before .before .before .before .before .before .before .add-line .kept .1 .1 .1 .0
-
-same-length-15 : tie.Need-same-length-15
-same-length-15 c = c .before .before .before .before .before .before .before .before .before .before .before .before .before .before .before .before .before .before .before .before .before .before .add-line .kept .1 .1 .1 .1 .0
-
-same-length-16 : tie.Need-same-length-16
-same-length-16 c = c .before .before .before .before .before .before .before .before .before .before .before .before .before .before .before .before .before .before .before .before .before .before .add-line .kept .1 .1 .1 .1 .1 .0
-
-same-length-17 : tie.Need-same-length-17
-same-length-17 c = c .before .before .before .before .before .before .before .before .before .before .before .before .before .before .before .before .before .before .before .before .before .before .add-line .kept .1 .1 .1 .1 .1 .1 .0
-
-same-length-18 : tie.Need-same-length-18
-same-length-18 c = c .before .before .before .before .before .before .before .before .before .before .before .before .before .before .before .before .before .before .before .before .before .before .add-line .kept .1 .1 .1 .1 .1 .1 .1 .0
-
-same-length-19 : tie.Need-same-length-19
-same-length-19 c = c .before .before .before .before .before .before .before .before .before .before .before .before .before .before .before .before .before .before .before .before .before .before .add-line .kept .1 .1 .1 .1 .1 .1 .1 .1 .0
-
-same-length-20 : tie.Need-same-length-20
-same-length-20 c = c .before .before .before .before .before .before .before .before .before .before .before .before .before .before .before .before .before .before .before .before .before .before .add-line .kept .1 .1 .1 .1 .1 .1 .1 .1 .1 .0
-
-same-length-21 : tie.Need-same-length-21
-same-length-21 c = c .before .before .before .before .before .before .before .before .before .before .before .before .before .before .before .before .before .before .before .before .before .before .add-line .kept .1 .1 .1 .1 .1 .1 .1 .1 .1 .1 .0
-
-same-length-22 : tie.Need-same-length-22
-same-length-22 c = c .before .before .before .before .before .before .before .before .before .before .before .before .before .before .before .before .before .before .before .before .before .before .add-line .kept .1 .1 .1 .1 .1 .1 .1 .1 .1 .1 .1 .0
-
-same-length-23 : tie.Need-same-length-23
-same-length-23 c = parsed-add (added (c .before .before .before .before .before .before .before .before .before .before .before .before .before .before .before .before .before .before .before .before .before .before)) .parse .kept .1 .0
-
-same-length-24 : tie.Need-same-length-24
-same-length-24 c = c .before .before .before .before .before .before .before .before .before .before .before .before .before .before .before .before .before .before .before .before .before .before .add-line .kept .1 .1 .1 .1 .1 .1 .1 .1 .1 .1 .1 .1 .0
-
 returns-2 : tie.Need-returns-2
 returns-2 c =
-    let o = c .before .before .before .before .before .before .before .before .before .before .before .before .before .before .before .before .before .before .before .before .before .before in
+    let o = add-done c in
     let q = added o in
     let p = parsed-add q in
     let s = entry p in
@@ -253,48 +199,9 @@ returns-2 c =
       },
     )
 
-same-length-25 : tie.Need-same-length-25
-same-length-25 c = refl
-
-same-length-26 : tie.Need-same-length-26
-same-length-26 c = c .before .before .before .before .before .before .before .before .before .before .before .before .before .before .before .before .before .before .before .before .before .before .drop-line .kept .1 .1 .0
-
-same-length-27 : tie.Need-same-length-27
-same-length-27 c = c .before .before .before .before .before .before .before .before .before .before .before .before .before .before .before .before .before .before .before .before .before .before .drop-line .kept .1 .1 .1 .0
-
-same-length-28 : tie.Need-same-length-28
-same-length-28 c = c .before .before .before .before .before .before .before .before .before .before .before .before .before .before .before .before .before .before .before .before .before .before .drop-line .kept .1 .1 .1 .1 .0
-
-same-length-29 : tie.Need-same-length-29
-same-length-29 c = c .before .before .before .before .before .before .before .before .before .before .before .before .before .before .before .before .before .before .before .before .before .before .drop-line .kept .1 .1 .1 .1 .1 .0
-
-same-length-30 : tie.Need-same-length-30
-same-length-30 c = c .before .before .before .before .before .before .before .before .before .before .before .before .before .before .before .before .before .before .before .before .before .before .drop-line .kept .1 .1 .1 .1 .1 .1 .0
-
-same-length-31 : tie.Need-same-length-31
-same-length-31 c = c .before .before .before .before .before .before .before .before .before .before .before .before .before .before .before .before .before .before .before .before .before .before .drop-line .kept .1 .1 .1 .1 .1 .1 .1 .0
-
-same-length-32 : tie.Need-same-length-32
-same-length-32 c = c .before .before .before .before .before .before .before .before .before .before .before .before .before .before .before .before .before .before .before .before .before .before .drop-line .kept .1 .1 .1 .1 .1 .1 .1 .1 .0
-
-same-length-33 : tie.Need-same-length-33
-same-length-33 c = c .before .before .before .before .before .before .before .before .before .before .before .before .before .before .before .before .before .before .before .before .before .before .drop-line .kept .1 .1 .1 .1 .1 .1 .1 .1 .1 .0
-
-same-length-34 : tie.Need-same-length-34
-same-length-34 c = c .before .before .before .before .before .before .before .before .before .before .before .before .before .before .before .before .before .before .before .before .before .before .drop-line .kept .1 .1 .1 .1 .1 .1 .1 .1 .1 .1 .0
-
-same-length-35 : tie.Need-same-length-35
-same-length-35 c = c .before .before .before .before .before .before .before .before .before .before .before .before .before .before .before .before .before .before .before .before .before .before .drop-line .kept .1 .1 .1 .1 .1 .1 .1 .1 .1 .1 .1 .0
-
-same-length-36 : tie.Need-same-length-36
-same-length-36 c = parsed-drop (dropped (c .before .before .before .before .before .before .before .before .before .before .before .before .before .before .before .before .before .before .before .before .before .before)) .parse .kept .1 .0
-
-same-length-37 : tie.Need-same-length-37
-same-length-37 c = c .before .before .before .before .before .before .before .before .before .before .before .before .before .before .before .before .before .before .before .before .before .before .drop-line .kept .1 .1 .1 .1 .1 .1 .1 .1 .1 .1 .1 .1 .0
-
 returns-3 : tie.Need-returns-3
 returns-3 c =
-    let o = c .before .before .before .before .before .before .before .before .before .before .before .before .before .before .before .before .before .before .before .before .before .before in
+    let o = drop-done c in
     let q = dropped o in
     let p = parsed-drop q in
     let s = entry p in
@@ -320,53 +227,17 @@ returns-3 c =
       },
     )
 
-same-length-38 : tie.Need-same-length-38
-same-length-38 c = refl
-
-same-length-39 : tie.Need-same-length-39
-same-length-39 c = refl
-
-same-length-40 : tie.Need-same-length-40
-same-length-40 c = refl
-
-same-length-41 : tie.Need-same-length-41
-same-length-41 c = refl
-
-same-length-42 : tie.Need-same-length-42
-same-length-42 c = refl
-
-same-length-43 : tie.Need-same-length-43
-same-length-43 c = refl
-
-same-length-44 : tie.Need-same-length-44
-same-length-44 c = refl
-
-same-length-45 : tie.Need-same-length-45
-same-length-45 c = refl
-
-same-length-46 : tie.Need-same-length-46
-same-length-46 c = omega (arith, c .before .before .before .before .show .kept .1 .1 .1 .1 .1 .1 .1 .1 .1 .0, parsed-show (showed (c .before .before .before .before)) .parse .kept .1 .0)
-
-same-length-47 : tie.Need-same-length-47
-same-length-47 c = c .before .before .before .before .show .kept .1 .1 .1 .1 .1 .1 .1 .1 .1 .1 .0
-
 returns-4 : tie.Need-returns-4
 returns-4 c =
-    let o = c .before .before .before .before in
+    let o = show-done c in
     let q = showed o in
     let s = entry (parsed-show q) in
     let r = s .pre .1 .1 in
     (shows (s .args .line .now) (memory s) (is-show q) (r .usable) (o .show .ensures), r)
 
-same-length-48 : tie.Need-same-length-48
-same-length-48 c = parsed-other (refused (c .before .before)) .parse .kept .1 .0
-
-same-length-49 : tie.Need-same-length-49
-same-length-49 c = c .before .before .no-line .kept .0
-
 returns-5 : tie.Need-returns-5
 returns-5 c =
-    let o = c .before .before in
+    let o = no-done c in
     let q = refused o in
     let s = entry (parsed-other q) in
     let r = s .pre .1 .1 in
@@ -387,57 +258,57 @@ answer-spec =
     show-requires
     enum-told-2
     no-line-requires
-    same-length
-    same-length-2
-    same-length-3
-    same-length-4
-    same-length-5
-    same-length-6
-    same-length-7
-    same-length-8
-    same-length-9
-    same-length-10
-    same-length-11
+    (λ c. open-done c .open-line .kept .1 .0)
+    (λ c. open-done c .open-line .kept .1 .1 .0)
+    (λ c. open-done c .open-line .kept .1 .1 .1 .0)
+    (λ c. open-done c .open-line .kept .1 .1 .1 .1 .0)
+    (λ c. open-done c .open-line .kept .1 .1 .1 .1 .1 .0)
+    (λ c. open-done c .open-line .kept .1 .1 .1 .1 .1 .1 .0)
+    (λ c. open-done c .open-line .kept .1 .1 .1 .1 .1 .1 .1 .0)
+    (λ c. open-done c .open-line .kept .1 .1 .1 .1 .1 .1 .1 .1 .0)
+    (λ c. open-done c .open-line .kept .1 .1 .1 .1 .1 .1 .1 .1 .1 .0)
+    (λ c. parsed-open (opened (open-done c)) .parse .kept .1 .0)
+    (λ c. open-done c .open-line .kept .1 .1 .1 .1 .1 .1 .1 .1 .1 .1 .0)
     returns
-    same-length-12
-    same-length-13
-    same-length-14
-    same-length-15
-    same-length-16
-    same-length-17
-    same-length-18
-    same-length-19
-    same-length-20
-    same-length-21
-    same-length-22
-    same-length-23
-    same-length-24
+    (λ c. refl)
+    (λ c. add-done c .add-line .kept .1 .1 .0)
+    (λ c. add-done c .add-line .kept .1 .1 .1 .0)
+    (λ c. add-done c .add-line .kept .1 .1 .1 .1 .0)
+    (λ c. add-done c .add-line .kept .1 .1 .1 .1 .1 .0)
+    (λ c. add-done c .add-line .kept .1 .1 .1 .1 .1 .1 .0)
+    (λ c. add-done c .add-line .kept .1 .1 .1 .1 .1 .1 .1 .0)
+    (λ c. add-done c .add-line .kept .1 .1 .1 .1 .1 .1 .1 .1 .0)
+    (λ c. add-done c .add-line .kept .1 .1 .1 .1 .1 .1 .1 .1 .1 .0)
+    (λ c. add-done c .add-line .kept .1 .1 .1 .1 .1 .1 .1 .1 .1 .1 .0)
+    (λ c. add-done c .add-line .kept .1 .1 .1 .1 .1 .1 .1 .1 .1 .1 .1 .0)
+    (λ c. parsed-add (added (add-done c)) .parse .kept .1 .0)
+    (λ c. add-done c .add-line .kept .1 .1 .1 .1 .1 .1 .1 .1 .1 .1 .1 .1 .0)
     returns-2
-    same-length-25
-    same-length-26
-    same-length-27
-    same-length-28
-    same-length-29
-    same-length-30
-    same-length-31
-    same-length-32
-    same-length-33
-    same-length-34
-    same-length-35
-    same-length-36
-    same-length-37
+    (λ c. refl)
+    (λ c. drop-done c .drop-line .kept .1 .1 .0)
+    (λ c. drop-done c .drop-line .kept .1 .1 .1 .0)
+    (λ c. drop-done c .drop-line .kept .1 .1 .1 .1 .0)
+    (λ c. drop-done c .drop-line .kept .1 .1 .1 .1 .1 .0)
+    (λ c. drop-done c .drop-line .kept .1 .1 .1 .1 .1 .1 .0)
+    (λ c. drop-done c .drop-line .kept .1 .1 .1 .1 .1 .1 .1 .0)
+    (λ c. drop-done c .drop-line .kept .1 .1 .1 .1 .1 .1 .1 .1 .0)
+    (λ c. drop-done c .drop-line .kept .1 .1 .1 .1 .1 .1 .1 .1 .1 .0)
+    (λ c. drop-done c .drop-line .kept .1 .1 .1 .1 .1 .1 .1 .1 .1 .1 .0)
+    (λ c. drop-done c .drop-line .kept .1 .1 .1 .1 .1 .1 .1 .1 .1 .1 .1 .0)
+    (λ c. parsed-drop (dropped (drop-done c)) .parse .kept .1 .0)
+    (λ c. drop-done c .drop-line .kept .1 .1 .1 .1 .1 .1 .1 .1 .1 .1 .1 .1 .0)
     returns-3
-    same-length-38
-    same-length-39
-    same-length-40
-    same-length-41
-    same-length-42
-    same-length-43
-    same-length-44
-    same-length-45
-    same-length-46
-    same-length-47
+    (λ c. refl)
+    (λ c. refl)
+    (λ c. refl)
+    (λ c. refl)
+    (λ c. refl)
+    (λ c. refl)
+    (λ c. refl)
+    (λ c. refl)
+    (λ c. omega (arith, show-done c .show .kept .1 .1 .1 .1 .1 .1 .1 .1 .1 .0, parsed-show (showed (show-done c)) .parse .kept .1 .0))
+    (λ c. show-done c .show .kept .1 .1 .1 .1 .1 .1 .1 .1 .1 .1 .0)
     returns-4
-    same-length-48
-    same-length-49
+    (λ c. parsed-other (refused (no-done c)) .parse .kept .1 .0)
+    (λ c. no-done c .no-line .kept .0)
     returns-5)

@@ -7,9 +7,8 @@ use lib.ListN.{length}
 use Rattle.tables.specs.Tables.{Tables, registerOf, tablesOf}
 use Rattle.factor.specs.Entries.{stateOf}
 use Rattle.listing_text.specs.Text.{Written}
-use Rattle.listing_text.proofs.Printing.{no-room}
 use Rattle.listing_show.specs.Showing.{shownTo}
-use Rattle.listing_show.proofs.Showing.{Lines, lines-start, lines-keep, shown-closed, usable-shown, shows-none, shows-some}
+use Rattle.listing_show.proofs.Showing.{no-fits, Lines, lines-start, lines-keep, shown-closed, usable-shown, shows-none, shows-some}
 use Rattle.listing_show.proofs.show.Statement.{statement}
 use Rattle.listing_show.proofs.show.Tie as tie
 use Rattle.listing_show.proofs.show.Reads as reads
@@ -56,7 +55,7 @@ facts c =
     }
 
 no-line-requires : tie.Need-no-line-requires Inv-loop μ-loop
-no-line-requires c κs = record { room = omega (arith, entry-then (c .before) .pre .fits, no-room 1 0 (omega arith) (omega arith)) }
+no-line-requires c κs = no-fits (omega arith) (omega arith) (omega (arith, entry-then (c .before) .pre .fits))
 
 same-length : tie.Need-same-length Inv-loop μ-loop
 same-length c = c .before .before .no-line .kept .0

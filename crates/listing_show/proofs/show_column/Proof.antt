@@ -11,9 +11,8 @@ use Rattle.tables.specs.Tables.{Tables, registerOf, tablesOf}
 use Rattle.calls.specs.Report.{columnList}
 use Rattle.factor.specs.Entries.{stateOf}
 use Rattle.listing_text.specs.Text.{showHead, showPairs, Written}
-use Rattle.listing_text.proofs.Printing.{head-room}
 use Rattle.listing_show.proofs.Asking.{entries-places, entries-most, parent-answered, column-answered, column-listed}
-use Rattle.listing_show.proofs.Showing.{line-whole}
+use Rattle.listing_show.proofs.Showing.{head-fits, head-within, line-whole}
 use Rattle.listing_show.proofs.show_column.Statement.{statement}
 use Rattle.listing_show.proofs.show_column.Tie as tie
 
@@ -71,7 +70,7 @@ column c =
 head-most : (c : tie.After-show-head) → c .show-head .result ≤ start (parented (columned c)) .args .at + 21
 head-most c =
     let p = parented (columned c) in
-    omega (arith, c .show-head .ensures .next-is, head-room (start p .args .j) (p .parent-unchecked .result .value) (omega (arith, start p .fits .j)) (parent-known p))
+    head-within (c .show-head .ensures) (omega (arith, start p .fits .j, parent-known p)) (omega (arith, start p .fits .j, parent-known p))
 
 -- the line but for its newline
 pairs-most : (c : tie.After-show-pairs) →
@@ -93,9 +92,7 @@ column-unchecked-requires c κs = search needs
 show-head-requires : tie.Need-show-head-requires
 show-head-requires c κs =
     let p = parented (c .before .before .before) in
-    record {
-      room = omega (arith, start p .pre .fits, head-room (start p .args .j) (p .parent-unchecked .result .value) (omega (arith, start p .fits .j)) (parent-known p));
-    }
+    head-fits (omega (arith, start p .fits .j, parent-known p)) (omega (arith, start p .fits .j, parent-known p)) (omega (arith, start p .pre .fits))
 
 cast-show-pairs : tie.Need-cast-show-pairs
 cast-show-pairs c = search needs

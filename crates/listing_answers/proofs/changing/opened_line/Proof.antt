@@ -1,11 +1,10 @@
 -- `opened_line` meets its contract: the answer chooses the line, and 40 bytes are room for either. Assumes nothing.
 use mathlib.Core.Path.{_≡_, refl, sym, subst}
-use Prim.Native.Nat.{ℕ, _^_, _<_}
 use native.Mathlib.Omega.{arith}
 use borrow.Author.Needs.{needs}
 use Rattle.factor.specs.declared.Opening.{Opening}
 use Rattle.listing_answers.specs.Listing.{OpeningPrinted}
-use Rattle.listing_text.proofs.Printing.{ok-room, no-room}
+use Rattle.listing_show.proofs.Showing.{ok-fits, no-fits}
 use Rattle.listing_answers.proofs.changing.opened_line.Statement.{statement}
 use Rattle.listing_answers.proofs.changing.opened_line.Tie as tie
 
@@ -13,16 +12,13 @@ enum-known-opened : tie.Need-enum-known-opened
 enum-known-opened c = search needs
 
 ok-line-requires : tie.Need-ok-line-requires
-ok-line-requires c κs = record { room = omega (arith, ok-room 0 0 0 (omega arith) (omega arith) (omega arith), c .before .before .before .before .before .pre) }
+ok-line-requires c κs = ok-fits (omega arith) (omega arith) (omega arith) (c .before .before .before .before .before .pre)
 
 enum-known-opened-2 : tie.Need-enum-known-opened-2
 enum-known-opened-2 c = search needs
 
 no-line-requires : tie.Need-no-line-requires
-no-line-requires c κs =
-    let n = c .before .before .opened2 .given .0 .0 in
-    let h : n < 2 ^ 32 = omega (arith, c .before .known-told2 .given) in
-    record { room = omega (arith, no-room n 0 h (omega arith), c .before .before .before .before .before .pre) }
+no-line-requires c κs = no-fits (omega (arith, c .before .known-told2 .given)) (omega arith) (c .before .before .before .before .before .pre)
 
 same-length : tie.Need-same-length
 same-length c = c .before .before .ok-line .kept .0
