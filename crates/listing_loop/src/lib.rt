@@ -1,10 +1,12 @@
 // The listing program: reads standard input in pieces of any size and answers it line by line. The tables serve m 64, n 256, F 2,048 and C 2,048. A loop
-// needs a number that falls: at most 2^64 - 1 reads are made. What is proved is that between lines the unchecked entries may be called (`Ready`); a line's own
-// answer is the contract of `listing_answers::answer`. That each line is handed on once and in order, and its answer written, is shown by the stored runs.
-ghost use Prim.Native.Nat.{_≤_, _<_};
-ghost use lib.ListN.{length};
+// needs a number that falls: at most 2^64 - 1 reads are made. What is proved is that the lines of a piece are answered in turn, each in the state that the
+// line before it left (`Served`), and that between lines the unchecked entries may be called (`Ready`). What is read and written no contract can say.
+ghost use mathlib.Core.Path.{_≡_};
+ghost use Prim.Native.Nat.{_-_, _≤_, _<_};
+ghost use lib.ListN.{length, take, drop};
 ghost use Rattle.tables.specs.Tables.{tablesOf};
 ghost use Rattle.listing_answers.specs.Listing.{memoryOf, Ready};
+ghost use Rattle.listing_loop.specs.Serving.{LineAnswered, Served, SomeServed};
 use factor::Factor;
 use libc::STDIN_FILENO;
 use libc::STDOUT_FILENO;
@@ -43,7 +45,8 @@ fn write_answer(
     requires places { ⌜ 1000 ≤ length (now list) ⌝ }
     requires room { ⌜ 91520 ≤ length (now out) ⌝ }
     requires ready { ⌜ Ready (memoryOf factor (tablesOf (now heads) (now parents) (now rows) (now counts) (now next) (now «book_heads») (now «book_rows») (now «book_next»)) (now work) (now touched) (now labels)) ⌝ }
-    ensures { λ r. ⌜ Ready (memoryOf r (tablesOf (now (heads .exit)) (now (parents .exit)) (now (rows .exit)) (now (counts .exit)) (now (next .exit)) (now («book_heads» .exit)) (now («book_rows» .exit)) (now («book_next» .exit))) (now (work .exit)) (now (touched .exit)) (now (labels .exit))) ⌝ }
+    ensures ready { λ r. ⌜ Ready (memoryOf r (tablesOf (now (heads .exit)) (now (parents .exit)) (now (rows .exit)) (now (counts .exit)) (now (next .exit)) (now («book_heads» .exit)) (now («book_rows» .exit)) (now («book_next» .exit))) (now (work .exit)) (now (touched .exit)) (now (labels .exit))) ⌝ }
+    ensures answered { λ r. ⌜ LineAnswered (memoryOf factor (tablesOf (now (heads .entry)) (now (parents .entry)) (now (rows .entry)) (now (counts .entry)) (now (next .entry)) (now («book_heads» .entry)) (now («book_rows» .entry)) (now («book_next» .entry))) (now (work .entry)) (now (touched .entry)) (now (labels .entry))) (now (line .entry)) (memoryOf r (tablesOf (now (heads .exit)) (now (parents .exit)) (now (rows .exit)) (now (counts .exit)) (now (next .exit)) (now («book_heads» .exit)) (now («book_rows» .exit)) (now («book_next» .exit))) (now (work .exit)) (now (touched .exit)) (now (labels .exit))) ⌝ }
 {
     let x = listing_answers::answer(
         factor,
@@ -94,10 +97,12 @@ fn answer_next(
     requires ready { ⌜ Ready (memoryOf factor (tablesOf (now heads) (now parents) (now rows) (now counts) (now next) (now «book_heads») (now «book_rows») (now «book_next»)) (now work) (now touched) (now labels)) ⌝ }
     requires fits { ⌜ filled ≤ length (now line) ⌝ }
     requires more { ⌜ place < length (now piece) ⌝ }
+    requires whole { ⌜ length (now line) ≡ 2000 ⌝ }
     ensures ready { λ r. ⌜ Ready (memoryOf (r .factor) (tablesOf (now (heads .exit)) (now (parents .exit)) (now (rows .exit)) (now (counts .exit)) (now (next .exit)) (now («book_heads» .exit)) (now («book_rows» .exit)) (now («book_next» .exit))) (now (work .exit)) (now (touched .exit)) (now (labels .exit))) ⌝ }
     ensures fits { λ r. ⌜ r .filled ≤ length (now (line .entry)) ⌝ }
     ensures moves { λ r. ⌜ place < r .place ⌝ }
     ensures within { λ r. ⌜ r .place ≤ length (now (piece .entry)) ⌝ }
+    ensures served { λ r. ⌜ Served (take (r .place - place) (drop place (now (piece .entry)))) (now (line .entry)) filled (memoryOf factor (tablesOf (now (heads .entry)) (now (parents .entry)) (now (rows .entry)) (now (counts .entry)) (now (next .entry)) (now («book_heads» .entry)) (now («book_rows» .entry)) (now («book_next» .entry))) (now (work .entry)) (now (touched .entry)) (now (labels .entry))) (now (line .exit)) (r .filled) (memoryOf (r .factor) (tablesOf (now (heads .exit)) (now (parents .exit)) (now (rows .exit)) (now (counts .exit)) (now (next .exit)) (now («book_heads» .exit)) (now («book_rows» .exit)) (now («book_next» .exit))) (now (work .exit)) (now (touched .exit)) (now (labels .exit))) ⌝ }
 {
     let taken = listing_lines::take_line(piece, line, place, filled);
     let end = taken.length;
@@ -156,8 +161,10 @@ fn answer_piece(
     requires room { ⌜ 91520 ≤ length (now out) ⌝ }
     requires ready { ⌜ Ready (memoryOf factor (tablesOf (now heads) (now parents) (now rows) (now counts) (now next) (now «book_heads») (now «book_rows») (now «book_next»)) (now work) (now touched) (now labels)) ⌝ }
     requires fits { ⌜ filled ≤ length (now line) ⌝ }
+    requires whole { ⌜ length (now line) ≡ 2000 ⌝ }
     ensures ready { λ r. ⌜ Ready (memoryOf (r .factor) (tablesOf (now (heads .exit)) (now (parents .exit)) (now (rows .exit)) (now (counts .exit)) (now (next .exit)) (now («book_heads» .exit)) (now («book_rows» .exit)) (now («book_next» .exit))) (now (work .exit)) (now (touched .exit)) (now (labels .exit))) ⌝ }
     ensures fits { λ r. ⌜ r .filled ≤ length (now (line .entry)) ⌝ }
+    ensures served { λ r. ⌜ Served (now (piece .entry)) (now (line .entry)) filled (memoryOf factor (tablesOf (now (heads .entry)) (now (parents .entry)) (now (rows .entry)) (now (counts .entry)) (now (next .entry)) (now («book_heads» .entry)) (now («book_rows» .entry)) (now («book_next» .entry))) (now (work .entry)) (now (touched .entry)) (now (labels .entry))) (now (line .exit)) (r .filled) (memoryOf (r .factor) (tablesOf (now (heads .exit)) (now (parents .exit)) (now (rows .exit)) (now (counts .exit)) (now (next .exit)) (now («book_heads» .exit)) (now («book_rows» .exit)) (now («book_next» .exit))) (now (work .exit)) (now (touched .exit)) (now (labels .exit))) ⌝ }
 {
     let mut current = factor;
     let mut held = filled;
@@ -215,8 +222,10 @@ fn answer_pieces(
     requires places { ⌜ 1000 ≤ length (now list) ⌝ }
     requires room { ⌜ 91520 ≤ length (now out) ⌝ }
     requires ready { ⌜ Ready (memoryOf factor (tablesOf (now heads) (now parents) (now rows) (now counts) (now next) (now «book_heads») (now «book_rows») (now «book_next»)) (now work) (now touched) (now labels)) ⌝ }
+    requires whole { ⌜ length (now line) ≡ 2000 ⌝ }
     ensures ready { λ r. ⌜ Ready (memoryOf (r .factor) (tablesOf (now (heads .exit)) (now (parents .exit)) (now (rows .exit)) (now (counts .exit)) (now (next .exit)) (now («book_heads» .exit)) (now («book_rows» .exit)) (now («book_next» .exit))) (now (work .exit)) (now (touched .exit)) (now (labels .exit))) ⌝ }
     ensures fits { λ r. ⌜ r .filled ≤ length (now (line .entry)) ⌝ }
+    ensures served { λ r. ⌜ SomeServed (now (line .entry)) (memoryOf factor (tablesOf (now (heads .entry)) (now (parents .entry)) (now (rows .entry)) (now (counts .entry)) (now (next .entry)) (now («book_heads» .entry)) (now («book_rows» .entry)) (now («book_next» .entry))) (now (work .entry)) (now (touched .entry)) (now (labels .entry))) (now (line .exit)) (r .filled) (memoryOf (r .factor) (tablesOf (now (heads .exit)) (now (parents .exit)) (now (rows .exit)) (now (counts .exit)) (now (next .exit)) (now («book_heads» .exit)) (now («book_rows» .exit)) (now («book_next» .exit))) (now (work .exit)) (now (touched .exit)) (now (labels .exit))) ⌝ }
 {
     let mut current = factor;
     let mut held = 0;
@@ -280,6 +289,7 @@ fn serve(
     requires places { ⌜ 1000 ≤ length (now list) ⌝ }
     requires room { ⌜ 91520 ≤ length (now out) ⌝ }
     requires ready { ⌜ Ready (memoryOf factor (tablesOf (now heads) (now parents) (now rows) (now counts) (now next) (now «book_heads») (now «book_rows») (now «book_next»)) (now work) (now touched) (now labels)) ⌝ }
+    requires whole { ⌜ length (now line) ≡ 2000 ⌝ }
 {
     let progress = answer_pieces(
         factor,

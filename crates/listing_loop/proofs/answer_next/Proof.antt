@@ -5,6 +5,9 @@ use native.Mathlib.Omega.{arith}
 use lib.ListN.{length}
 use lib.Seq.{length-take-le}
 use Rattle.listing_lines.proofs.Lines.{grown-within, grown-moves}
+use Rattle.tables.specs.Tables.{tablesOf}
+use Rattle.listing_answers.specs.Listing.{Memory, memoryOf}
+use Rattle.listing_loop.proofs.Serving.{served-part, served-line}
 use Rattle.listing_loop.proofs.answer_next.Statement.{statement}
 use Rattle.listing_loop.proofs.answer_next.Tie as tie
 
@@ -20,6 +23,11 @@ taken-else c = c .before .before .before
 abbrev ended : tie.After-write-answer → tie.Then1
 ended c = c .before .before .before .before .before .before .before .before .before .before .before .before .before .before .before
 
+abbrev memoryAt : tie.Start → Memory
+memoryAt s =
+    memoryOf (s .args .factor) (tablesOf (s .args .heads .now) (s .args .parents .now) (s .args .rows .now) (s .args .counts .now) (s .args .next .now) (s .args .book-heads .now) (s .args .book-rows .now) (s .args .book-next .now))
+    (s .args .work .now) (s .args .touched .now) (s .args .labels .now)
+
 -- the line is one that its list holds
 held : (c : tie.After-take-line) → c .take-line .result .length ≤ length (c .take-line .last .1 .0)
 held c = omega (arith, c .take-line .ensures .fits, c .take-line .kept .1 .0)
@@ -27,7 +35,7 @@ held c = omega (arith, c .take-line .ensures .fits, c .take-line .kept .1 .0)
 take-line-requires : tie.Need-take-line-requires
 take-line-requires c κs =
     let s = c .before .before .before .before .before .before .before .before .before .before .before .before .before .before .before .before in
-    record { within = omega (arith, s .pre .1 .1 .1 .1); fits = s .pre .1 .1 .1 .0 }
+    record { within = omega (arith, s .pre .1 .1 .1 .1 .0); fits = s .pre .1 .1 .1 .0 }
 
 slice-reshare-prefix-write-answer : tie.Need-slice-reshare-prefix-write-answer
 slice-reshare-prefix-write-answer c = held (taken (c .before .before .before .before .before .before .before .before .before .before .before .before .before))
@@ -89,8 +97,17 @@ returns c =
     let w = c .before .before .before .before .before .before .before .before .before .before .before .before .before .before .before .before .before .before .before .before .before .before .before .before .before .before in
     let t = taken (ended w) in
     let s = entry t in (
-      w .write-answer .ensures,
-      (omega arith, (grown-moves (t .take-line .ensures) (s .pre .1 .1 .1 .1), grown-within (t .take-line .ensures) (s .pre .1 .1 .1 .1))),
+      w .write-answer .ensures .0,
+      (
+        omega arith,
+        (
+          grown-moves (t .take-line .ensures) (s .pre .1 .1 .1 .1 .0),
+          (
+            grown-within (t .take-line .ensures) (s .pre .1 .1 .1 .1 .0),
+            served-line (t .take-line .ensures) (s .pre .1 .1 .1 .1 .1) (ended w .if1 .taken) (w .write-answer .ensures .1) (t .take-line .last .1 .0),
+          ),
+        ),
+      ),
     )
 
 same-length-15 : tie.Need-same-length-15
@@ -101,7 +118,13 @@ returns-2 c =
     let t = taken-else c in
     let s = entry t in (
       s .pre .1 .1 .0,
-      (t .take-line .ensures .fits, (grown-moves (t .take-line .ensures) (s .pre .1 .1 .1 .1), grown-within (t .take-line .ensures) (s .pre .1 .1 .1 .1))),
+      (
+        t .take-line .ensures .fits,
+        (
+          grown-moves (t .take-line .ensures) (s .pre .1 .1 .1 .1 .0),
+          (grown-within (t .take-line .ensures) (s .pre .1 .1 .1 .1 .0), served-part (t .take-line .ensures) (s .pre .1 .1 .1 .1 .1) (memoryAt s) (c .if1 .left)),
+        ),
+      ),
     )
 
 pub answer-next-spec : {M : Type 1} → statement M

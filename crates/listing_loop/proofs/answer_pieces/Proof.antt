@@ -1,24 +1,35 @@
--- `answer_pieces` meets its contract. The loop's invariant: the next line may follow (`Keeping`), and the piece's list keeps its length. The measure is the
+-- `answer_pieces` meets its contract. The loop's invariant: the next line may follow (`Keeping`), the piece's list keeps its length, and what the reads gave is served. The measure is the
 -- number of reads left. Assumes nothing.
 use mathlib.Core.Path.{_≡_, refl, sym, _∙_}
+use mathlib.Core.List.{[]}
 use Prim.Native.Nat.{_≤_}
 use native.Mathlib.Omega.{arith}
 use borrow.Author.Needs.{needs}
 use lib.ListN.{length}
 use lib.Seq.{length-take-le}
 use Rattle.tables.specs.Tables.{tablesOf}
-use Rattle.listing_answers.specs.Listing.{memoryOf}
+use Rattle.listing_answers.specs.Listing.{Memory, memoryOf}
+use Rattle.listing_loop.specs.Serving.{SomeServed}
 use Rattle.listing_loop.proofs.Keeping.{Keeping}
+use Rattle.listing_loop.proofs.Serving.{served-none, some-more}
 use Rattle.listing_loop.proofs.answer_pieces.Statement.{statement}
 use Rattle.listing_loop.proofs.answer_pieces.Tie as tie
 
 abbrev Inv-loop : tie.InvT-loop
 Inv-loop heads₀ parents₀ rows₀ counts₀ next₀ book-heads₀ book-rows₀ book-next₀ work₀ touched₀ labels₀ list₀ out₀ line₀ piece₀ current₀ held₀ reads₀ heads parents rows counts next book-heads book-rows book-next work touched labels list out line piece current held reads =
-    Keeping (memoryOf current (tablesOf heads parents rows counts next book-heads book-rows book-next) work touched labels) list₀ out₀ line₀ list out line held × (length piece ≡ length piece₀)
+    Keeping (memoryOf current (tablesOf heads parents rows counts next book-heads book-rows book-next) work touched labels) list₀ out₀ line₀ list out line held ×
+    ((length piece ≡ length piece₀) ×
+    SomeServed line₀ (memoryOf current₀ (tablesOf heads₀ parents₀ rows₀ counts₀ next₀ book-heads₀ book-rows₀ book-next₀) work₀ touched₀ labels₀) line held
+    (memoryOf current (tablesOf heads parents rows counts next book-heads book-rows book-next) work touched labels))
 
 abbrev μ-loop : tie.MeasureT-loop
 μ-loop heads₀ parents₀ rows₀ counts₀ next₀ book-heads₀ book-rows₀ book-next₀ work₀ touched₀ labels₀ list₀ out₀ line₀ piece₀ current₀ held₀ reads₀ heads parents rows counts next book-heads book-rows book-next work touched labels list out line piece current held reads =
     reads
+
+abbrev memoryAt : tie.Start Inv-loop μ-loop → Memory
+memoryAt s =
+    memoryOf (s .args .factor) (tablesOf (s .args .heads .now) (s .args .parents .now) (s .args .rows .now) (s .args .counts .now) (s .args .next .now) (s .args .book-heads .now) (s .args .book-rows .now) (s .args .book-next .now))
+    (s .args .work .now) (s .args .touched .now) (s .args .labels .now)
 
 abbrev entry : tie.At-loop Inv-loop μ-loop → tie.Start Inv-loop μ-loop
 entry c = c .before .before .before .before .before .before .before .before .before .before .before .before .before .before .before .before
@@ -39,7 +50,7 @@ counted c = c .before .count .ensures .0 .0
 loop-holds : tie.Need-loop-holds Inv-loop μ-loop
 loop-holds c =
     let s = c .before .before .before .before .before .before .before .before .before .before .before .before .before .before .before in
-    (record { ready = s .pre .1 .1; list-long = refl; out-long = refl; line-long = refl; fits = omega arith }, refl)
+    (record { ready = s .pre .1 .1 .0; list-long = refl; out-long = refl; line-long = refl; fits = omega arith }, (refl, record { text = []; served = served-none (s .args .line .now) 0 (memoryAt s) }))
 
 sub-reads : tie.Need-sub-reads Inv-loop μ-loop
 sub-reads c = omega arith
@@ -51,37 +62,37 @@ count-requires : tie.Need-count-requires Inv-loop μ-loop
 count-requires c κs = search needs
 
 same-length : tie.Need-same-length Inv-loop μ-loop
-same-length c = ended c .before .loop .inv .0 .ready .lengths .heads ∙ sym (entry (ended c .before) .pre .1 .1 .lengths .heads)
+same-length c = ended c .before .loop .inv .0 .ready .lengths .heads ∙ sym (entry (ended c .before) .pre .1 .1 .0 .lengths .heads)
 
 same-length-2 : tie.Need-same-length-2 Inv-loop μ-loop
-same-length-2 c = ended c .before .loop .inv .0 .ready .lengths .parents ∙ sym (entry (ended c .before) .pre .1 .1 .lengths .parents)
+same-length-2 c = ended c .before .loop .inv .0 .ready .lengths .parents ∙ sym (entry (ended c .before) .pre .1 .1 .0 .lengths .parents)
 
 same-length-3 : tie.Need-same-length-3 Inv-loop μ-loop
-same-length-3 c = ended c .before .loop .inv .0 .ready .lengths .rows ∙ sym (entry (ended c .before) .pre .1 .1 .lengths .rows)
+same-length-3 c = ended c .before .loop .inv .0 .ready .lengths .rows ∙ sym (entry (ended c .before) .pre .1 .1 .0 .lengths .rows)
 
 same-length-4 : tie.Need-same-length-4 Inv-loop μ-loop
-same-length-4 c = ended c .before .loop .inv .0 .ready .lengths .counts ∙ sym (entry (ended c .before) .pre .1 .1 .lengths .counts)
+same-length-4 c = ended c .before .loop .inv .0 .ready .lengths .counts ∙ sym (entry (ended c .before) .pre .1 .1 .0 .lengths .counts)
 
 same-length-5 : tie.Need-same-length-5 Inv-loop μ-loop
-same-length-5 c = ended c .before .loop .inv .0 .ready .lengths .next ∙ sym (entry (ended c .before) .pre .1 .1 .lengths .next)
+same-length-5 c = ended c .before .loop .inv .0 .ready .lengths .next ∙ sym (entry (ended c .before) .pre .1 .1 .0 .lengths .next)
 
 same-length-6 : tie.Need-same-length-6 Inv-loop μ-loop
-same-length-6 c = ended c .before .loop .inv .0 .ready .lengths .book-heads ∙ sym (entry (ended c .before) .pre .1 .1 .lengths .book-heads)
+same-length-6 c = ended c .before .loop .inv .0 .ready .lengths .book-heads ∙ sym (entry (ended c .before) .pre .1 .1 .0 .lengths .book-heads)
 
 same-length-7 : tie.Need-same-length-7 Inv-loop μ-loop
-same-length-7 c = ended c .before .loop .inv .0 .ready .lengths .book-rows ∙ sym (entry (ended c .before) .pre .1 .1 .lengths .book-rows)
+same-length-7 c = ended c .before .loop .inv .0 .ready .lengths .book-rows ∙ sym (entry (ended c .before) .pre .1 .1 .0 .lengths .book-rows)
 
 same-length-8 : tie.Need-same-length-8 Inv-loop μ-loop
-same-length-8 c = ended c .before .loop .inv .0 .ready .lengths .book-next ∙ sym (entry (ended c .before) .pre .1 .1 .lengths .book-next)
+same-length-8 c = ended c .before .loop .inv .0 .ready .lengths .book-next ∙ sym (entry (ended c .before) .pre .1 .1 .0 .lengths .book-next)
 
 same-length-9 : tie.Need-same-length-9 Inv-loop μ-loop
-same-length-9 c = ended c .before .loop .inv .0 .ready .lengths .work ∙ sym (entry (ended c .before) .pre .1 .1 .lengths .work)
+same-length-9 c = ended c .before .loop .inv .0 .ready .lengths .work ∙ sym (entry (ended c .before) .pre .1 .1 .0 .lengths .work)
 
 same-length-10 : tie.Need-same-length-10 Inv-loop μ-loop
-same-length-10 c = ended c .before .loop .inv .0 .ready .lengths .touched ∙ sym (entry (ended c .before) .pre .1 .1 .lengths .touched)
+same-length-10 c = ended c .before .loop .inv .0 .ready .lengths .touched ∙ sym (entry (ended c .before) .pre .1 .1 .0 .lengths .touched)
 
 same-length-11 : tie.Need-same-length-11 Inv-loop μ-loop
-same-length-11 c = ended c .before .loop .inv .0 .ready .lengths .labels ∙ sym (entry (ended c .before) .pre .1 .1 .lengths .labels)
+same-length-11 c = ended c .before .loop .inv .0 .ready .lengths .labels ∙ sym (entry (ended c .before) .pre .1 .1 .0 .lengths .labels)
 
 same-length-12 : tie.Need-same-length-12 Inv-loop μ-loop
 same-length-12 c = ended c .before .loop .inv .0 .list-long
@@ -93,10 +104,10 @@ same-length-14 : tie.Need-same-length-14 Inv-loop μ-loop
 same-length-14 c = ended c .before .loop .inv .0 .line-long
 
 same-length-15 : tie.Need-same-length-15 Inv-loop μ-loop
-same-length-15 c = c .before .before .before .before .before .read .kept .1 .0 ∙ ended c .before .loop .inv .1
+same-length-15 c = c .before .before .before .before .before .read .kept .1 .0 ∙ ended c .before .loop .inv .1 .0
 
 returns : tie.Need-returns Inv-loop μ-loop
-returns c = let i = ended c .before .loop .inv .0 in (i .ready, i .fits)
+returns c = let l = ended c .before .loop in (l .inv .0 .ready, (l .inv .0 .fits, l .inv .1 .1))
 
 slice-reshare-prefix-answer-piece : tie.Need-slice-reshare-prefix-answer-piece Inv-loop μ-loop
 slice-reshare-prefix-answer-piece c = counted (c .before .before .before .before .before .before .before .before .before .before .before .before .before .before)
@@ -111,7 +122,7 @@ answer-piece-requires c κs =
     let l = read (c .before .before .before .before .before .before .before .before .before .before .before .before .before .before .before) in
     let s = entry (l .before) in
     let i = l .before .loop .inv .0 in
-    (omega (arith, s .pre .0, i .list-long), (omega (arith, s .pre .1 .0, i .out-long), (i .ready, omega (arith, i .fits, i .line-long))))
+    (omega (arith, s .pre .0, i .list-long), (omega (arith, s .pre .1 .0, i .out-long), (i .ready, (omega (arith, i .fits, i .line-long), i .line-long ∙ s .pre .1 .1 .1))))
 
 loop-less : tie.Need-loop-less Inv-loop μ-loop
 loop-less c = let l = read (chosen (c .before .before .before .before .before .before .before .before .before .before .before .before .before .before .before .before .before .before .before .before .before .before .before .before .before .before .before .before .before)) in omega (arith, l .loop-test .taken)
@@ -126,43 +137,43 @@ loop-again c =
         list-long = x .answer-piece .kept .1 .1 .1 .1 .1 .1 .1 .1 .1 .1 .1 .1 .0 ∙ i .list-long;
         out-long = x .answer-piece .kept .1 .1 .1 .1 .1 .1 .1 .1 .1 .1 .1 .1 .1 .0 ∙ i .out-long;
         line-long = x .answer-piece .kept .1 .1 .1 .1 .1 .1 .1 .1 .1 .1 .1 .1 .1 .1 .0 ∙ i .line-long;
-        fits = omega (arith, x .answer-piece .ensures .1, i .line-long);
+        fits = omega (arith, x .answer-piece .ensures .1 .0, i .line-long);
       },
-      e .before .before .before .before .before .read .kept .1 .0 ∙ read e .before .loop .inv .1,
+      (e .before .before .before .before .before .read .kept .1 .0 ∙ read e .before .loop .inv .1 .0, some-more (read e .before .loop .inv .1 .1) (x .answer-piece .ensures .1 .1)),
     )
 
 same-length-16 : tie.Need-same-length-16 Inv-loop μ-loop
-same-length-16 c = c .before .loop .inv .0 .ready .lengths .heads ∙ sym (entry (c .before) .pre .1 .1 .lengths .heads)
+same-length-16 c = c .before .loop .inv .0 .ready .lengths .heads ∙ sym (entry (c .before) .pre .1 .1 .0 .lengths .heads)
 
 same-length-17 : tie.Need-same-length-17 Inv-loop μ-loop
-same-length-17 c = c .before .loop .inv .0 .ready .lengths .parents ∙ sym (entry (c .before) .pre .1 .1 .lengths .parents)
+same-length-17 c = c .before .loop .inv .0 .ready .lengths .parents ∙ sym (entry (c .before) .pre .1 .1 .0 .lengths .parents)
 
 same-length-18 : tie.Need-same-length-18 Inv-loop μ-loop
-same-length-18 c = c .before .loop .inv .0 .ready .lengths .rows ∙ sym (entry (c .before) .pre .1 .1 .lengths .rows)
+same-length-18 c = c .before .loop .inv .0 .ready .lengths .rows ∙ sym (entry (c .before) .pre .1 .1 .0 .lengths .rows)
 
 same-length-19 : tie.Need-same-length-19 Inv-loop μ-loop
-same-length-19 c = c .before .loop .inv .0 .ready .lengths .counts ∙ sym (entry (c .before) .pre .1 .1 .lengths .counts)
+same-length-19 c = c .before .loop .inv .0 .ready .lengths .counts ∙ sym (entry (c .before) .pre .1 .1 .0 .lengths .counts)
 
 same-length-20 : tie.Need-same-length-20 Inv-loop μ-loop
-same-length-20 c = c .before .loop .inv .0 .ready .lengths .next ∙ sym (entry (c .before) .pre .1 .1 .lengths .next)
+same-length-20 c = c .before .loop .inv .0 .ready .lengths .next ∙ sym (entry (c .before) .pre .1 .1 .0 .lengths .next)
 
 same-length-21 : tie.Need-same-length-21 Inv-loop μ-loop
-same-length-21 c = c .before .loop .inv .0 .ready .lengths .book-heads ∙ sym (entry (c .before) .pre .1 .1 .lengths .book-heads)
+same-length-21 c = c .before .loop .inv .0 .ready .lengths .book-heads ∙ sym (entry (c .before) .pre .1 .1 .0 .lengths .book-heads)
 
 same-length-22 : tie.Need-same-length-22 Inv-loop μ-loop
-same-length-22 c = c .before .loop .inv .0 .ready .lengths .book-rows ∙ sym (entry (c .before) .pre .1 .1 .lengths .book-rows)
+same-length-22 c = c .before .loop .inv .0 .ready .lengths .book-rows ∙ sym (entry (c .before) .pre .1 .1 .0 .lengths .book-rows)
 
 same-length-23 : tie.Need-same-length-23 Inv-loop μ-loop
-same-length-23 c = c .before .loop .inv .0 .ready .lengths .book-next ∙ sym (entry (c .before) .pre .1 .1 .lengths .book-next)
+same-length-23 c = c .before .loop .inv .0 .ready .lengths .book-next ∙ sym (entry (c .before) .pre .1 .1 .0 .lengths .book-next)
 
 same-length-24 : tie.Need-same-length-24 Inv-loop μ-loop
-same-length-24 c = c .before .loop .inv .0 .ready .lengths .work ∙ sym (entry (c .before) .pre .1 .1 .lengths .work)
+same-length-24 c = c .before .loop .inv .0 .ready .lengths .work ∙ sym (entry (c .before) .pre .1 .1 .0 .lengths .work)
 
 same-length-25 : tie.Need-same-length-25 Inv-loop μ-loop
-same-length-25 c = c .before .loop .inv .0 .ready .lengths .touched ∙ sym (entry (c .before) .pre .1 .1 .lengths .touched)
+same-length-25 c = c .before .loop .inv .0 .ready .lengths .touched ∙ sym (entry (c .before) .pre .1 .1 .0 .lengths .touched)
 
 same-length-26 : tie.Need-same-length-26 Inv-loop μ-loop
-same-length-26 c = c .before .loop .inv .0 .ready .lengths .labels ∙ sym (entry (c .before) .pre .1 .1 .lengths .labels)
+same-length-26 c = c .before .loop .inv .0 .ready .lengths .labels ∙ sym (entry (c .before) .pre .1 .1 .0 .lengths .labels)
 
 same-length-27 : tie.Need-same-length-27 Inv-loop μ-loop
 same-length-27 c = c .before .loop .inv .0 .list-long
@@ -174,10 +185,10 @@ same-length-29 : tie.Need-same-length-29 Inv-loop μ-loop
 same-length-29 c = c .before .loop .inv .0 .line-long
 
 same-length-30 : tie.Need-same-length-30 Inv-loop μ-loop
-same-length-30 c = c .before .loop .inv .1
+same-length-30 c = c .before .loop .inv .1 .0
 
 returns-2 : tie.Need-returns-2 Inv-loop μ-loop
-returns-2 c = let i = c .before .loop .inv .0 in (i .ready, i .fits)
+returns-2 c = let l = c .before .loop in (l .inv .0 .ready, (l .inv .0 .fits, l .inv .1 .1))
 
 pub answer-pieces-spec : {M : Type 1} → statement M
 answer-pieces-spec =

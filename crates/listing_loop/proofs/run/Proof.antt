@@ -60,22 +60,25 @@ serve-requires c κs = (
   omega (arith, length-replicate {A = ℕ} 1000 0),
   (
     omega (arith, length-replicate {A = ℕ} 98304 0),
-    record {
-      lengths = record {
-        heads = length-replicate {A = ℕ} 64 0;
-        parents = length-replicate {A = ℕ} 64 0;
-        rows = length-replicate {A = ℕ} 2048 0;
-        counts = length-replicate {A = ℕ} 2048 0;
-        next = length-replicate {A = ℕ} 2048 0;
-        book-heads = length-replicate {A = ℕ} 256 0;
-        book-rows = length-replicate {A = ℕ} 2048 0;
-        book-next = length-replicate {A = ℕ} 2048 0;
-        work = length-replicate {A = ℕ} 12032 0;
-        touched = length-replicate {A = ℕ} 64 0;
-        labels = length-replicate {A = ℕ} 64 0;
-      };
-      usable = inl (c .before .before .before .before .before .before .before .before .before .before .before .before .before .before .before .closed .ensures);
-    },
+    (
+      record {
+        lengths = record {
+          heads = length-replicate {A = ℕ} 64 0;
+          parents = length-replicate {A = ℕ} 64 0;
+          rows = length-replicate {A = ℕ} 2048 0;
+          counts = length-replicate {A = ℕ} 2048 0;
+          next = length-replicate {A = ℕ} 2048 0;
+          book-heads = length-replicate {A = ℕ} 256 0;
+          book-rows = length-replicate {A = ℕ} 2048 0;
+          book-next = length-replicate {A = ℕ} 2048 0;
+          work = length-replicate {A = ℕ} 12032 0;
+          touched = length-replicate {A = ℕ} 64 0;
+          labels = length-replicate {A = ℕ} 64 0;
+        };
+        usable = inl (c .before .before .before .before .before .before .before .before .before .before .before .before .before .before .before .closed .ensures);
+      },
+      length-replicate {A = ℕ} 2000 0,
+    ),
   ),
 )
 

@@ -22,7 +22,7 @@ left c = c .before .before .before .before .before .before .before .before .befo
 
 -- the line is one that its list holds
 held : (c : tie.After-answer-pieces) → c .answer-pieces .result .filled ≤ length (c .answer-pieces .last .1 .1 .1 .1 .1 .1 .1 .1 .1 .1 .1 .1 .1 .1 .0)
-held c = omega (arith, c .answer-pieces .ensures .1, c .answer-pieces .kept .1 .1 .1 .1 .1 .1 .1 .1 .1 .1 .1 .1 .1 .1 .0)
+held c = omega (arith, c .answer-pieces .ensures .1 .0, c .answer-pieces .kept .1 .1 .1 .1 .1 .1 .1 .1 .1 .1 .1 .1 .1 .1 .0)
 
 answer-pieces-requires : tie.Need-answer-pieces-requires
 answer-pieces-requires c κs = c .before .before .before .before .before .before .before .before .before .before .before .before .before .before .before .before .before .before .before .before .before .before .before .before .before .before .before .before .before .before .pre

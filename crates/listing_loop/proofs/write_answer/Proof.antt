@@ -63,7 +63,8 @@ same-length-13 : tie.Need-same-length-13
 same-length-13 c = answered (c .before .before) .answer .kept .1 .1 .1 .1 .1 .1 .1 .1 .1 .1 .1 .1 .1 .0
 
 returns : tie.Need-returns
-returns c = answered (c .before .before) .answer .ensures .1
+returns c =
+    let a = answered (c .before .before) in (a .answer .ensures .1, record { bytes = a .answer .ensures .0 .bytes; says = a .answer .ensures .0 .says })
 
 pub write-answer-spec : {M : Type 1} → statement M
 write-answer-spec =
