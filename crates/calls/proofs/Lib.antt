@@ -3,6 +3,5 @@ pub mod Refusals
 pub mod Numbers
 pub mod Order
 pub mod Steps
-pub mod Batches
-pub mod Amends
-pub mod Room
+pub mod Changes
+pub mod Exchanges

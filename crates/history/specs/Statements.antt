@@ -16,10 +16,10 @@ use Rattle.tables.specs.Stored.{recordsOf, holdsFrom}
 use Rattle.tables.specs.Tables.{Tables, Limits, longEnough, storedIn, bookIn, registerOf, isSound}
 use Rattle.tables.specs.Stays.{ColumnStays, EntriesKeep, TailsStay}
 use Rattle.calls.specs.Refusals.{Refusal, accepted, isAccepted, orElse, bounds, sizesRefusal}
-use Rattle.calls.specs.Calls.{Call, opening, isOpening, isBatch, idsBy}
-use Rattle.calls.specs.Report.{touchedBy}
-use Rattle.calls.specs.Numbers.{earlyRefusal, callRefusal}
-use Rattle.calls.specs.Steps.{Answer, refusedBy, acceptedBy, Lent, lentTo, listsAfter, workAfter, withWork, World, Transition}
+use Rattle.calls.specs.Calls.{Change, opening, changing, Lent, withWork, Call, callOf, isOpening, isChange}
+use Rattle.calls.specs.Changes.{effect, touchedBy}
+use Rattle.calls.specs.Numbers.{callEarly, callRefusal}
+use Rattle.calls.specs.Steps.{Answer, refusedBy, acceptedBy, listsAfter, workAfter, World, bookedIn, Transition}
 use Rattle.history.specs.Runs.{Event, Run, Plain, plainAfter, Begun}
 use Rattle.history.specs.Example.{askedSizes, listedCalls, listedAnswers, listedTouched, listedLabels, laterCalls, laterAnswers, laterTouched, laterLabels, laterLists, lastCalls, lastAnswers, workLeft, lastWork, eventCalls, eventAnswers, eventTouched, eventLabels, eventWork, eventLists, shown, listing, laterListing, lastListing}
 
@@ -40,8 +40,8 @@ pub record Consistent (p : Plain) (v : World) : Type 0 where
   -- demand 3: tables sound
   pub sound : isSound (v .state) (v .tables) ≡ true
   -- demand 3: book = the plain register: the same columns, both ways, each id once
-  pub columns : (c : Column) → Mem c (registerOf (v .state) (v .tables) .columns) ↔ Mem c (p .register .columns)
-  pub book-once : noRepeats (idsOf (registerOf (v .state) (v .tables) .columns)) ≡ true
+  pub columns : (c : Column) → Mem c (bookedIn v .columns) ↔ Mem c (p .register .columns)
+  pub book-once : noRepeats (idsOf (bookedIn v .columns)) ≡ true
   pub register-once : noRepeats (idsOf (p .register .columns)) ≡ true
   -- demand 3: numbers justified: multiplicities and parents in the tables are the definition's for the register
   pub numbers : holdsFrom (storedIn (v .state) (v .tables)) (factorFor (p .register)) 1 (p .limits .m) ≡ true
@@ -52,33 +52,37 @@ pub record Consistent (p : Plain) (v : World) : Type 0 where
 
 -- the number and position that table lengths, limits, register and arguments give
 abbrev pub plainRefusal : Plain → Tables → Call → Refusal
-plainRefusal p t k = orElse (earlyRefusal (p .limits) t k) (callRefusal (p .limits) (p .register) k)
+plainRefusal p t k = orElse (callEarly (p .limits) t k) (callRefusal (p .limits) (p .register) k)
+
+-- what an accepted change may alter of record and tables, from world u to world v
+pub record AltersJust (p : Plain) (u : World) (c : Change) (v : World) : Type 0 where
+  -- demand 3: each accepted batch alters no column off its paths
+  pub others : (j : ℕ) → 1 ≤ j → j ≤ p .limits .m → among j (touchedBy (p .register) c) ≡ false →
+      ColumnStays (storedIn (u .state) (u .tables)) (storedIn (v .state) (v .tables)) j
+  -- "An entry that stands in a column before and after a batch keeps its record"
+  pub entries : (j : ℕ) → 1 ≤ j → j ≤ p .limits .m → EntriesKeep (storedIn (u .state) (u .tables)) (storedIn (v .state) (v .tables)) j
+  -- the book's column of every id that the batch does not name stays, and so do the places beyond the sizes
+  pub ids : (i : ℕ) → 1 ≤ i → i ≤ p .limits .n → among i (effect (p .register) c .ids) ≡ false →
+      book.ColumnStays (bookIn (u .state) (u .tables)) (bookIn (v .state) (v .tables)) i
+  pub tails : TailsStay (p .limits) (u .tables) (v .tables)
 
 -- what holds of one call, from world u to world v, against the register before it
 pub record Justified (p : Plain) (u : World) (e : Event) (v : World) : Type 0 where
   -- number, position and every other number, from the register
   pub answer : e .answer ≡
-      pick (isAccepted (plainRefusal p (u .tables) (e .call))) (acceptedBy (p .register) (e .call)) (refusedBy (plainRefusal p (u .tables) (e .call)))
+      pick (isAccepted (plainRefusal p (u .tables) (e .call))) (acceptedBy (p .register) (e .call .entry)) (refusedBy (plainRefusal p (u .tables) (e .call)))
   -- so never 6, and 1 to 4 only at openings
   pub never-unsound : e .answer .number ≢ 6
-  pub sizes-at-openings : isOpening (e .call) ≡ false → (e .answer .number ≡ 0) ⊎ (5 ≤ e .answer .number)
+  pub sizes-at-openings : isOpening (e .call .entry) ≡ false → (e .answer .number ≡ 0) ⊎ (5 ≤ e .answer .number)
   -- every lent list, from the register: the report, a question's list, the work table
   pub left : e .left ≡
       pick (isAccepted (plainRefusal p (u .tables) (e .call)))
       (listsAfter (p .register) (e .call) (workAfter (p .limits) (u .tables) (e .call)))
-      (withWork (lentTo (e .call)) (workAfter (p .limits) (u .tables) (e .call)))
+      (withWork (e .call .lent) (workAfter (p .limits) (u .tables) (e .call)))
   -- a refused call, a check or a question leaves record and tables
-  pub unchanged : (e .answer .number ≢ 0) ⊎ ((isBatch (e .call) || isOpening (e .call)) ≡ false) → v ≡ u
-  -- demand 3: each accepted batch alters no column off its paths
-  pub others : e .answer .number ≡ 0 → isBatch (e .call) ≡ true → (j : ℕ) → 1 ≤ j → j ≤ p .limits .m →
-      among j (touchedBy (p .register) (e .call)) ≡ false → ColumnStays (storedIn (u .state) (u .tables)) (storedIn (v .state) (v .tables)) j
-  -- "An entry that stands in a column before and after a batch keeps its record"
-  pub entries : e .answer .number ≡ 0 → isBatch (e .call) ≡ true → (j : ℕ) → 1 ≤ j → j ≤ p .limits .m →
-      EntriesKeep (storedIn (u .state) (u .tables)) (storedIn (v .state) (v .tables)) j
-  -- the book's column of every id that the batch does not name stays, and so do the places beyond the sizes
-  pub ids : e .answer .number ≡ 0 → isBatch (e .call) ≡ true → (i : ℕ) → 1 ≤ i → i ≤ p .limits .n → among i (idsBy (e .call)) ≡ false →
-      book.ColumnStays (bookIn (u .state) (u .tables)) (bookIn (v .state) (v .tables)) i
-  pub tails : e .answer .number ≡ 0 → isBatch (e .call) ≡ true → TailsStay (p .limits) (u .tables) (v .tables)
+  pub unchanged : (e .answer .number ≢ 0) ⊎ ((isChange (e .call .entry) || isOpening (e .call .entry)) ≡ false) → v ≡ u
+  -- what an accepted change alters
+  pub alters : e .answer .number ≡ 0 → (c : Change) → e .call .entry ≡ changing c → AltersJust p u c v
 
 -- ---- DEMAND 3, one claim about a list of calls from an accepted opening, refused ones among them
 
@@ -100,19 +104,19 @@ RunSplits =
 
 -- what a world holds, in place of a register
 abbrev pub plainOf : World → Plain
-plainOf u = record { limits = u .state .limits; register = registerOf (u .state) (u .tables) }
+plainOf u = record { limits = u .state .limits; register = bookedIn u }
 
 -- "On sound tables that no such list has left, what demand 3 says of an accepted batch holds too, with what they hold in place of the register": an
 -- accepted batch has passed 1 to 6, so that its tables are in range, long enough and sound is a conclusion here
 abbrev pub AnySound : Type 0
 AnySound =
-    (u : World) (e : Event) (v : World) → Transition u (e .call) (e .answer) (e .left) v → e .answer .number ≡ 0 → isBatch (e .call) ≡ true →
+    (u : World) (e : Event) (v : World) → Transition u (e .call) (e .answer) (e .left) v → e .answer .number ≡ 0 → isChange (e .call .entry) ≡ true →
     Consistent (plainOf u) u × Justified (plainOf u) u e v × Consistent (plainAfter (plainOf u) (e ∷ [])) v
 
 -- every accepted opening leaves sound tables
 abbrev pub OpeningSound : Type 0
 OpeningSound =
-    (u : World) (l : Limits) (w : List ℕ) (a : Answer) (x : Lent) (v : World) → Transition u (opening l w) a x v → a .number ≡ 0 →
+    (u : World) (l : Limits) (w : Lent) (a : Answer) (x : Lent) (v : World) → Transition u (callOf (opening l) w) a x v → a .number ≡ 0 →
     isSound (v .state) (v .tables) ≡ true
 
 -- ---- a run that is, so that nothing above is empty: the listed example, with a refused addition among the others; then a check, every question and a

@@ -1,27 +1,52 @@
--- What an accepted batch does to a register whose columns fit and have distinct ids: a removal's batch and what stays are what there was (`removal-bag`),
--- the batch's columns fit, those after it too, and a column that is not touched is the same before and after (`untouched-same`).
--- Assumes nothing.
+-- What a change does to a register: what an addition and a removal touch (`touched-adding`, `touched-removing`), that touched columns rise, and, where the
+-- change is accepted and the columns fit and have distinct ids: a removal's batch and what stays are what there was (`removal-bag`), the columns after it fit,
+-- and a column that is not touched is the same before and after (`untouched-same`). Assumes nothing.
 use mathlib.Core.Path.{_≡_, refl, sym, ap, _∙_}
 use mathlib.Core.Logic.{inl, inr}
-use mathlib.Core.Bool.{Bool, true, false, true≢false, false≢true}
+use mathlib.Core.Bool.{Bool, true, false, true≢false}
 use mathlib.Core.List.{List, _++_}
 use Prim.Native.Nat.{ℕ, _≤_}
-use Rattle.lists.specs.Lists.{all, among, noRepeats}
+use lib.ListN.{length}
+use Rattle.lists.specs.Lists.{all, among, noRepeats, rises}
 use Rattle.lists.proofs.Tests.{refute}
 use Rattle.lists.proofs.Member.{mem-left, mem-right, mem-either, all-at, all-make}
 use Rattle.symbolic.specs.Columns.{Column, Register, live}
 use Rattle.symbolic.specs.Factor.{FactorColumn, factorOf, factorFor, columnAt}
 use Rattle.symbolic.specs.Batch.{isTouched, touched}
-use Rattle.symbolic.specs.Change.{idsOf, without, columnsOf, Bag}
+use Rattle.symbolic.specs.Change.{idsOf, without, columnsOf, added, removed, Bag}
+use Rattle.symbolic.proofs.Build.{factor-length}
 use Rattle.symbolic.proofs.Bags.{bag-mem}
+use Rattle.symbolic.proofs.Exchange.{exchanged-entering, exchanged-leaving, exchanged-rises}
 use Rattle.symbolic.proofs.Theorems.{locality, order-free, removal-splits, touched-is}
 use Rattle.book.specs.Book.{columnFits}
 use Rattle.tables.specs.Tables.{Limits}
 use Rattle.calls.specs.Refusals.{isAccepted, batchOf}
-use Rattle.calls.specs.Calls.{Call, opening, adding, removing, checking, askMultiplicity, askParent, askPath, askColumn, registerAfter, isBatch, batchColumns}
-use Rattle.calls.specs.Report.{touchedBy}
-use Rattle.calls.specs.Numbers.{callRefusal}
+use Rattle.calls.specs.Calls.{Change, adding, removing}
+use Rattle.calls.specs.Changes.{effect, touchedBy}
 use Rattle.calls.proofs.Refusals.{add-facts, RemoveFits, remove-facts}
+
+-- ---- what a change touches
+
+module _ (r : Register) where
+  -- "in the tree after the call when adding"
+  pub touched-adding : (is ns rs : List ℕ) → touchedBy r (adding is ns rs) ≡ touched (factorFor (added r (batchOf is ns rs))) (batchOf is ns rs)
+  touched-adding is ns rs = exchanged-entering (factorFor r) (factorFor (added r (batchOf is ns rs))) (batchOf is ns rs)
+
+  -- "before it when removing"
+  pub touched-removing : (is : List ℕ) → touchedBy r (removing is) ≡ touched (factorFor r) (columnsOf is (r .columns))
+  touched-removing is =
+      exchanged-leaving (factorFor r) (factorFor (removed r is)) (columnsOf is (r .columns))
+      (factor-length (r .m) (live r) ∙ sym (factor-length (r .m) (live (removed r is))))
+
+  -- no change alters m
+  pub rows-stay : (c : Change) → effect r c .register .m ≡ r .m
+  rows-stay (adding is ns rs) = refl
+  rows-stay (removing is) = refl
+
+  pub touched-rise : (c : Change) → rises 1 (r .m) (touchedBy r c) ≡ true
+  touched-rise (adding is ns rs) =
+      exchanged-rises (r .m) (live r) (live (added r (batchOf is ns rs))) (effect r (adding is ns rs) .leave) (effect r (adding is ns rs) .enter)
+  touched-rise (removing is) = exchanged-rises (r .m) (live r) (live (removed r is)) (effect r (removing is) .leave) (effect r (removing is) .enter)
 
 -- ---- lists of columns that pass a test
 
@@ -47,30 +72,13 @@ removal-fits f l r is u g h =
     let W : List Column = columnsOf is (r .columns) in
     append-all f R W (all-make f (R ++ W) (λ c m. all-at f (bag-mem (r .columns) (R ++ W) (removal-bag l r is u g) m) h))
 
--- ---- an accepted call
+-- ---- an accepted change
 
-module _ (l : Limits) (r : Register) (u : noRepeats (idsOf (r .columns)) ≡ true) (fits : all (columnFits (r .m)) (r .columns) ≡ true) where
-  pub batch-fits : (k : Call) → isBatch k ≡ true → isAccepted (callRefusal l r k) ≡ true → all (columnFits (r .m)) (batchColumns r k) ≡ true
-  batch-fits (opening k w) q h = absurd (false≢true q)
-  batch-fits (adding is ns rs w a b) q h = add-facts l r is ns rs h .columns .fits
-  batch-fits (removing is w a b) q h = removal-fits (columnFits (r .m)) l r is u (remove-facts l r is h) fits .1
-  batch-fits (checking w) q h = absurd (false≢true q)
-  batch-fits (askMultiplicity i j w) q h = absurd (false≢true q)
-  batch-fits (askParent j w) q h = absurd (false≢true q)
-  batch-fits (askPath j p w xs) q h = absurd (false≢true q)
-  batch-fits (askColumn j p w xs) q h = absurd (false≢true q)
-
-  pub fits-after : (k : Call) → isAccepted (callRefusal l r k) ≡ true → all (columnFits (registerAfter r k .m)) (registerAfter r k .columns) ≡ true
-  unfolding all
-  fits-after (opening k w) h = refl
-  fits-after (adding is ns rs w a b) h =
-      all-append (columnFits (r .m)) (r .columns) (batchOf is ns rs) fits (add-facts l r is ns rs h .columns .fits)
-  fits-after (removing is w a b) h = removal-fits (columnFits (r .m)) l r is u (remove-facts l r is h) fits .0
-  fits-after (checking w) h = fits
-  fits-after (askMultiplicity i j w) h = fits
-  fits-after (askParent j w) h = fits
-  fits-after (askPath j p w xs) h = fits
-  fits-after (askColumn j p w xs) h = fits
+-- the columns after it fit
+pub fits-after : (l : Limits) (r : Register) → noRepeats (idsOf (r .columns)) ≡ true → all (columnFits (r .m)) (r .columns) ≡ true →
+    (c : Change) → isAccepted (effect r c .refusal l) ≡ true → all (columnFits (r .m)) (effect r c .register .columns) ≡ true
+fits-after l r u fits (adding is ns rs) h = all-append (columnFits (r .m)) (r .columns) (batchOf is ns rs) fits (add-facts l r is ns rs h .columns .fits)
+fits-after l r u fits (removing is) h = removal-fits (columnFits (r .m)) l r is u (remove-facts l r is h) fits .0
 
 -- a column that the report leaves out is on no path
 untouched : (m : ℕ) (cs batch : List Column) (j : ℕ) → 1 ≤ j → j ≤ m → among j (touched (factorOf m cs) batch) ≡ false → isTouched (factorOf m cs) batch j ≡ false
@@ -84,19 +92,15 @@ removal-factor l r is u f = order-free (r .m) (r .columns) (without is (r .colum
 
 -- "alters no column off its paths", of the definition itself
 module _ (l : Limits) (r : Register) (u : noRepeats (idsOf (r .columns)) ≡ true) (j : ℕ) (a : 1 ≤ j) (b : j ≤ r .m) where
-  pub untouched-same : (k : Call) → isBatch k ≡ true → isAccepted (callRefusal l r k) ≡ true → among j (touchedBy r k) ≡ false →
-      columnAt (factorFor (registerAfter r k)) j ≡ columnAt (factorFor r) j
-  untouched-same (opening k w) q h t = absurd (false≢true q)
-  untouched-same (adding is ns rs w x y) q h t =
-      sym (locality (r .m) (r .columns) (batchOf is ns rs) j a b (untouched (r .m) (r .columns ++ batchOf is ns rs) (batchOf is ns rs) j a b t))
-  untouched-same (removing is w x y) q h t =
+  pub untouched-same : (c : Change) → isAccepted (effect r c .refusal l) ≡ true → among j (touchedBy r c) ≡ false →
+      columnAt (factorFor (effect r c .register)) j ≡ columnAt (factorFor r) j
+  untouched-same (adding is ns rs) h t =
+      sym (locality (r .m) (r .columns) (batchOf is ns rs) j a b
+      (untouched (r .m) (r .columns ++ batchOf is ns rs) (batchOf is ns rs) j a b (ap (λ (js : List ℕ). among j js) (sym (touched-adding r is ns rs)) ∙ t)))
+  untouched-same (removing is) h t =
       let R : List Column = without is (r .columns) in
       let W : List Column = columnsOf is (r .columns) in
       let e : factorFor r ≡ factorOf (r .m) (R ++ W) = removal-factor l r is u (remove-facts l r is h) in
-      locality (r .m) R W j a b (untouched (r .m) (R ++ W) W j a b (ap (λ (fs : List FactorColumn). among j (touched fs W)) (sym e) ∙ t)) ∙
+      let q : among j (touched (factorFor r) W) ≡ false = ap (λ (js : List ℕ). among j js) (sym (touched-removing r is)) ∙ t in
+      locality (r .m) R W j a b (untouched (r .m) (R ++ W) W j a b (ap (λ (fs : List FactorColumn). among j (touched fs W)) (sym e) ∙ q)) ∙
       ap (λ (fs : List FactorColumn). columnAt fs j) (sym e)
-  untouched-same (checking w) q h t = absurd (false≢true q)
-  untouched-same (askMultiplicity i k w) q h t = absurd (false≢true q)
-  untouched-same (askParent k w) q h t = absurd (false≢true q)
-  untouched-same (askPath k p w xs) q h t = absurd (false≢true q)
-  untouched-same (askColumn k p w xs) q h t = absurd (false≢true q)
