@@ -8,7 +8,7 @@ use lib.ListN.{length}
 use Rattle.symbolic.specs.Columns.{Register}
 use Rattle.tables.specs.Tables.{Tables, Limits, State, registerOf, isSound}
 use Rattle.calls.specs.Refusals.{Refusal, accepted, orElse, unless, listsLong, earlyRefusal, roomFor}
-use Rattle.calls.specs.Calls.{Entry, opening, changing, checking, asking, Lent, Call, isOpening, limitsAfter}
+use Rattle.calls.specs.Calls.{Question, Entry, opening, changing, checking, asking, Lent, Call, isOpening, limitsAfter}
 use Rattle.calls.specs.Changes.{effect}
 use Rattle.calls.specs.Questions.{response}
 
@@ -28,12 +28,16 @@ callEarly l t k =
 abbrev pub soundRefusal : State → Tables → Entry → Refusal
 soundRefusal s t e = unless (isOpening e || isSound s t) 6 0
 
--- 7 to 18, by the register; list: the one lent to a question, "18: the list ends before the answer does"
+-- 17, then 18 "the list ends before the answer does": of a question whose list is written from a place on
+abbrev pub askRefusal : Register → Question → (place : ℕ) → (list : List ℕ) → Refusal
+askRefusal r q p xs = orElse (response r q .refusal) (roomFor xs p (length (response r q .list)))
+
+-- 7 to 18, by the register; list: the one lent to a question
 abbrev pub ownRefusal : Limits → Register → Entry → (list : List ℕ) → Refusal
 ownRefusal l r (opening k) xs = accepted
 ownRefusal l r (changing c) xs = effect r c .refusal l
 ownRefusal l r checking xs = accepted
-ownRefusal l r (asking q p) xs = orElse (response r q .refusal) (roomFor xs p (length (response r q .list)))
+ownRefusal l r (asking q p) xs = askRefusal r q p xs
 
 -- the same of a call
 abbrev pub callRefusal : Limits → Register → Call → Refusal

@@ -1,5 +1,5 @@
--- A batch written: an accepted batch has what the writing of its plan asks (`write-can`), and columns so written with a book changed by the call
--- (`BookAfter`) are the call's world and report (`batch-written`). Adding and removing differ only in the book's change: Booking.antt. Assumes nothing.
+-- A batch written: an accepted batch has what the writing of its plan asks (`write-can`), and columns so written with a book changed by it
+-- (`BookAfter`) are the change's world and report (`batch-written`). Adding and removing differ only in the book's change: Booking.antt. Assumes nothing.
 use mathlib.Core.Path.{_≡_, refl, sym, ap, _∙_, subst}
 use mathlib.Core.Bool.{Bool, true, false, false≢true}
 use mathlib.Core.List.{List, [], _∷_, _++_}
@@ -9,53 +9,29 @@ use lib.ListN.{length, drop, drop-of-length-le}
 use Rattle.lists.specs.Lists.{among, rises, over}
 use Rattle.lists.proofs.Tests.{both-and}
 use Rattle.symbolic.specs.Columns.{Column, Register}
-use Rattle.symbolic.specs.Factor.{FactorColumn, factorOf, factorFor, columnAt}
-use Rattle.symbolic.specs.Batch.{labelOf, labelsOf, touched}
+use Rattle.symbolic.specs.Factor.{factorOf, factorFor, columnAt}
 use Rattle.symbolic.specs.Change.{Bag}
-use Rattle.symbolic.proofs.Theorems.{touched-rises}
 use Rattle.book.specs.Book as book
 use Rattle.tables.specs.Stored.{Stored, Sized, isSoundFor}
 use Rattle.tables.specs.Stays.{ColumnStays, EntriesKeep, Beyond}
 use Rattle.tables.specs.Tables.{Tables, storedIn, bookIn, isSound}
 use Rattle.tables.proofs.Stored.{sound-bag}
 use Rattle.calls.specs.Refusals.{isAccepted}
-use Rattle.calls.specs.Calls.{Call, opening, adding, removing, checking, askMultiplicity, askParent, askPath, askColumn, registerAfter, isBatch, batchColumns, idsBy}
-use Rattle.calls.specs.Report.{treeFor, touchedBy, labelsBy}
-use Rattle.calls.specs.Steps.{World, Amended}
-use Rattle.calls.proofs.Batches.{untouched-same}
+use Rattle.calls.specs.Calls.{Change}
+use Rattle.calls.specs.Changes.{effect, touchedBy, labelled}
+use Rattle.calls.specs.Steps.{bookedIn, Exchanged}
+use Rattle.calls.proofs.Changes.{rows-stay, touched-rise, untouched-same}
 use Rattle.updown.specs.Plans.{PlanIs}
 use Rattle.commit.specs.Writes.{labelsFor, CanWrite, Written}
 use Rattle.batch.specs.Outcome.{cutLimits, cutWorld, CanFind, CanBatch}
-use Rattle.batch.specs.Parts.{storedWhole, bookWhole, registerIn, numberFor, CanWriteBatch, BatchWritten}
+use Rattle.batch.specs.Parts.{storedWhole, bookWhole, numberFor, CanWriteBatch, BatchWritten}
 use Rattle.batch.proofs.Cut as cut
 
 -- the labels of a plan are the report's
-labels-same : (fs : List FactorColumn) (ws : List Column) (js : List ℕ) → labelsFor (labelOf fs ws) js ≡ labelsOf fs ws js
-unfolding labelsFor labelsOf
-labels-same fs ws [] = refl
-labels-same fs ws (j ∷ js) = ap (λ (ls : List ℕ). labelOf fs ws j ∷ ls) (labels-same fs ws js)
-
--- touched columns rise
-touched-rise : (r : Register) (k : Call) → isBatch k ≡ true → rises 1 (r .m) (touchedBy r k) ≡ true
-touched-rise r (opening l w) q = absurd (false≢true q)
-touched-rise r (adding is ns rs w a b) q = touched-rises (r .m) (registerAfter r (adding is ns rs w a b) .columns) (batchColumns r (adding is ns rs w a b))
-touched-rise r (removing is w a b) q = touched-rises (r .m) (r .columns) (batchColumns r (removing is w a b))
-touched-rise r (checking w) q = absurd (false≢true q)
-touched-rise r (askMultiplicity i j w) q = absurd (false≢true q)
-touched-rise r (askParent j w) q = absurd (false≢true q)
-touched-rise r (askPath j p w xs) q = absurd (false≢true q)
-touched-rise r (askColumn j p w xs) q = absurd (false≢true q)
-
--- a batch keeps m
-rows-stay : (r : Register) (k : Call) → isBatch k ≡ true → registerAfter r k .m ≡ r .m
-rows-stay r (opening l w) q = absurd (false≢true q)
-rows-stay r (adding is ns rs w a b) q = refl
-rows-stay r (removing is w a b) q = refl
-rows-stay r (checking w) q = refl
-rows-stay r (askMultiplicity i j w) q = refl
-rows-stay r (askParent j w) q = refl
-rows-stay r (askPath j p w xs) q = refl
-rows-stay r (askColumn j p w xs) q = refl
+labels-same : (f : ℕ → ℕ) (js : List ℕ) → labelsFor f js ≡ labelled f js
+unfolding labelsFor labelled
+labels-same f [] = refl
+labels-same f (j ∷ js) = ap (λ (ls : List ℕ). f j ∷ ls) (labels-same f js)
 
 -- ---- the book's change, of any batch
 
@@ -86,17 +62,17 @@ beyond-cut q = beyond-at refl q
 
 -- ---- the plan's writing
 
-module _ {t : Tables} {f g : ℕ} {k : Call} {w w′ a b : List ℕ} {first used : ℕ} (batch : isBatch k ≡ true)
+module _ {t : Tables} {f g : ℕ} {k : Change} {w w′ a b : List ℕ} {first used : ℕ}
     (c : CanWriteBatch (cutWorld t f g) k w w′ a b first used) where
   abbrev r : Register
-  r = registerIn (cutWorld t f g)
+  r = bookedIn (cutWorld t f g)
 
   abbrev find : CanFind (cutWorld t f g) w
   find = c .can .find
 
   pub write-can :
-      CanWrite (storedWhole t f) (registerIn (cutWorld t f g) .columns) (registerAfter (registerIn (cutWorld t f g)) k .columns)
-      (labelOf (treeFor (registerIn (cutWorld t f g)) k) (batchColumns (registerIn (cutWorld t f g)) k)) (touchedBy (registerIn (cutWorld t f g)) k)
+      CanWrite (storedWhole t f) (bookedIn (cutWorld t f g) .columns) (effect (bookedIn (cutWorld t f g)) k .register .columns)
+      (effect (bookedIn (cutWorld t f g)) k .label) (touchedBy (bookedIn (cutWorld t f g)) k)
       w w′ a b first (c .count) (c .entries) used
   write-can =
       record {
@@ -106,14 +82,14 @@ module _ {t : Tables} {f g : ℕ} {k : Call} {w w′ a b : List ℕ} {first used
         free = c .plan .room;
         free-enough = c .plan .room-fits;
         plan = subst (λ (n : ℕ).
-            PlanIs (r .m) (length (t .next)) (c .plan .room) (factorFor r) (factorOf n (registerAfter r k .columns)) (labelOf (treeFor r k) (batchColumns r k)) (touchedBy r k) w w′ first (c .count) (c .entries) used)
-            (rows-stay r k batch) (c .plan .plan);
+            PlanIs (r .m) (length (t .next)) (c .plan .room) (factorFor r) (factorOf n (effect r k .register .columns)) (effect r k .label) (touchedBy r k) w w′ first (c .count) (c .entries) used)
+            (rows-stay r k) (c .plan .plan);
         zero = cut.work-zero find;
         long = cut.work-long find;
-        rising = touched-rise r k batch;
+        rising = touched-rise r k;
         off = λ j p q h. sym
-            (subst (λ (n : ℕ). columnAt (factorOf n (registerAfter r k .columns)) j ≡ columnAt (factorFor r) j) (rows-stay r k batch)
-            (untouched-same (cutLimits t) r (cut.columns-distinct find) j p q k batch (c .accepted) h));
+            (subst (λ (n : ℕ). columnAt (factorOf n (effect r k .register .columns)) j ≡ columnAt (factorFor r) j) (rows-stay r k)
+            (untouched-same (cutLimits t) r (cut.columns-distinct find) j p q k (c .accepted) h));
         touched-long = c .can .touched-long;
         labels-long = c .can .labels-long;
       }
@@ -121,9 +97,9 @@ module _ {t : Tables} {f g : ℕ} {k : Call} {w w′ a b : List ℕ} {first used
   -- ---- columns written and a book changed
 
   module _ {t′ : Tables} {f′ g′ : ℕ} {w″ a′ b′ : List ℕ} (same-next : length (t′ .next) ≡ length (t .next))
-      (x : Written (storedWhole t f) (registerAfter (registerIn (cutWorld t f g)) k .columns)
-      (labelOf (treeFor (registerIn (cutWorld t f g)) k) (batchColumns (registerIn (cutWorld t f g)) k)) (touchedBy (registerIn (cutWorld t f g)) k) w a b (storedWhole t′ f′) w″ a′ b′)
-      (y : BookAfter (length (t .heads)) (bookWhole t g) (registerAfter (registerIn (cutWorld t f g)) k .columns) (idsBy k) (bookWhole t′ g′)) where
+      (x : Written (storedWhole t f) (effect (bookedIn (cutWorld t f g)) k .register .columns)
+      (effect (bookedIn (cutWorld t f g)) k .label) (touchedBy (bookedIn (cutWorld t f g)) k) w a b (storedWhole t′ f′) w″ a′ b′)
+      (y : BookAfter (length (t .heads)) (bookWhole t g) (effect (bookedIn (cutWorld t f g)) k .register .columns) (effect (bookedIn (cutWorld t f g)) k .ids) (bookWhole t′ g′)) where
     abbrev same-heads : length (t′ .heads) ≡ length (t .heads)
     same-heads = ap length (x .heads)
 
@@ -133,27 +109,27 @@ module _ {t : Tables} {f g : ℕ} {k : Call} {w w′ a b : List ℕ} {first used
     book-after : bookIn (cutWorld t′ f′ g′ .state) t′ ≡ bookWhole t′ g′
     book-after = cut.book-whole t′ f′ g′ (y .sized)
 
-    columns-after : Bag (registerIn (cutWorld t′ f′ g′) .columns) (registerAfter (registerIn (cutWorld t f g)) k .columns)
-    columns-after = subst (λ (d : book.Book). Bag (book.columnsIn d) (registerAfter r k .columns)) (sym book-after) (y .columns)
+    columns-after : Bag (bookedIn (cutWorld t′ f′ g′) .columns) (effect (bookedIn (cutWorld t f g)) k .register .columns)
+    columns-after = subst (λ (d : book.Book). Bag (book.columnsIn d) (effect r k .register .columns)) (sym book-after) (y .columns)
 
     sound-after : isSound (cutWorld t′ f′ g′ .state) t′ ≡ true
     sound-after =
         let p : book.isSound (length (t′ .heads)) (bookIn (cutWorld t′ f′ g′ .state) t′) ≡ true =
         subst (λ (d : book.Book). book.isSound (length (t′ .heads)) d ≡ true) (sym book-after)
         (subst (λ (n : ℕ). book.isSound n (bookWhole t′ g′) ≡ true) (sym same-heads) (y .sound)) in
-        let q : isSoundFor (registerIn (cutWorld t′ f′ g′) .columns) (storedIn (cutWorld t′ f′ g′ .state) t′) ≡ true =
-        subst (λ (s : Stored). isSoundFor (registerIn (cutWorld t′ f′ g′) .columns) s ≡ true) (sym stored-after)
-        (sound-bag (registerIn (cutWorld t′ f′ g′) .columns) (registerAfter r k .columns) (storedWhole t′ f′) columns-after ∙ x .sound) in
+        let q : isSoundFor (bookedIn (cutWorld t′ f′ g′) .columns) (storedIn (cutWorld t′ f′ g′ .state) t′) ≡ true =
+        subst (λ (s : Stored). isSoundFor (bookedIn (cutWorld t′ f′ g′) .columns) s ≡ true) (sym stored-after)
+        (sound-bag (bookedIn (cutWorld t′ f′ g′) .columns) (effect r k .register .columns) (storedWhole t′ f′) columns-after ∙ x .sound) in
         both-and p q
 
-    pub batch-amended : Amended (cutWorld t f g) k (cutWorld t′ f′ g′)
-    batch-amended =
+    pub batch-exchanged : Exchanged (cutWorld t f g) k (cutWorld t′ f′ g′)
+    batch-exchanged =
         record {
           limits = λ i. record { m = same-heads i; n = y .same-heads i; f = same-next i; c = y .same-records i };
           sound = sound-after;
           columns = columns-after;
           others = λ j p q h. both-read (λ (s s′ : Stored). ColumnStays s s′ j) (cut.stored-cut find) stored-after (x .others j p q h);
-          entries = λ j p q. both-read (λ (s s′ : Stored). EntriesKeep s s′ j) (cut.stored-cut find) stored-after (x .keep j p q);
+          entries = λ j p q i o d e h n. both-read (λ (s s′ : Stored). EntriesKeep s s′ j) (cut.stored-cut find) stored-after (x .keep j p q) i o d e h;
           book = λ i p q h. both-read (λ (d d′ : book.Book). book.ColumnStays d d′ i) (cut.book-cut find) book-after (y .others i p q h);
           tails = record {
             heads = beyond-cut same-heads;
@@ -170,8 +146,8 @@ module _ {t : Tables} {f g : ℕ} {k : Call} {w w′ a b : List ℕ} {first used
     pub batch-written : BatchWritten (cutWorld t f g) k w a b (cutWorld t′ f′ g′) w″ a′ b′
     batch-written =
         record {
-          amended = batch-amended;
+          exchanged = batch-exchanged;
           work-is = x .work-is;
           touched-is = x .touched-is;
-          labels-is = x .labels-is ∙ ap (λ (ls : List ℕ). over ls b) (labels-same (treeFor r k) (batchColumns r k) (touchedBy r k));
+          labels-is = x .labels-is ∙ ap (λ (ls : List ℕ). over ls b) (labels-same (effect r k .label) (touchedBy r k));
         }
