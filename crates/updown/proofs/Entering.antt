@@ -65,12 +65,10 @@ module _ {heads parents rows counts next row-counts row-list : List ℕ} {m flag
 
         pub enter-stops : fits ≡ false → Entered next work₀ w₂ m flags F R W fits f′ l′ n′ k′ used′ avail′
         enter-stops bad =
-            let p : (Halted m flags R W work₀ w₂ j used′ (done m R W (suc j)) × (f′ ≡ firstOf (done m R W (suc j)))) × (l′ ≡ j) = turned .halted refl bad in
-            let g : j ≡ l′ = sym (p .1) in
             record {
               made = λ x. absurd (true≢false (sym x ∙ bad));
               halted = λ _. (
-                (subst (λ (x : ℕ). Halted m flags R W work₀ w₂ x used′ (done m R W (suc x))) g (p .0 .0), p .0 .1 ∙ ap (λ (x : ℕ). firstOf (done m R W (suc x))) g),
+                turned .halted bad,
                 sizes-exceed (c .size) j (h .marked z .0) (h .marked z .1) (c .setting .columns .narrow) (c .setting .columns .few) (seeking-begun (c .setting) h z e .touched)
                     (turning .numbers) (sym (turned .fits-is) ∙ bad),
               );

@@ -117,18 +117,6 @@ module _ {heads parents rows counts next : List ℕ} {m flags : ℕ} {R W : List
         subst (λ (v : ℕ). Between next work₀ w₂ m flags R W adding free (suc j) f′ l′ c′ k′ v avail′) (sym eu)
         (subst (λ (v : ℕ). Between next work₀ w₂ m flags R W adding free (suc j) f′ l′ c′ k′ (e .used) v) (sym ea) (record { walking = h; numbers = nums }))
 
-  -- a turn that does not fit, adding
-  pub turned-halted : {w₁ : List ℕ} {e : Emission} → Planned next w w₁ m R W adding j used avail e → {f′ l′ used′ : ℕ} → f′ ≡ pick (eqb f 0) j f → l′ ≡ j → used′ ≡ e .used → adding ≡ true →
-      (Halted m flags R W work₀ w₁ j used′ (done m R W (suc j)) × (f′ ≡ firstOf (done m R W (suc j)))) × (l′ ≡ j)
-  turned-halted {w₁} {e} d {f′} {l′} {used′} ef el eu z =
-      let b : Begun m flags R W adding work₀ w j used = t .begun in (
-        (
-          subst (λ (x : ℕ). Halted m flags R W work₀ w₁ j x (done m R W (suc j))) (sym eu) (go adding z b d),
-          ef ∙ ap (λ (x : ℕ). pick (eqb x 0) j x) (t .numbers .first-is) ∙ sym (ap firstOf (done-next m R W j (b .low) (b .touched)) ∙ first-more (done m R W j) j (λ x y. done-in m R W j (b .low) y .0)),
-        ),
-        el,
-      )
-    where
-      go : (x : Bool) → x ≡ true → Begun m flags R W x work₀ w j used → Planned next w w₁ m R W x j used avail e → Halted m flags R W work₀ w₁ j (e .used) (done m R W (suc j))
-      go true y b d = halted b d (s .fit) (s .columns .positions)
-      go false y b d = absurd (false≢true y)
+  -- a turn that does not fit
+  pub turned-halted : {w₁ : List ℕ} {e : Emission} → Planned next w w₁ m R W adding j used avail e → {used′ : ℕ} → used′ ≡ e .used → Halted m flags work₀ w₁ used′
+  turned-halted {w₁} d x = subst (λ (v : ℕ). Halted m flags work₀ w₁ v) (sym x) (halted (t .begun) d (s .fit))

@@ -133,4 +133,4 @@ pub record SomeEnter (heads parents rows counts next work row-counts row-list : 
 -- all columns have free records, or the walk stopped at one that has not, and the sizes exceed the records
 pub record Entered (next work₀ work : List ℕ) (m flags free : ℕ) (R W : List Column) (fits : Bool) (first last count entries used avail : ℕ) : Type 0 where
   pub made : fits ≡ true → Between next work₀ work m flags R W true free (suc m) first last count entries used avail
-  pub halted : fits ≡ false → (Halted m flags R W work₀ work last used (done m R W (suc last)) × (first ≡ firstOf (done m R W (suc last)))) × (length next < sizeSum (larger m R W))
+  pub halted : fits ≡ false → Halted m flags work₀ work used × (length next < sizeSum (larger m R W))

@@ -52,7 +52,7 @@ turn-requires : tie.Need-turn-requires Inv-loop μ-loop
 turn-requires c κs = enter-turning (start (c .before .before .before .before .before .before .before .before .before .before) .pre .can) (hand (c .before .before .before .before .before .before .before .before .before .before)) (c .before .before .before .before .before .before .before .before .before .loop-test .taken) (c .before .before .before .before .before .before .before .begin .ensures) (c .before .before .before .start-listed .ensures)
 
 same-length : tie.Need-same-length Inv-loop μ-loop
-same-length c = enter-stops (start (c .before .before .before .before .before .before .before .before .before .before .before .before .before .before .before) .pre .can) (hand (c .before .before .before .before .before .before .before .before .before .before .before .before .before .before .before)) (c .before .before .before .before .before .before .before .before .before .before .before .before .before .before .loop-test .taken) (c .before .before .before .before .before .before .before .before .before .before .before .before .begin .ensures) (c .before .before .before .before .before .before .before .before .start-listed .ensures) (c .before .before .before .before .turn .ensures) (not-true (c .before .before .before .before .turn .result .fits) (c .if1 .taken)) .halted (not-true (c .before .before .before .before .turn .result .fits) (c .if1 .taken)) .0 .0 .same-length ∙ sym ((start (c .before .before .before .before .before .before .before .before .before .before .before .before .before .before .before) .pre .can) .walking .same-length)
+same-length c = enter-stops (start (c .before .before .before .before .before .before .before .before .before .before .before .before .before .before .before) .pre .can) (hand (c .before .before .before .before .before .before .before .before .before .before .before .before .before .before .before)) (c .before .before .before .before .before .before .before .before .before .before .before .before .before .before .loop-test .taken) (c .before .before .before .before .before .before .before .before .before .before .before .before .begin .ensures) (c .before .before .before .before .before .before .before .before .start-listed .ensures) (c .before .before .before .before .turn .ensures) (not-true (c .before .before .before .before .turn .result .fits) (c .if1 .taken)) .halted (not-true (c .before .before .before .before .turn .result .fits) (c .if1 .taken)) .0 .same-length ∙ sym ((start (c .before .before .before .before .before .before .before .before .before .before .before .before .before .before .before) .pre .can) .walking .same-length)
 
 returns : tie.Need-returns Inv-loop μ-loop
 returns c = λ R W lent can. enter-stops can (c .before .before .before .before .before .before .before .before .before .before .before .before .before .before .before .loop .inv .1 R W lent can) (c .before .before .before .before .before .before .before .before .before .before .before .before .before .before .loop-test .taken) (c .before .before .before .before .before .before .before .before .before .before .before .before .begin .ensures) (c .before .before .before .before .before .before .before .before .start-listed .ensures) (c .before .before .before .before .turn .ensures) (not-true (c .before .before .before .before .turn .result .fits) (c .if1 .taken))
