@@ -1,27 +1,23 @@
 -- An addition, as plan_add asks and promises it: the marks' premises, the walk's, the plan where it fits, and the table as lent where it does not.
 -- Assumes nothing.
-use mathlib.Core.Path.{_≡_, refl, sym, ap, _∙_, subst}
-use mathlib.Core.Logic.{_⊎_, inl, inr, _≢_}
-use mathlib.Core.Bool.{Bool, true, false, true≢false, false≢true}
-use mathlib.Core.List.{List, [], _∷_, _++_}
-use Prim.Native.Nat.{ℕ, suc, _+_, _-_, _*_, _≤_, _<_}
+use mathlib.Core.Path.{_≡_, refl, sym, _∙_, subst}
+use mathlib.Core.Logic.{inl, inr}
+use mathlib.Core.Bool.{Bool, true, false, true≢false}
+use mathlib.Core.List.{List, _++_}
+use Prim.Native.Nat.{ℕ, suc, _+_, _*_, _≤_}
 use native.Mathlib.Omega.{arith}
-use lib.Dec.{leb}
-use lib.ListN.{length, getD}
+use lib.ListN.{length}
 use borrow.Author.Tests.{le-leb, lt-leb}
 use Rattle.lists.proofs.Tests.{cases}
 use Rattle.symbolic.specs.Columns.{Column}
 use Rattle.symbolic.specs.Factor.{factorOf, sizeSum}
 use Rattle.symbolic.specs.Batch.{touched, labelOf}
 use Rattle.workspace.specs.Regions.{cleared}
-use Rattle.workspace.proofs.Regions.{cleared-length}
-use Rattle.pool.specs.Chains.{chain, Linked}
-use Rattle.tables.specs.Stored.{Stored, storedOf}
+use Rattle.pool.specs.Chains.{chain}
+use Rattle.tables.specs.Stored.{Stored}
 use Rattle.updown.specs.Entries.{CanAdd, AddPlanned}
-use Rattle.updown.specs.Plans.{PlanIs, firstOf}
-use Rattle.updown.specs.Turns.{done}
-use Rattle.updown.specs.Walks.{Parents}
-use Rattle.updown.specs.States.{Setting, Halted, Between}
+use Rattle.updown.specs.Plans.{PlanIs}
+use Rattle.updown.specs.States.{Setting, Between}
 use Rattle.updown.specs.Starts.{StartsTo, CanMark, CanEnter, Entered}
 use Rattle.updown.proofs.Sound.{sound-pool, sound-size}
 use Rattle.updown.proofs.Opening.{walking-start}

@@ -1,18 +1,17 @@
 -- One turn of the loop over listed columns that enter, call by call; the walk's start, its end, and where it stops. Assumes nothing.
-use mathlib.Core.Path.{_≡_, refl, sym, ap, _∙_, subst}
-use mathlib.Core.Logic.{_⊎_, inl, inr, _≢_}
-use mathlib.Core.Bool.{Bool, true, false, true≢false, false≢true}
-use mathlib.Core.List.{List, [], _∷_, _++_}
-use Prim.Native.Nat.{ℕ, suc, _+_, _-_, _*_, _%_, _≤_, _<_}
+use mathlib.Core.Path.{_≡_, sym, _∙_}
+use mathlib.Core.Logic.{_≢_}
+use mathlib.Core.Bool.{Bool, true, false, true≢false}
+use mathlib.Core.List.{List}
+use Prim.Native.Nat.{ℕ, _*_, _%_, _≤_}
 use native.Mathlib.Omega.{arith}
-use lib.ListN.{length, getD}
+use lib.ListN.{length}
 use Rattle.symbolic.specs.Columns.{Column}
-use Rattle.pool.specs.Chains.{chain, Linked}
+use Rattle.pool.specs.Chains.{chain}
 use Rattle.updown.specs.Entries.{Listed}
 use Rattle.updown.specs.Marks.{Room, markAt, Flagged, Next, begun}
-use Rattle.updown.specs.Plans.{firstOf}
-use Rattle.updown.specs.Turns.{done, standing}
-use Rattle.updown.specs.States.{startOf, Halted, Setting, Turning, SomeTurning, Between, Turned}
+use Rattle.updown.specs.Turns.{standing}
+use Rattle.updown.specs.States.{startOf, Setting, Turning, SomeTurning, Turned}
 use Rattle.updown.specs.Starts.{CanStart, Started, SomeStart, CanEnter, Entered}
 use Rattle.updown.proofs.Seeking.{Seeking, seeking-next, seeking-begun, seeking-start, seeking-bits, turning-from, seeking-on, seeking-flags}
 use Rattle.updown.proofs.Leaving.{between-start}

@@ -1,17 +1,16 @@
 -- A walk that stops since no free record is left: after such a turn only the first 8 m + used places and the flags are not as lent (`halted`), and with
 -- these cleared the work table is as lent (`cleared-back`). Assumes nothing.
 use mathlib.Core.Path.{_≡_, sym, ap, _∙_}
-use mathlib.Core.Logic.{_⊎_, inl, inr}
+use mathlib.Core.Logic.{inl, inr}
 use mathlib.Core.Bool.{Bool}
 use mathlib.Core.List.{List}
-use Prim.Native.Nat.{ℕ, suc, _+_, _-_, _*_, _≤_, _<_}
+use Prim.Native.Nat.{ℕ, suc, _+_, _-_, _*_, _≤_}
 use native.Mathlib.Omega.{arith}
 use lib.ListN.{length, getD}
 use Rattle.symbolic.specs.Columns.{Column}
 use Rattle.workspace.specs.Regions.{Outside, cleared}
 use Rattle.workspace.proofs.Regions.{table-ext, place-cases, zero-at, cleared-length, cleared-zero, cleared-outside}
 use Rattle.emission.specs.declared.Emission.{Emission}
-use Rattle.updown.specs.Plans.{InPlan}
 use Rattle.updown.specs.Turns.{larger, done}
 use Rattle.updown.specs.States.{Busy, differs, plans, marks, queues, flagged, Begun, Planned, Halted}
 use Rattle.updown.proofs.Plans.{in-touched}

@@ -1,32 +1,31 @@
 -- A whole turn: what plan_column asks after the batch columns are counted (`turning-ready`), where the step goes, and the walk's state and numbers after it.
 -- Assumes nothing.
-use mathlib.Core.Path.{_≡_, refl, sym, ap, _∙_, subst}
-use mathlib.Core.Logic.{_⊎_, inl, inr, _≢_}
-use mathlib.Core.Bool.{Bool, true, false, true≢false, false≢true}
+use mathlib.Core.Path.{_≡_, sym, ap, _∙_, subst}
+use mathlib.Core.Logic.{inl, inr}
+use mathlib.Core.Bool.{Bool, true, false}
 use mathlib.Core.List.{List, [], _∷_, _++_}
-use Prim.Native.Nat.{ℕ, suc, _+_, _-_, _*_, _≤_, _<_}
+use Prim.Native.Nat.{ℕ, suc, _+_, _≤_, _<_}
 use native.Mathlib.Omega.{arith}
-use lib.Dec.{eqb, leb}
+use lib.Dec.{eqb}
 use lib.ListN.{length, getD}
 use Rattle.lists.specs.Lists.{pick, at}
 use Rattle.lists.proofs.Tests.{zero-or-pos}
-use Rattle.symbolic.specs.Columns.{Column, startingWith}
+use Rattle.symbolic.specs.Columns.{Column}
 use Rattle.symbolic.specs.Factor.{factorOf, columnAt, parentOf, sizeOf, firstAbove}
 use Rattle.symbolic.specs.Batch.{entriesOf}
 use Rattle.symbolic.proofs.Build.{laws, parent-is}
-use Rattle.pool.specs.Chains.{chain, Linked}
+use Rattle.pool.specs.Chains.{chain}
 use Rattle.emission.specs.declared.Emission.{Emission}
-use Rattle.updown.specs.Plans.{firstOf}
 use Rattle.updown.specs.Marks.{Room, markAt, steppedUp}
-use Rattle.updown.specs.Turns.{larger, before, after, treeParent, standing, done}
-use Rattle.updown.specs.Walks.{Columns, Parents, Turn}
-use Rattle.updown.specs.States.{startOf, Numbers, Walking, Begun, Planned, SomePlanned, Halted, Setting, Turning, Between, Turned}
+use Rattle.updown.specs.Turns.{before, after, treeParent, standing, done}
+use Rattle.updown.specs.Walks.{Turn}
+use Rattle.updown.specs.States.{startOf, Numbers, Walking, Begun, Planned, SomePlanned, Halted, Setting, Turning, Between}
 use Rattle.updown.proofs.Plans.{entries-append}
-use Rattle.updown.proofs.Stepping.{done-next, done-in}
+use Rattle.updown.proofs.Stepping.{done-next}
 use Rattle.updown.proofs.Halting.{halted}
 use Rattle.updown.proofs.Upward.{stepped, stepped-frame, step-room}
 use Rattle.updown.proofs.Walking.{begun-turn}
-use Rattle.updown.proofs.Numbering.{count-bound, entries-small, size-small, first-more, numbers-next}
+use Rattle.updown.proofs.Numbering.{count-bound, entries-small, size-small, numbers-next}
 
 module _ {heads parents rows counts next : List ℕ} {m flags : ℕ} {R W : List Column} {adding : Bool} {free : ℕ} (s : Setting heads parents rows counts next m flags R W adding free)
     {work₀ w : List ℕ} {n j f l c k used avail : ℕ} (t : Turning next work₀ w m flags R W adding free n j f l c k used avail) where

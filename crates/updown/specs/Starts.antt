@@ -11,8 +11,7 @@ use Rattle.workspace.specs.Regions.{Outside, IsZero, OnlyIn}
 use Rattle.book.specs.Book as book
 use Rattle.updown.specs.Entries.{Listed, Booked}
 use Rattle.updown.specs.Marks.{Room, markAt, Flagged}
-use Rattle.updown.specs.Turns.{larger, smaller, done, Tallied}
-use Rattle.updown.specs.Plans.{firstOf}
+use Rattle.updown.specs.Turns.{larger, smaller, Tallied}
 use Rattle.symbolic.specs.Factor.{sizeSum}
 use Rattle.pool.specs.Chains.{chain, Linked}
 use Rattle.updown.specs.States.{startOf, Setting, Walking, Between, Halted}

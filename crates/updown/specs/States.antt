@@ -3,13 +3,13 @@
 use mathlib.Core.Path.{_≡_}
 use mathlib.Core.Logic.{_⊎_, _≢_}
 use mathlib.Core.Bool.{Bool, true, false}
-use mathlib.Core.List.{List, [], _∷_, _++_}
+use mathlib.Core.List.{List, _++_}
 use Prim.Native.Nat.{ℕ, suc, _+_, _-_, _*_, _/_, _%_, _≤_, _<_}
 use lib.Dec.{leb}
 use lib.ListN.{length, getD}
-use Rattle.lists.specs.Lists.{at, valuesAt, Mem, rises}
+use Rattle.lists.specs.Lists.{at, valuesAt}
 use Rattle.symbolic.specs.Columns.{Column, smallest, startingWith}
-use Rattle.symbolic.specs.Factor.{columnAt, parentOf, sizeOf, nonZero}
+use Rattle.symbolic.specs.Factor.{columnAt, sizeOf, nonZero}
 use Rattle.symbolic.specs.Batch.{atPosition, isTouched, entriesOf}
 use Rattle.workspace.specs.Regions.{cell, region, Outside}
 use Rattle.pool.specs.Chains.{chain, lastOf, Linked}
@@ -21,7 +21,7 @@ use Rattle.emission.specs.declared.Emission.{Emission}
 use Rattle.updown.specs.Plans.{InPlan, firstOf}
 use Rattle.updown.specs.Marks.{Room, markAt, Flagged}
 use Rattle.updown.specs.Queues.{Queues}
-use Rattle.updown.specs.Turns.{larger, before, after, treeParent, otherParent, labelAt, done, standing, PlansTo, Tallied}
+use Rattle.updown.specs.Turns.{larger, before, after, treeParent, labelAt, done, standing, PlansTo, Tallied}
 use Rattle.updown.specs.Walks.{Columns, Parents, Turn}
 
 -- ---- the tables of L

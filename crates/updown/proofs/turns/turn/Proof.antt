@@ -1,19 +1,10 @@
 use Rattle.updown.proofs.Turned.{turned-halted}
 use Rattle.updown.proofs.Turned.{turning-turn, turning-room, turning-ready, turning-small, turning-step, turned-on}
 use mathlib.Core.Bool.{true≢false}
-use borrow.Author.Tests.{eq-eqb, ne-eqb}
-use mathlib.Core.Path.{_≡_, refl, sym, ap, _∙_}
-use native.Mathlib.Omega.{arith}
+use mathlib.Core.Path.{sym, _∙_}
 use borrow.Author.Needs.{needs}
 use Rattle.updown.proofs.turns.turn.Statement.{statement}
 use Rattle.updown.proofs.turns.turn.Tie as tie
-use Rattle.updown.proofs.turns.turn.Reads as reads
-use Rattle.updown.proofs.turns.turn.Lts as lts
-use Rattle.updown.proofs.turns.advance.Reads as advance-reads
-use Rattle.updown.proofs.turns.plan_column.Reads as plan-column-reads
-use Rattle.updown.proofs.turns.step_up.Reads as step-up-reads
-use Rattle.updown.proofs.turns.stopped.Reads as stopped-reads
-use Rattle.updown.proofs.turns.tree_parent.Reads as tree-parent-reads
 
 plan-column-requires : tie.Need-plan-column-requires
 plan-column-requires c κs = turning-ready (c .before .before .before .before .before .before .before .before .pre .setting) (c .before .before .before .before .before .before .before .before .pre .turning)

@@ -8,17 +8,11 @@ use Rattle.symbolic.specs.Columns.{Column}
 use lib.ListN.{length}
 use Prim.Native.Nat.{ℕ}
 use mathlib.Core.List.{List}
-use mathlib.Core.Bool.{true, false, not}
-use mathlib.Core.Path.{_≡_, refl, sym, ap, _∙_}
+use mathlib.Core.Bool.{true}
+use mathlib.Core.Path.{_≡_, refl, sym, _∙_}
 use native.Mathlib.Omega.{arith}
 use Rattle.updown.proofs.walks.walk_add.Statement.{statement}
 use Rattle.updown.proofs.walks.walk_add.Tie as tie
-use Rattle.updown.proofs.walks.walk_add.Reads as reads
-use Rattle.updown.proofs.walks.walk_add.Lts as lts
-use Rattle.updown.proofs.turns.begin.Reads as begin-reads
-use Rattle.updown.proofs.marks.next_marked.Reads as next-marked-reads
-use Rattle.updown.proofs.starts.start_listed.Reads as start-listed-reads
-use Rattle.updown.proofs.turns.turn.Reads as turn-reads
 
 abbrev Inv-loop : tie.InvT-loop
 Inv-loop heads parents rows counts next work₀ row-counts row-list m flags walk₀ j₀ work walk j = (walk .fits ≡ true) × ((R W : List Column) (lent : List ℕ) → CanEnter heads parents rows counts next lent work₀ row-counts row-list m flags (walk₀ .avail .0) R W → Seeking next lent work m flags R W true (length (chain next (walk₀ .avail .0))) j (walk .first) (walk .last) (walk .count) (walk .entries) (walk .used) (walk .avail .0))
