@@ -12,6 +12,7 @@ ghost use Rattle.pool.specs.Chains.{chain};
 ghost use Rattle.differences.specs.Gather.{rowsOfKind, planPart, CanGather, PlanRises, ChainRises, CanGrow, Gathered, CanPass, Passed, goneAt, CanReach, Reached};
 ghost use Rattle.differences.specs.Tally.{shifted};
 ghost use Rattle.differences.specs.Count.{bumpedTo, CanCount, Counted, Bumped, CanMerge, Merged};
+use book::Row;
 use pool::Rec;
 
 // 2^30, the shifted difference of a row whose multiplicity does not change.
@@ -44,17 +45,18 @@ fn gather_below(
     from: usize,
     to: usize,
     kind: u32,
-    bound: u32,
+    bound: Row,
 ) -> Reach
     requires { ⌜ CanReach m (now work) k from to kind ⌝ }
-    ensures { λ r. ⌜ Reached m (now (work .entry)) (now (work .exit)) k from to kind bound (r .rows) (r .stop) ⌝ }
+    ensures { λ r. ⌜ Reached m (now (work .entry)) (now (work .exit)) k from to kind (bound .0) (r .rows) (r .stop) ⌝ }
 {
+    let least = bound.0;
     let mut n = k;
     let mut a = from;
     while a < to {
         let entry = work[8 * m + a];
         let row = workspace::row_of(entry);
-        if bound <= row {
+        if least <= row {
             return Reach { rows: n, stop: a };
         }
         if workspace::kind_of(entry) == kind {
@@ -73,7 +75,7 @@ pub fn gather_plan(work: &mut [u32], m: usize, from: usize, to: usize, kind: u32
     requires { ⌜ CanGather m (now work) × PlanRises m (now work) from to ⌝ }
     ensures { λ k. ⌜ Gathered m (now (work .entry)) (now (work .exit)) k (λ i. among i (rowsOfKind kind (planPart m (now (work .entry)) from to))) ⌝ }
 {
-    let r = gather_below(work, m, 0, from, to, kind, 4097);
+    let r = gather_below(work, m, 0, from, to, kind, Row(4097));
     r.rows
 }
 
@@ -112,25 +114,26 @@ pub fn gather_grown(
     while q != 0 {
         let i = (q - 1) as usize;
         let row = rows[i] as u32;
-        let met = gather_below(work, m, k, a, to, 1, row);
+        let met = gather_below(work, m, k, a, to, 1, Row(row));
         k = met.rows;
         a = met.stop;
         work[2 * m + k] = row;
         q = next[i];
         k += 1;
     }
-    let last = gather_below(work, m, k, a, to, 1, 4097);
+    let last = gather_below(work, m, k, a, to, 1, Row(4097));
     last.rows
 }
 
 // The first entry of the part [from, to) of the plan at or above a row.
-fn pass(work: &[u32], m: usize, from: usize, to: usize, row: u32) -> usize
+fn pass(work: &[u32], m: usize, from: usize, to: usize, row: Row) -> usize
     requires { ⌜ CanPass m (now work) from to ⌝ }
-    ensures { λ r. ⌜ Passed m (now (work .entry)) from to row r ⌝ }
+    ensures { λ r. ⌜ Passed m (now (work .entry)) from to (row .0) r ⌝ }
 {
+    let least = row.0;
     let mut a = from;
     while a < to {
-        if row <= workspace::row_of(work[8 * m + a]) {
+        if least <= workspace::row_of(work[8 * m + a]) {
             return a;
         }
         a += 1;
@@ -139,15 +142,16 @@ fn pass(work: &[u32], m: usize, from: usize, to: usize, row: u32) -> usize
 }
 
 // Whether the entry at a place of the plan, before to, is that a row is gone.
-fn is_gone(work: &[u32], m: usize, a: usize, to: usize, row: u32) -> bool
+fn is_gone(work: &[u32], m: usize, a: usize, to: usize, row: Row) -> bool
     requires { ⌜ 8 * m + to ≤ length (now work) ⌝ }
-    ensures { λ r. ⌜ r ≡ goneAt m (now (work .entry)) a to row ⌝ }
+    ensures { λ r. ⌜ r ≡ goneAt m (now (work .entry)) a to (row .0) ⌝ }
 {
     if to <= a {
         return false;
     }
     let entry = work[8 * m + a];
-    if workspace::row_of(entry) != row {
+    let i = row.0;
+    if workspace::row_of(entry) != i {
         return false;
     }
     workspace::kind_of(entry) == 2
@@ -172,8 +176,8 @@ pub fn gather_pruned(
     while q != 0 {
         let i = (q - 1) as usize;
         let row = rows[i] as u32;
-        a = pass(work, m, a, to, row);
-        if is_gone(work, m, a, to, row) {
+        a = pass(work, m, a, to, Row(row));
+        if is_gone(work, m, a, to, Row(row)) {
             q = next[i];
         } else {
             work[2 * m + k] = row;
@@ -226,14 +230,15 @@ fn bump(work: &mut [u32], m: usize, n: usize, k: usize, up: bool) -> usize
 }
 
 // Whether the last of the first i rows of the list is above a row.
-fn is_above(work: &[u32], m: usize, i: usize, row: u32) -> bool
+fn is_above(work: &[u32], m: usize, i: usize, row: Row) -> bool
     requires { ⌜ m + i ≤ length (now work) ⌝ }
-    ensures { λ r. ⌜ r ≡ (ltb 0 i && ltb row (cell (now (work .entry)) m (i - 1))) ⌝ }
+    ensures { λ r. ⌜ r ≡ (ltb 0 i && ltb (row .0) (cell (now (work .entry)) m (i - 1))) ⌝ }
 {
     if i == 0 {
         return false;
     }
-    row < work[m + (i - 1)]
+    let low = row.0;
+    low < work[m + (i - 1)]
 }
 
 // Merges the f rows in the buffer into the n of the list, from the back, and clears them.
@@ -245,7 +250,7 @@ fn merge(work: &mut [u32], m: usize, n: usize, f: usize)
     let mut k = f;
     while 0 < k {
         let row = work[2 * m + (k - 1)];
-        if is_above(work, m, i, row) {
+        if is_above(work, m, i, Row(row)) {
             work[m + (i + k - 1)] = work[m + (i - 1)];
             i -= 1;
         } else {

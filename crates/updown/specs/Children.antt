@@ -1,7 +1,7 @@
 -- What a done column brings to a parent, as it is counted into the differences: more are its multiplicities with the batch, less those without it, so
 -- adding goes from less to more and removing from more to less. Assumes nothing: these are definitions.
 use mathlib.Core.Path.{_≡_}
-use mathlib.Core.Bool.{Bool, true, false, _&&_, not}
+use mathlib.Core.Bool.{Bool, _&&_, not}
 use mathlib.Core.List.{List}
 use Prim.Native.Nat.{ℕ, _+_, _-_, _*_, _≤_, _<_}
 use lib.Dec.{eqb}

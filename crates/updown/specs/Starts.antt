@@ -11,8 +11,7 @@ use Rattle.workspace.specs.Regions.{Outside, IsZero, OnlyIn}
 use Rattle.book.specs.Book as book
 use Rattle.updown.specs.Entries.{Listed, Booked}
 use Rattle.updown.specs.Marks.{Room, markAt, Flagged}
-use Rattle.updown.specs.Turns.{larger, smaller, done, Tallied}
-use Rattle.updown.specs.Plans.{firstOf}
+use Rattle.updown.specs.Turns.{larger, smaller, Tallied}
 use Rattle.symbolic.specs.Factor.{sizeSum}
 use Rattle.pool.specs.Chains.{chain, Linked}
 use Rattle.updown.specs.States.{startOf, Setting, Walking, Between, Halted}
@@ -133,4 +132,4 @@ pub record SomeEnter (heads parents rows counts next work row-counts row-list : 
 -- all columns have free records, or the walk stopped at one that has not, and the sizes exceed the records
 pub record Entered (next work₀ work : List ℕ) (m flags free : ℕ) (R W : List Column) (fits : Bool) (first last count entries used avail : ℕ) : Type 0 where
   pub made : fits ≡ true → Between next work₀ work m flags R W true free (suc m) first last count entries used avail
-  pub halted : fits ≡ false → (Halted m flags R W work₀ work last used (done m R W (suc last)) × (first ≡ firstOf (done m R W (suc last)))) × (length next < sizeSum (larger m R W))
+  pub halted : fits ≡ false → Halted m flags work₀ work used × (length next < sizeSum (larger m R W))

@@ -3,13 +3,13 @@
 use mathlib.Core.Path.{_≡_}
 use mathlib.Core.Logic.{_⊎_, _≢_}
 use mathlib.Core.Bool.{Bool, true, false}
-use mathlib.Core.List.{List, [], _∷_, _++_}
+use mathlib.Core.List.{List, _++_}
 use Prim.Native.Nat.{ℕ, suc, _+_, _-_, _*_, _/_, _%_, _≤_, _<_}
 use lib.Dec.{leb}
 use lib.ListN.{length, getD}
-use Rattle.lists.specs.Lists.{at, valuesAt, Mem, rises}
+use Rattle.lists.specs.Lists.{at, valuesAt}
 use Rattle.symbolic.specs.Columns.{Column, smallest, startingWith}
-use Rattle.symbolic.specs.Factor.{columnAt, parentOf, sizeOf, nonZero}
+use Rattle.symbolic.specs.Factor.{columnAt, sizeOf, nonZero}
 use Rattle.symbolic.specs.Batch.{atPosition, isTouched, entriesOf}
 use Rattle.workspace.specs.Regions.{cell, region, Outside}
 use Rattle.pool.specs.Chains.{chain, lastOf, Linked}
@@ -21,7 +21,7 @@ use Rattle.emission.specs.declared.Emission.{Emission}
 use Rattle.updown.specs.Plans.{InPlan, firstOf}
 use Rattle.updown.specs.Marks.{Room, markAt, Flagged}
 use Rattle.updown.specs.Queues.{Queues}
-use Rattle.updown.specs.Turns.{larger, before, after, treeParent, otherParent, labelAt, done, standing, PlansTo, Tallied}
+use Rattle.updown.specs.Turns.{larger, before, after, treeParent, labelAt, done, standing, PlansTo, Tallied}
 use Rattle.updown.specs.Walks.{Columns, Parents, Turn}
 
 -- ---- the tables of L
@@ -106,35 +106,15 @@ pub record Begun (m flags : ℕ) (R W : List Column) (adding : Bool) (work₀ wo
   pub queues : Queues m work j 0 (standing m R W j)
   pub rest : (k : ℕ) → (Busy m flags used (done m R W (suc j)) j k → ⊥) → getD work k 0 ≡ getD work₀ k 0
 
--- ---- an addition that does not fit stops at column j
+-- ---- a walk that stops since no free record is left
 
--- a place that is not as lent: of some touched columns, of their parents to come, of the starts, of the plan so far
-pub data Dirty (m flags : ℕ) (R W : List Column) (j used : ℕ) (columns : List ℕ) (k : ℕ) : Type 0 where
-  own : (c : ℕ) → Mem c columns → (k ≡ 3 * m + (c - 1)) ⊎ ((k ≡ 4 * m + (c - 1)) ⊎ ((k ≡ 5 * m + (c - 1)) ⊎ (k ≡ 7 * m + (c - 1)))) → Dirty m flags R W j used columns k
-  parent : (c : ℕ) → Mem c columns → c < j → j < treeParent m R W c → (k ≡ 3 * m + (treeParent m R W c - 1)) ⊎ (k ≡ 5 * m + (treeParent m R W c - 1)) → Dirty m flags R W j used columns k
-  other : (c : ℕ) → Mem c columns → 0 < otherParent m R c → k ≡ 6 * m + (otherParent m R c - 1) → Dirty m flags R W j used columns k
-  start : (i : ℕ) → 1 ≤ i → i ≤ length W → k ≡ 3 * m + (startOf W i - 1) → Dirty m flags R W j used columns k
-  planned : 8 * m ≤ k → k < 8 * m + used → Dirty m flags R W j used columns k
-  flag : flags ≤ k → k < flags + 64 → Dirty m flags R W j used columns k
-
--- each of some touched columns leads to the next
-unfoldable pub Leads : (m : ℕ) (work : List ℕ) (columns : List ℕ) → Type 0
-Leads m w [] = Unit {0}
-Leads m w (c ∷ cs) = (cell w (5 * m) (c - 1) ≡ firstOf cs) × Leads m w cs
-
--- the touched columns up to j and where their marks lead: to the tree parent, but for j, which has not stepped up
-pub record Halted (m flags : ℕ) (R W : List Column) (work₀ work : List ℕ) (j used : ℕ) (columns : List ℕ) : Type 0 where
-  pub low : 1 ≤ j
-  pub high : j ≤ m
-  pub room : Room m flags work
+-- beyond the first 8 m + used places, but for the flags, the work table is as lent, where it was zero
+pub record Halted (m flags : ℕ) (work₀ work : List ℕ) (used : ℕ) : Type 0 where
   pub plan-room : 8 * m + used ≤ flags
+  pub long : flags + 64 ≤ length work
   pub same-length : length work ≡ length work₀
   pub zero : (k : ℕ) → k < flags + 64 → getD work₀ k 0 ≡ 0
-  pub rising : rises 1 m columns ≡ true
-  pub leads : Leads m work columns
-  pub within : (c : ℕ) → Mem c columns → (1 ≤ c) × (c ≤ j)
-  pub marks : (c : ℕ) → Mem c columns → ((c < j) × (markAt m work c / 262144 ≡ treeParent m R W c)) ⊎ ((c ≡ j) × (markAt m work c / 262144 ≡ 0))
-  pub clean : (k : ℕ) → (Dirty m flags R W j used columns k → ⊥) → getD work k 0 ≡ getD work₀ k 0
+  pub rest : (k : ℕ) → 8 * m + used ≤ k → Outside flags 64 k → getD work k 0 ≡ getD work₀ k 0
 
 -- ---- column j planned: its queues are empty, the differences cleared, and but for them only the queues and the plan changed
 
@@ -201,15 +181,4 @@ pub record Between (next work₀ work : List ℕ) (m flags : ℕ) (R W : List Co
 pub record Turned (next work₀ work : List ℕ) (m flags : ℕ) (R W : List Column) (adding : Bool) (free j avail₀ : ℕ) (fits : Bool) (first last count entries used avail : ℕ) : Type 0 where
   pub fits-is : fits ≡ leb (ofKind 1 (planFrom 1 (columnAt (before adding m R W) j .counts) (columnAt (after adding m R W) j .counts))) (length (chain next avail₀))
   pub onward : fits ≡ true → Between next work₀ work m flags R W adding free (suc j) first last count entries used avail
-  pub halted : adding ≡ true → fits ≡ false → (Halted m flags R W work₀ work j used (done m R W (suc j)) × (first ≡ firstOf (done m R W (suc j)))) × (last ≡ j)
-
--- ---- the walk, from the marked starts to the end
-
--- what a caller shows: tables that hold the factor and a work table where the starts are marked, for some R and W
-pub record SomeWalk (heads parents rows counts next work : List ℕ) (m flags : ℕ) (adding : Bool) (avail : ℕ) : Type 0 where
-  pub R : List Column
-  pub W : List Column
-  pub work₀ : List ℕ
-  pub setting : Setting heads parents rows counts next m flags R W adding (length (chain next avail))
-  pub walking : Walking m flags R W adding work₀ work 1 0
-  pub linked : Linked next avail (chain next avail)
+  pub halted : fits ≡ false → Halted m flags work₀ work used

@@ -8,7 +8,6 @@ ghost use Rattle.symbolic.specs.Columns.{Column};
 ghost use Rattle.book.specs.Book.{tablesOf};
 ghost use Rattle.updown.specs.Entries.{CanAdd, SomeAdd, AddPlanned, CanRemove, SomeRemove, RemovePlanned};
 
-mod clears;
 mod marks;
 mod queues;
 mod starts;
@@ -58,8 +57,8 @@ pub fn plan_add(
         flags,
         free,
     );
+    workspace::clear(work, flags, 64);
     if walk.fits {
-        workspace::clear(work, flags, 64);
         return Plan {
             fits: true,
             first: walk.first,
@@ -68,10 +67,7 @@ pub fn plan_add(
             used: walk.used as u32,
         };
     }
-    clears::clear_turns(parents, work, m, walk.first, walk.last);
-    clears::clear_starts(work, row_counts, row_list, m);
-    workspace::clear(work, 8 * m, walk.used);
-    workspace::clear(work, flags, 64);
+    workspace::clear(work, 0, 8 * m + walk.used);
     Plan {
         fits: false,
         first: 0,

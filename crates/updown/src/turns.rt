@@ -123,16 +123,15 @@ fn advance(walk: Walk, j: u32, e: Emission) -> Walk
     }
 }
 
-// The numbers of a walk that ends at j, since no free record is left.
-fn stopped(walk: Walk, j: u32, e: Emission) -> Walk
-    ensures { λ r. ⌜ (r .fits ≡ e .fits) × (r .first ≡ pick (eqb (walk .first) 0) j (walk .first)) × (r .last ≡ j) × (r .used ≡ e .used) ⌝ }
+// The numbers of a walk that ends, since no free record is left.
+fn stopped(walk: Walk, e: Emission) -> Walk
+    ensures { λ r. ⌜ (r .fits ≡ e .fits) × (r .used ≡ e .used) ⌝ }
 {
     let avail = e.avail;
-    let first = first_of(walk.first, j);
     Walk {
         fits: e.fits,
-        first: first,
-        last: j,
+        first: walk.first,
+        last: walk.last,
         count: walk.count,
         entries: walk.entries,
         used: e.used,
@@ -180,5 +179,5 @@ pub fn turn(
         step_up(work, m, flags, j, parent, up);
         return advance(walk, j, e);
     }
-    stopped(walk, j, e)
+    stopped(walk, e)
 }
