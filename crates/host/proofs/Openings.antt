@@ -9,13 +9,13 @@ use borrow.Author.Tests.{eq-eqb, ne-eqb}
 use Rattle.lists.specs.Lists.{pick}
 use Rattle.tables.specs.Tables.{Tables, Limits, State}
 use Rattle.tables.specs.Opening.{openedState}
-use Rattle.calls.specs.Calls.{opening, withDefault}
+use Rattle.calls.specs.Calls.{opening, workOnly, callOf, withDefault}
 use Rattle.calls.specs.Refusals.{isAccepted}
 use Rattle.calls.specs.Numbers.{refusalOf}
 use Rattle.calls.specs.Steps.{Answer, World, OutcomeFor}
 use Rattle.factor.specs.declared.Opening.{Opening}
 use Rattle.factor.specs.declared.Opening.the-variants.{Opened as accepted, Refused as refused}
-use Rattle.factor.specs.Entries.{workOnly, openingAnswer, stateAfter, OpenStep}
+use Rattle.factor.specs.Entries.{openingAnswer, stateAfter, OpenStep}
 use Rattle.host.specs.declared.Opened.{Opened}
 use Rattle.host.specs.Crossing.{openedFrom, openingOf, OpenedStep}
 
@@ -25,13 +25,13 @@ other l = record { limits = l; free = suc (openedState (withDefault l) .free); b
 
 module _ (l : Limits) (t : Tables) (w : List ℕ) (t′ : Tables) (w′ : List ℕ) where
   -- refused with number 0 is neither accepted, since the record before it serves on, nor refused
-  not-zero : (z : Bool) → isAccepted (refusalOf (other l) t (opening l w)) ≡ z →
-      OutcomeFor z (record { state = other l; tables = t }) (opening l w) (openingAnswer (refused 0)) (workOnly w′) (record { state = other l; tables = t′ }) → ⊥
+  not-zero : (z : Bool) → isAccepted (refusalOf (other l) t (callOf (opening l) (workOnly w))) ≡ z →
+      OutcomeFor z (record { state = other l; tables = t }) (callOf (opening l) (workOnly w)) (openingAnswer (refused 0)) (workOnly w′) (record { state = other l; tables = t′ }) → ⊥
   not-zero true e h = let q : suc (openedState (withDefault l) .free) ≡ openedState (withDefault l) .free = ap (λ (s : State). s .free) (h .2 .0) in omega arith
   not-zero false e h = true≢false (sym (eq-eqb _ _ (sym (ap (λ (a : Answer). a .number) (h .0)))) ∙ e)
 
   refused-not-zero : OpenStep l t w (refused 0) t′ w′ → ⊥
-  refused-not-zero h = not-zero (isAccepted (refusalOf (other l) t (opening l w))) refl (h (other l))
+  refused-not-zero h = not-zero (isAccepted (refusalOf (other l) t (callOf (opening l) (workOnly w)))) refl (h (other l))
 
   -- back from the struct to the answer
   opened-back : (x : Opening) → OpenStep l t w x t′ w′ → openingOf (openedFrom x) ≡ x

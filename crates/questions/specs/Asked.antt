@@ -54,6 +54,10 @@ pub record CanFollow (parents : List ℕ) : Type 0 where
 abbrev pub repliedTo : Register → Question → (place : ℕ) → (list : List ℕ) → Answer
 repliedTo r q p xs = pick (isAccepted (askRefusal r q p xs)) (acceptedBy r (asking q p)) (refusedBy (askRefusal r q p xs))
 
+-- the same of a question that has no list
+abbrev pub replied : Register → Question → Answer
+replied r q = repliedTo r q 0 []
+
 -- the question's list afterwards: with the answer written if it is accepted, otherwise as lent
 abbrev pub listLeft : Register → Question → (place : ℕ) → (list : List ℕ) → List ℕ
 listLeft r q p xs = pick (isAccepted (askRefusal r q p xs)) (writtenAt p (response r q .list) xs) xs
@@ -64,7 +68,7 @@ RepliesAt Fits q p xs a = (r : Register) → Fits r → replyOf a ≡ repliedTo 
 
 -- the same of a question that has no list
 abbrev pub Replies : (Register → Type 0) → Question → Reply → Type 0
-Replies Fits q a = RepliesAt Fits q 0 [] a
+Replies Fits q a = (r : Register) → Fits r → replyOf a ≡ replied r q
 
 -- the list is left as each register whose tables these are says
 abbrev pub Leaves : (Register → Type 0) → Question → (place : ℕ) → (list after : List ℕ) → Type 0
