@@ -33,11 +33,11 @@ test-rust: $(ARCHIVE)
 	@echo "planner: output as stored"
 
 # README's first call, built against an installation as README says; README has its output.
-test-install:
+test-install: $(ARCHIVE)
 	$(MAKE) install PREFIX=$(TRY) DESTDIR=
 	sed -n '/^```c$$/,/^```$$/p' README.md | sed '/^```/d' > $(TRY)/first.c
 	cd $(TRY) && $(CC) -o first first.c $$(PKG_CONFIG_PATH=$(TRY)/lib/pkgconfig pkg-config --cflags --libs nigvalds)
-	grep -qxF "$$($(TRY)/first)" README.md
+	$(TRY)/first > $(TRY)/first.out && test -s $(TRY)/first.out && grep -qxF -f $(TRY)/first.out README.md
 	@echo "first call: output as README has it"
 
 test-picture:
