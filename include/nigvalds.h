@@ -19,7 +19,8 @@
  * them again with their record.
  *
  * WHAT IS PROMISED. Every function is proved to meet its contract (crates/nigvalds), asks nothing of the contents or lengths of what is lent, always returns,
- * allocates nothing and keeps no pointer. There is no global state: calls on different tables may run in parallel. A call needs about 1 KB of stack.
+ * allocates nothing and keeps no pointer. There is no global state: calls on different tables, each with its own work table and lists, may run in parallel. A
+ * call needs about 1 KB of stack.
  *
  * WHAT IS ASSUMED OF A CALLER. A test holds this header against the library's source (tools/check-header), but no proof covers the caller:
  *   - each pointer is valid for its length, aligned for its type and not NULL, also where the length is 0;
