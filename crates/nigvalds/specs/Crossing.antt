@@ -12,8 +12,8 @@ use Rattle.factor.specs.declared.Factor.{Factor}
 use Rattle.factor.specs.declared.Opening.{Opening}
 use Rattle.factor.specs.declared.Opening.the-variants.{Opened as accepted, Refused as refused}
 use Rattle.factor.specs.Entries.{OpenStep}
-use Rattle.host.specs.declared.Opened.{Opened}
-use Rattle.host.specs.declared.Read.{Read}
+use Rattle.nigvalds.specs.declared.Opened.{Opened}
+use Rattle.nigvalds.specs.declared.Read.{Read}
 
 -- ---- openings
 

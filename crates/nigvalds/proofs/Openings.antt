@@ -16,8 +16,8 @@ use Rattle.calls.specs.Steps.{Answer, World, OutcomeFor}
 use Rattle.factor.specs.declared.Opening.{Opening}
 use Rattle.factor.specs.declared.Opening.the-variants.{Opened as accepted, Refused as refused}
 use Rattle.factor.specs.Entries.{openingAnswer, stateAfter, OpenStep}
-use Rattle.host.specs.declared.Opened.{Opened}
-use Rattle.host.specs.Crossing.{openedFrom, openingOf, OpenedStep}
+use Rattle.nigvalds.specs.declared.Opened.{Opened}
+use Rattle.nigvalds.specs.Crossing.{openedFrom, openingOf, OpenedStep}
 
 -- a record that an opening of these sizes does not give
 abbrev other : Limits → State

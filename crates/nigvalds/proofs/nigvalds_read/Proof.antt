@@ -1,10 +1,10 @@
--- `host::nigvalds_read` meets its contract: the reader's entry, as a struct.
+-- `nigvalds::nigvalds_read` meets its contract: the reader's entry, as a struct.
 -- Assumes nothing.
 use mathlib.Core.Path.{ap, _∙_}
 use borrow.Author.Needs.{needs}
-use Rattle.host.specs.Crossing.{readFrom}
-use Rattle.host.proofs.nigvalds_read.Statement.{statement}
-use Rattle.host.proofs.nigvalds_read.Tie as tie
+use Rattle.nigvalds.specs.Crossing.{readFrom}
+use Rattle.nigvalds.proofs.nigvalds_read.Statement.{statement}
+use Rattle.nigvalds.proofs.nigvalds_read.Tie as tie
 
 entry-at-requires : tie.Need-entry-at-requires
 entry-at-requires c κs = search needs

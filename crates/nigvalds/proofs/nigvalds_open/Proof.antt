@@ -1,9 +1,9 @@
--- `host::nigvalds_open` meets its contract: the entry's opening, as a struct.
+-- `nigvalds::nigvalds_open` meets its contract: the entry's opening, as a struct.
 -- Assumes nothing.
 use borrow.Author.Needs.{needs}
-use Rattle.host.proofs.Openings.{opened-step}
-use Rattle.host.proofs.nigvalds_open.Statement.{statement}
-use Rattle.host.proofs.nigvalds_open.Tie as tie
+use Rattle.nigvalds.proofs.Openings.{opened-step}
+use Rattle.nigvalds.proofs.nigvalds_open.Statement.{statement}
+use Rattle.nigvalds.proofs.nigvalds_open.Tie as tie
 
 open-requires : tie.Need-open-requires
 open-requires c κs = search needs

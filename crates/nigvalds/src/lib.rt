@@ -3,7 +3,7 @@
 ghost use mathlib.Core.Path.{_≡_};
 ghost use Rattle.reader.specs.Reading.{entryAt};
 ghost use Rattle.tables.specs.Tables.{limitsOf, tablesOf};
-ghost use Rattle.host.specs.Crossing.{OpenedStep, openedFrom, readFrom};
+ghost use Rattle.nigvalds.specs.Crossing.{OpenedStep, openedFrom, readFrom};
 
 mod asking;
 mod batches;

@@ -1,10 +1,10 @@
--- `host::read_from` meets its contract: each arm is given which constructor the entry has.
+-- `nigvalds::read_from` meets its contract: each arm is given which constructor the entry has.
 -- Assumes nothing.
 use mathlib.Core.Path.{sym, ap}
 use borrow.Author.Needs.{needs}
-use Rattle.host.specs.Crossing.{readFrom}
-use Rattle.host.proofs.read_from.Statement.{statement}
-use Rattle.host.proofs.read_from.Tie as tie
+use Rattle.nigvalds.specs.Crossing.{readFrom}
+use Rattle.nigvalds.proofs.read_from.Statement.{statement}
+use Rattle.nigvalds.proofs.read_from.Tie as tie
 
 enum-known-x : tie.Need-enum-known-x
 enum-known-x c = search needs

@@ -1,10 +1,10 @@
--- `host::opened_from` meets its contract: each arm is given which constructor the answer has.
+-- `nigvalds::opened_from` meets its contract: each arm is given which constructor the answer has.
 -- Assumes nothing.
 use mathlib.Core.Path.{sym, ap}
 use borrow.Author.Needs.{needs}
-use Rattle.host.specs.Crossing.{openedFrom}
-use Rattle.host.proofs.opened_from.Statement.{statement}
-use Rattle.host.proofs.opened_from.Tie as tie
+use Rattle.nigvalds.specs.Crossing.{openedFrom}
+use Rattle.nigvalds.proofs.opened_from.Statement.{statement}
+use Rattle.nigvalds.proofs.opened_from.Tie as tie
 
 enum-known-x : tie.Need-enum-known-x
 enum-known-x c = search needs
