@@ -57,9 +57,9 @@ acceptedAnswer x h =
     record { number = 0; position = 0; touched = x .count; entries = x .entries; grade = gradeOf (x .entries); free = h .free; «book_free» = h .«book_free» }
 
 pub batch-refused : {t : Tables} {f g : ℕ} {c : Change} {before after : List ℕ} {x : Verdict} → Judged (cutWorld t f g) c before after x → x .number ≢ 0 →
-    {a b : List ℕ} {r : Batch} → r ≡ refusedAnswer x f g →
+    (a b : List ℕ) {r : Batch} → r ≡ refusedAnswer x f g →
     BatchStep (cutWorld t f g) c (reportLists before a b) (batchAnswer r) (reportLists after a b) (cutWorld t (r .free) (r .«book_free»))
-batch-refused {t} {f} {g} {c} {before} {after} {x} j h {a} {b} {r} q =
+batch-refused {t} {f} {g} {c} {before} {after} {x} j h a b {r} q =
     subst (λ (y : Batch). BatchStep (cutWorld t f g) c (reportLists before a b) (batchAnswer y) (reportLists after a b) (cutWorld t (y .free) (y .«book_free»)))
     (sym q) (step-refused j h a b)
 

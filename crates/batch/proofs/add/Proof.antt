@@ -73,7 +73,7 @@ same-length-7 c = judged (c .before .before) .judge-add .kept .1 .1 .1 .1 .1 .1 
 returns : tie.Need-returns
 returns c =
     let x = judged (c .before .before) in
-    batch-refused (verdict-at x) (c .before .if1 .taken) (c .refusing .ensures)
+    batch-refused (verdict-at x) (c .before .if1 .taken) (entry x .args .touched .now) (entry x .args .labels .now) (c .refusing .ensures)
 
 write-add-requires : tie.Need-write-add-requires
 write-add-requires c κs =

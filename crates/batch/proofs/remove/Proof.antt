@@ -76,7 +76,7 @@ same-length-8 c = judged (c .before .before) .judge-remove .kept .1 .1 .1 .1 .1 
 returns : tie.Need-returns
 returns c =
     let x = judged (c .before .before) in
-    batch-refused (verdict-at x) (c .before .if1 .taken) (c .refusing .ensures)
+    batch-refused (verdict-at x) (c .before .if1 .taken) (entry x .args .touched .now) (entry x .args .labels .now) (c .refusing .ensures)
 
 write-remove-requires : tie.Need-write-remove-requires
 write-remove-requires c κs =
