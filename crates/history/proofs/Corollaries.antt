@@ -37,7 +37,7 @@ keeps-of {p} {v} i =
     record {
       sound = i .sound;
       columns = k .columns;
-      means = k .numbers;
+      means = k .stored;
       chains = subst (λ (m : ℕ). (x j : ℕ) → 1 ≤ j → j < x → x ≤ m → Stands v x j ↔ ChainTo m (live (p .register)) x j) (sym (i .rows)) (k .chains);
       refusals = λ c. ap (λ (l : Limits). callRefusal l (bookedIn v) c) (i .limits) ∙ bag-number (bookedIn v) (p .register) (inv-rows i) (i .bag) (p .limits) c;
     }

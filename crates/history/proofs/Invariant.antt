@@ -26,6 +26,7 @@ use Rattle.calls.proofs.Numbers.{Ready}
 use Rattle.calls.proofs.Order.{bag-factor}
 use Rattle.history.specs.Runs.{Plain}
 use Rattle.history.specs.Statements.{Consistent}
+use Rattle.history.proofs.Reports.{held-factor}
 
 pub record Inv (p : Plain) (u : World) : Type 0 where
   pub in-range : sizesRefusal bounds (p .limits) ≡ accepted
@@ -76,7 +77,8 @@ module _ {p : Plain} {u : World} (i : Inv p u) where
         columns = λ c. (λ k. bag-mem (p .register .columns) (bookedIn u .columns) (λ f. sym (i .bag f)) k, λ k. bag-mem (bookedIn u .columns) (p .register .columns) (i .bag) k);
         book-once = book-once u;
         register-once = i .once;
-        numbers = inv-numbers;
+        factor = held-factor (p .register) u (subst (λ (n : ℕ). holdsFrom s (factorFor (p .register)) 1 n ≡ true) (sym (i .rows)) inv-numbers);
+        stored = inv-numbers;
         chains = λ x j a b d. stands-chain m (live (p .register)) s h (fits-rows m (p .register .columns) inv-fits) x j a b d;
       }
 

@@ -2,30 +2,33 @@
 -- so after a list of calls (`inv-run`). The tables are sound, so 6 is not given; the sizes are in range, so 1 to 4 are an opening's.
 -- Assumes nothing.
 use mathlib.Core.Path.{_≡_, refl, sym, ap, _∙_, subst}
-use mathlib.Core.Logic.{_⊎_, inl, inr, _≢_}
+use mathlib.Core.Logic.{_⊎_, inl, inr, _≢_, _↔_}
 use mathlib.Core.Bool.{Bool, true, false}
 use mathlib.Core.List.{List, [], _∷_}
 use Prim.Native.Nat.{ℕ, _≤_}
 use native.Mathlib.Omega.{arith}
 use borrow.Author.Tests.{eq-eqb, ne-eqb}
-use Rattle.lists.specs.Lists.{pick, among}
+use lib.ListN.{length, take, drop}
+use lib.Seq.{take-at}
+use Rattle.lists.specs.Lists.{pick, Mem, among, rises, over}
 use Rattle.lists.proofs.Tests.{cases}
 use Rattle.tables.specs.Tables.{Limits}
 use Rattle.tables.specs.Stays.{TailsStay}
 use Rattle.tables.proofs.Tables.{tails-long}
 use Rattle.calls.specs.Refusals.{Refusal, isAccepted, orElse}
-use Rattle.calls.specs.Calls.{Change, Entry, opening, changing, checking, asking, Call, callOf, withWork, isOpening, limitsAfter}
-use Rattle.calls.specs.Changes.{effect, registerAfter}
+use Rattle.calls.specs.Calls.{Change, Entry, opening, changing, checking, asking, Lent, Call, callOf, withWork, isOpening, limitsAfter}
+use Rattle.calls.specs.Changes.{effect, touchedBy, registerAfter}
 use Rattle.calls.specs.Numbers.{callEarly, callRefusal, refusalOf}
-use Rattle.calls.specs.Steps.{Answer, refusedBy, listsAfter, workAfter, World, bookedIn, Exchanged, AcceptedWorld, Transition}
+use Rattle.calls.specs.Steps.{Answer, refusedBy, resultOf, acceptedBy, listsAfter, workAfter, World, bookedIn, Exchanged, AcceptedWorld, Transition}
 use Rattle.calls.proofs.Choices.{or-both, or-first, or-second}
 use Rattle.calls.proofs.Numbers.{early-facts, early-number, early-low, call-number, sound-number}
 use Rattle.calls.proofs.Order.{bag-after, bag-number, bag-ids, bag-touched, bag-answer, bag-lists, once-after}
 use Rattle.calls.proofs.Steps.{Accepted, Refused, step-cases, taken-zero, refused-some, quiet-world, change-world}
-use Rattle.calls.proofs.Changes.{rows-stay}
+use Rattle.calls.proofs.Changes.{rows-stay, touched-rise}
 use Rattle.calls.proofs.Exchanges.{exchanged-keeps}
 use Rattle.history.specs.Runs.{Event, Run, Plain, plainNext, plainAfter}
-use Rattle.history.specs.Statements.{plainRefusal, AltersJust, Justified}
+use Rattle.history.specs.Statements.{plainRefusal, OnPathOf, reported, ReportsJust, AltersJust, Justified}
+use Rattle.history.proofs.Reports.{reports-exactly}
 use Rattle.history.proofs.Invariant.{Inv, book-once, inv-rows, inv-long, openedPlain, openedWorld, inv-opened}
 
 -- the plain register after an accepted call
@@ -83,6 +86,28 @@ module _ {p : Plain} {u : World} (i : Inv p u) where
         tails = subst (λ (l : Limits). TailsStay l (u .tables) (v .tables)) (i .limits) (x .tails);
       }
 
+  -- the front of the lent list is the register's report
+  report-is : (e : Event) (c : Change) → e .call .entry ≡ changing c → e .answer ≡ acceptedBy (bookedIn u) (e .call .entry) →
+      e .left ≡ listsAfter (bookedIn u) (e .call) (workAfter (u .state .limits) (u .tables) (e .call)) → reported e ≡ touchedBy (p .register) c
+  report-is e c q a x =
+      let js : List ℕ = touchedBy (bookedIn u) c in
+      let n : e .answer .touched ≡ length js = ap (λ (y : Answer). y .touched) a ∙ ap (λ (k : Entry). length (resultOf (bookedIn u) k .touched)) q in
+      let l : e .left .touched ≡ over js (e .call .lent .touched) =
+      ap (λ (y : Lent). y .touched) x ∙ ap (λ (k : Entry). over (resultOf (bookedIn u) k .touched) (e .call .lent .touched)) q in
+      ap (λ (k : ℕ). take k (e .left .touched)) n ∙ ap (λ (ys : List ℕ). take (length js) ys) l ∙
+      take-at js (drop (length js) (e .call .lent .touched)) (length js) refl ∙
+      bag-touched (bookedIn u) (p .register) (inv-rows i) (i .bag) (book-once u) c
+
+  change-reports : (e : Event) (c : Change) → e .call .entry ≡ changing c → e .answer ≡ acceptedBy (bookedIn u) (e .call .entry) →
+      e .left ≡ listsAfter (bookedIn u) (e .call) (workAfter (u .state .limits) (u .tables) (e .call)) → ReportsJust p e c
+  change-reports e c q a x =
+      let r : reported e ≡ touchedBy (p .register) c = report-is e c q a x in
+      record {
+        ascending = ap (λ (js : List ℕ). rises 1 (p .register .m) js) r ∙ touched-rise (p .register) c;
+        exactly = λ M N P Q f g j b d. subst (λ (js : List ℕ). Mem j js ↔ (OnPathOf (p .register .m) P (effect (p .register) c .leave) j ⊎ OnPathOf (p .register .m) Q (effect (p .register) c .enter) j)) (sym r)
+            (reports-exactly (p .register) c M N P Q f g j b d);
+      }
+
   module _ {e : Event} {v : World} where
     accepted-justified : Accepted u (e .call) (e .answer) (e .left) v → Justified p u e v
     accepted-justified s =
@@ -96,6 +121,7 @@ module _ {p : Plain} {u : World} (i : Inv p u) where
           left = rw z (s .lists ∙ bag-lists (bookedIn u) (p .register) (inv-rows i) (i .bag) (book-once u) k (workAfter (u .state .limits) (u .tables) k) ∙
               ap (λ (w : List ℕ). listsAfter (p .register) k w) (work-plain k));
           unchanged = λ h. elim h [ inl q ↦ absurd (q n) | inr q ↦ quiet-world u (k .entry) v q (s .world) ];
+          reports = λ q c h. change-reports e c h (s .answer) (s .lists);
           alters = λ q c h. change-alters c (change-world h (s .world));
         }
 
@@ -112,6 +138,7 @@ module _ {p : Plain} {u : World} (i : Inv p u) where
           sizes-at-openings = λ o. elim (from-five k o) [ inl h ↦ inl (q ∙ h) | inr h ↦ inr (omega arith) ];
           left = rw z (s .lists ∙ ap (λ (w : List ℕ). withWork (k .lent) w) (work-plain k));
           unchanged = λ h. s .world;
+          reports = λ h c q. absurd (n h);
           alters = λ h c q. absurd (n h);
         }
 

@@ -6,8 +6,11 @@ use mathlib.Core.Logic.{_⊎_, _≢_, _↔_}
 use mathlib.Core.Bool.{true, false, _||_}
 use mathlib.Core.List.{List, [], _∷_, _++_}
 use Prim.Native.Nat.{ℕ, _≤_, _<_}
-use Rattle.lists.specs.Lists.{pick, Mem, all, same, among, noRepeats, valuesAt}
-use Rattle.symbolic.specs.Columns.{Column, live}
+use lib.Dec.{eqb}
+use lib.ListN.{take}
+use Rattle.lists.specs.Lists.{pick, Mem, all, same, among, noRepeats, at, valuesAt, rises}
+use Rattle.symbolic.specs.Columns.{Column, smallest, startingWith, Register, live}
+use Rattle.symbolic.specs.Definition.{IsFactor, OnPath}
 use Rattle.symbolic.specs.Factor.{factorFor}
 use Rattle.symbolic.specs.Chains.{ChainTo}
 use Rattle.symbolic.specs.Change.{idsOf}
@@ -30,6 +33,26 @@ abbrev pub Stands : World → (i j : ℕ) → Type 0
 Stands v i j =
     Mem i (valuesAt (storedIn (v .state) (v .tables) .rows) (recordsOf (storedIn (v .state) (v .tables)) j))
 
+-- what stands beside a key in two lists that keep step; 0 where the key has nothing
+unfoldable pub valueFor : (keys values : List ℕ) → (key : ℕ) → ℕ
+valueFor [] vs k = 0
+valueFor (x ∷ xs) [] k = 0
+valueFor (x ∷ xs) (y ∷ ys) k = pick (eqb x k) y (valueFor xs ys k)
+
+-- the multiplicity that the tables hold for row i in column j: that of the chain's record with the row, "0 when absent"
+abbrev pub heldCount : World → (i j : ℕ) → ℕ
+heldCount v i j =
+    valueFor (valuesAt (storedIn (v .state) (v .tables) .rows) (recordsOf (storedIn (v .state) (v .tables)) j))
+    (valuesAt (storedIn (v .state) (v .tables) .counts) (recordsOf (storedIn (v .state) (v .tables)) j)) i
+
+-- the parent that the tables hold for column j
+abbrev pub heldParent : World → (j : ℕ) → ℕ
+heldParent v j = at (storedIn (v .state) (v .tables) .parents) j
+
+-- multiplicities M and parents P are document 01's for the live columns of a register
+abbrev pub IsFactorOf : Register → (M : ℕ → ℕ → ℕ) (P : ℕ → ℕ) → Type 0
+IsFactorOf r M P = IsFactor (r .m) (λ j i. startingWith j i (live r)) M P
+
 -- what holds of record and tables after a list of calls, against the register by then
 pub record Consistent (p : Plain) (v : World) : Type 0 where
   -- the sizes are in range, the record has them, and the tables are long enough for them
@@ -43,8 +66,10 @@ pub record Consistent (p : Plain) (v : World) : Type 0 where
   pub columns : (c : Column) → Mem c (bookedIn v .columns) ↔ Mem c (p .register .columns)
   pub book-once : noRepeats (idsOf (bookedIn v .columns)) ≡ true
   pub register-once : noRepeats (idsOf (p .register .columns)) ≡ true
-  -- demand 3: numbers justified: multiplicities and parents in the tables are the definition's for the register
-  pub numbers : holdsFrom (storedIn (v .state) (v .tables)) (factorFor (p .register)) 1 (p .limits .m) ≡ true
+  -- demand 3: numbers justified: multiplicities and parents in the tables are the definition's for the register, as the declarative definition has it
+  pub factor : IsFactorOf (p .register) (heldCount v) (heldParent v)
+  -- and as it is computed: chain j holds just the pattern's rows, rising, with their multiplicities
+  pub stored : holdsFrom (storedIn (v .state) (v .tables)) (factorFor (p .register)) 1 (p .limits .m) ≡ true
   -- demand 3: row i in column j exactly if a chain of rows leads there
   pub chains : (i j : ℕ) → 1 ≤ j → j < i → i ≤ p .limits .m → Stands v i j ↔ ChainTo (p .limits .m) (live (p .register)) i j
 
@@ -53,6 +78,22 @@ pub record Consistent (p : Plain) (v : World) : Type 0 where
 -- the number and position that table lengths, limits, register and arguments give
 abbrev pub plainRefusal : Plain → Tables → Call → Refusal
 plainRefusal p t k = orElse (callEarly (p .limits) t k) (callRefusal (p .limits) (p .register) k)
+
+-- j lies on the path of the smallest row of some column, in the tree of parents P
+abbrev pub OnPathOf : (m : ℕ) (P : ℕ → ℕ) → List Column → (j : ℕ) → Type 0
+OnPathOf m P cs j = (c : Column) × Mem c cs × (1 ≤ smallest c) × (smallest c ≤ m) × OnPath P (smallest c) j
+
+-- "The report is the list of touched columns and their number": the lent list's front
+abbrev pub reported : Event → List ℕ
+reported e = take (e .answer .touched) (e .left .touched)
+
+-- demand 3: an accepted batch reports each once, ascending, exactly the columns on its paths: of those that leave in the tree before the call, of those that
+-- enter in the tree after it, whatever parents P and Q meet the definition there
+pub record ReportsJust (p : Plain) (e : Event) (c : Change) : Type 0 where
+  pub ascending : rises 1 (p .register .m) (reported e) ≡ true
+  pub exactly : (M N : ℕ → ℕ → ℕ) (P Q : ℕ → ℕ) → IsFactorOf (p .register) M P → IsFactorOf (effect (p .register) c .register) N Q →
+      (j : ℕ) → 1 ≤ j → j ≤ p .register .m →
+      Mem j (reported e) ↔ (OnPathOf (p .register .m) P (effect (p .register) c .leave) j ⊎ OnPathOf (p .register .m) Q (effect (p .register) c .enter) j)
 
 -- what an accepted change may alter of record and tables, from world u to world v
 pub record AltersJust (p : Plain) (u : World) (c : Change) (v : World) : Type 0 where
@@ -81,7 +122,8 @@ pub record Justified (p : Plain) (u : World) (e : Event) (v : World) : Type 0 wh
       (withWork (e .call .lent) (workAfter (p .limits) (u .tables) (e .call)))
   -- a refused call, a check or a question leaves record and tables
   pub unchanged : (e .answer .number ≢ 0) ⊎ ((isChange (e .call .entry) || isOpening (e .call .entry)) ≡ false) → v ≡ u
-  -- what an accepted change alters
+  -- what an accepted change reports and alters
+  pub reports : e .answer .number ≡ 0 → (c : Change) → e .call .entry ≡ changing c → ReportsJust p e c
   pub alters : e .answer .number ≡ 0 → (c : Change) → e .call .entry ≡ changing c → AltersJust p u c v
 
 -- ---- DEMAND 3, one claim about a list of calls from an accepted opening, refused ones among them
