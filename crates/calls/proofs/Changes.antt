@@ -1,7 +1,7 @@
 -- What a change does to a register: what an addition and a removal touch (`touched-adding`, `touched-removing`), that touched columns rise, and, where the
 -- change is accepted and the columns fit and have distinct ids: a removal's batch and what stays are what there was (`removal-bag`), the columns after it fit,
 -- and a column that is not touched is the same before and after (`untouched-same`). Assumes nothing.
-use mathlib.Core.Path.{_≡_, refl, sym, ap, _∙_}
+use mathlib.Core.Path.{_≡_, refl, sym, ap, _∙_, subst}
 use mathlib.Core.Logic.{inl, inr}
 use mathlib.Core.Bool.{Bool, true, false, true≢false}
 use mathlib.Core.List.{List, _++_}
@@ -12,7 +12,7 @@ use Rattle.lists.proofs.Tests.{refute}
 use Rattle.lists.proofs.Member.{mem-left, mem-right, mem-either, all-at, all-make}
 use Rattle.symbolic.specs.Columns.{Column, Register, live}
 use Rattle.symbolic.specs.Factor.{FactorColumn, factorOf, factorFor, columnAt}
-use Rattle.symbolic.specs.Batch.{isTouched, touched}
+use Rattle.symbolic.specs.Batch.{isTouched, touched, exchanged}
 use Rattle.symbolic.specs.Change.{idsOf, without, columnsOf, added, removed, Bag}
 use Rattle.symbolic.proofs.Build.{factor-length}
 use Rattle.symbolic.proofs.Bags.{bag-mem}
@@ -22,7 +22,7 @@ use Rattle.book.specs.Book.{columnFits}
 use Rattle.tables.specs.Tables.{Limits}
 use Rattle.calls.specs.Refusals.{isAccepted, batchOf}
 use Rattle.calls.specs.Calls.{Change, adding, removing}
-use Rattle.calls.specs.Changes.{effect, touchedBy}
+use Rattle.calls.specs.Changes.{Effect, effect, touchedBy}
 use Rattle.calls.proofs.Refusals.{add-facts, RemoveFits, remove-facts}
 
 -- ---- what a change touches
@@ -44,9 +44,10 @@ module _ (r : Register) where
   rows-stay (removing is) = refl
 
   pub touched-rise : (c : Change) → rises 1 (r .m) (touchedBy r c) ≡ true
-  touched-rise (adding is ns rs) =
-      exchanged-rises (r .m) (live r) (live (added r (batchOf is ns rs))) (effect r (adding is ns rs) .leave) (effect r (adding is ns rs) .enter)
-  touched-rise (removing is) = exchanged-rises (r .m) (live r) (live (removed r is)) (effect r (removing is) .leave) (effect r (removing is) .enter)
+  touched-rise c =
+      let x : Effect = effect r c in
+      subst (λ (n : ℕ). rises 1 (r .m) (exchanged (factorFor r) (factorOf n (live (x .register))) (x .leave) (x .enter)) ≡ true) (sym (rows-stay c))
+      (exchanged-rises (r .m) (live r) (live (x .register)) (x .leave) (x .enter))
 
 -- ---- lists of columns that pass a test
 
@@ -73,12 +74,6 @@ removal-fits f l r is u g h =
     append-all f R W (all-make f (R ++ W) (λ c m. all-at f (bag-mem (r .columns) (R ++ W) (removal-bag l r is u g) m) h))
 
 -- ---- an accepted change
-
--- the columns after it fit
-pub fits-after : (l : Limits) (r : Register) → noRepeats (idsOf (r .columns)) ≡ true → all (columnFits (r .m)) (r .columns) ≡ true →
-    (c : Change) → isAccepted (effect r c .refusal l) ≡ true → all (columnFits (r .m)) (effect r c .register .columns) ≡ true
-fits-after l r u fits (adding is ns rs) h = all-append (columnFits (r .m)) (r .columns) (batchOf is ns rs) fits (add-facts l r is ns rs h .columns .fits)
-fits-after l r u fits (removing is) h = removal-fits (columnFits (r .m)) l r is u (remove-facts l r is h) fits .0
 
 -- a column that the report leaves out is on no path
 untouched : (m : ℕ) (cs batch : List Column) (j : ℕ) → 1 ≤ j → j ≤ m → among j (touched (factorOf m cs) batch) ≡ false → isTouched (factorOf m cs) batch j ≡ false

@@ -24,11 +24,12 @@ use Rattle.symbolic.proofs.Theorems.{order-free}
 use Rattle.tables.specs.Tables.{Limits}
 use Rattle.calls.specs.Refusals.{isAccepted, orElse, batchOf, inRegister, columnsRefusal, roomRefusal, idsRefusal, roomFor}
 use Rattle.calls.specs.Calls.{Change, adding, removing, Question, askMultiplicity, askParent, askPath, askColumn, Entry, opening, changing, checking, asking, Call}
-use Rattle.calls.specs.Changes.{effect, touchedBy, labelled, labelsBy, entriesBy}
+use Rattle.calls.specs.Changes.{Effect, effect, touchedBy, labelled, labelsBy, entriesBy}
 use Rattle.calls.specs.Questions.{Response, response}
 use Rattle.calls.specs.Numbers.{ownRefusal, callRefusal}
 use Rattle.calls.specs.Steps.{Result, resultOf, acceptedBy, writtenAt, listsAfter}
 use Rattle.calls.proofs.Refusals.{ColumnsFit, add-facts}
+use Rattle.calls.proofs.Changes.{rows-stay}
 
 -- ---- the column of an id
 
@@ -90,8 +91,7 @@ module _ (r s : Register) (e : r .m ≡ s .m) (b : Bag (r .columns) (s .columns)
   -- ---- the register after a change
 
   pub bag-rows : (c : Change) → effect r c .register .m ≡ effect s c .register .m
-  bag-rows (adding is ns rs) = e
-  bag-rows (removing is) = e
+  bag-rows c = rows-stay r c ∙ e ∙ sym (rows-stay s c)
 
   pub bag-after : (c : Change) → Bag (effect r c .register .columns) (effect s c .register .columns)
   bag-after (adding is ns rs) f = bag-append (r .columns) (s .columns) (batchOf is ns rs) b f
@@ -149,33 +149,42 @@ module _ (r s : Register) (e : r .m ≡ s .m) (b : Bag (r .columns) (s .columns)
   -- ---- reports, of registers with distinct ids
 
   module _ (u : noRepeats (idsOf (r .columns)) ≡ true) where
-    pub bag-leave : (c : Change) → effect r c .leave ≡ effect s c .leave
-    bag-leave (adding is ns rs) = refl
-    bag-leave (removing is) = bag-columns (r .columns) (s .columns) b u is
+    -- which columns leave and enter, under which labels and ids
+    record SameEffect (x y : Effect) : Type 0 where
+      leave : x .leave ≡ y .leave
+      enter : x .enter ≡ y .enter
+      label : x .label ≡ y .label
+      ids : x .ids ≡ y .ids
 
-    pub bag-enter : (c : Change) → effect r c .enter ≡ effect s c .enter
-    bag-enter (adding is ns rs) = refl
-    bag-enter (removing is) = refl
-
-    pub bag-label : (c : Change) → effect r c .label ≡ effect s c .label
-    bag-label (adding is ns rs) = ap (λ (fs : List FactorColumn). labelOf fs (batchOf is ns rs)) (bag-factor-after r s e b (adding is ns rs))
-    bag-label (removing is) =
-        ap (λ (fs : List FactorColumn). labelOf fs (columnsOf is (r .columns))) (bag-factor r s e b) ∙
-        ap (λ (cs : List Column). labelOf (factorFor s) cs) (bag-columns (r .columns) (s .columns) b u is)
+    bag-effect : (c : Change) → SameEffect (effect r c) (effect s c)
+    bag-effect (adding is ns rs) =
+        record {
+          leave = refl;
+          enter = refl;
+          label = ap (λ (fs : List FactorColumn). labelOf fs (batchOf is ns rs)) (bag-factor-after r s e b (adding is ns rs));
+          ids = refl;
+        }
+    bag-effect (removing is) =
+        let q : columnsOf is (r .columns) ≡ columnsOf is (s .columns) = bag-columns (r .columns) (s .columns) b u is in
+        record {
+          leave = q;
+          enter = refl;
+          label = ap (λ (fs : List FactorColumn). labelOf fs (columnsOf is (r .columns))) (bag-factor r s e b) ∙ ap (λ (cs : List Column). labelOf (factorFor s) cs) q;
+          ids = refl;
+        }
 
     pub bag-ids : (c : Change) → effect r c .ids ≡ effect s c .ids
-    bag-ids (adding is ns rs) = refl
-    bag-ids (removing is) = refl
+    bag-ids c = bag-effect c .ids
 
     pub bag-touched : (c : Change) → touchedBy r c ≡ touchedBy s c
     bag-touched c =
         ap (λ (fs : List FactorColumn). exchanged fs (factorFor (effect r c .register)) (effect r c .leave) (effect r c .enter)) (bag-factor r s e b) ∙
         ap (λ (fs : List FactorColumn). exchanged (factorFor s) fs (effect r c .leave) (effect r c .enter)) (bag-factor-after r s e b c) ∙
-        ap (λ (cs : List Column). exchanged (factorFor s) (factorFor (effect s c .register)) cs (effect r c .enter)) (bag-leave c) ∙
-        ap (λ (cs : List Column). exchanged (factorFor s) (factorFor (effect s c .register)) (effect s c .leave) cs) (bag-enter c)
+        ap (λ (cs : List Column). exchanged (factorFor s) (factorFor (effect s c .register)) cs (effect r c .enter)) (bag-effect c .leave) ∙
+        ap (λ (cs : List Column). exchanged (factorFor s) (factorFor (effect s c .register)) (effect s c .leave) cs) (bag-effect c .enter)
 
     pub bag-labels : (c : Change) → labelsBy r c ≡ labelsBy s c
-    bag-labels c = ap (λ (f : ℕ → ℕ). labelled f (touchedBy r c)) (bag-label c) ∙ ap (λ (js : List ℕ). labelled (effect s c .label) js) (bag-touched c)
+    bag-labels c = ap (λ (f : ℕ → ℕ). labelled f (touchedBy r c)) (bag-effect c .label) ∙ ap (λ (js : List ℕ). labelled (effect s c .label) js) (bag-touched c)
 
     pub bag-entries : (c : Change) → entriesBy r c ≡ entriesBy s c
     bag-entries c =
