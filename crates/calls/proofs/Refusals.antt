@@ -169,6 +169,10 @@ pub columns-new : {r : Register} {n : ℕ} {is ns rs : List ℕ} → ColumnsFit 
 columns-new {r} f {x} m =
     refute (inRegister r x) (λ e. absurd (omega (arith, f .apart x, mem-times m, ap one (or-right (among x []) (inRegister r x) e))))
 
+-- "no number is given unless its condition holds": just enough room is enough. Nothing cites it but edits that give 15 or 16 one early
+pub room-enough : (l : Limits) (r : Register) → rowSum (r .columns) ≤ l .c → sizeSum (factorFor r) ≤ l .f → roomRefusal l r ≡ accepted
+room-enough l r h k = rw (le-leb (rowSum (r .columns)) (l .c) h, le-leb (sizeSum (factorFor r)) (l .f) k) refl
+
 pub record AddFits (l : Limits) (r : Register) (ids counts rows : List ℕ) : Type 0 where
   pub some : 1 ≤ length ids
   pub few : length ids ≤ 64
