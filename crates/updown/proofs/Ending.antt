@@ -18,7 +18,8 @@ use Rattle.workspace.specs.Regions.{Outside, cleared}
 use Rattle.workspace.proofs.Regions.{zero-at, cleared-length, cleared-zero, cleared-outside}
 use Rattle.differences.specs.Tally.{Tally}
 use Rattle.columns.specs.Plan.{ofKind}
-use Rattle.updown.specs.Plans.{marksAt, startsAt, nextAt, InPlan, firstOf, PlansFrom, PlanIs}
+use Rattle.updown.specs.Plans.{InPlan, firstOf, PlansFrom, PlanIs}
+use Rattle.workspace.specs.Layout.{marksAt, startsAt, nextAt}
 use Rattle.updown.specs.Turns.{larger, before, after, labelAt, done, standing, PlansTo}
 use Rattle.updown.specs.States.{Busy, differs, plans, marks, queues, flagged, Walking, Numbers, Between, Fitting}
 use Rattle.updown.proofs.Queueing.{queue-none, links-length}

@@ -20,7 +20,8 @@ use Rattle.workspace.specs.Regions.{cell, region}
 use Rattle.workspace.proofs.Regions.{region-cell}
 use Rattle.pool.specs.Chains.{lastOf}
 use Rattle.columns.specs.Plan.{planned, Suits}
-use Rattle.updown.specs.Plans.{marksAt, startsAt, nextAt, planAt, labelIn, parentIn, PlansFrom, InPlan}
+use Rattle.updown.specs.Plans.{labelIn, parentIn, PlansFrom, InPlan}
+use Rattle.workspace.specs.Layout.{marksAt, startsAt, nextAt, planAt}
 use Rattle.updown.specs.Turns.{DoneColumn, PlansTo}
 
 -- ---- the touched columns below a row, one row more

@@ -18,7 +18,8 @@ use Rattle.workspace.specs.Regions.{cell, region, Outside}
 use Rattle.emission.specs.Emit as emit
 use Rattle.emission.specs.declared.Emission.{Emission}
 use Rattle.columns.specs.Plan.{planned, Suits}
-use Rattle.updown.specs.Plans.{planAt, labelIn, parentIn, InPlan}
+use Rattle.updown.specs.Plans.{labelIn, parentIn, InPlan}
+use Rattle.workspace.specs.Layout.{planAt}
 use Rattle.updown.specs.Marks.{markAt, Flagged}
 use Rattle.updown.specs.Queues.{Queues}
 use Rattle.updown.specs.Turns.{larger, before, after, labelAt, done, standing, DoneColumn, PlansTo}

@@ -20,7 +20,8 @@ use Rattle.workspace.specs.Regions.{cell, region}
 use Rattle.differences.specs.Tally.{shifted, differenceAt, Tally}
 use Rattle.differences.specs.Gather.{planPart}
 use Rattle.emission.specs.Plans.{planFrom}
-use Rattle.updown.specs.Plans.{marksAt, parentIn, InPlan}
+use Rattle.updown.specs.Plans.{parentIn, InPlan}
+use Rattle.workspace.specs.Layout.{marksAt}
 use Rattle.updown.specs.Marks.{endAt, otherAt}
 use Rattle.updown.specs.Children.{Counts, PlanOf, ChainOf, oldOf, newOf}
 use Rattle.updown.specs.Turns.{larger, smaller, before, after, otherParent, labelAt, done, soFar, Shift, Tallied}
