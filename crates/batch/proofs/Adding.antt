@@ -20,7 +20,7 @@ use Rattle.refusals.specs.Offsets.{offsetOf}
 use Rattle.refusals.specs.Found.{addFound}
 use Rattle.refusals.proofs.Accepted.{AddReady, add-ready, add-refusal, ready-length}
 use Rattle.updown.specs.Entries.{Listed, CanAdd, AddPlanned}
-use Rattle.batch.specs.Outcome.{cutLimits, cutWorld, CanFind}
+use Rattle.batch.specs.Outcome.{cutSizes, cutWorld, CanFind}
 use Rattle.batch.specs.Parts.{storedWhole, bookWhole, numberFor, verdictNumber, Judged}
 use Rattle.batch.specs.declared.Verdict.{Verdict}
 use Rattle.batch.proofs.Cut.{columns-cut, plan-can}
@@ -53,8 +53,8 @@ module _ {t : Tables} {f g : ℕ} {w : List ℕ} (can : CanFind (cutWorld t f g)
   add-number =
       let r : List Column → Register = λ cs. record { m = m; columns = cs } in
       let q : List Column → Refusal = λ cs. unless (leb (sizeSum (factorOf m (cs ++ batchOf is ns rs))) (length (t .next))) 16 0 in
-      ap (λ (cs : List Column). addRefusal (cutLimits t) (r cs) is ns rs) (columns-cut can) ∙
-      add-refusal (cutLimits t) m (bookWhole t g) is ns rs refl refl ∙
+      ap (λ (cs : List Column). addRefusal (cutSizes t) (r cs) is ns rs) (columns-cut can) ∙
+      add-refusal (cutSizes t) m (bookWhole t g) is ns rs refl refl ∙
       ap (λ (cs : List Column). orElse (addFound m (bookWhole t g) is ns rs) (q cs)) (sym (columns-cut can))
 
   -- refused by 7 to 15

@@ -20,7 +20,7 @@ use Rattle.calls.specs.Refusals.{isAccepted, bounds, sizesRefusal}
 use Rattle.calls.specs.Steps.{bookedIn}
 use Rattle.calls.proofs.Refusals.{InRange, sizes-facts}
 use Rattle.updown.specs.Entries.{planNeed, CanPlan}
-use Rattle.batch.specs.Outcome.{cutLimits, cutWorld, CanFind}
+use Rattle.batch.specs.Outcome.{cutSizes, cutWorld, CanFind}
 use Rattle.batch.specs.Parts.{storedWhole, bookWhole}
 
 -- ---- read whole
@@ -46,8 +46,8 @@ book-whole t f g z = λ i.
     }
 
 module _ {t : Tables} {f g : ℕ} {w : List ℕ} (can : CanFind (cutWorld t f g) w) where
-  pub sizes-are : InRange (cutLimits t)
-  sizes-are = sizes-facts (cutLimits t) (ap isAccepted (can .in-range))
+  pub sizes-are : InRange (cutSizes t)
+  sizes-are = sizes-facts (cutSizes t) (ap isAccepted (can .in-range))
 
   pub stored-sized : Sized (storedWhole t f)
   stored-sized = record { parents-long = can .parents; rows-long = can .rows; counts-long = can .counts }

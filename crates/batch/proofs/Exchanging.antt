@@ -22,8 +22,8 @@ use Rattle.calls.specs.Changes.{effect, touchedBy, labelled}
 use Rattle.calls.specs.Steps.{bookedIn, Exchanged}
 use Rattle.calls.proofs.Changes.{rows-stay, touched-rise, untouched-same}
 use Rattle.updown.specs.Plans.{PlanIs}
-use Rattle.commit.specs.Writes.{labelsFor, CanWrite, Written}
-use Rattle.batch.specs.Outcome.{cutLimits, cutWorld, CanFind, CanBatch}
+use Rattle.commit.specs.Writes.{labelsFor, CanWrite, PlanWritten}
+use Rattle.batch.specs.Outcome.{cutSizes, cutWorld, CanFind, CanBatch}
 use Rattle.batch.specs.Parts.{storedWhole, bookWhole, numberFor, CanWriteBatch, BatchWritten}
 use Rattle.batch.proofs.Cut as cut
 
@@ -89,7 +89,7 @@ module _ {t : Tables} {f g : ℕ} {k : Change} {w w′ a b : List ℕ} {first us
         rising = touched-rise r k;
         off = λ j p q h. sym
             (subst (λ (n : ℕ). columnAt (factorOf n (effect r k .register .columns)) j ≡ columnAt (factorFor r) j) (rows-stay r k)
-            (untouched-same (cutLimits t) r (cut.columns-distinct find) j p q k (c .accepted) h));
+            (untouched-same (cutSizes t) r (cut.columns-distinct find) j p q k (c .accepted) h));
         touched-long = c .can .touched-long;
         labels-long = c .can .labels-long;
       }
@@ -97,7 +97,7 @@ module _ {t : Tables} {f g : ℕ} {k : Change} {w w′ a b : List ℕ} {first us
   -- ---- columns written and a book changed
 
   module _ {t′ : Tables} {f′ g′ : ℕ} {w″ a′ b′ : List ℕ} (same-next : length (t′ .next) ≡ length (t .next))
-      (x : Written (storedWhole t f) (effect (bookedIn (cutWorld t f g)) k .register .columns)
+      (x : PlanWritten (storedWhole t f) (effect (bookedIn (cutWorld t f g)) k .register .columns)
       (effect (bookedIn (cutWorld t f g)) k .label) (touchedBy (bookedIn (cutWorld t f g)) k) w a b (storedWhole t′ f′) w″ a′ b′)
       (y : BookAfter (length (t .heads)) (bookWhole t g) (effect (bookedIn (cutWorld t f g)) k .register .columns) (effect (bookedIn (cutWorld t f g)) k .ids) (bookWhole t′ g′)) where
     abbrev same-heads : length (t′ .heads) ≡ length (t .heads)
@@ -125,7 +125,7 @@ module _ {t : Tables} {f g : ℕ} {k : Change} {w w′ a b : List ℕ} {first us
     pub batch-exchanged : Exchanged (cutWorld t f g) k (cutWorld t′ f′ g′)
     batch-exchanged =
         record {
-          limits = λ i. record { m = same-heads i; n = y .same-heads i; f = same-next i; c = y .same-records i };
+          sizes = λ i. record { m = same-heads i; n = y .same-heads i; f = same-next i; c = y .same-records i };
           sound = sound-after;
           columns = columns-after;
           others = λ j p q h. both-read (λ (s s′ : Stored). ColumnStays s s′ j) (cut.stored-cut find) stored-after (x .others j p q h);

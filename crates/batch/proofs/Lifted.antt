@@ -13,20 +13,20 @@ use Rattle.symbolic.specs.Change.{Bag}
 use Rattle.book.specs.Book as book
 use Rattle.tables.specs.Stored.{Stored, isSoundFor}
 use Rattle.tables.specs.Stays.{ColumnStays, EntriesStay, TailsStay}
-use Rattle.tables.specs.Tables.{Tables, Limits, storedIn, bookIn, registerOf, isSound}
+use Rattle.tables.specs.Tables.{Tables, Sizes, storedIn, bookIn, registerOf, isSound}
 use Rattle.tables.proofs.Tables.{Long}
 use Rattle.calls.specs.Refusals.{Refusal, isAccepted}
 use Rattle.calls.specs.Calls.{Change, changing, Lent, callOf}
 use Rattle.calls.specs.Changes.{effect, touchedBy}
 use Rattle.calls.specs.Steps.{Answer, refusedBy, acceptedBy, listsAfter, World, bookedIn, Exchanged}
-use Rattle.batch.specs.Outcome.{cutLimits, cutWorld, BatchOutcome, BatchStep}
-use Rattle.batch.proofs.Lifting.{cutTables, joinTables, worldFor, join-cut, Fits, cut-fits, limits-are, stored-fits, book-fits, stored-joins, book-joins, tails-join, stored-lifts, book-lifts, register-lifts}
+use Rattle.batch.specs.Outcome.{cutSizes, cutWorld, BatchOutcome, BatchStep}
+use Rattle.batch.proofs.Lifting.{cutTables, joinTables, worldFor, join-cut, Fits, cut-fits, cut-sizes-are, stored-fits, book-fits, stored-joins, book-joins, tails-join, stored-lifts, book-lifts, register-lifts}
 
 -- a fact of two things, moved along equations of both
 moved : {A : Type 0} (P : A → A → Type 0) {a a′ b b′ : A} → a ≡ b → a′ ≡ b′ → P a a′ → P b b′
 moved P {a} {a′} {b} {b′} e e′ h = subst (λ x. P x b′) e (subst (λ x. P a x) e′ h)
 
-module _ {l : Limits} {t : Tables} (long : Long l t) (f g : ℕ) (y : Tables) (f′ g′ : ℕ) (k : Change) where
+module _ {l : Sizes} {t : Tables} (long : Long l t) (f g : ℕ) (y : Tables) (f′ g′ : ℕ) (k : Change) where
   abbrev u : World
   u = cutWorld (cutTables l t) f g
 
@@ -37,7 +37,7 @@ module _ {l : Limits} {t : Tables} (long : Long l t) (f g : ℕ) (y : Tables) (f
   after = worldFor l f′ g′ (joinTables l y t)
 
   -- lengths stay, so the tables after it fit
-  exchanged-fits : TailsStay (cutLimits (cutTables l t)) (cutTables l t) y → Fits l y
+  exchanged-fits : TailsStay (cutSizes (cutTables l t)) (cutTables l t) y → Fits l y
   exchanged-fits h =
       let z : Fits l (cutTables l t) = cut-fits l t long in
       record {
@@ -62,13 +62,13 @@ module _ {l : Limits} {t : Tables} (long : Long l t) (f g : ℕ) (y : Tables) (f
       let b′ : bookIn (v .state) y ≡ bookIn (after .state) (after .tables) = book-fits z f′ g′ ∙ sym (book-joins z f′ g′ t) in
       let l′ : ℕ = l .m in
       let stays : (i j : ℕ) → inPattern (factorOf (l .m) (effect (registerOf (worldFor l f g t .state) t) k .stay)) i j ≡ true →
-      inPattern (factorOf (cutLimits (cutTables l t) .m) (effect (registerOf (u .state) (u .tables)) k .stay)) i j ≡ true =
+      inPattern (factorOf (cutSizes (cutTables l t) .m) (effect (registerOf (u .state) (u .tables)) k .stay)) i j ≡ true =
       λ i j n. subst (λ (m : ℕ). inPattern (factorOf m (effect (registerOf (u .state) (u .tables)) k .stay)) i j ≡ true) (sym (c .heads))
       (subst (λ (o : Register). inPattern (factorOf (l .m) (effect o k .stay)) i j ≡ true) (sym r) n) in
       let sound : isSound (v .state) y ≡ isSound (after .state) (after .tables) =
       λ i. book.isSound (z .heads i) (b′ i) && isSoundFor (book.columnsIn (b′ i)) (s′ i) in
       record {
-        limits = refl;
+        sizes = refl;
         sound = sym sound ∙ x .sound;
         columns = subst (λ (q : Register). Bag (registerOf (after .state) (after .tables) .columns) (effect q k .register .columns)) r
             (subst (λ (d : book.Book). Bag (book.columnsIn d) (effect (registerOf (u .state) (u .tables)) k .register .columns)) b′ (x .columns));
@@ -85,7 +85,7 @@ module _ {l : Limits} {t : Tables} (long : Long l t) (f g : ℕ) (y : Tables) (f
 
   module _ (a : Answer) (x y′ : Lent) where
     abbrev refusalIn : World → Refusal
-    refusalIn w = effect (bookedIn w) k .refusal (w .state .limits)
+    refusalIn w = effect (bookedIn w) k .refusal (w .state .sizes)
 
     by-number : (q : Bool) → isAccepted (refusalIn u) ≡ q → BatchOutcome q u k x a y′ v → refusalIn u ≡ refusalIn (worldFor l f g t) →
         BatchStep (worldFor l f g t) k x a y′ after
@@ -106,4 +106,4 @@ module _ {l : Limits} {t : Tables} (long : Long l t) (f g : ℕ) (y : Tables) (f
     pub step-lifts : BatchStep (cutWorld (cutTables l t) f g) k x a y′ (cutWorld y f′ g′) → BatchStep (worldFor l f g t) k x a y′ (worldFor l f′ g′ (joinTables l y t))
     step-lifts step =
         by-number (isAccepted (refusalIn u)) refl step
-        (λ i. effect (register-lifts long f g i) k .refusal (limits-are (cut-fits l t long) f g i))
+        (λ i. effect (register-lifts long f g i) k .refusal (cut-sizes-are (cut-fits l t long) f g i))

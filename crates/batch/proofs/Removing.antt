@@ -26,7 +26,7 @@ use Rattle.refusals.specs.Found.{removeFound}
 use Rattle.refusals.proofs.Accepted.{RemoveReady, remove-ready, remove-refusal}
 use Rattle.updown.specs.Plans.{PlanIs}
 use Rattle.updown.specs.Entries.{Booked, CanRemove, RemovePlanned}
-use Rattle.batch.specs.Outcome.{cutLimits, cutWorld, CanFind}
+use Rattle.batch.specs.Outcome.{cutSizes, cutWorld, CanFind}
 use Rattle.batch.specs.Parts.{storedWhole, bookWhole, numberFor, verdictNumber, Judged}
 use Rattle.batch.specs.declared.Verdict.{Verdict}
 use Rattle.batch.proofs.Cut.{columns-cut, columns-fit, columns-distinct, book-sound, plan-can}
@@ -81,8 +81,8 @@ module _ {t : Tables} {f g : ℕ} {w : List ℕ} (can : CanFind (cutWorld t f g)
 
   pub remove-number : numberFor (cutWorld t f g) (removing is) ≡ removeFound m (bookWhole t g) is
   remove-number =
-      ap (λ (cs : List Column). removeRefusal (cutLimits t) (record { m = m; columns = cs }) is) (columns-cut can) ∙
-      remove-refusal (cutLimits t) m (bookWhole t g) is refl
+      ap (λ (cs : List Column). removeRefusal (cutSizes t) (record { m = m; columns = cs }) is) (columns-cut can) ∙
+      remove-refusal (cutSizes t) m (bookWhole t g) is refl
 
   pub remove-refused : {x : Verdict} → verdictNumber x ≡ removeFound (length (t .heads)) (bookWhole t g) is → isAccepted (verdictNumber x) ≡ false →
       Judged (cutWorld t f g) (removing is) w w x
@@ -97,8 +97,8 @@ module _ {t : Tables} {f g : ℕ} {w : List ℕ} (can : CanFind (cutWorld t f g)
     abbrev W : List Column
     W = columnsOf is (r .columns)
 
-    facts : RemoveFits (cutLimits t) (bookedIn (cutWorld t f g)) is
-    facts = remove-facts (cutLimits t) r is (ap isAccepted remove-number ∙ found)
+    facts : RemoveFits (cutSizes t) (bookedIn (cutWorld t f g)) is
+    facts = remove-facts (cutSizes t) r is (ap isAccepted remove-number ∙ found)
 
     found-whole : removeFound (length (t .heads)) (bookWhole t g) is ≡ accepted
     found-whole =
@@ -112,9 +112,9 @@ module _ {t : Tables} {f g : ℕ} {w : List ℕ} (can : CanFind (cutWorld t f g)
           columns = r .columns;
           free = f;
           book-free = g;
-          can = plan-can can W (removal-fits (book.columnFits m) (cutLimits t) r is (columns-distinct can) facts (columns-fit can) .1)
+          can = plan-can can W (removal-fits (book.columnFits m) (cutSizes t) r is (columns-distinct can) facts (columns-fit can) .1)
               (omega (arith, columns-length is (r .columns), x .some)) (omega (arith, columns-length is (r .columns), x .few));
-          same = removal-bag (cutLimits t) r is (columns-distinct can) facts;
+          same = removal-bag (cutSizes t) r is (columns-distinct can) facts;
           booked = booked-free (t .bookHeads) (t .bookRows) (t .bookNext) g i is W
               (subst (λ (cs : List Column). Booked (bookWhole t g) is (columnsOf is cs)) (sym (columns-cut can)) (columns-booked (bookWhole t g) is (x .named) (x .booked)));
           book-sized = can .book-rows;
@@ -132,5 +132,5 @@ module _ {t : Tables} {f g : ℕ} {w : List ℕ} (can : CanFind (cutWorld t f g)
           room-fits = omega arith;
           plan = rw (q1, q2, q3, q4, touched-removing r is)
               (subst (λ (F : List FactorColumn). PlanIs m (length (t .next)) 0 F (factorOf m R) (labelOf F W) (touched F W) w w′ first count entries used)
-              (sym (removal-factor (cutLimits t) r is (columns-distinct can) facts)) (p .plan));
+              (sym (removal-factor (cutSizes t) r is (columns-distinct can) facts)) (p .plan));
         })

@@ -7,7 +7,7 @@ use Prim.Native.Nat.{ℕ}
 use lib.ListN.{take, drop, take-append-drop}
 use Rattle.lists.specs.Lists.{pick}
 use Rattle.workspace.specs.Regions.{zeroFirst}
-use Rattle.tables.specs.Tables.{Tables, Limits, isSound}
+use Rattle.tables.specs.Tables.{Tables, Sizes, isSound}
 use Rattle.calls.specs.Refusals.{Refusal, isAccepted, workFor}
 use Rattle.calls.specs.Calls.{Change, changing, Lent, withWork, Call, callOf}
 use Rattle.calls.specs.Changes.{effect}
@@ -20,7 +20,7 @@ use Rattle.batch.proofs.Lifting.{joinTables}
 
 -- ---- heads that were only read
 
-abbrev pub joinBut : Limits → (cut whole : Tables) → Tables
+abbrev pub joinBut : Sizes → (cut whole : Tables) → Tables
 joinBut l y t =
     record {
       heads = t .heads;
@@ -33,7 +33,7 @@ joinBut l y t =
       bookNext = y .bookNext ++ drop (l .c) (t .bookNext);
     }
 
-pub heads-stay : (l : Limits) (y t : Tables) → y .heads ≡ take (l .m) (t .heads) → joinTables l y t ≡ joinBut l y t
+pub heads-stay : (l : Sizes) (y t : Tables) → y .heads ≡ take (l .m) (t .heads) → joinTables l y t ≡ joinBut l y t
 heads-stay l y t e = λ i.
     record {
       heads = (ap (λ (xs : List ℕ). xs ++ drop (l .m) (t .heads)) e ∙ take-append-drop (l .m) (t .heads)) i;
@@ -48,23 +48,23 @@ heads-stay l y t e = λ i.
 
 -- ---- a change and the batch that ran for it
 
-module _ (u : World) (c : Change) (x : Lent) (early : isAccepted (callEarly (u .state .limits) (u .tables) (callOf (changing c) x)) ≡ true)
+module _ (u : World) (c : Change) (x : Lent) (early : isAccepted (callEarly (u .state .sizes) (u .tables) (callOf (changing c) x)) ≡ true)
     (sound : isSound (u .state) (u .tables) ≡ true) (a : Answer) (y : Lent) (v : World) where
   abbrev zeroed : List ℕ
-  zeroed = zeroFirst (workFor (u .state .limits)) (x .work)
+  zeroed = zeroFirst (workFor (u .state .sizes)) (x .work)
 
   abbrev k : Call
   k = callOf (changing c) x
 
-  own : refusalOf (u .state) (u .tables) (callOf (changing c) x) ≡ effect (bookedIn u) c .refusal (u .state .limits)
+  own : refusalOf (u .state) (u .tables) (callOf (changing c) x) ≡ effect (bookedIn u) c .refusal (u .state .sizes)
   own =
-      let n : Refusal = effect (bookedIn u) c .refusal (u .state .limits) in
-      sound-number (u .state) (u .tables) k sound ∙ or-second (callEarly (u .state .limits) (u .tables) k) n early
+      let n : Refusal = effect (bookedIn u) c .refusal (u .state .sizes) in
+      sound-number (u .state) (u .tables) k sound ∙ or-second (callEarly (u .state .sizes) (u .tables) k) n early
 
-  work-zero : zeroFirst (workFor (u .state .limits)) (x .work) ≡ workAfter (u .state .limits) (u .tables) (callOf (changing c) x)
+  work-zero : zeroFirst (workFor (u .state .sizes)) (x .work) ≡ workAfter (u .state .sizes) (u .tables) (callOf (changing c) x)
   work-zero = sym (ap (λ (q : Bool). pick q zeroed (x .work)) early)
 
-  by-number : (q : Bool) → isAccepted (effect (bookedIn u) c .refusal (u .state .limits)) ≡ q → BatchOutcome q u c (withWork x (zeroFirst (workFor (u .state .limits)) (x .work))) a y v →
+  by-number : (q : Bool) → isAccepted (effect (bookedIn u) c .refusal (u .state .sizes)) ≡ q → BatchOutcome q u c (withWork x (zeroFirst (workFor (u .state .sizes)) (x .work))) a y v →
       Transition u (callOf (changing c) x) a y v
   by-number true e o =
       subst (λ (q : Bool). OutcomeFor q u k a y v) (sym (ap isAccepted own ∙ e))
@@ -74,5 +74,5 @@ module _ (u : World) (c : Change) (x : Lent) (early : isAccepted (callEarly (u .
       (o .0 ∙ ap refusedBy (sym own), o .1 ∙ ap (λ (w : List ℕ). withWork x w) work-zero, o .2)
 
   -- where 1 to 6 are passed, the batch that ran on a work table with its first W places zero is the whole call
-  pub change-whole : BatchStep u c (withWork x (zeroFirst (workFor (u .state .limits)) (x .work))) a y v → Transition u (callOf (changing c) x) a y v
-  change-whole o = by-number (isAccepted (effect (bookedIn u) c .refusal (u .state .limits))) refl o
+  pub change-whole : BatchStep u c (withWork x (zeroFirst (workFor (u .state .sizes)) (x .work))) a y v → Transition u (callOf (changing c) x) a y v
+  change-whole o = by-number (isAccepted (effect (bookedIn u) c .refusal (u .state .sizes))) refl o

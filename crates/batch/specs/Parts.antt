@@ -33,7 +33,7 @@ bookWhole t g = book.bookOf (t .bookHeads) (t .bookRows) (t .bookNext) g
 
 -- the number and position of a change
 abbrev pub numberFor : World → Change → Refusal
-numberFor u c = effect (bookedIn u) c .refusal (u .state .limits)
+numberFor u c = effect (bookedIn u) c .refusal (u .state .sizes)
 
 -- the number and position that a search has found
 abbrev pub verdictNumber : Verdict → Refusal
@@ -44,7 +44,7 @@ pub record BatchPlan (u : World) (c : Change) (before after : List ℕ) (first c
   pub room : ℕ
   pub room-fits : room ≤ length (chain (u .tables .next) (u .state .free))
   pub plan :
-      PlanIs (u .state .limits .m) (u .state .limits .f) room (factorFor (bookedIn u)) (factorFor (effect (bookedIn u) c .register))
+      PlanIs (u .state .sizes .m) (u .state .sizes .f) room (factorFor (bookedIn u)) (factorFor (effect (bookedIn u) c .register))
       (effect (bookedIn u) c .label) (touchedBy (bookedIn u) c) before after first count entries used
 
 -- the number is the change's; accepted, the plan stands in the work table; refused, that is as lent

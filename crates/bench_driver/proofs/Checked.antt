@@ -12,7 +12,7 @@ use Rattle.lists.specs.Lists.{pick}
 use Rattle.lists.proofs.Tests.{and-both}
 use Rattle.workspace.specs.Regions.{IsZero, cleared, zeroFirst}
 use Rattle.workspace.proofs.Regions.{cleared-length, cleared-zero, first-cleared}
-use Rattle.tables.specs.Tables.{Tables, Limits, State, isSound, registerOf}
+use Rattle.tables.specs.Tables.{Tables, Sizes, State, isSound, registerOf}
 use Rattle.calls.specs.Refusals.{Refusal, isAccepted, orElse, unless, workFor, listsLong}
 use Rattle.calls.specs.Calls.{checking, Lent, workOnly, Call, callOf}
 use Rattle.calls.specs.Numbers.{callEarly, soundRefusal, callRefusal}
@@ -35,9 +35,9 @@ module _ (s : State) (t : Tables) (w : List ℕ) where
   call = callOf checking (workOnly w)
 
   pub checked-can : (z : Answer) (w′ : List ℕ) → Transition here call z (workOnly w′) here → z .number ≡ 0 →
-      (a b : List ℕ) → s .limits .m ≤ length a → s .limits .m ≤ length b → CanChange s t w′ a b
+      (a b : List ℕ) → s .sizes .m ≤ length a → s .sizes .m ≤ length b → CanChange s t w′ a b
   checked-can z w′ o d a b x y =
-      let l : Limits = s .limits in
+      let l : Sizes = s .sizes in
       let g : Accepted here call z (workOnly w′) here = step-taken here call z (workOnly w′) here o d in
       let e : Refusal = callEarly l t call in
       let q : Refusal = orElse (soundRefusal s t (call .entry)) (callRefusal l (registerOf s t) call) in

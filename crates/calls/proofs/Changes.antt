@@ -19,7 +19,7 @@ use Rattle.symbolic.proofs.Bags.{bag-mem}
 use Rattle.symbolic.proofs.Exchange.{exchanged-entering, exchanged-leaving, exchanged-rises}
 use Rattle.symbolic.proofs.Theorems.{locality, order-free, removal-splits, touched-is}
 use Rattle.book.specs.Book.{columnFits}
-use Rattle.tables.specs.Tables.{Limits}
+use Rattle.tables.specs.Tables.{Sizes}
 use Rattle.calls.specs.Refusals.{isAccepted, batchOf}
 use Rattle.calls.specs.Calls.{Change, adding, removing}
 use Rattle.calls.specs.Changes.{Effect, effect, touchedBy}
@@ -61,12 +61,12 @@ module _ {A : Type 0} (f : A → Bool) where
 -- ---- a removal
 
 -- the columns that stay, and the batch
-pub removal-bag : (l : Limits) (r : Register) (is : List ℕ) → noRepeats (idsOf (r .columns)) ≡ true → RemoveFits l r is →
+pub removal-bag : (l : Sizes) (r : Register) (is : List ℕ) → noRepeats (idsOf (r .columns)) ≡ true → RemoveFits l r is →
     Bag (r .columns) (without is (r .columns) ++ columnsOf is (r .columns))
 removal-bag l r is u f = removal-splits (r .columns) is u (f .once) (f .live)
 
 -- both are columns that there were
-pub removal-fits : (f : Column → Bool) (l : Limits) (r : Register) (is : List ℕ) → noRepeats (idsOf (r .columns)) ≡ true → RemoveFits l r is →
+pub removal-fits : (f : Column → Bool) (l : Sizes) (r : Register) (is : List ℕ) → noRepeats (idsOf (r .columns)) ≡ true → RemoveFits l r is →
     all f (r .columns) ≡ true → (all f (without is (r .columns)) ≡ true) × (all f (columnsOf is (r .columns)) ≡ true)
 removal-fits f l r is u g h =
     let R : List Column = without is (r .columns) in
@@ -81,12 +81,12 @@ untouched m cs batch j a b h =
     refute (isTouched (factorOf m cs) batch j) (λ e. true≢false (sym (touched-is m cs batch j .1 (a, b, e)) ∙ h))
 
 -- the factor of a removal's register, with the batch at its end
-pub removal-factor : (l : Limits) (r : Register) (is : List ℕ) → noRepeats (idsOf (r .columns)) ≡ true → RemoveFits l r is →
+pub removal-factor : (l : Sizes) (r : Register) (is : List ℕ) → noRepeats (idsOf (r .columns)) ≡ true → RemoveFits l r is →
     factorFor r ≡ factorOf (r .m) (without is (r .columns) ++ columnsOf is (r .columns))
 removal-factor l r is u f = order-free (r .m) (r .columns) (without is (r .columns) ++ columnsOf is (r .columns)) (removal-bag l r is u f)
 
 -- "alters no column off its paths", of the definition itself
-module _ (l : Limits) (r : Register) (u : noRepeats (idsOf (r .columns)) ≡ true) (j : ℕ) (a : 1 ≤ j) (b : j ≤ r .m) where
+module _ (l : Sizes) (r : Register) (u : noRepeats (idsOf (r .columns)) ≡ true) (j : ℕ) (a : 1 ≤ j) (b : j ≤ r .m) where
   pub untouched-same : (c : Change) → isAccepted (effect r c .refusal l) ≡ true → among j (touchedBy r c) ≡ false →
       columnAt (factorFor (effect r c .register)) j ≡ columnAt (factorFor r) j
   untouched-same (adding is ns rs) h t =

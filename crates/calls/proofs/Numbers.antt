@@ -13,9 +13,9 @@ use Rattle.lists.specs.Lists.{isIn, among}
 use Rattle.symbolic.specs.Columns.{Register}
 use Rattle.symbolic.specs.Factor.{factorFor, sizeSum}
 use Rattle.symbolic.specs.Change.{added}
-use Rattle.tables.specs.Tables.{Tables, Limits, State, longEnough, registerOf, isSound}
+use Rattle.tables.specs.Tables.{Tables, Sizes, State, longEnough, registerOf, isSound}
 use Rattle.calls.specs.Refusals.{Refusal, accepted, isAccepted, orElse, unless, bounds, sizesRefusal, workFor, shortRefusal, earlyRefusal, batchOf, inRegister, rowsRefusal, columnsRefusal, rowSum, roomRefusal, idsRefusal, rowRefusal, roomFor}
-use Rattle.calls.specs.Calls.{Change, adding, removing, Question, askMultiplicity, askParent, askPath, askColumn, Entry, opening, changing, checking, asking, Call, isOpening, withDefault, limitsAfter}
+use Rattle.calls.specs.Calls.{Change, adding, removing, Question, askMultiplicity, askParent, askPath, askColumn, Entry, opening, changing, checking, asking, Call, isOpening, withDefault, sizesAfter}
 use Rattle.calls.specs.Changes.{effect}
 use Rattle.calls.specs.Questions.{response}
 use Rattle.calls.specs.Numbers.{hasLists, callEarly, soundRefusal, ownRefusal, callRefusal, refusalOf}
@@ -25,40 +25,40 @@ use Rattle.calls.proofs.Refusals.{HasRoom, early-passed}
 -- ---- 1 to 5
 
 -- 1 to 5 are passed: sizes in range, tables and work table long enough for them
-pub record Ready (l : Limits) (t : Tables) (k : Call) : Type 0 where
-  pub sizes : sizesRefusal bounds (limitsAfter l (k .entry)) ≡ accepted
-  pub room : HasRoom (limitsAfter l (k .entry)) t (k .lent .work)
+pub record Ready (l : Sizes) (t : Tables) (k : Call) : Type 0 where
+  pub sizes : sizesRefusal bounds (sizesAfter l (k .entry)) ≡ accepted
+  pub room : HasRoom (sizesAfter l (k .entry)) t (k .lent .work)
 
-pub early-facts : (l : Limits) (t : Tables) (k : Call) → isAccepted (callEarly l t k) ≡ true → Ready l t k
+pub early-facts : (l : Sizes) (t : Tables) (k : Call) → isAccepted (callEarly l t k) ≡ true → Ready l t k
 early-facts l t k h =
-    let j : Limits = limitsAfter l (k .entry) in
+    let j : Sizes = sizesAfter l (k .entry) in
     let u : (sizesRefusal bounds j ≡ accepted) × HasRoom j t (k .lent .work) × (hasLists j (k .entry) (k .lent) ≡ true) =
     early-passed j t (k .lent .work) (hasLists j (k .entry) (k .lent)) h in
     record { sizes = u .0; room = u .1 }
 
--- only an opening changes the limits
-pub limits-stay : (l : Limits) (e : Entry) → isOpening e ≡ false → limitsAfter l e ≡ l
-limits-stay l (opening k) o = absurd (true≢false o)
-limits-stay l (changing c) o = refl
-limits-stay l checking o = refl
-limits-stay l (asking q p) o = refl
+-- only an opening changes the sizes
+pub sizes-stay : (l : Sizes) (e : Entry) → isOpening e ≡ false → sizesAfter l e ≡ l
+sizes-stay l (opening k) o = absurd (true≢false o)
+sizes-stay l (changing c) o = refl
+sizes-stay l checking o = refl
+sizes-stay l (asking q p) o = refl
 
-short-number : (l : Limits) (t : Tables) (w : List ℕ) (z : Bool) → NumberIn 5 5 (orElse (shortRefusal l t w) (unless z 5 0))
+short-number : (l : Sizes) (t : Tables) (w : List ℕ) (z : Bool) → NumberIn 5 5 (orElse (shortRefusal l t w) (unless z 5 0))
 short-number l t w z =
     number-or 5 5 (shortRefusal l t w) (unless z 5 0) (number-unless 5 5 (longEnough l t && leb (workFor l) (length w)) 5 0 (omega arith) (omega arith))
     (number-unless 5 5 z 5 0 (omega arith) (omega arith))
 
 -- with sizes in range, all but an opening can give only 5 here
-pub early-number : (l : Limits) (t : Tables) → sizesRefusal bounds l ≡ accepted → (k : Call) → isOpening (k .entry) ≡ false → NumberIn 5 5 (callEarly l t k)
+pub early-number : (l : Sizes) (t : Tables) → sizesRefusal bounds l ≡ accepted → (k : Call) → isOpening (k .entry) ≡ false → NumberIn 5 5 (callEarly l t k)
 early-number l t e k o =
-    let j : Limits = limitsAfter l (k .entry) in
+    let j : Sizes = sizesAfter l (k .entry) in
     let w : List ℕ = k .lent .work in
     let z : Bool = hasLists j (k .entry) (k .lent) in
-    let f : sizesRefusal bounds j ≡ accepted = subst (λ (i : Limits). sizesRefusal bounds i ≡ accepted) (sym (limits-stay l (k .entry) o)) e in
+    let f : sizesRefusal bounds j ≡ accepted = subst (λ (i : Sizes). sizesRefusal bounds i ≡ accepted) (sym (sizes-stay l (k .entry) o)) e in
     subst (λ (x : Refusal). NumberIn 5 5 x) (sym (or-second (sizesRefusal bounds j) (orElse (shortRefusal j t w) (unless z 5 0)) (ap isAccepted f)))
     (short-number j t w z)
 
-sizes-number : (l : Limits) → NumberIn 1 5 (sizesRefusal bounds l)
+sizes-number : (l : Sizes) → NumberIn 1 5 (sizesRefusal bounds l)
 sizes-number l =
     let x : Refusal = unless (isIn 1 4096 (l .m)) 1 0 in
     let y : Refusal = unless (isIn 1 16384 (l .n)) 2 0 in
@@ -70,9 +70,9 @@ sizes-number l =
     (number-unless 1 5 (isIn 1 262144 (l .c)) 4 0 (omega arith) (omega arith))))
 
 -- 1 to 5 come before the contents are read
-pub early-low : (l : Limits) (t : Tables) (k : Call) → callEarly l t k .number ≤ 5
+pub early-low : (l : Sizes) (t : Tables) (k : Call) → callEarly l t k .number ≤ 5
 early-low l t k =
-    let j : Limits = limitsAfter l (k .entry) in
+    let j : Sizes = sizesAfter l (k .entry) in
     let y : Refusal = orElse (shortRefusal j t (k .lent .work)) (unless (hasLists j (k .entry) (k .lent)) 5 0) in
     elim (number-or 1 5 (sizesRefusal bounds j) y (sizes-number j) (wider y (short-number j t (k .lent .work) (hasLists j (k .entry) (k .lent))))) [
       | inl e ↦ omega arith
@@ -109,7 +109,7 @@ columns-number r n p bs (i ∷ is) (k ∷ ns) rs =
     (number-or 7 18 d (orElse e f) (number-unless 7 18 (isIn 1 256 k && leb k (length rs)) 12 p (omega arith) (omega arith))
     (number-or 7 18 e f (rows-number (r .m) p 0 (take k rs)) (columns-number r n (suc p) (i ∷ bs) is ns (drop k rs))))))
 
-room-number : (l : Limits) (r : Register) → NumberIn 7 18 (roomRefusal l r)
+room-number : (l : Sizes) (r : Register) → NumberIn 7 18 (roomRefusal l r)
 room-number l r =
     number-or 7 18 (unless (leb (rowSum (r .columns)) (l .c)) 15 0) (unless (leb (sizeSum (factorFor r)) (l .f)) 16 0)
     (number-unless 7 18 (leb (rowSum (r .columns)) (l .c)) 15 0 (omega arith) (omega arith))
@@ -134,7 +134,7 @@ place-number : (xs : List ℕ) (p n : ℕ) → NumberIn 7 18 (roomFor xs p n)
 place-number xs p n = number-unless 7 18 (leb (p + n) (length xs)) 18 0 (omega arith) (omega arith)
 
 -- each change
-change-number : (l : Limits) (r : Register) (c : Change) → NumberIn 7 18 (effect r c .refusal l)
+change-number : (l : Sizes) (r : Register) (c : Change) → NumberIn 7 18 (effect r c .refusal l)
 change-number l r (adding is ns rs) =
     let x : Refusal = unless (isIn 1 64 (length is) && eqb (length ns) (length is)) 7 0 in
     let y : Refusal = columnsRefusal r (l .n) 1 [] is ns rs in
@@ -152,14 +152,14 @@ question-number r (askParent j) = row-number (r .m) j
 question-number r (askPath j) = row-number (r .m) j
 question-number r (askColumn j) = row-number (r .m) j
 
-own-number : (l : Limits) (r : Register) (e : Entry) (xs : List ℕ) → NumberIn 7 18 (ownRefusal l r e xs)
+own-number : (l : Sizes) (r : Register) (e : Entry) (xs : List ℕ) → NumberIn 7 18 (ownRefusal l r e xs)
 own-number l r (opening k) xs = number-none 7 18
 own-number l r (changing c) xs = change-number l r c
 own-number l r checking xs = number-none 7 18
 own-number l r (asking q p) xs =
     number-or 7 18 (response r q .refusal) (roomFor xs p (length (response r q .list))) (question-number r q) (place-number xs p (length (response r q .list)))
 
-pub call-number : (l : Limits) (r : Register) (k : Call) → NumberIn 7 18 (callRefusal l r k)
+pub call-number : (l : Sizes) (r : Register) (k : Call) → NumberIn 7 18 (callRefusal l r k)
 call-number l r k = own-number l r (k .entry) (k .lent .list)
 
 -- ---- 6
@@ -178,26 +178,26 @@ sound-read s t e o h =
 
 -- an accepted call that is no opening found sizes in range, and tables long enough and sound
 pub record Found (s : State) (t : Tables) : Type 0 where
-  pub in-range : sizesRefusal bounds (s .limits) ≡ accepted
-  pub long : longEnough (s .limits) t ≡ true
+  pub in-range : sizesRefusal bounds (s .sizes) ≡ accepted
+  pub long : longEnough (s .sizes) t ≡ true
   pub sound : isSound s t ≡ true
 
 pub accepted-found : (s : State) (t : Tables) (k : Call) → isOpening (k .entry) ≡ false → isAccepted (refusalOf s t k) ≡ true → Found s t
 accepted-found s t k o h =
     let x : Refusal = soundRefusal s t (k .entry) in
-    let y : Refusal = callRefusal (s .limits) (registerOf s t) k in
-    let u : (isAccepted (callEarly (s .limits) t k) ≡ true) × (isAccepted (orElse x y) ≡ true) = or-both (callEarly (s .limits) t k) (orElse x y) h in
-    let r : Ready (s .limits) t k = early-facts (s .limits) t k (u .0) in
-    let e : limitsAfter (s .limits) (k .entry) ≡ s .limits = limits-stay (s .limits) (k .entry) o in
+    let y : Refusal = callRefusal (s .sizes) (registerOf s t) k in
+    let u : (isAccepted (callEarly (s .sizes) t k) ≡ true) × (isAccepted (orElse x y) ≡ true) = or-both (callEarly (s .sizes) t k) (orElse x y) h in
+    let r : Ready (s .sizes) t k = early-facts (s .sizes) t k (u .0) in
+    let e : sizesAfter (s .sizes) (k .entry) ≡ s .sizes = sizes-stay (s .sizes) (k .entry) o in
     record {
-      in-range = subst (λ (l : Limits). sizesRefusal bounds l ≡ accepted) e (r .sizes);
-      long = subst (λ (l : Limits). longEnough l t ≡ true) e (r .room .tables);
+      in-range = subst (λ (l : Sizes). sizesRefusal bounds l ≡ accepted) e (r .sizes);
+      long = subst (λ (l : Sizes). longEnough l t ≡ true) e (r .room .tables);
       sound = sound-read s t (k .entry) o (or-both x y (u .1) .0);
     }
 
--- on sound tables the number is that of lengths, limits, register and arguments
+-- on sound tables the number is that of lengths, sizes, register and arguments
 pub sound-number : (s : State) (t : Tables) (k : Call) → isSound s t ≡ true →
-    refusalOf s t k ≡ orElse (callEarly (s .limits) t k) (callRefusal (s .limits) (registerOf s t) k)
+    refusalOf s t k ≡ orElse (callEarly (s .sizes) t k) (callRefusal (s .sizes) (registerOf s t) k)
 sound-number s t k h =
-    ap (λ (y : Refusal). orElse (callEarly (s .limits) t k) y)
-    (or-second (soundRefusal s t (k .entry)) (callRefusal (s .limits) (registerOf s t) k) (ap isAccepted (sound-none s t (k .entry) h)))
+    ap (λ (y : Refusal). orElse (callEarly (s .sizes) t k) y)
+    (or-second (soundRefusal s t (k .entry)) (callRefusal (s .sizes) (registerOf s t) k) (ap isAccepted (sound-none s t (k .entry) h)))

@@ -9,7 +9,7 @@ use Prim.Native.Nat.{ℕ, suc, _+_, _≤_}
 use native.Mathlib.Omega.{arith}
 use lib.ListN.{length, drop}
 use borrow.Author.Tests.{eq-eqb, ne-eqb}
-use Rattle.lists.specs.Lists.{one, Mem, first, later, among, noRepeats, times, over}
+use Rattle.lists.specs.Lists.{one, Mem, first, later, among, noRepeats, times, over, writtenAt}
 use Rattle.lists.proofs.Tests.{cases, eq-or-ne, zero-or-pos, both-ways, or-right}
 use Rattle.lists.proofs.Member.{among-mem}
 use Rattle.lists.proofs.Sum.{sum-append}
@@ -21,13 +21,13 @@ use Rattle.symbolic.specs.Change.{idsOf, without, columnOf, columnsOf, added, B
 use Rattle.symbolic.proofs.Bags.{bag-append, bag-mem, bag-without, without-le, ids-times, hasId, column-of}
 use Rattle.symbolic.proofs.Bags as bags
 use Rattle.symbolic.proofs.Theorems.{order-free}
-use Rattle.tables.specs.Tables.{Limits}
+use Rattle.tables.specs.Tables.{Sizes}
 use Rattle.calls.specs.Refusals.{isAccepted, orElse, batchOf, inRegister, columnsRefusal, roomRefusal, idsRefusal, roomFor}
 use Rattle.calls.specs.Calls.{Change, adding, removing, Question, askMultiplicity, askParent, askPath, askColumn, Entry, opening, changing, checking, asking, Call}
 use Rattle.calls.specs.Changes.{Effect, effect, touchedBy, labelled, labelsBy, entriesBy}
 use Rattle.calls.specs.Questions.{Response, response}
 use Rattle.calls.specs.Numbers.{ownRefusal, callRefusal}
-use Rattle.calls.specs.Steps.{Result, resultOf, acceptedBy, writtenAt, listsAfter}
+use Rattle.calls.specs.Steps.{Result, resultOf, acceptedBy, listsAfter}
 use Rattle.calls.proofs.Refusals.{ColumnsFit, add-facts}
 use Rattle.calls.proofs.Changes.{rows-stay}
 
@@ -116,12 +116,12 @@ module _ (r s : Register) (e : r .m ≡ s .m) (b : Bag (r .columns) (s .columns)
   ids-number n p bs (i ∷ is) = rw (ids-number n (suc p) (i ∷ bs) is, bag-booked i)
 
 -- 15 and 16
-pub bag-room : (l : Limits) (r s : Register) → r .m ≡ s .m → Bag (r .columns) (s .columns) → roomRefusal l r ≡ roomRefusal l s
+pub bag-room : (l : Sizes) (r s : Register) → r .m ≡ s .m → Bag (r .columns) (s .columns) → roomRefusal l r ≡ roomRefusal l s
 bag-room l r s e b = rw (b (λ c. length (c .rows)), bag-factor r s e b)
 
 module _ (r s : Register) (e : r .m ≡ s .m) (b : Bag (r .columns) (s .columns)) where
   -- 7 to 16
-  change-refusal : (l : Limits) (c : Change) → effect r c .refusal l ≡ effect s c .refusal l
+  change-refusal : (l : Sizes) (c : Change) → effect r c .refusal l ≡ effect s c .refusal l
   change-refusal l (adding is ns rs) =
       rw (
         columns-number r s e b (l .n) 1 [] is ns rs,
@@ -137,7 +137,7 @@ module _ (r s : Register) (e : r .m ≡ s .m) (b : Bag (r .columns) (s .columns)
   bag-response (askColumn j) = rw (bag-factor r s e b, e)
 
   -- 7 to 18
-  pub bag-number : (l : Limits) (k : Call) → callRefusal l r k ≡ callRefusal l s k
+  pub bag-number : (l : Sizes) (k : Call) → callRefusal l r k ≡ callRefusal l s k
   bag-number l k = own (k .entry) (k .lent .list)
     where
       own : (i : Entry) (xs : List ℕ) → ownRefusal l r i xs ≡ ownRefusal l s i xs
@@ -212,7 +212,7 @@ module _ (r s : Register) (e : r .m ≡ s .m) (b : Bag (r .columns) (s .columns)
 
 -- ---- ids stay distinct
 
-pub once-after : (l : Limits) (r : Register) (c : Change) → noRepeats (idsOf (r .columns)) ≡ true → isAccepted (effect r c .refusal l) ≡ true →
+pub once-after : (l : Sizes) (r : Register) (c : Change) → noRepeats (idsOf (r .columns)) ≡ true → isAccepted (effect r c .refusal l) ≡ true →
     noRepeats (idsOf (effect r c .register .columns)) ≡ true
 unfolding idsOf noRepeats
 once-after l r (adding is ns rs) u h =

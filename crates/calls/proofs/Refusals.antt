@@ -18,13 +18,13 @@ use Rattle.symbolic.specs.Columns.{Register}
 use Rattle.symbolic.specs.Factor.{factorFor, sizeSum}
 use Rattle.symbolic.specs.Change.{idsOf, added}
 use Rattle.book.specs.Book.{columnFits}
-use Rattle.tables.specs.Tables.{Tables, Limits, longEnough}
+use Rattle.tables.specs.Tables.{Tables, Sizes, longEnough}
 use Rattle.calls.specs.Refusals.{Refusal, accepted, isAccepted, orElse, unless, bounds, sizesRefusal, workFor, shortRefusal, listsLong, earlyRefusal, batchOf, inRegister, rowsRefusal, columnsRefusal, rowSum, roomRefusal, addRefusal, idsRefusal, removeRefusal, rowRefusal, roomFor}
 use Rattle.calls.proofs.Choices.{or-both, unless-holds, Whole, unless-whole, or-whole}
 
 -- ---- 1 to 4: sizes
 
-pub record InRange (l : Limits) : Type 0 where
+pub record InRange (l : Sizes) : Type 0 where
   pub m-low : 1 ≤ l .m
   pub m-high : l .m ≤ 4096
   pub n-low : 1 ≤ l .n
@@ -34,7 +34,7 @@ pub record InRange (l : Limits) : Type 0 where
   pub c-low : 1 ≤ l .c
   pub c-high : l .c ≤ 262144
 
-module _ (l : Limits) where
+module _ (l : Sizes) where
   pub sizes-facts : isAccepted (sizesRefusal bounds l) ≡ true → InRange l
   sizes-facts h =
       let x : Refusal = unless (isIn 1 4096 (l .m)) 1 0 in
@@ -69,11 +69,11 @@ module _ (l : Limits) where
 
 -- ---- 5: tables and lists
 
-pub record HasRoom (l : Limits) (t : Tables) (w : List ℕ) : Type 0 where
+pub record HasRoom (l : Sizes) (t : Tables) (w : List ℕ) : Type 0 where
   pub tables : longEnough l t ≡ true
   pub work : workFor l ≤ length w
 
-pub short-facts : (l : Limits) (t : Tables) (w : List ℕ) → isAccepted (shortRefusal l t w) ≡ true → HasRoom l t w
+pub short-facts : (l : Sizes) (t : Tables) (w : List ℕ) → isAccepted (shortRefusal l t w) ≡ true → HasRoom l t w
 short-facts l t w h =
     let u : (longEnough l t ≡ true) × (leb (workFor l) (length w) ≡ true) =
     and-both (longEnough l t) (leb (workFor l) (length w)) (unless-holds (longEnough l t && leb (workFor l) (length w)) 5 0 refl h) in
@@ -85,7 +85,7 @@ lists-facts m a b h =
     (leb-true m (length a) (u .0), leb-true m (length b) (u .1))
 
 -- 1 to 5 are passed
-pub early-passed : (l : Limits) (t : Tables) (w : List ℕ) (z : Bool) → isAccepted (earlyRefusal l t w z) ≡ true →
+pub early-passed : (l : Sizes) (t : Tables) (w : List ℕ) (z : Bool) → isAccepted (earlyRefusal l t w z) ≡ true →
     (sizesRefusal bounds l ≡ accepted) × HasRoom l t w × (z ≡ true)
 early-passed l t w z h =
     let u : (isAccepted (sizesRefusal bounds l) ≡ true) × (isAccepted (orElse (shortRefusal l t w) (unless z 5 0)) ≡ true) =
@@ -170,10 +170,10 @@ columns-new {r} f {x} m =
     refute (inRegister r x) (λ e. absurd (omega (arith, f .apart x, mem-times m, ap one (or-right (among x []) (inRegister r x) e))))
 
 -- "no number is given unless its condition holds": just enough room is enough. Nothing cites it but edits that give 15 or 16 one early
-pub room-enough : (l : Limits) (r : Register) → rowSum (r .columns) ≤ l .c → sizeSum (factorFor r) ≤ l .f → roomRefusal l r ≡ accepted
+pub room-enough : (l : Sizes) (r : Register) → rowSum (r .columns) ≤ l .c → sizeSum (factorFor r) ≤ l .f → roomRefusal l r ≡ accepted
 room-enough l r h k = rw (le-leb (rowSum (r .columns)) (l .c) h, le-leb (sizeSum (factorFor r)) (l .f) k) refl
 
-pub record AddFits (l : Limits) (r : Register) (ids counts rows : List ℕ) : Type 0 where
+pub record AddFits (l : Sizes) (r : Register) (ids counts rows : List ℕ) : Type 0 where
   pub some : 1 ≤ length ids
   pub few : length ids ≤ 64
   pub counted : length counts ≡ length ids
@@ -181,7 +181,7 @@ pub record AddFits (l : Limits) (r : Register) (ids counts rows : List ℕ) : Ty
   pub book-room : rowSum (r .columns ++ batchOf ids counts rows) ≤ l .c
   pub factor-room : sizeSum (factorFor (added r (batchOf ids counts rows))) ≤ l .f
 
-pub add-facts : (l : Limits) (r : Register) (is ns rs : List ℕ) → isAccepted (addRefusal l r is ns rs) ≡ true → AddFits l r is ns rs
+pub add-facts : (l : Sizes) (r : Register) (is ns rs : List ℕ) → isAccepted (addRefusal l r is ns rs) ≡ true → AddFits l r is ns rs
 add-facts l r is ns rs h =
     let A : Register = added r (batchOf is ns rs) in
     let x : Refusal = unless (isIn 1 64 (length is) && eqb (length ns) (length is)) 7 0 in
@@ -229,14 +229,14 @@ ids-facts r n p bs (i ∷ is) h =
       live = both-and (unless-holds (inRegister r i) 11 p refl (v .0)) (rest .live);
     }
 
-pub record RemoveFits (l : Limits) (r : Register) (ids : List ℕ) : Type 0 where
+pub record RemoveFits (l : Sizes) (r : Register) (ids : List ℕ) : Type 0 where
   pub some : 1 ≤ length ids
   pub few : length ids ≤ 64
   pub once : noRepeats ids ≡ true
   pub named : all (isIn 1 (l .n)) ids ≡ true
   pub live : all (inRegister r) ids ≡ true
 
-pub remove-facts : (l : Limits) (r : Register) (is : List ℕ) → isAccepted (removeRefusal l r is) ≡ true → RemoveFits l r is
+pub remove-facts : (l : Sizes) (r : Register) (is : List ℕ) → isAccepted (removeRefusal l r is) ≡ true → RemoveFits l r is
 remove-facts l r is h =
     let x : Refusal = unless (isIn 1 64 (length is)) 7 0 in
     let y : Refusal = idsRefusal r (l .n) 1 [] is in

@@ -14,14 +14,14 @@ use Rattle.calls.specs.Steps.{Answer, refusedBy, acceptedBy, listsAfter,
 pub record Accepted (u : World) (k : Call) (a : Answer) (x : Lent) (v : World) : Type 0 where
   pub number : isAccepted (refusalOf (u .state) (u .tables) k) ≡ true
   pub answer : a ≡ acceptedBy (bookedIn u) (k .entry)
-  pub lists : x ≡ listsAfter (bookedIn u) k (workAfter (u .state .limits) (u .tables) k)
+  pub lists : x ≡ listsAfter (bookedIn u) k (workAfter (u .state .sizes) (u .tables) k)
   pub world : AcceptedWorld u (k .entry) v
 
 -- a refused call: "nothing lent changes except" the work table
 pub record Refused (u : World) (k : Call) (a : Answer) (x : Lent) (v : World) : Type 0 where
   pub number : isAccepted (refusalOf (u .state) (u .tables) k) ≡ false
   pub answer : a ≡ refusedBy (refusalOf (u .state) (u .tables) k)
-  pub lists : x ≡ withWork (k .lent) (workAfter (u .state .limits) (u .tables) k)
+  pub lists : x ≡ withWork (k .lent) (workAfter (u .state .sizes) (u .tables) k)
   pub world : v ≡ u
 
 module _ {u : World} {k : Call} {a : Answer} {x : Lent} {v : World} where

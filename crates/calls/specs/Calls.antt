@@ -6,7 +6,7 @@ use mathlib.Core.List.{List, []}
 use Prim.Native.Nat.{ℕ, _*_}
 use lib.Dec.{eqb}
 use Rattle.lists.specs.Lists.{pick}
-use Rattle.tables.specs.Tables.{Limits}
+use Rattle.tables.specs.Tables.{Sizes}
 
 -- ---- which entry
 
@@ -24,7 +24,7 @@ pub data Question : Type 0 where
 
 -- an entry with its numbers; place: where a question's list is written from on, 0 for a question that has none
 pub data Entry : Type 0 where
-  opening : (asked : Limits) → Entry
+  opening : (asked : Sizes) → Entry
   changing : (change : Change) → Entry
   checking : Entry
   asking : (question : Question) (place : ℕ) → Entry
@@ -80,12 +80,16 @@ isChange checking = false
 isChange (asking q p) = false
 
 -- "F .. at opening 0 means 16 × m"
-abbrev pub withDefault : Limits → Limits
-withDefault l = record { m = l .m; n = l .n; f = pick (eqb (l .f) 0) (16 * l .m) (l .f); c = l .c }
+abbrev pub defaultRecords : (m : ℕ) → ℕ
+defaultRecords m = 16 * m
 
--- the limits of a call: an opening brings its own, which stay if it is accepted; the others have the record's
-abbrev pub limitsAfter : Limits → Entry → Limits
-limitsAfter l (opening k) = withDefault k
-limitsAfter l (changing c) = l
-limitsAfter l checking = l
-limitsAfter l (asking q p) = l
+-- the sizes that an opening gets for those it asks
+abbrev pub withDefault : Sizes → Sizes
+withDefault l = record { m = l .m; n = l .n; f = pick (eqb (l .f) 0) (defaultRecords (l .m)) (l .f); c = l .c }
+
+-- the sizes of a call: an opening brings its own, which stay if it is accepted; the others have the record's
+abbrev pub sizesAfter : Sizes → Entry → Sizes
+sizesAfter l (opening k) = withDefault k
+sizesAfter l (changing c) = l
+sizesAfter l checking = l
+sizesAfter l (asking q p) = l

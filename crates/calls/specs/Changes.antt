@@ -8,14 +8,14 @@ use Rattle.symbolic.specs.Columns.{Column, Register, counted, live}
 use Rattle.symbolic.specs.Factor.{factorFor}
 use Rattle.symbolic.specs.Batch.{exchanged, labelOf, entriesOf, gradeOf}
 use Rattle.symbolic.specs.Change.{columnsOf, added, removed}
-use Rattle.tables.specs.Tables.{Limits}
+use Rattle.tables.specs.Tables.{Sizes}
 use Rattle.calls.specs.Refusals.{Refusal, batchOf, addRefusal, removeRefusal}
 use Rattle.calls.specs.Calls.{Change, adding, removing, Entry, opening, changing, checking, asking}
 
 -- a change of a register
 pub record Effect : Type 0 where
   -- 7 to 16, by the sizes
-  pub refusal : Limits → Refusal
+  pub refusal : Sizes → Refusal
   -- the columns that count and leave, enter, stay: live before are those that leave or stay, live after those that enter or stay
   pub leave : List Column
   pub enter : List Column

@@ -1,8 +1,9 @@
 -- What a question answers, from the register alone: its refusal but for the room in its list, the list and the number.
 -- Assumes nothing: these are definitions.
-use mathlib.Core.List.{List, [], _∷_}
+use mathlib.Core.List.{List, []}
 use Prim.Native.Nat.{ℕ}
 use lib.ListN.{length}
+use Rattle.lists.specs.Lists.{pairsOf}
 use Rattle.symbolic.specs.Columns.{Register}
 use Rattle.symbolic.specs.Factor.{factorFor, columnAt, multiplicity, parentOf, patternOf, multiplicitiesOf, pathOf, sizeOf}
 use Rattle.calls.specs.Refusals.{Refusal, orElse, rowRefusal}
@@ -11,12 +12,6 @@ use Rattle.calls.specs.Calls.{Question, askMultiplicity, askParent, askP
 -- "Path of j", a row to a place
 abbrev pub pathList : Register → (j : ℕ) → List ℕ
 pathList r j = pathOf (factorFor r) j
-
--- row then multiplicity, entry after entry
-unfoldable pub pairsOf : (rows counts : List ℕ) → List ℕ
-pairsOf [] ns = []
-pairsOf (i ∷ is) [] = []
-pairsOf (i ∷ is) (n ∷ ns) = i ∷ n ∷ pairsOf is ns
 
 -- "Column j, row then multiplicity"
 abbrev pub columnList : Register → (j : ℕ) → List ℕ

@@ -3,20 +3,20 @@
 -- Assumes nothing: these are definitions.
 use mathlib.Core.Path.{_≡_}
 use mathlib.Core.Bool.{Bool, true, false}
-use mathlib.Core.List.{List, [], _++_}
-use Prim.Native.Nat.{ℕ, _+_, _≤_}
-use lib.ListN.{length, take, drop}
-use Rattle.lists.specs.Lists.{pick, among, over}
+use mathlib.Core.List.{List, []}
+use Prim.Native.Nat.{ℕ, _≤_}
+use lib.ListN.{length}
+use Rattle.lists.specs.Lists.{pick, among, over, writtenAt}
 use Rattle.symbolic.specs.Columns.{Register}
 use Rattle.symbolic.specs.Factor.{factorOf}
 use Rattle.symbolic.specs.Change.{Bag}
 use Rattle.workspace.specs.Regions.{zeroFirst}
 use Rattle.book.specs.Book as book
-use Rattle.tables.specs.Tables.{Tables, Limits, State, storedIn, bookIn, registerOf, isSound}
+use Rattle.tables.specs.Tables.{Tables, Sizes, State, storedIn, bookIn, registerOf, isSound}
 use Rattle.tables.specs.Opening.{openedState, openedTables}
 use Rattle.tables.specs.Stays.{ColumnStays, EntriesStay, TailsStay}
 use Rattle.calls.specs.Refusals.{Refusal, isAccepted, workFor}
-use Rattle.calls.specs.Calls.{Change, Entry, opening, changing, checking, asking, Lent, withWork, Call, withDefault, limitsAfter}
+use Rattle.calls.specs.Calls.{Change, Entry, opening, changing, checking, asking, Lent, withWork, Call, withDefault, sizesAfter}
 use Rattle.calls.specs.Changes.{effect, touchedBy, labelsBy, entriesBy, gradeBy}
 use Rattle.calls.specs.Questions.{response}
 use Rattle.calls.specs.Numbers.{callEarly, refusalOf}
@@ -73,11 +73,8 @@ acceptedBy r e =
       value = resultOf r e .value;
     }
 
--- "the entries are written from the given place of the caller's list onward .. and the rest of the list keeps its content"
-abbrev pub writtenAt : (place : ℕ) → (new old : List ℕ) → List ℕ
-writtenAt p xs old = take p old ++ (xs ++ drop (p + length xs) old)
-
--- the lists after an accepted call, with the work table as given
+-- the lists after an accepted call, with the work table as given: "the entries are written from the given place of the caller's list onward .. and the rest
+-- of the list keeps its content"
 abbrev pub listsAfter : Register → Call → (work : List ℕ) → Lent
 listsAfter r k v =
     record {
@@ -88,9 +85,9 @@ listsAfter r k v =
     }
 
 -- "nothing lent changes except that from check 6 on, the first W work places are zero. After an accepted call they are zero too."
-abbrev pub workAfter : Limits → Tables → Call → List ℕ
+abbrev pub workAfter : Sizes → Tables → Call → List ℕ
 workAfter l t k =
-    pick (isAccepted (callEarly l t k)) (zeroFirst (workFor (limitsAfter l (k .entry))) (k .lent .work)) (k .lent .work)
+    pick (isAccepted (callEarly l t k)) (zeroFirst (workFor (sizesAfter l (k .entry))) (k .lent .work)) (k .lent .work)
 
 -- ---- record and tables
 
@@ -105,21 +102,21 @@ bookedIn u = registerOf (u .state) (u .tables)
 
 -- what an accepted change leaves: "a pattern entry that stays keeps its record and .. the tables are sound afterwards"
 pub record Exchanged (before : World) (c : Change) (after : World) : Type 0 where
-  pub limits : after .state .limits ≡ before .state .limits
+  pub sizes : after .state .sizes ≡ before .state .sizes
   pub sound : isSound (after .state) (after .tables) ≡ true
   -- the book's columns are those of the register after the change
   pub columns : Bag (bookedIn after .columns) (effect (bookedIn before) c .register .columns)
   -- a factor column that is not touched stays
-  pub others : (j : ℕ) → 1 ≤ j → j ≤ before .state .limits .m → among j (touchedBy (bookedIn before) c) ≡ false →
+  pub others : (j : ℕ) → 1 ≤ j → j ≤ before .state .sizes .m → among j (touchedBy (bookedIn before) c) ≡ false →
       ColumnStays (storedIn (before .state) (before .tables)) (storedIn (after .state) (after .tables)) j
   -- an entry that stands before, after, and for the columns that stay keeps its record
-  pub entries : (j : ℕ) → 1 ≤ j → j ≤ before .state .limits .m →
-      EntriesStay (factorOf (before .state .limits .m) (effect (bookedIn before) c .stay)) (storedIn (before .state) (before .tables))
+  pub entries : (j : ℕ) → 1 ≤ j → j ≤ before .state .sizes .m →
+      EntriesStay (factorOf (before .state .sizes .m) (effect (bookedIn before) c .stay)) (storedIn (before .state) (before .tables))
       (storedIn (after .state) (after .tables)) j
   -- the booked column of every other id stays
-  pub book : (i : ℕ) → 1 ≤ i → i ≤ before .state .limits .n → among i (effect (bookedIn before) c .ids) ≡ false →
+  pub book : (i : ℕ) → 1 ≤ i → i ≤ before .state .sizes .n → among i (effect (bookedIn before) c .ids) ≡ false →
       book.ColumnStays (bookIn (before .state) (before .tables)) (bookIn (after .state) (after .tables)) i
-  pub tails : TailsStay (before .state .limits) (before .tables) (after .tables)
+  pub tails : TailsStay (before .state .sizes) (before .tables) (after .tables)
 
 -- record and tables after an accepted call
 abbrev pub AcceptedWorld : World → Entry → World → Type 0
@@ -133,9 +130,9 @@ AcceptedWorld u (asking q p) v = v ≡ u
 -- taken: the accepted answer with its lists and tables; otherwise the refusal, with nothing changed but the work table
 abbrev pub OutcomeFor : (isTaken : Bool) → World → Call → Answer → Lent → World → Type 0
 OutcomeFor true u k a x v =
-    (a ≡ acceptedBy (bookedIn u) (k .entry)) × (x ≡ listsAfter (bookedIn u) k (workAfter (u .state .limits) (u .tables) k)) × AcceptedWorld u (k .entry) v
+    (a ≡ acceptedBy (bookedIn u) (k .entry)) × (x ≡ listsAfter (bookedIn u) k (workAfter (u .state .sizes) (u .tables) k)) × AcceptedWorld u (k .entry) v
 OutcomeFor false u k a x v =
-    (a ≡ refusedBy (refusalOf (u .state) (u .tables) k)) × (x ≡ withWork (k .lent) (workAfter (u .state .limits) (u .tables) k)) × (v ≡ u)
+    (a ≡ refusedBy (refusalOf (u .state) (u .tables) k)) × (x ≡ withWork (k .lent) (workAfter (u .state .sizes) (u .tables) k)) × (v ≡ u)
 
 -- what every public entry promises of its call: the outcome that its number decides
 abbrev pub Transition : World → Call → Answer → Lent → World → Type 0

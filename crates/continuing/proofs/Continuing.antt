@@ -14,7 +14,7 @@ use Rattle.lists.specs.Lists.{pick}
 use Rattle.workspace.specs.Regions.{IsZero, cleared, zeroFirst}
 use Rattle.workspace.proofs.Regions.{cleared-length, cleared-zero, first-cleared, first-same}
 use Rattle.lists.proofs.Tests.{cases}
-use Rattle.tables.specs.Tables.{Tables, Limits, State, longEnough, registerOf, isSound}
+use Rattle.tables.specs.Tables.{Tables, Sizes, State, longEnough, registerOf, isSound}
 use Rattle.tables.specs.Opening.{openedState, openedTables}
 use Rattle.tables.proofs.Tables.{tails-long, long-facts}
 use Rattle.tables.proofs.Opening.{opened-sound, opened-long}
@@ -41,12 +41,12 @@ use Rattle.factor.specs.declared.Opening.the-variants as answers
 zero-one : _≡_ {A = ℕ} 0 1 → ⊥
 zero-one e = omega arith
 
-module _ (l : Limits) (t : Tables) (w : List ℕ) where
+module _ (l : Sizes) (t : Tables) (w : List ℕ) where
   -- the tables and the zeroed work table of the sizes asked
-  fresh-can : (k : Limits) → Ready k t (callOf (opening l) (workOnly w)) → (a b : List ℕ) → l .m ≤ length a → l .m ≤ length b →
+  fresh-can : (k : Sizes) → Ready k t (callOf (opening l) (workOnly w)) → (a b : List ℕ) → l .m ≤ length a → l .m ≤ length b →
       CanChange (openedState (withDefault l)) (openedTables (withDefault l) t) (zeroFirst (workFor (withDefault l)) w) a b
   fresh-can k r a b x y =
-      let d : Limits = withDefault l in
+      let d : Sizes = withDefault l in
       let f : InRange d = sizes-facts d (ap isAccepted (r .sizes)) in
       let e : zeroFirst (workFor d) w ≡ cleared w 0 (workFor d) = first-cleared (workFor d) w (r .room .work) in
       let h : 0 + workFor d ≤ length w = omega (arith, r .room .work) in
@@ -64,16 +64,16 @@ module _ (l : Limits) (t : Tables) (w : List ℕ) where
       let u : World = record { state = s; tables = t } in
       let v : World = record { state = stateOf x; tables = t′ } in
       let k : Call = callOf (opening l) (workOnly w) in
-      let d : Limits = withDefault l in
+      let d : Sizes = withDefault l in
       let g : Accepted u k (openingAnswer (answers.Opened x)) (workOnly w′) v = step-taken u k (openingAnswer (answers.Opened x)) (workOnly w′) v (o s) refl in
-      let e : isAccepted (callEarly (s .limits) t k) ≡ true = or-both (callEarly (s .limits) t k) accepted (g .number) .0 in
-      let m : x .m ≡ l .m = ap (λ (y : State). y .limits .m) (g .world .0) in
+      let e : isAccepted (callEarly (s .sizes) t k) ≡ true = or-both (callEarly (s .sizes) t k) accepted (g .number) .0 in
+      let m : x .m ≡ l .m = ap (λ (y : State). y .sizes .m) (g .world .0) in
       let z : w′ ≡ zeroFirst (workFor d) w =
       ap (λ (y : Lent). y .work) (g .lists) ∙ ap (λ (q : Bool). pick q (zeroFirst (workFor d) w) w) e in
       subst (λ (y : List ℕ). CanChange (stateOf x) t′ y a b) (sym z)
       (subst (λ (y : Tables). CanChange (stateOf x) y (zeroFirst (workFor d) w) a b) (sym (g .world .1))
       (subst (λ (y : State). CanChange y (openedTables d t) (zeroFirst (workFor d) w) a b) (sym (g .world .0))
-      (fresh-can (s .limits) (early-facts (s .limits) t k e) a b (omega arith) (omega arith))))
+      (fresh-can (s .sizes) (early-facts (s .sizes) t k e) a b (omega arith) (omega arith))))
 
   -- its m is one that the tables have places for
   pub opened-fits : (x : Factor) (t′ : Tables) (w′ : List ℕ) → OpenStep l t w (answers.Opened x) t′ w′ → x .m ≤ length (t .heads)
@@ -83,14 +83,14 @@ module _ (l : Limits) (t : Tables) (w : List ℕ) where
       let v : World = record { state = stateOf x; tables = t′ } in
       let k : Call = callOf (opening l) (workOnly w) in
       let g : Accepted u k (openingAnswer (answers.Opened x)) (workOnly w′) v = step-taken u k (openingAnswer (answers.Opened x)) (workOnly w′) v (o s) refl in
-      let e : isAccepted (callEarly (s .limits) t k) ≡ true = or-both (callEarly (s .limits) t k) accepted (g .number) .0 in
-      let m : x .m ≡ l .m = ap (λ (y : State). y .limits .m) (g .world .0) in
-      omega (arith, long-facts (withDefault l) t (early-facts (s .limits) t k e .room .tables) .heads)
+      let e : isAccepted (callEarly (s .sizes) t k) ≡ true = or-both (callEarly (s .sizes) t k) accepted (g .number) .0 in
+      let m : x .m ≡ l .m = ap (λ (y : State). y .sizes .m) (g .world .0) in
+      omega (arith, long-facts (withDefault l) t (early-facts (s .sizes) t k e .room .tables) .heads)
 
   -- a refused opening has a number, and leaves tables and work table: the record before it could be any
   module _ (n : ℕ) (t′ : Tables) (w′ : List ℕ) (o : OpenStep l t w (answers.Refused n) t′ w′) where
     abbrev any : ℕ → State
-    any i = record { limits = l; free = i; bookFree = 0 }
+    any i = record { sizes = l; free = i; bookFree = 0 }
 
     step : (i : ℕ) → (Accepted (record { state = any i; tables = t }) (callOf (opening l) (workOnly w)) (openingAnswer (answers.Refused n)) (workOnly w′) (record { state = any i; tables = t′ })) ⊎
         (Refused (record { state = any i; tables = t }) (callOf (opening l) (workOnly w)) (openingAnswer (answers.Refused n)) (workOnly w′) (record { state = any i; tables = t′ }))
@@ -129,15 +129,15 @@ module _ (l : Limits) (t : Tables) (w : List ℕ) where
 
 module _ {s : State} {t : Tables} {w a b : List ℕ} (can : CanChange s t w a b) where
   -- 1 to 5 are passed
-  batch-early : isAccepted (earlyRefusal (s .limits) t w (listsLong (s .limits .m) a b)) ≡ true
+  batch-early : isAccepted (earlyRefusal (s .sizes) t w (listsLong (s .sizes .m) a b)) ≡ true
   batch-early =
-      let l : Limits = s .limits in
+      let l : Sizes = s .sizes in
       both-or (sizesRefusal bounds l) (orElse (shortRefusal l t w) (unless (listsLong (l .m) a b) 5 0)) (ap isAccepted (can .usable .sizes))
       (both-or (shortRefusal l t w) (unless (listsLong (l .m) a b) 5 0) (rw (can .usable .long, le-leb _ _ (can .room)) refl)
       (rw (le-leb _ _ (can .touched-long), le-leb _ _ (can .labels-long)) refl))
 
-  first : w ≡ zeroFirst (workFor (s .limits)) w
-  first = sym (first-same (workFor (s .limits)) w (can .room) (can .zero))
+  first : w ≡ zeroFirst (workFor (s .sizes)) w
+  first = sym (first-same (workFor (s .sizes)) w (can .room) (can .zero))
 
   pub change-step : (c : Change) (z : Answer) (x : Lent) (v : World) → BatchStep (record { state = s; tables = t }) c (reportLists w a b) z x v →
       Transition (record { state = s; tables = t }) (callOf (changing c) (reportLists w a b)) z x v
@@ -147,10 +147,10 @@ module _ {s : State} {t : Tables} {w a b : List ℕ} (can : CanChange s t w a b)
 
   -- the lists keep their lengths, so the next batch may follow
   module _ (w′ a′ b′ : List ℕ) (v : World) (p : length a′ ≡ length a) (q : length b′ ≡ length b) where
-    same-can : w′ ≡ w → v .state .limits ≡ s .limits → longEnough (s .limits) (v .tables) ≡ true → isSound (v .state) (v .tables) ≡ true →
+    same-can : w′ ≡ w → v .state .sizes ≡ s .sizes → longEnough (s .sizes) (v .tables) ≡ true → isSound (v .state) (v .tables) ≡ true →
         CanChange (v .state) (v .tables) w′ a′ b′
     same-can e f g h =
-        let m : v .state .limits .m ≡ s .limits .m = ap (λ (l : Limits). l .m) f in
+        let m : v .state .sizes .m ≡ s .sizes .m = ap (λ (l : Sizes). l .m) f in
         record {
           usable = record {
             sizes = rw f (can .usable .sizes);
@@ -164,11 +164,11 @@ module _ {s : State} {t : Tables} {w a b : List ℕ} (can : CanChange s t w a b)
         }
 
     exchanged-can : (c : Change) → w′ ≡ w → Exchanged (record { state = s; tables = t }) c v → CanChange (v .state) (v .tables) w′ a′ b′
-    exchanged-can c e m = same-can e (m .limits) (tails-long (s .limits) t (v .tables) (m .tails) (can .usable .long)) (m .sound)
+    exchanged-can c e m = same-can e (m .sizes) (tails-long (s .sizes) t (v .tables) (m .tails) (can .usable .long)) (m .sound)
 
     left-can : w′ ≡ w → v ≡ record { state = s; tables = t } → CanChange (v .state) (v .tables) w′ a′ b′
     left-can e f =
-        same-can e (ap (λ (y : World). y .state .limits) f) (ap (λ (y : World). longEnough (s .limits) (y .tables)) f ∙ can .usable .long)
+        same-can e (ap (λ (y : World). y .state .sizes) f) (ap (λ (y : World). longEnough (s .sizes) (y .tables)) f ∙ can .usable .long)
         (ap (λ (y : World). isSound (y .state) (y .tables)) f ∙ can .usable .sound)
 
     change-by : (c : Change) (z : Answer) (n : Bool) → BatchOutcome n (record { state = s; tables = t }) c (reportLists w a b) z (reportLists w′ a′ b′) v →
@@ -178,4 +178,4 @@ module _ {s : State} {t : Tables} {w a b : List ℕ} (can : CanChange s t w a b)
 
     pub change-can : (c : Change) (z : Answer) → BatchStep (record { state = s; tables = t }) c (reportLists w a b) z (reportLists w′ a′ b′) v →
         CanChange (v .state) (v .tables) w′ a′ b′
-    change-can c z o = change-by c z (isAccepted (effect (registerOf s t) c .refusal (s .limits))) o
+    change-can c z o = change-by c z (isAccepted (effect (registerOf s t) c .refusal (s .sizes))) o

@@ -9,7 +9,7 @@ use lib.ListN.{length}
 use borrow.Author.Tests.{eq-eqb, ne-eqb, not-true, not-false}
 use Rattle.lists.specs.Lists.{pick}
 use Rattle.workspace.specs.Regions.{zeroFirst}
-use Rattle.tables.specs.Tables.{Tables, Limits, State, longEnough, isSound}
+use Rattle.tables.specs.Tables.{Tables, Sizes, State, longEnough, isSound}
 use Rattle.calls.specs.Refusals.{Refusal, accepted, isAccepted, orElse, unless, bounds, sizesRefusal, workFor, shortRefusal, earlyRefusal}
 use Rattle.calls.proofs.Choices.{or-both, or-first, or-second, unless-holds}
 use Rattle.calls.proofs.Refusals.{HasRoom, early-passed}
@@ -25,7 +25,7 @@ number-some x {n} e d = ne-eqb (x .number) 0 (λ z. d (e ∙ z))
 
 -- ---- 1 to 5
 
-module _ (l : Limits) (t : Tables) (w : List ℕ) where
+module _ (l : Sizes) (t : Tables) (w : List ℕ) where
   -- the sizes are refused
   pub early-sizes : (z : Bool) {n : ℕ} → n ≡ sizesRefusal bounds l .number → n ≢ 0 → n ≡ earlyRefusal l t w z .number
   early-sizes z e d =
@@ -61,33 +61,33 @@ module _ (l : Limits) (t : Tables) (w : List ℕ) where
 
 module _ (s : State) (t : Tables) (w : List ℕ) (z : Bool) where
   abbrev early : Refusal
-  early = earlyRefusal (s .limits) t w z
+  early = earlyRefusal (s .sizes) t w z
 
-  pub admit-early : {n : ℕ} → n ≡ earlyRefusal (s .limits) t w z .number → n ≢ 0 → Admitted s t w z n w
+  pub admit-early : {n : ℕ} → n ≡ earlyRefusal (s .sizes) t w z .number → n ≢ 0 → Admitted s t w z n w
   admit-early {n} e d =
       let q : isAccepted early ≡ false = number-some early e d in
       record {
         found = e ∙ sym (ap (λ (x : Refusal). x .number) (or-first early (unless (isSound s t) 6 0) q));
-        left = sym (ap (λ (b : Bool). pick b (zeroFirst (workFor (s .limits)) w) w) q);
+        left = sym (ap (λ (b : Bool). pick b (zeroFirst (workFor (s .sizes)) w) w) q);
       }
 
-  module _ {n : ℕ} (e : n ≡ earlyRefusal (s .limits) t w z .number) (d : n ≡ 0) where
+  module _ {n : ℕ} (e : n ≡ earlyRefusal (s .sizes) t w z .number) (d : n ≡ 0) where
     passed : isAccepted early ≡ true
     passed = number-zero early (sym d ∙ e)
 
     -- the tables can be read through
-    pub admit-reads : HasPlaces (s .limits) t w
+    pub admit-reads : HasPlaces (s .sizes) t w
     admit-reads =
-        let p : (sizesRefusal bounds (s .limits) ≡ accepted) × HasRoom (s .limits) t w × (z ≡ true) = early-passed (s .limits) t w z passed in
+        let p : (sizesRefusal bounds (s .sizes) ≡ accepted) × HasRoom (s .sizes) t w × (z ≡ true) = early-passed (s .sizes) t w z passed in
         record { sizes = p .0; long = p .1 .tables; room = p .1 .work }
 
-    module _ {a : Bool} {w′ : List ℕ} (f : a ≡ isSound s t) (g : w′ ≡ zeroFirst (workFor (s .limits)) w) where
+    module _ {a : Bool} {w′ : List ℕ} (f : a ≡ isSound s t) (g : w′ ≡ zeroFirst (workFor (s .sizes)) w) where
       admitted : (b : Bool) → isSound s t ≡ b → (k : ℕ) → unless b 6 0 .number ≡ k → Admitted s t w z k w′
       admitted b h k q =
           record {
             found =
                 sym (ap (λ (x : Refusal). x .number) (or-second early (unless (isSound s t) 6 0) passed ∙ ap (λ (c : Bool). unless c 6 0) h) ∙ q);
-            left = g ∙ sym (ap (λ (c : Bool). pick c (zeroFirst (workFor (s .limits)) w) w) passed);
+            left = g ∙ sym (ap (λ (c : Bool). pick c (zeroFirst (workFor (s .sizes)) w) w) passed);
           }
 
       pub admit-sound : a ≡ true → Admitted s t w z 0 w′
@@ -106,13 +106,13 @@ module _ {s : State} {t : Tables} {w : List ℕ} {z : Bool} {n : ℕ} {w′ : Li
     pub admitted-none : isAccepted (admission s t w z) ≡ true
     admitted-none = number-zero (admission s t w z) (sym d ∙ a .found)
 
-    both : (isAccepted (earlyRefusal (s .limits) t w z) ≡ true) × (isAccepted (unless (isSound s t) 6 0) ≡ true)
-    both = or-both (earlyRefusal (s .limits) t w z) (unless (isSound s t) 6 0) admitted-none
+    both : (isAccepted (earlyRefusal (s .sizes) t w z) ≡ true) × (isAccepted (unless (isSound s t) 6 0) ≡ true)
+    both = or-both (earlyRefusal (s .sizes) t w z) (unless (isSound s t) 6 0) admitted-none
 
-    pub admitted-early : isAccepted (earlyRefusal (s .limits) t w z) ≡ true
+    pub admitted-early : isAccepted (earlyRefusal (s .sizes) t w z) ≡ true
     admitted-early = both .0
 
     pub admitted-usable : Usable s t
     admitted-usable =
-        let p : (sizesRefusal bounds (s .limits) ≡ accepted) × HasRoom (s .limits) t w × (z ≡ true) = early-passed (s .limits) t w z (both .0) in
+        let p : (sizesRefusal bounds (s .sizes) ≡ accepted) × HasRoom (s .sizes) t w × (z ≡ true) = early-passed (s .sizes) t w z (both .0) in
         record { sizes = p .0; long = p .1 .tables; sound = unless-holds (isSound s t) 6 0 refl (both .1) }

@@ -7,15 +7,15 @@ use mathlib.Core.List.{List, []}
 use Prim.Native.Nat.{ℕ}
 use lib.Dec.{leb}
 use lib.ListN.{length}
-use Rattle.lists.specs.Lists.{pick, isIn}
+use Rattle.lists.specs.Lists.{pick, isIn, writtenAt}
 use Rattle.lists.proofs.Tests.{cases, eq-or-ne}
 use Rattle.workspace.specs.Regions.{zeroFirst}
-use Rattle.tables.specs.Tables.{Tables, Limits, State, longEnough, registerOf, isSound}
+use Rattle.tables.specs.Tables.{Tables, Sizes, State, longEnough, registerOf, isSound}
 use Rattle.calls.specs.Refusals.{Refusal, isAccepted, orElse, unless, bounds, sizesRefusal, workFor, shortRefusal, earlyRefusal}
-use Rattle.calls.specs.Calls.{Question, checking, asking, Lent, workOnly, workAndList, withWork, Call, callOf, limitsAfter}
+use Rattle.calls.specs.Calls.{Question, checking, asking, Lent, workOnly, workAndList, withWork, Call, callOf, sizesAfter}
 use Rattle.calls.specs.Questions.{response}
 use Rattle.calls.specs.Numbers.{callEarly, callRefusal, soundRefusal, refusalOf}
-use Rattle.calls.specs.Steps.{Answer, refusedBy, acceptedBy, listsAfter, workAfter, writtenAt, World, AcceptedWorld, Transition}
+use Rattle.calls.specs.Steps.{Answer, refusedBy, acceptedBy, listsAfter, workAfter, World, AcceptedWorld, Transition}
 use Rattle.calls.proofs.Choices.{or-first, or-second, or-assoc}
 use Rattle.calls.proofs.Steps.{accepted-step, refused-step}
 use Rattle.questions.specs.Asked.{replyOf, repliedTo, replied, listLeft}
@@ -34,7 +34,7 @@ flat-unless false n = refl
 flat-or : (x y : Refusal) → Flat x → Flat y → Flat (orElse x y)
 flat-or x y f g = elim (cases (isAccepted x)) [ inl e ↦ rw e g | inr e ↦ rw e f ]
 
-flat-sizes : (l : Limits) → Flat (sizesRefusal bounds l)
+flat-sizes : (l : Sizes) → Flat (sizesRefusal bounds l)
 flat-sizes l =
     let y : Refusal = unless (isIn 1 16384 (l .n)) 2 0 in
     let z : Refusal = unless (isIn (l .m) 1048576 (l .f)) 3 0 in
@@ -43,14 +43,14 @@ flat-sizes l =
     (flat-or y (orElse z w) (flat-unless (isIn 1 16384 (l .n)) 2)
     (flat-or z w (flat-unless (isIn (l .m) 1048576 (l .f)) 3) (flat-unless (isIn 1 262144 (l .c)) 4)))
 
-pub flat-early : (l : Limits) (t : Tables) (w : List ℕ) (z : Bool) → earlyRefusal l t w z .position ≡ 0
+pub flat-early : (l : Sizes) (t : Tables) (w : List ℕ) (z : Bool) → earlyRefusal l t w z .position ≡ 0
 flat-early l t w z =
     flat-or (sizesRefusal bounds l) (orElse (shortRefusal l t w) (unless z 5 0)) (flat-sizes l)
     (flat-or (shortRefusal l t w) (unless z 5 0) (flat-unless (longEnough l t && leb (workFor l) (length w)) 5) (flat-unless z 5))
 
 flat-admission : (s : State) (t : Tables) (w : List ℕ) (z : Bool) → Flat (admission s t w z)
 flat-admission s t w z =
-    flat-or (earlyRefusal (s .limits) t w z) (unless (isSound s t) 6 0) (flat-early (s .limits) t w z) (flat-unless (isSound s t) 6)
+    flat-or (earlyRefusal (s .sizes) t w z) (unless (isSound s t) 6 0) (flat-early (s .sizes) t w z) (flat-unless (isSound s t) 6)
 
 -- a refusal without a position, as an answer
 pub refused-flat : (x : Refusal) {n : ℕ} → n ≡ x .number → x .position ≡ 0 → replyOf (record { number = n; value = 0 }) ≡ refusedBy x
@@ -64,34 +64,34 @@ picked x y e = ap (λ (b : Bool). pick b x y) e
 
 -- isLong: the test of its lists, true for a call that has none
 pub record Admits (s : State) (t : Tables) (k : Call) (isLong : Bool) : Type 0 where
-  pub early : callEarly (s .limits) t k ≡ earlyRefusal (s .limits) t (k .lent .work) isLong
+  pub early : callEarly (s .sizes) t k ≡ earlyRefusal (s .sizes) t (k .lent .work) isLong
   pub sound : soundRefusal s t (k .entry) ≡ unless (isSound s t) 6 0
-  pub limits : limitsAfter (s .limits) (k .entry) ≡ s .limits
+  pub sizes : sizesAfter (s .sizes) (k .entry) ≡ s .sizes
 
 module _ (s : State) (t : Tables) where
   pub admits-check : (x : Lent) → Admits s t (callOf checking x) true
-  admits-check x = record { early = refl; sound = refl; limits = refl }
+  admits-check x = record { early = refl; sound = refl; sizes = refl }
 
   pub admits-ask : (q : Question) (p : ℕ) (x : Lent) → Admits s t (callOf (asking q p) x) true
-  admits-ask q p x = record { early = refl; sound = refl; limits = refl }
+  admits-ask q p x = record { early = refl; sound = refl; sizes = refl }
 
 module _ {s : State} {t : Tables} {k : Call} {z : Bool} (m : Admits s t k z) {n : ℕ} {w′ : List ℕ} (a : Admitted s t (k .lent .work) z n w′) where
   abbrev w : List ℕ
   w = k .lent .work
 
   abbrev call : Refusal
-  call = callRefusal (s .limits) (registerOf s t) k
+  call = callRefusal (s .sizes) (registerOf s t) k
 
   number-is : refusalOf s t k ≡ orElse (admission s t (k .lent .work) z) call
   number-is =
       ap (λ (x : Refusal). orElse x (orElse (soundRefusal s t (k .entry)) call)) (m .early) ∙
-      ap (λ (x : Refusal). orElse (earlyRefusal (s .limits) t w z) (orElse x call)) (m .sound) ∙
-      sym (or-assoc (earlyRefusal (s .limits) t w z) (unless (isSound s t) 6 0) call)
+      ap (λ (x : Refusal). orElse (earlyRefusal (s .sizes) t w z) (orElse x call)) (m .sound) ∙
+      sym (or-assoc (earlyRefusal (s .sizes) t w z) (unless (isSound s t) 6 0) call)
 
-  pub work-is : w′ ≡ workAfter (s .limits) t k
+  pub work-is : w′ ≡ workAfter (s .sizes) t k
   work-is =
-      a .left ∙ ap (λ (x : Refusal). pick (isAccepted x) (zeroFirst (workFor (s .limits)) w) w) (sym (m .early)) ∙
-      ap (λ (l : Limits). pick (isAccepted (callEarly (s .limits) t k)) (zeroFirst (workFor l) w) w) (sym (m .limits))
+      a .left ∙ ap (λ (x : Refusal). pick (isAccepted x) (zeroFirst (workFor (s .sizes)) w) w) (sym (m .early)) ∙
+      ap (λ (l : Sizes). pick (isAccepted (callEarly (s .sizes) t k)) (zeroFirst (workFor l) w) w) (sym (m .sizes))
 
   -- refused by 1 to 6
   pub refused-early : n ≢ 0 → {x : Lent} → x ≡ withWork (k .lent) w′ →

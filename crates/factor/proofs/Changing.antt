@@ -10,7 +10,7 @@ use lib.ListN.{length}
 use Rattle.lists.specs.Lists.{pick}
 use Rattle.workspace.specs.Regions.{IsZero, cleared, zeroFirst}
 use Rattle.workspace.proofs.Regions.{cleared-length, cleared-zero, first-cleared}
-use Rattle.tables.specs.Tables.{Tables, Limits, State}
+use Rattle.tables.specs.Tables.{Tables, Sizes, State}
 use Rattle.calls.specs.Refusals.{accepted, isAccepted, bounds, sizesRefusal, workFor, listsLong, earlyRefusal}
 use Rattle.calls.specs.Calls.{Change, changing, Lent, reportLists, withWork, Call, callOf}
 use Rattle.calls.specs.Steps.{Answer, World, Transition}
@@ -31,35 +31,35 @@ negated : (y z : Bool) → y ≡ not z → z ≡ not y
 negated y true e = sym (ap not e)
 negated y false e = sym (ap not e)
 
-module _ (s : State) (t : Tables) (w a b : List ℕ) {y : Bool} (e : y ≡ not (listsLong (s .limits .m) a b)) where
-  abbrev l : Limits
-  l = s .limits
+module _ (s : State) (t : Tables) (w a b : List ℕ) {y : Bool} (e : y ≡ not (listsLong (s .sizes .m) a b)) where
+  abbrev l : Sizes
+  l = s .sizes
 
-  long-is : listsLong (s .limits .m) a b ≡ not y
+  long-is : listsLong (s .sizes .m) a b ≡ not y
   long-is = negated y (listsLong (l .m) a b) e
 
   pub admits-change : (c : Change) → Admits s t (callOf (changing c) (reportLists w a b)) (not y)
-  admits-change c = record { early = ap (λ (z : Bool). earlyRefusal l t w z) long-is; sound = refl; limits = refl }
+  admits-change c = record { early = ap (λ (z : Bool). earlyRefusal l t w z) long-is; sound = refl; sizes = refl }
 
   -- ---- admitted
 
   module _ {n : ℕ} {w′ : List ℕ} (m : Admitted s t w (not y) n w′) (d : n ≡ 0) where
-    passed : (sizesRefusal bounds (s .limits) ≡ accepted) × HasRoom (s .limits) t w × (not y ≡ true)
+    passed : (sizesRefusal bounds (s .sizes) ≡ accepted) × HasRoom (s .sizes) t w × (not y ≡ true)
     passed = early-passed l t w (not y) (admitted-early m d)
 
-    has-room : HasRoom (s .limits) t w
+    has-room : HasRoom (s .sizes) t w
     has-room = passed .1
 
-    lists-long : (s .limits .m ≤ length a) × (s .limits .m ≤ length b)
+    lists-long : (s .sizes .m ≤ length a) × (s .sizes .m ≤ length b)
     lists-long = lists-facts (l .m) a b (long-is ∙ passed .2)
 
-    pub work-first : w′ ≡ zeroFirst (workFor (s .limits)) w
+    pub work-first : w′ ≡ zeroFirst (workFor (s .sizes)) w
     work-first = m .left ∙ ap (λ (q : Bool). pick q (zeroFirst (workFor l) w) w) (admitted-early m d)
 
-    work-cleared : w′ ≡ cleared w 0 (workFor (s .limits))
+    work-cleared : w′ ≡ cleared w 0 (workFor (s .sizes))
     work-cleared = work-first ∙ first-cleared (workFor l) w (has-room .work)
 
-    room : 0 + workFor (s .limits) ≤ length w
+    room : 0 + workFor (s .sizes) ≤ length w
     room = omega (arith, has-room .work)
 
     pub admitted-can : CanChange s t w′ a b

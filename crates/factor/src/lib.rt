@@ -1,6 +1,6 @@
 // The factor's public entries: opening, the check of all tables, questions, and in batches.rt adding and removing. Each refuses unusable input by number
 // and fixes everything lent. A caller that has proved its tables sound uses the unchecked twins of unchecked.rt.
-ghost use Rattle.tables.specs.Tables.{limitsOf, tablesOf};
+ghost use Rattle.tables.specs.Tables.{sizesOf, tablesOf};
 ghost use Rattle.questions.specs.Asked.{replyOf};
 ghost use Rattle.calls.specs.Calls.{callOf, workOnly, workAndList};
 ghost use Rattle.calls.specs.Calls.Entry.{checking, asking};
@@ -70,7 +70,7 @@ impl Factor {
         book_next: &mut [u32],
         work: &mut [u32],
     ) -> Opening
-        ensures { λ r. ⌜ OpenStep (limitsOf m n f c) (tablesOf (now (heads .entry)) (now (parents .entry)) (now (rows .entry)) (now (counts .entry)) (now (next .entry)) (now («book_heads» .entry)) (now («book_rows» .entry)) (now («book_next» .entry))) (now (work .entry)) r (tablesOf (now (heads .exit)) (now (parents .exit)) (now (rows .exit)) (now (counts .exit)) (now (next .exit)) (now («book_heads» .exit)) (now («book_rows» .exit)) (now («book_next» .exit))) (now (work .exit)) ⌝ }
+        ensures { λ r. ⌜ OpenStep (sizesOf m n f c) (tablesOf (now (heads .entry)) (now (parents .entry)) (now (rows .entry)) (now (counts .entry)) (now (next .entry)) (now («book_heads» .entry)) (now («book_rows» .entry)) (now («book_next» .entry))) (now (work .entry)) r (tablesOf (now (heads .exit)) (now (parents .exit)) (now (rows .exit)) (now (counts .exit)) (now (next .exit)) (now («book_heads» .exit)) (now («book_rows» .exit)) (now («book_next» .exit))) (now (work .exit)) ⌝ }
     {
         let records = refusals::default_records(m, f);
         let asked = Factor {

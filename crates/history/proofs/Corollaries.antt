@@ -17,7 +17,7 @@ use Rattle.symbolic.specs.Columns.{Column, smallest, holds, fitsRows, Register,
 use Rattle.symbolic.specs.Factor.{factorFor, inPattern, isChild}
 use Rattle.symbolic.specs.Chains.{ChainTo}
 use Rattle.symbolic.proofs.Theorems.{equation-31}
-use Rattle.tables.specs.Tables.{Limits, storedIn}
+use Rattle.tables.specs.Tables.{Sizes, storedIn}
 use Rattle.tables.specs.Stays.{ColumnStays}
 use Rattle.tables.proofs.Revised.{stays-self}
 use Rattle.calls.specs.Calls.{isOpening, isChange}
@@ -39,7 +39,7 @@ keeps-of {p} {v} i =
       columns = k .columns;
       means = k .stored;
       chains = subst (λ (m : ℕ). (x j : ℕ) → 1 ≤ j → j < x → x ≤ m → Stands v x j ↔ ChainTo m (live (p .register)) x j) (sym (i .rows)) (k .chains);
-      refusals = λ c. ap (λ (l : Limits). callRefusal l (bookedIn v) c) (i .limits) ∙ bag-number (bookedIn v) (p .register) (inv-rows i) (i .bag) (p .limits) c;
+      refusals = λ c. ap (λ (l : Sizes). callRefusal l (bookedIn v) c) (i .sizes) ∙ bag-number (bookedIn v) (p .register) (inv-rows i) (i .bag) (p .sizes) c;
     }
 
 pub keeps-pattern : KeepsPattern
@@ -49,7 +49,7 @@ pub alters-only : AltersOnly
 alters-only u p es v e w j b r s o x y =
     let i : Inv _ v = inv-run es v (begun-inv u p b) r in
     let t : Justified _ v e w = inv-justified i e w s in (
-      λ c q n h. t .alters n c q .others j x (subst (λ (l : Limits). j ≤ l .m) (i .limits) y)
+      λ c q n h. t .alters n c q .others j x (subst (λ (l : Sizes). j ≤ l .m) (i .sizes) y)
           (ap (λ (ks : List ℕ). among j ks) (sym (bag-touched (bookedIn v) _ (inv-rows i) (i .bag) (book-once v) c)) ∙ h),
       λ h. subst (λ (z : World). ColumnStays (storedIn (v .state) (v .tables)) (storedIn (z .state) (z .tables)) j) (sym (t .unchanged (quiet h)))
           (stays-self (storedIn (v .state) (v .tables)) j),

@@ -5,7 +5,7 @@ use mathlib.Core.Path.{refl}
 use mathlib.Core.List.{List, [], _∷_, _++_}
 use Prim.Native.Nat.{ℕ}
 use lib.ListN.{replicate}
-use Rattle.lists.specs.Lists.{all, any, among, noRepeats, allZero, same, sumOf, valuesAt, rises, upFrom}
+use Rattle.lists.specs.Lists.{all, any, among, noRepeats, allZero, same, sumOf, valuesAt, rises, upFrom, pairsOf}
 use Rattle.symbolic.specs.Columns.{startingWith}
 use Rattle.symbolic.specs.Factor.{childrenWith, countsFrom, firstAbove, buildFrom, patternFrom, nonZero, pathFrom, sizeSum}
 use Rattle.symbolic.specs.Batch.{passing, labelFrom, entriesOf}
@@ -17,11 +17,10 @@ use Rattle.tables.specs.Stored.{holdsFrom}
 use Rattle.calls.specs.Refusals.{batchOf, rowsRefusal, columnsRefusal, idsRefusal}
 use Rattle.calls.specs.Calls.{Change, removing, askMultiplicity, askParent, askPath, askColumn, checking, workOnly, Call, callOf}
 use Rattle.calls.specs.Changes.{labelled}
-use Rattle.calls.specs.Questions.{pairsOf}
 use Rattle.calls.specs.Steps.{Answer, World, Exchanged, Transition}
 use Rattle.calls.proofs.Exchanges.{exchange-passed}
 use Rattle.history.specs.Runs.{Event, Run, Begun, Plain}
-use Rattle.tables.specs.Tables.{Limits}
+use Rattle.tables.specs.Tables.{Sizes}
 use Rattle.tables.specs.Opening.{openedState, openedTables}
 use Rattle.history.specs.Example.{askedSizes, workLent, listLent, add, change, ask, askFrom, openWith, answered, valued, workLeft, eventCalls, eventAnswers, eventTouched, eventLabels, eventWork, eventLists, shownFrom}
 use Rattle.history.specs.Statements.{ConcreteRun}
@@ -31,7 +30,7 @@ use Rattle.history.specs.Statements.{ConcreteRun}
 abbrev worldOf : (free bookFree : ℕ) → (heads parents rows counts next bookHeads bookRows bookNext : List ℕ) → World
 worldOf f g hs ps rs cs ns bh br bn =
     record {
-      state = record { limits = askedSizes; free = f; bookFree = g };
+      state = record { sizes = askedSizes; free = f; bookFree = g };
       tables = record {
         heads = hs ++ (8 ∷ []);
         parents = ps ++ (8 ∷ []);
@@ -153,7 +152,7 @@ noRows =
       left = record { work = workLent; touched = []; labels = []; list = [] };
     }
 
-abbrev lastSizes : Limits
+abbrev lastSizes : Sizes
 lastSizes = record { m = 1; n = 1; f = 2; c = 1 }
 
 abbrev oneRow : Event
@@ -169,7 +168,7 @@ abbrev world6 : World
 world6 = record { state = openedState lastSizes; tables = openedTables lastSizes (world5 .tables) }
 
 abbrev plain1 : Plain
-plain1 = record { limits = askedSizes; register = record { m = 5; columns = [] } }
+plain1 = record { sizes = askedSizes; register = record { m = 5; columns = [] } }
 
 opened-begun : Begun world1 plain1
 unfolding all any among noRepeats allZero same sumOf valuesAt rises upFrom startingWith childrenWith countsFrom firstAbove buildFrom patternFrom nonZero pathFrom sizeSum passing labelFrom labelled entriesOf idsOf chainFrom lastOf chains columnsFrom holdsFrom batchOf rowsRefusal columnsRefusal

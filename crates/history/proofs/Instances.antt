@@ -2,14 +2,13 @@
 -- Nothing else is unfolded so far; elsewhere the factor stays shut.
 -- Assumes nothing.
 use mathlib.Core.Path.{refl}
-use Rattle.lists.specs.Lists.{any, among, sumOf, upFrom}
+use Rattle.lists.specs.Lists.{any, among, sumOf, upFrom, pairsOf}
 use Rattle.symbolic.specs.Columns.{startingWith}
 use Rattle.symbolic.specs.Factor.{childrenWith, countsFrom, firstAbove, buildFrom, patternFrom, nonZero, pathFrom, sizeSum}
 use Rattle.symbolic.specs.Batch.{passing, labelFrom, entriesOf}
 use Rattle.symbolic.specs.Change.{idsOf, without, columnOf, columnsOf}
 use Rattle.calls.specs.Refusals.{batchOf, rowsRefusal, columnsRefusal, idsRefusal}
 use Rattle.calls.specs.Changes.{labelled}
-use Rattle.calls.specs.Questions.{pairsOf}
 use Rattle.history.specs.Instances.{StarredInstances, NinthInstance}
 
 pub starred-instances : StarredInstances

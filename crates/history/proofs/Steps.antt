@@ -12,11 +12,11 @@ use lib.ListN.{length, take, drop}
 use lib.Seq.{take-at}
 use Rattle.lists.specs.Lists.{pick, Mem, among, rises, over}
 use Rattle.lists.proofs.Tests.{cases}
-use Rattle.tables.specs.Tables.{Limits}
+use Rattle.tables.specs.Tables.{Sizes}
 use Rattle.tables.specs.Stays.{TailsStay}
 use Rattle.tables.proofs.Tables.{tails-long}
 use Rattle.calls.specs.Refusals.{Refusal, isAccepted, orElse}
-use Rattle.calls.specs.Calls.{Change, Entry, opening, changing, checking, asking, Lent, Call, callOf, withWork, isOpening, limitsAfter}
+use Rattle.calls.specs.Calls.{Change, Entry, opening, changing, checking, asking, Lent, Call, callOf, withWork, isOpening, sizesAfter}
 use Rattle.calls.specs.Changes.{effect, touchedBy, registerAfter}
 use Rattle.calls.specs.Numbers.{callEarly, callRefusal, refusalOf}
 use Rattle.calls.specs.Steps.{Answer, refusedBy, resultOf, acceptedBy, listsAfter, workAfter, World, bookedIn, Exchanged, AcceptedWorld, Transition}
@@ -33,7 +33,7 @@ use Rattle.history.proofs.Invariant.{Inv, book-once, inv-rows, inv-long
 
 -- the plain register after an accepted call
 abbrev taken : Plain → Entry → Plain
-taken p e = record { limits = limitsAfter (p .limits) e; register = registerAfter (p .register) e }
+taken p e = record { sizes = sizesAfter (p .sizes) e; register = registerAfter (p .register) e }
 
 module _ {p : Plain} {u : World} (i : Inv p u) where
   -- ---- the number
@@ -41,54 +41,54 @@ module _ {p : Plain} {u : World} (i : Inv p u) where
   pub number-plain : (k : Call) → refusalOf (u .state) (u .tables) k ≡ plainRefusal p (u .tables) k
   number-plain k =
       sound-number (u .state) (u .tables) k (i .sound) ∙
-      ap (λ (l : Limits). orElse (callEarly l (u .tables) k) (callRefusal l (bookedIn u) k)) (i .limits) ∙
-      ap (λ (y : Refusal). orElse (callEarly (p .limits) (u .tables) k) y) (bag-number (bookedIn u) (p .register) (inv-rows i) (i .bag) (p .limits) k)
+      ap (λ (l : Sizes). orElse (callEarly l (u .tables) k) (callRefusal l (bookedIn u) k)) (i .sizes) ∙
+      ap (λ (y : Refusal). orElse (callEarly (p .sizes) (u .tables) k) y) (bag-number (bookedIn u) (p .register) (inv-rows i) (i .bag) (p .sizes) k)
 
   never-six : (k : Call) → plainRefusal p (u .tables) k .number ≢ 6
   never-six k h =
-      let x : Refusal = callEarly (p .limits) (u .tables) k in
-      let y : Refusal = callRefusal (p .limits) (p .register) k in
+      let x : Refusal = callEarly (p .sizes) (u .tables) k in
+      let y : Refusal = callRefusal (p .sizes) (p .register) k in
       elim (cases (isAccepted x)) [
         | inl e ↦
             let q : orElse x y .number ≡ y .number = ap (λ (z : Refusal). z .number) (or-second x y e) in
-            elim (call-number (p .limits) (p .register) k) [ inl n ↦ omega arith | inr n ↦ omega arith ]
+            elim (call-number (p .sizes) (p .register) k) [ inl n ↦ omega arith | inr n ↦ omega arith ]
         | inr e ↦
             let q : orElse x y .number ≡ x .number = ap (λ (z : Refusal). z .number) (or-first x y e) in
-            omega (arith, early-low (p .limits) (u .tables) k)
+            omega (arith, early-low (p .sizes) (u .tables) k)
       ]
 
   from-five : (k : Call) → isOpening (k .entry) ≡ false → (plainRefusal p (u .tables) k .number ≡ 0) ⊎ (5 ≤ plainRefusal p (u .tables) k .number)
   from-five k o =
-      let x : Refusal = callEarly (p .limits) (u .tables) k in
-      let y : Refusal = callRefusal (p .limits) (p .register) k in
+      let x : Refusal = callEarly (p .sizes) (u .tables) k in
+      let y : Refusal = callRefusal (p .sizes) (p .register) k in
       elim (cases (isAccepted x)) [
         | inl e ↦
             let q : orElse x y .number ≡ y .number = ap (λ (z : Refusal). z .number) (or-second x y e) in
-            elim (call-number (p .limits) (p .register) k) [ inl n ↦ inl (q ∙ n) | inr n ↦ inr (omega arith) ]
+            elim (call-number (p .sizes) (p .register) k) [ inl n ↦ inl (q ∙ n) | inr n ↦ inr (omega arith) ]
         | inr e ↦
             let q : orElse x y .number ≡ x .number = ap (λ (z : Refusal). z .number) (or-first x y e) in
-            elim (early-number (p .limits) (u .tables) (i .in-range) k o) [ inl n ↦ inl (q ∙ n) | inr n ↦ inr (omega arith) ]
+            elim (early-number (p .sizes) (u .tables) (i .in-range) k o) [ inl n ↦ inl (q ∙ n) | inr n ↦ inr (omega arith) ]
       ]
 
   -- ---- the answer and the lists
 
-  work-plain : (k : Call) → workAfter (u .state .limits) (u .tables) k ≡ workAfter (p .limits) (u .tables) k
-  work-plain k = ap (λ (l : Limits). workAfter l (u .tables) k) (i .limits)
+  work-plain : (k : Call) → workAfter (u .state .sizes) (u .tables) k ≡ workAfter (p .sizes) (u .tables) k
+  work-plain k = ap (λ (l : Sizes). workAfter l (u .tables) k) (i .sizes)
 
   change-alters : {v : World} (c : Change) → Exchanged u c v → AltersJust p u c v
   change-alters {v} c x =
       record {
-        others = λ j a b t. x .others j a (subst (λ (l : Limits). j ≤ l .m) (sym (i .limits)) b)
+        others = λ j a b t. x .others j a (subst (λ (l : Sizes). j ≤ l .m) (sym (i .sizes)) b)
             (ap (λ (ks : List ℕ). among j ks) (bag-touched (bookedIn u) (p .register) (inv-rows i) (i .bag) (book-once u) c) ∙ t);
-        entries = λ j a b. exchanged-keeps x (inv-long i) (i .sound) j a (subst (λ (l : Limits). j ≤ l .m) (sym (i .limits)) b);
-        ids = λ d a b t. x .book d a (subst (λ (l : Limits). d ≤ l .n) (sym (i .limits)) b)
+        entries = λ j a b. exchanged-keeps x (inv-long i) (i .sound) j a (subst (λ (l : Sizes). j ≤ l .m) (sym (i .sizes)) b);
+        ids = λ d a b t. x .book d a (subst (λ (l : Sizes). d ≤ l .n) (sym (i .sizes)) b)
             (ap (λ (ks : List ℕ). among d ks) (bag-ids (bookedIn u) (p .register) (inv-rows i) (i .bag) (book-once u) c) ∙ t);
-        tails = subst (λ (l : Limits). TailsStay l (u .tables) (v .tables)) (i .limits) (x .tails);
+        tails = subst (λ (l : Sizes). TailsStay l (u .tables) (v .tables)) (i .sizes) (x .tails);
       }
 
   -- the front of the lent list is the register's report
   report-is : (e : Event) (c : Change) → e .call .entry ≡ changing c → e .answer ≡ acceptedBy (bookedIn u) (e .call .entry) →
-      e .left ≡ listsAfter (bookedIn u) (e .call) (workAfter (u .state .limits) (u .tables) (e .call)) → reported e ≡ touchedBy (p .register) c
+      e .left ≡ listsAfter (bookedIn u) (e .call) (workAfter (u .state .sizes) (u .tables) (e .call)) → reported e ≡ touchedBy (p .register) c
   report-is e c q a x =
       let js : List ℕ = touchedBy (bookedIn u) c in
       let n : e .answer .touched ≡ length js = ap (λ (y : Answer). y .touched) a ∙ ap (λ (k : Entry). length (resultOf (bookedIn u) k .touched)) q in
@@ -99,7 +99,7 @@ module _ {p : Plain} {u : World} (i : Inv p u) where
       bag-touched (bookedIn u) (p .register) (inv-rows i) (i .bag) (book-once u) c
 
   change-reports : (e : Event) (c : Change) → e .call .entry ≡ changing c → e .answer ≡ acceptedBy (bookedIn u) (e .call .entry) →
-      e .left ≡ listsAfter (bookedIn u) (e .call) (workAfter (u .state .limits) (u .tables) (e .call)) → ReportsJust p e c
+      e .left ≡ listsAfter (bookedIn u) (e .call) (workAfter (u .state .sizes) (u .tables) (e .call)) → ReportsJust p e c
   change-reports e c q a x =
       let r : reported e ≡ touchedBy (p .register) c = report-is e c q a x in
       record {
@@ -118,7 +118,7 @@ module _ {p : Plain} {u : World} (i : Inv p u) where
           answer = rw z (s .answer ∙ bag-answer (bookedIn u) (p .register) (inv-rows i) (i .bag) (book-once u) (k .entry));
           never-unsound = λ h. omega arith;
           sizes-at-openings = λ o. inl n;
-          left = rw z (s .lists ∙ bag-lists (bookedIn u) (p .register) (inv-rows i) (i .bag) (book-once u) k (workAfter (u .state .limits) (u .tables) k) ∙
+          left = rw z (s .lists ∙ bag-lists (bookedIn u) (p .register) (inv-rows i) (i .bag) (book-once u) k (workAfter (u .state .sizes) (u .tables) k) ∙
               ap (λ (w : List ℕ). listsAfter (p .register) k w) (work-plain k));
           unchanged = λ h. elim h [ inl q ↦ absurd (q n) | inr q ↦ quiet-world u (k .entry) v q (s .world) ];
           reports = λ q c h. change-reports e c h (s .answer) (s .lists);
@@ -149,32 +149,32 @@ module _ {p : Plain} {u : World} (i : Inv p u) where
   -- ---- the invariant after it
 
   both-accepted : (k : Call) → isAccepted (refusalOf (u .state) (u .tables) k) ≡ true →
-      (isAccepted (callEarly (p .limits) (u .tables) k) ≡ true) × (isAccepted (callRefusal (p .limits) (p .register) k) ≡ true)
+      (isAccepted (callEarly (p .sizes) (u .tables) k) ≡ true) × (isAccepted (callRefusal (p .sizes) (p .register) k) ≡ true)
   both-accepted k h =
-      or-both (callEarly (p .limits) (u .tables) k) (callRefusal (p .limits) (p .register) k) (ap isAccepted (sym (number-plain k)) ∙ h)
+      or-both (callEarly (p .sizes) (u .tables) k) (callRefusal (p .sizes) (p .register) k) (ap isAccepted (sym (number-plain k)) ∙ h)
 
   module _ {v : World} where
-    inv-change : (c : Change) → isAccepted (effect (p .register) c .refusal (p .limits)) ≡ true → Exchanged u c v → Inv (taken p (changing c)) v
+    inv-change : (c : Change) → isAccepted (effect (p .register) c .refusal (p .sizes)) ≡ true → Exchanged u c v → Inv (taken p (changing c)) v
     inv-change c h s =
         record {
           in-range = i .in-range;
-          limits = s .limits ∙ i .limits;
+          sizes = s .sizes ∙ i .sizes;
           rows = rows-stay (p .register) c ∙ i .rows;
-          long = tails-long (p .limits) (u .tables) (v .tables) (subst (λ (x : Limits). TailsStay x (u .tables) (v .tables)) (i .limits) (s .tails)) (i .long);
+          long = tails-long (p .sizes) (u .tables) (v .tables) (subst (λ (x : Sizes). TailsStay x (u .tables) (v .tables)) (i .sizes) (s .tails)) (i .long);
           sound = s .sound;
           bag = λ g. s .columns g ∙ bag-after (bookedIn u) (p .register) (inv-rows i) (i .bag) c g;
-          once = once-after (p .limits) (p .register) c (i .once) h;
+          once = once-after (p .sizes) (p .register) c (i .once) h;
         }
 
     inv-taken : (k : Call) (e : Entry) → k .entry ≡ e → isAccepted (refusalOf (u .state) (u .tables) k) ≡ true → AcceptedWorld u e v → Inv (taken p e) v
     inv-taken k (opening l) q h s =
         let w : v ≡ openedWorld l (u .tables) = λ j. record { state = s .0 j; tables = s .1 j } in
-        let r : isAccepted (callEarly (p .limits) (u .tables) (callOf (opening l) (k .lent))) ≡ true =
-        subst (λ (e : Entry). isAccepted (callEarly (p .limits) (u .tables) (callOf e (k .lent))) ≡ true) q (both-accepted k h .0) in
+        let r : isAccepted (callEarly (p .sizes) (u .tables) (callOf (opening l) (k .lent))) ≡ true =
+        subst (λ (e : Entry). isAccepted (callEarly (p .sizes) (u .tables) (callOf e (k .lent))) ≡ true) q (both-accepted k h .0) in
         subst (λ (x : World). Inv (openedPlain l) x) (sym w)
-        (inv-opened l (p .limits) (u .tables) (k .lent) (early-facts (p .limits) (u .tables) (callOf (opening l) (k .lent)) r))
+        (inv-opened l (p .sizes) (u .tables) (k .lent) (early-facts (p .sizes) (u .tables) (callOf (opening l) (k .lent)) r))
     inv-taken k (changing c) q h s =
-        inv-change c (subst (λ (e : Entry). isAccepted (callRefusal (p .limits) (p .register) (callOf e (k .lent))) ≡ true) q (both-accepted k h .1)) s
+        inv-change c (subst (λ (e : Entry). isAccepted (callRefusal (p .sizes) (p .register) (callOf e (k .lent))) ≡ true) q (both-accepted k h .1)) s
     inv-taken k checking q h s = subst (λ (x : World). Inv p x) (sym s) i
     inv-taken k (asking a b) q h s = subst (λ (x : World). Inv p x) (sym s) i
 

@@ -25,9 +25,9 @@ use Rattle.history.specs.Statements.{Stands}
 pub record Keeps (p : Plain) (v : World) : Type 0 where
   pub sound : isSound (v .state) (v .tables) ≡ true
   pub columns : (c : Column) → Mem c (bookedIn v .columns) ↔ Mem c (p .register .columns)
-  pub means : holdsFrom (storedIn (v .state) (v .tables)) (factorFor (p .register)) 1 (p .limits .m) ≡ true
+  pub means : holdsFrom (storedIn (v .state) (v .tables)) (factorFor (p .register)) 1 (p .sizes .m) ≡ true
   pub chains : (i j : ℕ) → 1 ≤ j → j < i → i ≤ p .register .m → Stands v i j ↔ ChainTo (p .register .m) (live (p .register)) i j
-  pub refusals : (k : Call) → callRefusal (v .state .limits) (bookedIn v) k ≡ callRefusal (p .limits) (p .register) k
+  pub refusals : (k : Call) → callRefusal (v .state .sizes) (bookedIn v) k ≡ callRefusal (p .sizes) (p .register) k
 
 -- after every list of calls from an accepted opening, record and tables are those of the register by then
 abbrev pub KeepsPattern : Type 0
@@ -37,7 +37,7 @@ KeepsPattern = (u : World) (p : Plain) (es : List Event) (v : World) → Begun u
 abbrev pub AltersOnly : Type 0
 AltersOnly =
     (u : World) (p : Plain) (es : List Event) (v : World) (e : Event) (w : World) (j : ℕ) → Begun u p → Run u es v →
-    Transition v (e .call) (e .answer) (e .left) w → isOpening (e .call .entry) ≡ false → 1 ≤ j → j ≤ v .state .limits .m →
+    Transition v (e .call) (e .answer) (e .left) w → isOpening (e .call .entry) ≡ false → 1 ≤ j → j ≤ v .state .sizes .m →
     ((c : Change) → e .call .entry ≡ changing c → e .answer .number ≡ 0 → among j (touchedBy (bookedIn v) c) ≡ false →
     ColumnStays (storedIn (v .state) (v .tables)) (storedIn (w .state) (w .tables)) j) ×
     ((e .answer .number ≢ 0) ⊎ (isChange (e .call .entry) ≡ false) → ColumnStays (storedIn (v .state) (v .tables)) (storedIn (w .state) (w .tables)) j)

@@ -4,16 +4,15 @@
 use mathlib.Core.List.{List, [], _∷_, _++_}
 use Prim.Native.Nat.{ℕ, zero, suc, _-_}
 use lib.ListN.{length, replicate}
-use Rattle.lists.specs.Lists.{at, valuesAt}
+use Rattle.lists.specs.Lists.{at, valuesAt, pairsOf}
 use Rattle.tables.specs.Stored.{Stored, recordsOf}
-use Rattle.tables.specs.Tables.{Limits, storedIn}
+use Rattle.tables.specs.Tables.{Sizes, storedIn}
 use Rattle.calls.specs.Calls.{Change, adding, removing, Question, askMultiplicity, askParent, askPath, askColumn, opening, changing, checking, asking, workOnly, reportLists, workAndList, Call, callOf}
-use Rattle.calls.specs.Questions.{pairsOf}
 use Rattle.calls.specs.Steps.{Answer, World}
 use Rattle.history.specs.Runs.{Event}
 
 -- "open 5 8 9 16"
-abbrev pub askedSizes : Limits
+abbrev pub askedSizes : Sizes
 askedSizes = record { m = 5; n = 8; f = 9; c = 16 }
 
 -- W is 1,124; one place more, and none of them zero
@@ -41,7 +40,7 @@ abbrev pub askFrom : Question → (place : ℕ) → Call
 askFrom q p = callOf (asking q p) (workAndList workLent listLent)
 
 -- an opening
-abbrev pub openWith : Limits → Call
+abbrev pub openWith : Sizes → Call
 openWith l = callOf (opening l) (workOnly workLent)
 
 -- id 1 is live when it comes a second time
@@ -142,7 +141,7 @@ shownFrom s j (suc n) = (j ∷ at (s .parents) j ∷ pairsOf (valuesAt (s .rows)
 
 -- "show prints a line for each j": all of them, from record and tables
 abbrev pub shown : World → List (List ℕ)
-shown v = shownFrom (storedIn (v .state) (v .tables)) 1 (v .state .limits .m)
+shown v = shownFrom (storedIn (v .state) (v .tables)) 1 (v .state .sizes .m)
 
 -- the listing, row by row
 abbrev pub listing : List (List ℕ)

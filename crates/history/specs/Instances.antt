@@ -8,7 +8,7 @@ use Rattle.lists.specs.Lists.{upFrom}
 use Rattle.symbolic.specs.Columns.{Register}
 use Rattle.symbolic.specs.Factor.{factorFor, parentOf}
 use Rattle.symbolic.specs.Batch.{gradeOf}
-use Rattle.tables.specs.Tables.{Limits}
+use Rattle.tables.specs.Tables.{Sizes}
 use Rattle.calls.specs.Refusals.{Refusal, refusal, accepted}
 use Rattle.calls.specs.Calls.{Change, adding, removing, opening, changing}
 use Rattle.calls.specs.Changes.{effect, touchedBy, labelsBy, entriesBy, registerAfter}
@@ -19,19 +19,19 @@ use Rattle.history.specs.Example.{answered}
 -- ---- the changes: lent lists play no part here
 
 -- sizes with given m and F, and with ids and book records enough for every instance
-abbrev pub sizesOf : (m f : ℕ) → Limits
-sizesOf m f = record { m = m; n = 8; f = f; c = 64 }
+abbrev pub sizesWith : (m f : ℕ) → Sizes
+sizesWith m f = record { m = m; n = 8; f = f; c = 64 }
 
 -- the register of an accepted opening
 abbrev pub opened : (m : ℕ) → Register
-opened m = registerAfter (record { m = 0; columns = [] }) (opening (sizesOf m 0))
+opened m = registerAfter (record { m = 0; columns = [] }) (opening (sizesWith m 0))
 
 -- the register after a change
 abbrev pub after : Register → Change → Register
 after r c = effect r c .register
 
 -- the number and position of a change
-abbrev pub refusalBy : Limits → Register → Change → Refusal
+abbrev pub refusalBy : Sizes → Register → Change → Refusal
 refusalBy l r c = effect r c .refusal l
 
 -- "add 1 1 3", "add 2 1 4", "add 3 2 3", one after another
@@ -91,8 +91,8 @@ pub record StarredInstances : Type 0 where
   -- 6. "{5} alone: L_5 is 5:2"
   pub alone : ColumnIs (after (opened 5) (adding (1 ∷ []) (1 ∷ []) (5 ∷ []))) 5 0 (5 ∷ 2 ∷ [])
   -- 7. "Case 3 with F = 9 is accepted, with F = 8 refused by 16"
-  pub room-9 : refusalBy (sizesOf 5 9) (opened 5) three ≡ accepted
-  pub room-8 : refusalBy (sizesOf 5 8) (opened 5) three ≡ refusal 16 0
+  pub room-9 : refusalBy (sizesWith 5 9) (opened 5) three ≡ accepted
+  pub room-8 : refusalBy (sizesWith 5 8) (opened 5) three ≡ refusal 16 0
   -- 8. "255 entries give grade 1, 256 give 2"
   pub grade-1 : gradeOf 255 ≡ 1
   pub grade-2 : gradeOf 256 ≡ 2
@@ -106,8 +106,8 @@ pub record NinthInstance : Type 0 where
   -- "Removing every column gives the fresh patterns"
   pub emptied : factorFor (after listed (removing (1 ∷ 2 ∷ 3 ∷ []))) ≡ factorFor (opened 5)
   -- "Removing 3 3 in case 2: 9 at position 2"
-  pub repeated : refusalBy (sizesOf 5 9) listed (removing (3 ∷ 3 ∷ [])) ≡ refusal 9 2
+  pub repeated : refusalBy (sizesWith 5 9) listed (removing (3 ∷ 3 ∷ [])) ≡ refusal 9 2
   -- "Rows 4 4: 14"
-  pub equal-rows : refusalBy (sizesOf 5 9) listed (adding (4 ∷ []) (2 ∷ []) (4 ∷ 4 ∷ [])) ≡ refusal 14 1
+  pub equal-rows : refusalBy (sizesWith 5 9) listed (adding (4 ∷ []) (2 ∷ []) (4 ∷ 4 ∷ [])) ≡ refusal 14 1
   -- "Path of 1 in case 2: 1 3 4"
   pub path : pathList listed 1 ≡ 1 ∷ 3 ∷ 4 ∷ []

@@ -16,7 +16,7 @@ use Rattle.symbolic.specs.Chains.{ChainTo}
 use Rattle.symbolic.specs.Change.{idsOf}
 use Rattle.book.specs.Book as book
 use Rattle.tables.specs.Stored.{recordsOf, holdsFrom}
-use Rattle.tables.specs.Tables.{Tables, Limits, longEnough, storedIn, bookIn, registerOf, isSound}
+use Rattle.tables.specs.Tables.{Tables, Sizes, longEnough, storedIn, bookIn, registerOf, isSound}
 use Rattle.tables.specs.Stays.{ColumnStays, EntriesKeep, TailsStay}
 use Rattle.calls.specs.Refusals.{Refusal, accepted, isAccepted, orElse, bounds, sizesRefusal}
 use Rattle.calls.specs.Calls.{Change, opening, changing, Lent, withWork, Call, callOf, isOpening, isChange}
@@ -56,10 +56,10 @@ IsFactorOf r M P = IsFactor (r .m) (λ j i. startingWith j i (live r)) M P
 -- what holds of record and tables after a list of calls, against the register by then
 pub record Consistent (p : Plain) (v : World) : Type 0 where
   -- the sizes are in range, the record has them, and the tables are long enough for them
-  pub in-range : sizesRefusal bounds (p .limits) ≡ accepted
-  pub limits : v .state .limits ≡ p .limits
-  pub rows : p .register .m ≡ p .limits .m
-  pub long : longEnough (p .limits) (v .tables) ≡ true
+  pub in-range : sizesRefusal bounds (p .sizes) ≡ accepted
+  pub sizes : v .state .sizes ≡ p .sizes
+  pub rows : p .register .m ≡ p .sizes .m
+  pub long : longEnough (p .sizes) (v .tables) ≡ true
   -- demand 3: tables sound
   pub sound : isSound (v .state) (v .tables) ≡ true
   -- demand 3: book = the plain register: the same columns, both ways, each id once
@@ -69,15 +69,15 @@ pub record Consistent (p : Plain) (v : World) : Type 0 where
   -- demand 3: numbers justified: multiplicities and parents in the tables are the definition's for the register, as the declarative definition has it
   pub factor : IsFactorOf (p .register) (heldCount v) (heldParent v)
   -- and as it is computed: chain j holds just the pattern's rows, rising, with their multiplicities
-  pub stored : holdsFrom (storedIn (v .state) (v .tables)) (factorFor (p .register)) 1 (p .limits .m) ≡ true
+  pub stored : holdsFrom (storedIn (v .state) (v .tables)) (factorFor (p .register)) 1 (p .sizes .m) ≡ true
   -- demand 3: row i in column j exactly if a chain of rows leads there
-  pub chains : (i j : ℕ) → 1 ≤ j → j < i → i ≤ p .limits .m → Stands v i j ↔ ChainTo (p .limits .m) (live (p .register)) i j
+  pub chains : (i j : ℕ) → 1 ≤ j → j < i → i ≤ p .sizes .m → Stands v i j ↔ ChainTo (p .sizes .m) (live (p .register)) i j
 
 -- ---- what holds of one call against the plain register before it
 
--- the number and position that table lengths, limits, register and arguments give
+-- the number and position that table lengths, sizes, register and arguments give
 abbrev pub plainRefusal : Plain → Tables → Call → Refusal
-plainRefusal p t k = orElse (callEarly (p .limits) t k) (callRefusal (p .limits) (p .register) k)
+plainRefusal p t k = orElse (callEarly (p .sizes) t k) (callRefusal (p .sizes) (p .register) k)
 
 -- j lies on the path of the smallest row of some column, in the tree of parents P
 abbrev pub OnPathOf : (m : ℕ) (P : ℕ → ℕ) → List Column → (j : ℕ) → Type 0
@@ -98,14 +98,14 @@ pub record ReportsJust (p : Plain) (e : Event) (c : Change) : Type 0 where
 -- what an accepted change may alter of record and tables, from world u to world v
 pub record AltersJust (p : Plain) (u : World) (c : Change) (v : World) : Type 0 where
   -- demand 3: each accepted batch alters no column off its paths
-  pub others : (j : ℕ) → 1 ≤ j → j ≤ p .limits .m → among j (touchedBy (p .register) c) ≡ false →
+  pub others : (j : ℕ) → 1 ≤ j → j ≤ p .sizes .m → among j (touchedBy (p .register) c) ≡ false →
       ColumnStays (storedIn (u .state) (u .tables)) (storedIn (v .state) (v .tables)) j
   -- "An entry that stands in a column before and after a batch keeps its record"
-  pub entries : (j : ℕ) → 1 ≤ j → j ≤ p .limits .m → EntriesKeep (storedIn (u .state) (u .tables)) (storedIn (v .state) (v .tables)) j
+  pub entries : (j : ℕ) → 1 ≤ j → j ≤ p .sizes .m → EntriesKeep (storedIn (u .state) (u .tables)) (storedIn (v .state) (v .tables)) j
   -- the book's column of every id that the batch does not name stays, and so do the places beyond the sizes
-  pub ids : (i : ℕ) → 1 ≤ i → i ≤ p .limits .n → among i (effect (p .register) c .ids) ≡ false →
+  pub ids : (i : ℕ) → 1 ≤ i → i ≤ p .sizes .n → among i (effect (p .register) c .ids) ≡ false →
       book.ColumnStays (bookIn (u .state) (u .tables)) (bookIn (v .state) (v .tables)) i
-  pub tails : TailsStay (p .limits) (u .tables) (v .tables)
+  pub tails : TailsStay (p .sizes) (u .tables) (v .tables)
 
 -- what holds of one call, from world u to world v, against the register before it
 pub record Justified (p : Plain) (u : World) (e : Event) (v : World) : Type 0 where
@@ -118,8 +118,8 @@ pub record Justified (p : Plain) (u : World) (e : Event) (v : World) : Type 0 wh
   -- every lent list, from the register: the report, a question's list, the work table
   pub left : e .left ≡
       pick (isAccepted (plainRefusal p (u .tables) (e .call)))
-      (listsAfter (p .register) (e .call) (workAfter (p .limits) (u .tables) (e .call)))
-      (withWork (e .call .lent) (workAfter (p .limits) (u .tables) (e .call)))
+      (listsAfter (p .register) (e .call) (workAfter (p .sizes) (u .tables) (e .call)))
+      (withWork (e .call .lent) (workAfter (p .sizes) (u .tables) (e .call)))
   -- a refused call, a check or a question leaves record and tables
   pub unchanged : (e .answer .number ≢ 0) ⊎ ((isChange (e .call .entry) || isOpening (e .call .entry)) ≡ false) → v ≡ u
   -- what an accepted change reports and alters
@@ -146,7 +146,7 @@ RunSplits =
 
 -- what a world holds, in place of a register
 abbrev pub plainOf : World → Plain
-plainOf u = record { limits = u .state .limits; register = bookedIn u }
+plainOf u = record { sizes = u .state .sizes; register = bookedIn u }
 
 -- "On sound tables that no such list has left, what demand 3 says of an accepted batch holds too, with what they hold in place of the register": an
 -- accepted batch has passed 1 to 6, so that its tables are in range, long enough and sound is a conclusion here
@@ -158,7 +158,7 @@ AnySound =
 -- every accepted opening leaves sound tables
 abbrev pub OpeningSound : Type 0
 OpeningSound =
-    (u : World) (l : Limits) (w : Lent) (a : Answer) (x : Lent) (v : World) → Transition u (callOf (opening l) w) a x v → a .number ≡ 0 →
+    (u : World) (l : Sizes) (w : Lent) (a : Answer) (x : Lent) (v : World) → Transition u (callOf (opening l) w) a x v → a .number ≡ 0 →
     isSound (v .state) (v .tables) ≡ true
 
 -- ---- a run that is, so that nothing above is empty: the listed example, with a refused addition among the others; then a check, every question and a

@@ -38,11 +38,11 @@ no-answer a d =
 
 -- ---- m says whether a factor is open
 
-pub ready-none : (u : Memory) → IsReady u → u .world .state .limits .m ≡ 0 → u .world .state ≡ noState
+pub ready-none : (u : Memory) → IsReady u → u .world .state .sizes .m ≡ 0 → u .world .state ≡ noState
 ready-none u r e = elim r [ inl q ↦ q | inr c ↦ absurd (omega (arith, usable-some (c .usable))) ]
 
-pub ready-some : (u : Memory) → IsReady u → u .world .state .limits .m ≢ 0 → CanChange (u .world .state) (u .world .tables) (u .work) (u .touched) (u .labels)
-ready-some u r d = elim r [ inl q ↦ absurd (d (ap (λ (s : State). s .limits .m) q)) | inr c ↦ c ]
+pub ready-some : (u : Memory) → IsReady u → u .world .state .sizes .m ≢ 0 → CanChange (u .world .state) (u .world .tables) (u .work) (u .touched) (u .labels)
+ready-some u r d = elim r [ inl q ↦ absurd (d (ap (λ (s : State). s .sizes .m) q)) | inr c ↦ c ]
 
 -- ---- before an accepted opening: `no 1 0`
 

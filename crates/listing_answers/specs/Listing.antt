@@ -5,7 +5,7 @@ use mathlib.Core.Logic.{_⊎_}
 use mathlib.Core.List.{List, [], _∷_}
 use Prim.Native.Nat.{ℕ}
 use lib.ListN.{length}
-use Rattle.tables.specs.Tables.{Tables, Limits, limitsOf}
+use Rattle.tables.specs.Tables.{Tables, Sizes, sizesOf}
 use Rattle.calls.specs.Calls.{Change, adding, removing, opening, changing, workOnly, reportLists, callOf}
 use Rattle.calls.specs.Steps.{Answer, World, Transition}
 use Rattle.factor.specs.Entries.{worldOf, OpenStep}
@@ -59,7 +59,7 @@ pub record Ready (u : Memory) : Type 0 where
 -- ---- what it answers
 
 -- an opening: the lists of a batch stay
-pub record OpenAnswered (u : Memory) (asked : Limits) (bytes : List ℕ) (v : Memory) : Type 0 where
+pub record OpenAnswered (u : Memory) (asked : Sizes) (bytes : List ℕ) (v : Memory) : Type 0 where
   pub answer : Answer
   pub step : Transition (u .world) (callOf (opening asked) (workOnly (u .work))) answer (workOnly (v .work)) (v .world)
   pub printed : bytes ≡ answerLine answer
@@ -75,7 +75,7 @@ pub record BatchAnswered (u : Memory) (c : Change) (bytes : List ℕ) (v : Memor
 
 -- a command, with the rows of an add line
 abbrev pub CommandAnswered : Command → (rows : List ℕ) → Memory → (bytes : List ℕ) → Memory → Type 0
-CommandAnswered (Open m n f c) rs u bs v = OpenAnswered u (limitsOf m n f c) bs v
+CommandAnswered (Open m n f c) rs u bs v = OpenAnswered u (sizesOf m n f c) bs v
 CommandAnswered (Add i n) rs u bs v = BatchAnswered u (adding (i ∷ []) (n ∷ []) rs) bs v
 CommandAnswered (Drop i) rs u bs v = BatchAnswered u (removing (i ∷ [])) bs v
 CommandAnswered Show rs u bs v = (bs ≡ shownBy (u .world)) × (v ≡ u)
@@ -110,7 +110,7 @@ pub record OpeningPrinted (x₀ : Factor) (opened : Opening) (out₀ out : List 
   pub line : Written out₀ 0 (openingLine opened) out (x .end)
 
 -- an opening, whatever factor there was, with the line of its answer
-pub record OpenPrinted (asked : Limits) (t : Tables) (work : List ℕ) (x₀ : Factor) (out₀ : List ℕ) (t′ : Tables) (work′ out : List ℕ) (x : Printed) : Type 0 where
+pub record OpenPrinted (asked : Sizes) (t : Tables) (work : List ℕ) (x₀ : Factor) (out₀ : List ℕ) (t′ : Tables) (work′ out : List ℕ) (x : Printed) : Type 0 where
   pub opened : Opening
   pub step : OpenStep asked t work opened t′ work′
   pub printed : OpeningPrinted x₀ opened out₀ out x

@@ -3,7 +3,7 @@ ghost use mathlib.Core.List.{[], _∷_};
 ghost use Prim.Native.Nat.{_≤_};
 ghost use lib.ListN.{length, take};
 ghost use Rattle.calls.specs.Calls.Change.{adding, removing};
-ghost use Rattle.tables.specs.Tables.{limitsOf, tablesOf};
+ghost use Rattle.tables.specs.Tables.{sizesOf, tablesOf};
 ghost use Rattle.factor.specs.Batches.{changedAnswer};
 ghost use Rattle.listing_text.specs.Text.{Written};
 ghost use Rattle.listing_answers.specs.Listing.{memoryOf, BatchAnswered, IsReady, OpeningPrinted, OpenPrinted, Answers};
@@ -61,7 +61,7 @@ pub fn open_line(
     c: u32,
 ) -> Printed
     requires { ⌜ 40 ≤ length (now out) ⌝ }
-    ensures { λ r. ⌜ OpenPrinted (limitsOf m n f c) (tablesOf (now (heads .entry)) (now (parents .entry)) (now (rows .entry)) (now (counts .entry)) (now (next .entry)) (now («book_heads» .entry)) (now («book_rows» .entry)) (now («book_next» .entry))) (now (work .entry)) factor (now (out .entry)) (tablesOf (now (heads .exit)) (now (parents .exit)) (now (rows .exit)) (now (counts .exit)) (now (next .exit)) (now («book_heads» .exit)) (now («book_rows» .exit)) (now («book_next» .exit))) (now (work .exit)) (now (out .exit)) r ⌝ }
+    ensures { λ r. ⌜ OpenPrinted (sizesOf m n f c) (tablesOf (now (heads .entry)) (now (parents .entry)) (now (rows .entry)) (now (counts .entry)) (now (next .entry)) (now («book_heads» .entry)) (now («book_rows» .entry)) (now («book_next» .entry))) (now (work .entry)) factor (now (out .entry)) (tablesOf (now (heads .exit)) (now (parents .exit)) (now (rows .exit)) (now (counts .exit)) (now (next .exit)) (now («book_heads» .exit)) (now («book_rows» .exit)) (now («book_next» .exit))) (now (work .exit)) (now (out .exit)) r ⌝ }
 {
     let opened = Factor::open(
         m,

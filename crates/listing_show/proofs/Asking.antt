@@ -10,17 +10,17 @@ use lib.Dec.{leb, eqb}
 use lib.ListN.{length, take, drop}
 use lib.Seq.{take-at}
 use borrow.Author.Tests.{le-leb}
-use Rattle.lists.specs.Lists.{pick, isIn}
+use Rattle.lists.specs.Lists.{pick, isIn, pairsOf, writtenAt}
 use Rattle.lists.proofs.Tests.{cases}
 use Rattle.symbolic.specs.Columns.{Register, live}
 use Rattle.symbolic.specs.Factor.{factorFor, columnAt, parentOf, patternFrom, nonZero, sizeOf}
 use Rattle.symbolic.proofs.Build.{counts-length}
-use Rattle.tables.specs.Tables.{Limits}
+use Rattle.tables.specs.Tables.{Sizes}
 use Rattle.calls.specs.Calls.{askParent, askColumn, asking}
-use Rattle.calls.specs.Questions.{pairsOf, columnList}
+use Rattle.calls.specs.Questions.{columnList}
 use Rattle.calls.specs.Refusals.{accepted, isAccepted, rowRefusal}
 use Rattle.calls.specs.Numbers.{askRefusal}
-use Rattle.calls.specs.Steps.{Answer, refusedBy, acceptedBy, writtenAt}
+use Rattle.calls.specs.Steps.{Answer, refusedBy, acceptedBy}
 use Rattle.questions.specs.Asked.{replyOf, repliedTo, replied, listLeft}
 use Rattle.questions.specs.declared.Reply.{Reply}
 

@@ -7,7 +7,7 @@ use Prim.Native.Nat.{ℕ, suc}
 use native.Mathlib.Omega.{arith}
 use borrow.Author.Tests.{eq-eqb, ne-eqb}
 use Rattle.lists.specs.Lists.{pick}
-use Rattle.tables.specs.Tables.{Tables, Limits, State}
+use Rattle.tables.specs.Tables.{Tables, Sizes, State}
 use Rattle.tables.specs.Opening.{openedState}
 use Rattle.calls.specs.Calls.{opening, workOnly, callOf, withDefault}
 use Rattle.calls.specs.Refusals.{isAccepted}
@@ -20,10 +20,10 @@ use Rattle.nigvalds.specs.declared.Opened.{Opened}
 use Rattle.nigvalds.specs.Crossing.{openedFrom, openingOf, OpenedStep}
 
 -- a record that an opening of these sizes does not give
-abbrev other : Limits → State
-other l = record { limits = l; free = suc (openedState (withDefault l) .free); bookFree = 0 }
+abbrev other : Sizes → State
+other l = record { sizes = l; free = suc (openedState (withDefault l) .free); bookFree = 0 }
 
-module _ (l : Limits) (t : Tables) (w : List ℕ) (t′ : Tables) (w′ : List ℕ) where
+module _ (l : Sizes) (t : Tables) (w : List ℕ) (t′ : Tables) (w′ : List ℕ) where
   -- refused with number 0 is neither accepted, since the record before it serves on, nor refused
   not-zero : (z : Bool) → isAccepted (refusalOf (other l) t (callOf (opening l) (workOnly w))) ≡ z →
       OutcomeFor z (record { state = other l; tables = t }) (callOf (opening l) (workOnly w)) (openingAnswer (refused 0)) (workOnly w′) (record { state = other l; tables = t′ }) → ⊥
@@ -40,7 +40,7 @@ module _ (l : Limits) (t : Tables) (w : List ℕ) (t′ : Tables) (w′ : List �
       let q : n ≡ 0 → ⊥ = λ e. refused-not-zero (subst (λ (k : ℕ). OpenStep l t w (refused k) t′ w′) e h) in
       ap (λ (z : Bool). pick z (accepted (openedFrom (refused n) .factor)) (refused n)) (ne-eqb _ _ q)
 
-pub opened-step : {l : Limits} {t : Tables} {w : List ℕ} {t′ : Tables} {w′ : List ℕ} (x : Opening) (r : Opened) → r ≡ openedFrom x → OpenStep l t w x t′ w′ → OpenedStep l t w r t′ w′
+pub opened-step : {l : Sizes} {t : Tables} {w : List ℕ} {t′ : Tables} {w′ : List ℕ} (x : Opening) (r : Opened) → r ≡ openedFrom x → OpenStep l t w x t′ w′ → OpenedStep l t w r t′ w′
 opened-step {l} {t} {w} {t′} {w′} x r e h =
     let q : openingOf r ≡ x = ap openingOf e ∙ opened-back l t w t′ w′ x h in
     record { step = subst (λ (y : Opening). OpenStep l t w y t′ w′) (sym q) h; plain = e ∙ ap openedFrom (sym q) }

@@ -5,7 +5,7 @@ use mathlib.Core.List.{List}
 use Prim.Native.Nat.{ℕ}
 use lib.Dec.{eqb}
 use Rattle.lists.specs.Lists.{pick}
-use Rattle.tables.specs.Tables.{Tables, Limits}
+use Rattle.tables.specs.Tables.{Tables, Sizes}
 use Rattle.reader.specs.declared.Entry.{Entry}
 use Rattle.reader.specs.declared.Entry.the-variants.{Of, End}
 use Rattle.factor.specs.declared.Factor.{Factor}
@@ -31,7 +31,7 @@ abbrev pub openingOf : Opened → Opening
 openingOf x = pick (eqb (x .number) 0) (accepted (x .factor)) (refused (x .number))
 
 -- OPEN: the struct stands for an answer of the entry, and has zeros where it says nothing
-pub record OpenedStep (asked : Limits) (t : Tables) (work : List ℕ) (r : Opened) (t′ : Tables) (work′ : List ℕ) : Type 0 where
+pub record OpenedStep (asked : Sizes) (t : Tables) (work : List ℕ) (r : Opened) (t′ : Tables) (work′ : List ℕ) : Type 0 where
   pub step : OpenStep asked t work (openingOf r) t′ work′
   pub plain : r ≡ openedFrom (openingOf r)
 

@@ -2,7 +2,7 @@
 // its contract is that of the entry. An answer that is an enum crosses as a struct of numbers, by the definitions of specs/.
 ghost use mathlib.Core.Path.{_≡_};
 ghost use Rattle.reader.specs.Reading.{entryAt};
-ghost use Rattle.tables.specs.Tables.{limitsOf, tablesOf};
+ghost use Rattle.tables.specs.Tables.{sizesOf, tablesOf};
 ghost use Rattle.nigvalds.specs.Crossing.{OpenedStep, openedFrom, readFrom};
 
 mod asking;
@@ -83,7 +83,7 @@ pub extern "C" fn nigvalds_open(
     book_next: &mut [u32],
     work: &mut [u32],
 ) -> Opened
-    ensures { λ r. ⌜ OpenedStep (limitsOf m n f c) (tablesOf (now (heads .entry)) (now (parents .entry)) (now (rows .entry)) (now (counts .entry)) (now (next .entry)) (now («book_heads» .entry)) (now («book_rows» .entry)) (now («book_next» .entry))) (now (work .entry)) r (tablesOf (now (heads .exit)) (now (parents .exit)) (now (rows .exit)) (now (counts .exit)) (now (next .exit)) (now («book_heads» .exit)) (now («book_rows» .exit)) (now («book_next» .exit))) (now (work .exit)) ⌝ }
+    ensures { λ r. ⌜ OpenedStep (sizesOf m n f c) (tablesOf (now (heads .entry)) (now (parents .entry)) (now (rows .entry)) (now (counts .entry)) (now (next .entry)) (now («book_heads» .entry)) (now («book_rows» .entry)) (now («book_next» .entry))) (now (work .entry)) r (tablesOf (now (heads .exit)) (now (parents .exit)) (now (rows .exit)) (now (counts .exit)) (now (next .exit)) (now («book_heads» .exit)) (now («book_rows» .exit)) (now («book_next» .exit))) (now (work .exit)) ⌝ }
 {
     let x = Factor::open(
         m,

@@ -5,14 +5,13 @@ use mathlib.Core.Path.{_≡_, refl, sym, ap, _∙_, subst}
 use mathlib.Core.List.{List, []}
 use Prim.Native.Nat.{ℕ, _≤_}
 use lib.ListN.{length}
-use Rattle.lists.specs.Lists.{at}
+use Rattle.lists.specs.Lists.{at, writtenAt}
 use Rattle.symbolic.specs.Columns.{Register}
 use Rattle.symbolic.specs.Factor.{factorFor, columnAt, sizeOf, multiplicity}
 use Rattle.calls.specs.Refusals.{Refusal, refusal, accepted, orElse, rowRefusal, roomFor}
 use Rattle.calls.specs.Calls.{Question, askMultiplicity, askParent, askPath, askColumn}
 use Rattle.calls.specs.Questions.{pathList, columnList, response}
 use Rattle.calls.specs.Numbers.{askRefusal}
-use Rattle.calls.specs.Steps.{writtenAt}
 use Rattle.questions.specs.Asked.{ColumnsFor, ParentsFor, RepliesAt, Replies, Leaves}
 use Rattle.questions.proofs.Replies.{refused-reply, refused-list, accepted-reply, accepted-list}
 

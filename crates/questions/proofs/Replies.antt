@@ -11,14 +11,13 @@ use lib.Seq.{drop-drop, drop-length}
 use borrow.Author.Tests.{leb-true}
 use borrow.Rule.Slice.PartAt.{part-to-end}
 use borrow.Rule.Slice.PartMut.{putMid}
-use Rattle.lists.specs.Lists.{isIn, over}
+use Rattle.lists.specs.Lists.{isIn, over, writtenAt}
 use Rattle.lists.proofs.Tests.{in-range}
 use Rattle.symbolic.specs.Columns.{Register}
 use Rattle.calls.specs.Refusals.{refusal, accepted, isAccepted, unless, rowRefusal, roomFor}
 use Rattle.calls.specs.Calls.{Question}
 use Rattle.calls.specs.Questions.{response}
 use Rattle.calls.specs.Numbers.{askRefusal}
-use Rattle.calls.specs.Steps.{writtenAt}
 use Rattle.refusals.specs.Early.{NoRoom}
 use Rattle.questions.specs.Asked.{replyOf, repliedTo, listLeft}
 

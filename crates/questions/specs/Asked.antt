@@ -5,7 +5,7 @@ use mathlib.Core.Path.{_≡_}
 use mathlib.Core.List.{List, []}
 use Prim.Native.Nat.{ℕ, _≤_}
 use lib.ListN.{length}
-use Rattle.lists.specs.Lists.{pick, at}
+use Rattle.lists.specs.Lists.{pick, at, writtenAt}
 use Rattle.symbolic.specs.Columns.{Register}
 use Rattle.symbolic.specs.Factor.{factorFor, columnAt, parentOf}
 use Rattle.pool.specs.Chains.{chain, Linked}
@@ -14,7 +14,7 @@ use Rattle.calls.specs.Refusals.{isAccepted}
 use Rattle.calls.specs.Calls.{Question, asking}
 use Rattle.calls.specs.Questions.{response}
 use Rattle.calls.specs.Numbers.{askRefusal}
-use Rattle.calls.specs.Steps.{Answer, refusedBy, acceptedBy, writtenAt}
+use Rattle.calls.specs.Steps.{Answer, refusedBy, acceptedBy}
 use Rattle.questions.specs.declared.Reply.{Reply}
 
 -- a reply as an answer: what a question does not have is 0

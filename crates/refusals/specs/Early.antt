@@ -4,20 +4,21 @@
 use mathlib.Core.Path.{_≡_}
 use mathlib.Core.Bool.{Bool, _&&_, not}
 use mathlib.Core.List.{List}
-use Prim.Native.Nat.{ℕ, _*_}
+use Prim.Native.Nat.{ℕ}
 use lib.Dec.{leb, eqb}
 use lib.ListN.{length}
 use Rattle.lists.specs.Lists.{pick}
-use Rattle.tables.specs.Tables.{Tables, Limits}
+use Rattle.tables.specs.Tables.{Tables, Sizes}
+use Rattle.calls.specs.Calls.{defaultRecords}
 use Rattle.calls.specs.Refusals.{Bounds, isAccepted, roomFor}
 
 -- the four largest sizes as one record
 abbrev pub largest : (m n f c : ℕ) → Bounds
 largest m n f c = record { m = m; n = n; f = f; c = c }
 
--- "F .. at opening 0 means 16 × m", for an m whose 16 × m fits 32 bits; number 1 refuses any other, whatever F is
-abbrev pub defaultRecords : (m f : ℕ) → ℕ
-defaultRecords m f = pick (leb m 268435455 && eqb f 0) (16 * m) f
+-- the records that an opening gets for those it asks, for an m whose 16 × m fits 32 bits; number 1 refuses any other, whatever F is
+abbrev pub recordsFor : (m f : ℕ) → ℕ
+recordsFor m f = pick (leb m 268435455 && eqb f 0) (defaultRecords m) f
 
 -- ---- long enough: the tables of L, those of the book
 

@@ -9,7 +9,7 @@ use lib.ListN.{length, drop}
 use Rattle.lists.specs.Lists.{Mem, at}
 use Rattle.symbolic.specs.Factor.{FactorColumn, inPattern}
 use Rattle.tables.specs.Stored.{Stored, recordsOf}
-use Rattle.tables.specs.Tables.{Tables, Limits}
+use Rattle.tables.specs.Tables.{Tables, Sizes}
 
 -- "A factor column is altered unless its head, its parent and every record of its chain stay, each record with its number, row, multiplicity and next"
 pub record ColumnStays (before after : Stored) (j : ℕ) : Type 0 where
@@ -36,7 +36,7 @@ pub record Beyond (n : ℕ) (before after : List ℕ) : Type 0 where
   pub same-tail : drop n after ≡ drop n before
 
 -- each of the eight tables keeps what stands beyond its size
-pub record TailsStay (l : Limits) (before after : Tables) : Type 0 where
+pub record TailsStay (l : Sizes) (before after : Tables) : Type 0 where
   pub heads : Beyond (l .m) (before .heads) (after .heads)
   pub parents : Beyond (l .m) (before .parents) (after .parents)
   pub rows : Beyond (l .f) (before .rows) (after .rows)

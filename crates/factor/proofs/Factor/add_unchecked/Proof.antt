@@ -32,7 +32,7 @@ tablesAt s = tablesOf (s .args .heads .now) (s .args .parents .now) (s .args .ro
 lengths : (c : tie.After-add-arg) → Cut (stateAt (entry c)) (tablesAt (entry c))
 lengths c = let s : tie.Start = entry c in cut (stateAt s) (tablesAt s) (s .pre .usable .long)
 
-long : (c : tie.After-add-arg) → Long (stateAt (entry c) .limits) (tablesAt (entry c))
+long : (c : tie.After-add-arg) → Long (stateAt (entry c) .sizes) (tablesAt (entry c))
 long c = let s : tie.Start = entry c in change-long (s .args .self) (tablesAt s) (s .pre)
 
 cast-m : tie.Need-cast-m
