@@ -7,8 +7,8 @@ use Rattle.questions.specs.Asked.{replyOf}
 use Rattle.tables.specs.Tables.{Tables, State, tablesOf}
 use Rattle.factor.specs.Entries.{stateOf}
 use Rattle.bench_driver.proofs.Checked.{lists-fit, checked-can}
-use Rattle.bench_driver.proofs.nigvalds_run_batches.Statement.{statement}
-use Rattle.bench_driver.proofs.nigvalds_run_batches.Tie as tie
+use Rattle.bench_driver.proofs.bench_run_batches.Statement.{statement}
+use Rattle.bench_driver.proofs.bench_run_batches.Tie as tie
 
 -- ---- the places, named
 
@@ -145,8 +145,8 @@ same-length-28 c = ran c .run .kept .1 .1 .1 .1 .1 .1 .1 .1 .1 .1 .1 .0
 returns-3 : tie.Need-returns-3
 returns-3 c = λ e. ran c .run .ensures
 
-pub nigvalds-run-batches-spec : {M : Type 1} → statement M
-nigvalds-run-batches-spec =
+pub bench-run-batches-spec : {M : Type 1} → statement M
+bench-run-batches-spec =
     tie.close
     (tie.spec
     check-requires
