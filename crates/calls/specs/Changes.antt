@@ -4,7 +4,7 @@
 -- Assumes nothing: these are definitions.
 use mathlib.Core.List.{List, [], _∷_}
 use Prim.Native.Nat.{ℕ}
-use Rattle.symbolic.specs.Columns.{Column, Register, counted, live}
+use Rattle.symbolic.specs.Columns.{Column, Register, liveOf, live}
 use Rattle.symbolic.specs.Factor.{factorFor}
 use Rattle.symbolic.specs.Batch.{exchanged, labelOf, entriesOf, gradeOf}
 use Rattle.symbolic.specs.Change.{columnsOf, added, removed}
@@ -34,19 +34,19 @@ effect r (adding is ns rs) =
     record {
       refusal = λ l. addRefusal l r is ns rs;
       leave = [];
-      enter = counted (added r (batchOf is ns rs)) (batchOf is ns rs);
+      enter = liveOf (added r (batchOf is ns rs)) (batchOf is ns rs);
       stay = live r;
-      label = labelOf (factorFor (added r (batchOf is ns rs))) (counted (added r (batchOf is ns rs)) (batchOf is ns rs));
+      label = labelOf (factorFor (added r (batchOf is ns rs))) (liveOf (added r (batchOf is ns rs)) (batchOf is ns rs));
       ids = is;
       register = added r (batchOf is ns rs);
     }
 effect r (removing is) =
     record {
       refusal = λ l. removeRefusal l r is;
-      leave = counted r (columnsOf is (r .columns));
+      leave = liveOf r (columnsOf is (r .columns));
       enter = [];
       stay = live (removed r is);
-      label = labelOf (factorFor r) (counted r (columnsOf is (r .columns)));
+      label = labelOf (factorFor r) (liveOf r (columnsOf is (r .columns)));
       ids = is;
       register = removed r is;
     }

@@ -2,4 +2,4 @@ pub mod Standing
 pub mod Wiped
 pub mod Committing
 pub mod Reporting
-pub mod PlanWritten
+pub mod Written

@@ -23,11 +23,12 @@ use Rattle.tables.proofs.Revised.{stays-self}
 use Rattle.calls.specs.Calls.{isOpening, isChange}
 use Rattle.calls.specs.Numbers.{callRefusal}
 use Rattle.calls.specs.Steps.{World, bookedIn}
-use Rattle.calls.proofs.Order.{bag-number, bag-touched}
+use Rattle.calls.proofs.Order.{bag-number}
+use Rattle.calls.proofs.Steps.{step-taken, change-world}
 use Rattle.history.specs.Runs.{Plain}
 use Rattle.history.specs.Statements.{Consistent, Justified, Stands}
 use Rattle.history.specs.Corollaries.{Keeps, KeepsPattern, AltersOnly, fromChild, startsHere, isUnion, PatternsAre}
-use Rattle.history.proofs.Invariant.{Inv, book-once, inv-rows, inv-consistent}
+use Rattle.history.proofs.Invariant.{Inv, inv-rows, inv-consistent}
 use Rattle.history.proofs.Steps.{inv-justified, inv-run}
 use Rattle.history.proofs.Theorems.{begun-inv}
 
@@ -49,8 +50,7 @@ pub alters-only : AltersOnly
 alters-only u p es v e w j b r s o x y =
     let i : Inv _ v = inv-run es v (begun-inv u p b) r in
     let t : Justified _ v e w = inv-justified i e w s in (
-      λ c q n h. t .alters n c q .others j x (subst (λ (l : Sizes). j ≤ l .m) (i .sizes) y)
-          (ap (λ (ks : List ℕ). among j ks) (sym (bag-touched (bookedIn v) _ (inv-rows i) (i .bag) (book-once v) c)) ∙ h),
+      λ c q n h. change-world q (step-taken v (e .call) (e .answer) (e .left) w s n .world) .others j x y h,
       λ h. subst (λ (z : World). ColumnStays (storedIn (v .state) (v .tables)) (storedIn (z .state) (z .tables)) j) (sym (t .unchanged (quiet h)))
           (stays-self (storedIn (v .state) (v .tables)) j),
     )

@@ -11,7 +11,8 @@ use borrow.Author.Tests.{eq-eqb, ne-eqb}
 use lib.ListN.{length, take, drop}
 use lib.Seq.{take-at}
 use Rattle.lists.specs.Lists.{pick, Mem, among, rises, over}
-use Rattle.lists.proofs.Tests.{cases}
+use Rattle.lists.proofs.Tests.{cases, refute}
+use Rattle.lists.proofs.Member.{among-mem}
 use Rattle.tables.specs.Tables.{Sizes}
 use Rattle.tables.specs.Stays.{TailsStay}
 use Rattle.tables.proofs.Tables.{tails-long}
@@ -75,17 +76,6 @@ module _ {p : Plain} {u : World} (i : Inv p u) where
   work-plain : (k : Call) → workAfter (u .state .sizes) (u .tables) k ≡ workAfter (p .sizes) (u .tables) k
   work-plain k = ap (λ (l : Sizes). workAfter l (u .tables) k) (i .sizes)
 
-  change-alters : {v : World} (c : Change) → Exchanged u c v → AltersJust p u c v
-  change-alters {v} c x =
-      record {
-        others = λ j a b t. x .others j a (subst (λ (l : Sizes). j ≤ l .m) (sym (i .sizes)) b)
-            (ap (λ (ks : List ℕ). among j ks) (bag-touched (bookedIn u) (p .register) (inv-rows i) (i .bag) (book-once u) c) ∙ t);
-        entries = λ j a b. exchanged-keeps x (inv-long i) (i .sound) j a (subst (λ (l : Sizes). j ≤ l .m) (sym (i .sizes)) b);
-        ids = λ d a b t. x .book d a (subst (λ (l : Sizes). d ≤ l .n) (sym (i .sizes)) b)
-            (ap (λ (ks : List ℕ). among d ks) (bag-ids (bookedIn u) (p .register) (inv-rows i) (i .bag) (book-once u) c) ∙ t);
-        tails = subst (λ (l : Sizes). TailsStay l (u .tables) (v .tables)) (i .sizes) (x .tails);
-      }
-
   -- the front of the lent list is the register's report
   report-is : (e : Event) (c : Change) → e .call .entry ≡ changing c → e .answer ≡ acceptedBy (bookedIn u) (e .call .entry) →
       e .left ≡ listsAfter (bookedIn u) (e .call) (workAfter (u .state .sizes) (u .tables) (e .call)) → reported e ≡ touchedBy (p .register) c
@@ -103,9 +93,23 @@ module _ {p : Plain} {u : World} (i : Inv p u) where
   change-reports e c q a x =
       let r : reported e ≡ touchedBy (p .register) c = report-is e c q a x in
       record {
+        counted = ap length r ∙ ap length (sym (bag-touched (bookedIn u) (p .register) (inv-rows i) (i .bag) (book-once u) c)) ∙
+            sym (ap (λ (y : Answer). y .touched) a ∙ ap (λ (k : Entry). length (resultOf (bookedIn u) k .touched)) q);
         ascending = ap (λ (js : List ℕ). rises 1 (p .register .m) js) r ∙ touched-rise (p .register) c;
         exactly = λ M N P Q f g j b d. subst (λ (js : List ℕ). Mem j js ↔ (OnPathOf (p .register .m) P (effect (p .register) c .leave) j ⊎ OnPathOf (p .register .m) Q (effect (p .register) c .enter) j)) (sym r)
             (reports-exactly (p .register) c M N P Q f g j b d);
+      }
+
+  change-alters : {v : World} (e : Event) (c : Change) → reported e ≡ touchedBy (p .register) c → Exchanged u c v → AltersJust p u e c v
+  change-alters {v} e c r x =
+      record {
+        others = λ j a b t. x .others j a (subst (λ (l : Sizes). j ≤ l .m) (sym (i .sizes)) b)
+            (refute (among j (touchedBy (bookedIn u) c)) (λ h. t (subst (λ (js : List ℕ). Mem j js) (sym r)
+            (subst (λ (js : List ℕ). Mem j js) (bag-touched (bookedIn u) (p .register) (inv-rows i) (i .bag) (book-once u) c) (among-mem j (touchedBy (bookedIn u) c) h)))));
+        entries = λ j a b. exchanged-keeps x (inv-long i) (i .sound) j a (subst (λ (l : Sizes). j ≤ l .m) (sym (i .sizes)) b);
+        ids = λ d a b t. x .book d a (subst (λ (l : Sizes). d ≤ l .n) (sym (i .sizes)) b)
+            (ap (λ (ks : List ℕ). among d ks) (bag-ids (bookedIn u) (p .register) (inv-rows i) (i .bag) (book-once u) c) ∙ t);
+        tails = subst (λ (l : Sizes). TailsStay l (u .tables) (v .tables)) (i .sizes) (x .tails);
       }
 
   module _ {e : Event} {v : World} where
@@ -122,7 +126,7 @@ module _ {p : Plain} {u : World} (i : Inv p u) where
               ap (λ (w : List ℕ). listsAfter (p .register) k w) (work-plain k));
           unchanged = λ h. elim h [ inl q ↦ absurd (q n) | inr q ↦ quiet-world u (k .entry) v q (s .world) ];
           reports = λ q c h. change-reports e c h (s .answer) (s .lists);
-          alters = λ q c h. change-alters c (change-world h (s .world));
+          alters = λ q c h. change-alters e c (report-is e c h (s .answer) (s .lists)) (change-world h (s .world));
         }
 
     refused-justified : Refused u (e .call) (e .answer) (e .left) v → Justified p u e v

@@ -12,7 +12,7 @@ use Rattle.symbolic.specs.Columns.{Column, smallest, holds, fitsRows, Register,
 use Rattle.symbolic.specs.Factor.{factorFor, inPattern, isChild}
 use Rattle.symbolic.specs.Chains.{ChainTo}
 use Rattle.tables.specs.Stored.{holdsFrom}
-use Rattle.tables.specs.Tables.{storedIn, registerOf, isSound}
+use Rattle.tables.specs.Tables.{storedIn, isSound}
 use Rattle.tables.specs.Stays.{ColumnStays}
 use Rattle.calls.specs.Calls.{Change, changing, Call, isOpening, isChange}
 use Rattle.calls.specs.Changes.{touchedBy}

@@ -7,7 +7,7 @@ use mathlib.Core.Bool.{true, false, _||_}
 use mathlib.Core.List.{List, [], _∷_, _++_}
 use Prim.Native.Nat.{ℕ, _≤_, _<_}
 use lib.Dec.{eqb}
-use lib.ListN.{take}
+use lib.ListN.{length, take}
 use Rattle.lists.specs.Lists.{pick, Mem, all, same, among, noRepeats, at, valuesAt, rises}
 use Rattle.symbolic.specs.Columns.{Column, smallest, startingWith, Register, live}
 use Rattle.symbolic.specs.Definition.{IsFactor, OnPath}
@@ -16,11 +16,11 @@ use Rattle.symbolic.specs.Chains.{ChainTo}
 use Rattle.symbolic.specs.Change.{idsOf}
 use Rattle.book.specs.Book as book
 use Rattle.tables.specs.Stored.{recordsOf, holdsFrom}
-use Rattle.tables.specs.Tables.{Tables, Sizes, longEnough, storedIn, bookIn, registerOf, isSound}
+use Rattle.tables.specs.Tables.{Tables, Sizes, longEnough, storedIn, bookIn, isSound}
 use Rattle.tables.specs.Stays.{ColumnStays, EntriesKeep, TailsStay}
 use Rattle.calls.specs.Refusals.{Refusal, accepted, isAccepted, orElse, bounds, sizesRefusal}
 use Rattle.calls.specs.Calls.{Change, opening, changing, Lent, withWork, Call, callOf, isOpening, isChange}
-use Rattle.calls.specs.Changes.{effect, touchedBy}
+use Rattle.calls.specs.Changes.{effect}
 use Rattle.calls.specs.Numbers.{callEarly, callRefusal}
 use Rattle.calls.specs.Steps.{Answer, refusedBy, acceptedBy, listsAfter, workAfter, World, bookedIn, Transition}
 use Rattle.history.specs.Runs.{Event, Run, Plain, plainAfter, Begun}
@@ -90,15 +90,16 @@ reported e = take (e .answer .touched) (e .left .touched)
 -- demand 3: an accepted batch reports each once, ascending, exactly the columns on its paths: of those that leave in the tree before the call, of those that
 -- enter in the tree after it, whatever parents P and Q meet the definition there
 pub record ReportsJust (p : Plain) (e : Event) (c : Change) : Type 0 where
+  pub counted : length (reported e) ≡ e .answer .touched
   pub ascending : rises 1 (p .register .m) (reported e) ≡ true
   pub exactly : (M N : ℕ → ℕ → ℕ) (P Q : ℕ → ℕ) → IsFactorOf (p .register) M P → IsFactorOf (effect (p .register) c .register) N Q →
       (j : ℕ) → 1 ≤ j → j ≤ p .register .m →
       Mem j (reported e) ↔ (OnPathOf (p .register .m) P (effect (p .register) c .leave) j ⊎ OnPathOf (p .register .m) Q (effect (p .register) c .enter) j)
 
 -- what an accepted change may alter of record and tables, from world u to world v
-pub record AltersJust (p : Plain) (u : World) (c : Change) (v : World) : Type 0 where
-  -- demand 3: each accepted batch alters no column off its paths
-  pub others : (j : ℕ) → 1 ≤ j → j ≤ p .sizes .m → among j (touchedBy (p .register) c) ≡ false →
+pub record AltersJust (p : Plain) (u : World) (e : Event) (c : Change) (v : World) : Type 0 where
+  -- demand 3: each accepted batch alters no column off its paths, which are just the reported ones
+  pub others : (j : ℕ) → 1 ≤ j → j ≤ p .sizes .m → (Mem j (reported e) → ⊥) →
       ColumnStays (storedIn (u .state) (u .tables)) (storedIn (v .state) (v .tables)) j
   -- "An entry that stands in a column before and after a batch keeps its record"
   pub entries : (j : ℕ) → 1 ≤ j → j ≤ p .sizes .m → EntriesKeep (storedIn (u .state) (u .tables)) (storedIn (v .state) (v .tables)) j
@@ -124,7 +125,7 @@ pub record Justified (p : Plain) (u : World) (e : Event) (v : World) : Type 0 wh
   pub unchanged : (e .answer .number ≢ 0) ⊎ ((isChange (e .call .entry) || isOpening (e .call .entry)) ≡ false) → v ≡ u
   -- what an accepted change reports and alters
   pub reports : e .answer .number ≡ 0 → (c : Change) → e .call .entry ≡ changing c → ReportsJust p e c
-  pub alters : e .answer .number ≡ 0 → (c : Change) → e .call .entry ≡ changing c → AltersJust p u c v
+  pub alters : e .answer .number ≡ 0 → (c : Change) → e .call .entry ≡ changing c → AltersJust p u e c v
 
 -- ---- DEMAND 3, one claim about a list of calls from an accepted opening, refused ones among them
 

@@ -1,5 +1,5 @@
 -- Document 01's instances as far as the factor alone decides them; the table of starred instances is history/specs/Instances.antt. Computed here: the
--- state listedColumns there, the same columns as one batch, a removal, equal columns, sizes, grades, a path. proofs/Instances.antt has a term. Assumes nothing.
+-- state listed there, the same columns as one batch, a removal, equal columns, sizes, grades, a path. proofs/Instances.antt has a term. Assumes nothing.
 use mathlib.Core.Path.{_≡_}
 use mathlib.Core.List.{List, [], _∷_}
 use Prim.Native.Nat.{ℕ}
@@ -8,7 +8,7 @@ use Rattle.symbolic.specs.Factor.{FactorColumn, factorOf, columnAt, patt
 use Rattle.symbolic.specs.Batch.{touched, labelsOf, entriesOf, gradeOf}
 use Rattle.symbolic.specs.Change.{without, columnsOf}
 
--- the columns of the listedColumns state: {1,3}, {1,4}, {2,3} under ids 1, 2, 3
+-- the columns of the listed state: {1,3}, {1,4}, {2,3} under ids 1, 2, 3
 abbrev pub listedColumns : List Column
 listedColumns = record { id = 1; rows = 1 ∷ 3 ∷ [] } ∷ record { id = 2; rows = 1 ∷ 4 ∷ [] } ∷ record { id = 3; rows = 2 ∷ 3 ∷ [] } ∷ []
 
@@ -20,7 +20,7 @@ column p ns = record { counts = ns; parent = p }
 pub record Cases : Type 0 where
   -- 1. "Fresh, m = 1: L_1 is 1:1, parent 0"
   pub fresh : factorOf 1 [] ≡ column 0 (1 ∷ []) ∷ []
-  -- 2. "The state listedColumns above, row by row"
+  -- 2. "The state listed above, row by row"
   pub state :
       factorOf 5 listedColumns ≡
       column 3 (3 ∷ 0 ∷ 1 ∷ 1 ∷ 0 ∷ []) ∷ column 3 (0 ∷ 2 ∷ 1 ∷ 0 ∷ 0 ∷ []) ∷ column 4 (0 ∷ 0 ∷ 3 ∷ 1 ∷ 0 ∷ []) ∷ column 0 (0 ∷ 0 ∷ 0 ∷ 2 ∷ 0 ∷ []) ∷

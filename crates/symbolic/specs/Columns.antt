@@ -35,9 +35,9 @@ pub record Register : Type 0 where
 
 -- the columns that count, of some that a register has booked: all of them, whole. What a later rule leaves out or shortens is left out or shortened
 -- here; a column then keeps its place in a list, with fewer rows or none
-abbrev pub counted : Register → List Column → List Column
-counted r cs = cs
+abbrev pub liveOf : Register → List Column → List Column
+liveOf r cs = cs
 
 -- the "live" columns of document 01, which the definitions of the factor take
 abbrev pub live : Register → List Column
-live r = counted r (r .columns)
+live r = liveOf r (r .columns)
