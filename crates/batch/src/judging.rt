@@ -26,12 +26,12 @@ fn refused(number: u32, position: u32) -> Verdict
 
 // A verdict that accepts, with the plan.
 fn planned(plan: Plan) -> Verdict
-    ensures { λ x. ⌜ x ≡ record { number = 0; position = 0; first = plan .first; count = plan .count; entries = plan .entries; used = plan .used } ⌝ }
+    ensures { λ x. ⌜ x ≡ record { number = 0; position = 0; first = plan .first .0; count = plan .count; entries = plan .entries; used = plan .used } ⌝ }
 {
     Verdict {
         number: 0,
         position: 0,
-        first: plan.first,
+        first: plan.first.0,
         count: plan.count,
         entries: plan.entries,
         used: plan.used,

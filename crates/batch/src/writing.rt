@@ -6,6 +6,7 @@ ghost use Rattle.calls.specs.Calls.Change.{adding, removing};
 ghost use Rattle.batch.specs.Outcome.{cutWorld};
 ghost use Rattle.batch.specs.Parts.{CanWriteBatch, SomePlan, BatchWritten};
 use crate::FreeHeads;
+use book::Row;
 use pool::Rec;
 
 // Writes an accepted addition: the plan, then the batch's columns into the book.
@@ -41,7 +42,7 @@ pub fn write_add(
         work,
         touched,
         labels,
-        first,
+        Row(first),
         used,
         free,
     );
@@ -91,7 +92,7 @@ pub fn write_remove(
         work,
         touched,
         labels,
-        first,
+        Row(first),
         used,
         free,
     );

@@ -14,6 +14,7 @@ mod starts;
 mod turns;
 mod walks;
 
+use book::Row;
 use pool::Rec;
 use workspace::FLAGS;
 use workspace::PLAN;
@@ -29,7 +30,7 @@ pub const PARENT_WEIGHT: u32 = 262144;
 // What was planned: whether it fits, the first touched column, their number, the entries after the batch, and the places of the plan.
 pub struct Plan {
     pub fits: bool,
-    pub first: u32,
+    pub first: Row,
     pub count: u32,
     pub entries: u32,
     pub used: u32,
@@ -49,7 +50,7 @@ pub fn plan_add(
     free: Rec,
 ) -> Plan
     requires { ⌜ SomeAdd (storedOf (now heads) (now parents) (now rows) (now counts) (now next) (free .0)) (now «row_counts») (now «row_list») (now work) ⌝ }
-    ensures { λ p. ⌜ ((R W : List Column) → CanAdd (storedOf (now (heads .entry)) (now (parents .entry)) (now (rows .entry)) (now (counts .entry)) (now (next .entry)) (free .0)) (now («row_counts» .entry)) (now («row_list» .entry)) (now (work .entry)) R W → AddPlanned (storedOf (now (heads .entry)) (now (parents .entry)) (now (rows .entry)) (now (counts .entry)) (now (next .entry)) (free .0)) R W (now (work .entry)) (now (work .exit)) (p .fits) (p .first) (p .count) (p .entries) (p .used)) ⌝ }
+    ensures { λ p. ⌜ ((R W : List Column) → CanAdd (storedOf (now (heads .entry)) (now (parents .entry)) (now (rows .entry)) (now (counts .entry)) (now (next .entry)) (free .0)) (now («row_counts» .entry)) (now («row_list» .entry)) (now (work .entry)) R W → AddPlanned (storedOf (now (heads .entry)) (now (parents .entry)) (now (rows .entry)) (now (counts .entry)) (now (next .entry)) (free .0)) R W (now (work .entry)) (now (work .exit)) (p .fits) (p .first .0) (p .count) (p .entries) (p .used)) ⌝ }
 {
     let m = heads.len();
     let flags = PLAN * m + RECORD_PLACES * next.len();
@@ -69,9 +70,10 @@ pub fn plan_add(
     );
     workspace::clear(work, flags, FLAGS);
     if walk.fits {
+        let first = walk.first;
         return Plan {
             fits: true,
-            first: walk.first,
+            first: first,
             count: walk.count,
             entries: walk.entries,
             used: walk.used as u32,
@@ -80,7 +82,7 @@ pub fn plan_add(
     workspace::clear(work, 0, PLAN * m + walk.used);
     Plan {
         fits: false,
-        first: 0,
+        first: Row(0),
         count: 0,
         entries: 0,
         used: 0,
@@ -101,7 +103,7 @@ pub fn plan_remove(
     ids: &[u32],
 ) -> Plan
     requires { ⌜ SomeRemove (storedOf (now heads) (now parents) (now rows) (now counts) (now next) 0) (tablesOf (now «book_heads») (now «book_rows») (now «book_next»)) (now ids) (now work) ⌝ }
-    ensures { λ p. ⌜ ((R W : List Column) → CanRemove (storedOf (now (heads .entry)) (now (parents .entry)) (now (rows .entry)) (now (counts .entry)) (now (next .entry)) 0) (tablesOf (now («book_heads» .entry)) (now («book_rows» .entry)) (now («book_next» .entry))) (now (ids .entry)) (now (work .entry)) R W → RemovePlanned (storedOf (now (heads .entry)) (now (parents .entry)) (now (rows .entry)) (now (counts .entry)) (now (next .entry)) 0) R W (now (work .entry)) (now (work .exit)) (p .fits) (p .first) (p .count) (p .entries) (p .used)) ⌝ }
+    ensures { λ p. ⌜ ((R W : List Column) → CanRemove (storedOf (now (heads .entry)) (now (parents .entry)) (now (rows .entry)) (now (counts .entry)) (now (next .entry)) 0) (tablesOf (now («book_heads» .entry)) (now («book_rows» .entry)) (now («book_next» .entry))) (now (ids .entry)) (now (work .entry)) R W → RemovePlanned (storedOf (now (heads .entry)) (now (parents .entry)) (now (rows .entry)) (now (counts .entry)) (now (next .entry)) 0) R W (now (work .entry)) (now (work .exit)) (p .fits) (p .first .0) (p .count) (p .entries) (p .used)) ⌝ }
 {
     let m = heads.len();
     let flags = PLAN * m + RECORD_PLACES * next.len();
@@ -121,9 +123,10 @@ pub fn plan_remove(
         flags,
     );
     workspace::clear(work, flags, FLAGS);
+    let first = walk.first;
     Plan {
         fits: true,
-        first: walk.first,
+        first: first,
         count: walk.count,
         entries: walk.entries,
         used: walk.used as u32,

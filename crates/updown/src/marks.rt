@@ -5,25 +5,26 @@ ghost use Rattle.updown.specs.Marks.{Room, marked, raised, Flagged, Next
 ghost use Rattle.updown.specs.Plans.{startBit, labelWeight};
 use crate::LABEL_WEIGHT;
 use crate::START_BIT;
+use book::Row;
 use workspace::BLOCK;
 use workspace::MARKS;
 
 // Marks a row where the batch column at position k starts; positions come rising.
-pub fn mark_start(work: &mut [u32], m: usize, flags: usize, row: u32, k: u32)
-    requires { ⌜ Room m flags (now work) × (1 ≤ row) × (row ≤ m) × (k ≤ 64) ⌝ }
-    ensures { λ r. ⌜ now (work .exit) ≡ marked m flags (now (work .entry)) row (labelWeight * k + startBit) ⌝ }
+pub fn mark_start(work: &mut [u32], m: usize, flags: usize, row: Row, k: u32)
+    requires { ⌜ Room m flags (now work) × (1 ≤ row .0) × (row .0 ≤ m) × (k ≤ 64) ⌝ }
+    ensures { λ r. ⌜ now (work .exit) ≡ marked m flags (now (work .entry)) (row .0) (labelWeight * k + startBit) ⌝ }
 {
-    let i = (row - 1) as usize;
+    let i = (row.0 - 1) as usize;
     work[MARKS * m + i] = LABEL_WEIGHT * k + START_BIT;
     work[flags + i / BLOCK] = 1;
 }
 
 // Marks a tree parent with at least a child's label.
-pub fn mark_parent(work: &mut [u32], m: usize, flags: usize, row: u32, label: u32)
-    requires { ⌜ Room m flags (now work) × (1 ≤ row) × (row ≤ m) × (label ≤ 64) ⌝ }
-    ensures { λ r. ⌜ now (work .exit) ≡ raised m flags (now (work .entry)) row label ⌝ }
+pub fn mark_parent(work: &mut [u32], m: usize, flags: usize, row: Row, label: u32)
+    requires { ⌜ Room m flags (now work) × (1 ≤ row .0) × (row .0 ≤ m) × (label ≤ 64) ⌝ }
+    ensures { λ r. ⌜ now (work .exit) ≡ raised m flags (now (work .entry)) (row .0) label ⌝ }
 {
-    let i = (row - 1) as usize;
+    let i = (row.0 - 1) as usize;
     let x = work[MARKS * m + i];
     if x / LABEL_WEIGHT < label {
         work[MARKS * m + i] = LABEL_WEIGHT * label + x % LABEL_WEIGHT;
@@ -31,10 +32,10 @@ pub fn mark_parent(work: &mut [u32], m: usize, flags: usize, row: u32, label: u3
     }
 }
 
-// The first marked row past the first `from` rows, or 0.
-pub fn next_marked(work: &[u32], m: usize, flags: usize, from: usize) -> u32
+// The first marked row past the first `from` rows, or row 0.
+pub fn next_marked(work: &[u32], m: usize, flags: usize, from: usize) -> Row
     requires { ⌜ Room m flags (now work) × Flagged m flags (now work) from ⌝ }
-    ensures { λ r. ⌜ Next m (now (work .entry)) from r ⌝ }
+    ensures { λ r. ⌜ Next m (now (work .entry)) from (r .0) ⌝ }
 {
     let mut i = from;
     while i < m {
@@ -42,10 +43,10 @@ pub fn next_marked(work: &[u32], m: usize, flags: usize, from: usize) -> u32
             i = i / BLOCK * BLOCK + BLOCK;
         } else {
             if work[MARKS * m + i] != 0 {
-                return (i + 1) as u32;
+                return Row((i + 1) as u32);
             }
             i += 1;
         }
     }
-    0
+    Row(0)
 }

@@ -12,6 +12,7 @@ ghost use Rattle.symbolic.specs.Columns.{Column};
 ghost use Rattle.updown.specs.Walks.{Columns, Parents, Turn, Emptied, SomeTurn, SomeTurnUp};
 ghost use Rattle.workspace.specs.Layout.{nextAt, linksAt, planAt};
 use crate::PARENT_WEIGHT;
+use book::Row;
 use pool::Rec;
 use workspace::CHILDREN;
 use workspace::GONE;
@@ -23,42 +24,42 @@ use workspace::NEXT;
 use workspace::STARTS;
 
 // Where the plan of a column before the last touched one ends: where the plan of the next touched one starts.
-fn plan_end(work: &[u32], m: usize, c: u32) -> usize
-    requires { ⌜ (planAt m ≤ length (now work)) × (m ≤ 4096) × (1 ≤ c) × (c ≤ m) × (1 ≤ cell (now work) (nextAt m) (c - 1)) × (cell (now work) (nextAt m) (c - 1) ≤ m) ⌝ }
-    ensures { λ r. ⌜ r ≡ endAt m (now (work .entry)) c ⌝ }
+fn plan_end(work: &[u32], m: usize, c: Row) -> usize
+    requires { ⌜ (planAt m ≤ length (now work)) × (m ≤ 4096) × (1 ≤ c .0) × (c .0 ≤ m) × (1 ≤ cell (now work) (nextAt m) (c .0 - 1)) × (cell (now work) (nextAt m) (c .0 - 1) ≤ m) ⌝ }
+    ensures { λ r. ⌜ r ≡ endAt m (now (work .entry)) (c .0) ⌝ }
 {
-    let next = work[NEXT * m + (c - 1) as usize];
-    work[STARTS * m + (next - 1) as usize] as usize
+    let next = Row(work[NEXT * m + (c.0 - 1) as usize]);
+    work[STARTS * m + (next.0 - 1) as usize] as usize
 }
 
 // The second record of a column.
-fn second(heads: &[u32], next: &[u32], c: u32) -> Rec
-    requires { ⌜ (1 ≤ c) × (c ≤ length (now heads)) × (1 ≤ at (now heads) c) × (at (now heads) c ≤ length (now next)) ⌝ }
-    ensures { λ r. ⌜ r .0 ≡ at (now (next .entry)) (at (now (heads .entry)) c) ⌝ }
+fn second(heads: &[u32], next: &[u32], c: Row) -> Rec
+    requires { ⌜ (1 ≤ c .0) × (c .0 ≤ length (now heads)) × (1 ≤ at (now heads) (c .0)) × (at (now heads) (c .0) ≤ length (now next)) ⌝ }
+    ensures { λ r. ⌜ r .0 ≡ at (now (next .entry)) (at (now (heads .entry)) (c .0)) ⌝ }
 {
-    let h = heads[(c - 1) as usize];
-    Rec(next[(h - 1) as usize])
+    let h = Rec(heads[(c.0 - 1) as usize]);
+    Rec(next[(h.0 - 1) as usize])
 }
 
 // The parent of a done column without the batch: its old one when adding, its new one when removing.
-fn other_parent(parents: &[u16], work: &[u32], m: usize, c: u32, adding: bool) -> u32
-    requires { ⌜ (planAt m ≤ length (now work)) × (m ≤ 4096) × (1 ≤ c) × (c ≤ m) × (length (now parents) ≡ m) ⌝ }
-    ensures { λ r. ⌜ r ≡ otherAt (now (parents .entry)) (now (work .entry)) m c adding ⌝ }
+fn other_parent(parents: &[u16], work: &[u32], m: usize, c: Row, adding: bool) -> Row
+    requires { ⌜ (planAt m ≤ length (now work)) × (m ≤ 4096) × (1 ≤ c .0) × (c .0 ≤ m) × (length (now parents) ≡ m) ⌝ }
+    ensures { λ r. ⌜ r .0 ≡ otherAt (now (parents .entry)) (now (work .entry)) m (c .0) adding ⌝ }
 {
-    let i = (c - 1) as usize;
+    let i = (c.0 - 1) as usize;
     if adding {
-        return parents[i] as u32;
+        return Row(parents[i] as u32);
     }
-    work[MARKS * m + i] / PARENT_WEIGHT
+    Row(work[MARKS * m + i] / PARENT_WEIGHT)
 }
 
 // B. Counts the rows that a column kept as a child has with the batch alone: its new rows up when adding, its gone rows down when removing. Gives the number
 // of touched rows, as all that count do.
-fn count_kept(work: &mut [u32], m: usize, n: usize, c: u32, adding: bool) -> usize
-    requires { ⌜ Steady m (now work) n × SomePlan (now work) m c adding ⌝ }
-    ensures { λ r. ⌜ ((more less : List ℕ) → PlanOf (now (work .entry)) m c adding more less → Bumps m (now (work .entry)) (now (work .exit)) r adding (keptRow more less)) ⌝ }
+fn count_kept(work: &mut [u32], m: usize, n: usize, c: Row, adding: bool) -> usize
+    requires { ⌜ Steady m (now work) n × SomePlan (now work) m (c .0) adding ⌝ }
+    ensures { λ r. ⌜ ((more less : List ℕ) → PlanOf (now (work .entry)) m (c .0) adding more less → Bumps m (now (work .entry)) (now (work .exit)) r adding (keptRow more less)) ⌝ }
 {
-    let from = work[STARTS * m + (c - 1) as usize] as usize;
+    let from = work[STARTS * m + (c.0 - 1) as usize] as usize;
     let to = plan_end(work, m, c);
     if adding {
         let g = differences::gather_plan(work, m, from, to, NEW);
@@ -76,15 +77,15 @@ fn count_with(
     work: &mut [u32],
     m: usize,
     n: usize,
-    c: u32,
+    c: Row,
     adding: bool,
 ) -> usize
-    requires { ⌜ Steady m (now work) n × SomeColumn (now heads) (now rows) (now next) (now work) m c adding ⌝ }
-    ensures { λ r. ⌜ ((more less : List ℕ) → PlanOf (now (work .entry)) m c adding more less → ChainOf (now (heads .entry)) (now (rows .entry)) (now (next .entry)) m c (oldOf adding more less) → Bumps m (now (work .entry)) (now (work .exit)) r adding (wholeRow more c)) ⌝ }
+    requires { ⌜ Steady m (now work) n × SomeColumn (now heads) (now rows) (now next) (now work) m (c .0) adding ⌝ }
+    ensures { λ r. ⌜ ((more less : List ℕ) → PlanOf (now (work .entry)) m (c .0) adding more less → ChainOf (now (heads .entry)) (now (rows .entry)) (now (next .entry)) m (c .0) (oldOf adding more less) → Bumps m (now (work .entry)) (now (work .exit)) r adding (wholeRow more (c .0))) ⌝ }
 {
     let r = second(heads, next, c);
     if adding {
-        let from = work[STARTS * m + (c - 1) as usize] as usize;
+        let from = work[STARTS * m + (c.0 - 1) as usize] as usize;
         let to = plan_end(work, m, c);
         let g = differences::gather_grown(rows, next, work, m, r, from, to);
         return differences::count_rows(work, m, n, g, true);
@@ -101,18 +102,18 @@ fn count_without(
     work: &mut [u32],
     m: usize,
     n: usize,
-    c: u32,
+    c: Row,
     adding: bool,
 ) -> usize
-    requires { ⌜ Steady m (now work) n × SomeColumn (now heads) (now rows) (now next) (now work) m c adding ⌝ }
-    ensures { λ r. ⌜ ((more less : List ℕ) → PlanOf (now (work .entry)) m c adding more less → ChainOf (now (heads .entry)) (now (rows .entry)) (now (next .entry)) m c (oldOf adding more less) → Bumps m (now (work .entry)) (now (work .exit)) r (not adding) (wholeRow less c)) ⌝ }
+    requires { ⌜ Steady m (now work) n × SomeColumn (now heads) (now rows) (now next) (now work) m (c .0) adding ⌝ }
+    ensures { λ r. ⌜ ((more less : List ℕ) → PlanOf (now (work .entry)) m (c .0) adding more less → ChainOf (now (heads .entry)) (now (rows .entry)) (now (next .entry)) m (c .0) (oldOf adding more less) → Bumps m (now (work .entry)) (now (work .exit)) r (not adding) (wholeRow less (c .0))) ⌝ }
 {
     let r = second(heads, next, c);
     if adding {
         let g = differences::gather_chain(rows, next, work, m, r);
         return differences::count_rows(work, m, n, g, false);
     }
-    let from = work[STARTS * m + (c - 1) as usize] as usize;
+    let from = work[STARTS * m + (c.0 - 1) as usize] as usize;
     let to = plan_end(work, m, c);
     let k = differences::gather_pruned(rows, next, work, m, r, from, to);
     differences::count_rows(work, m, n, k, true)
@@ -126,12 +127,12 @@ fn count_child(
     work: &mut [u32],
     m: usize,
     n: usize,
-    c: u32,
+    c: Row,
     kept: bool,
     adding: bool,
 ) -> usize
-    requires { ⌜ Steady m (now work) n × SomeColumn (now heads) (now rows) (now next) (now work) m c adding ⌝ }
-    ensures { λ r. ⌜ ((more less : List ℕ) → PlanOf (now (work .entry)) m c adding more less → ChainOf (now (heads .entry)) (now (rows .entry)) (now (next .entry)) m c (oldOf adding more less) → Bumps m (now (work .entry)) (now (work .exit)) r adding (λ i. pick kept (keptRow more less i) (wholeRow more c i))) ⌝ }
+    requires { ⌜ Steady m (now work) n × SomeColumn (now heads) (now rows) (now next) (now work) m (c .0) adding ⌝ }
+    ensures { λ r. ⌜ ((more less : List ℕ) → PlanOf (now (work .entry)) m (c .0) adding more less → ChainOf (now (heads .entry)) (now (rows .entry)) (now (next .entry)) m (c .0) (oldOf adding more less) → Bumps m (now (work .entry)) (now (work .exit)) r adding (λ i. pick kept (keptRow more less i) (wholeRow more (c .0) i))) ⌝ }
 {
     if kept {
         return count_kept(work, m, n, c, adding);
@@ -140,23 +141,23 @@ fn count_child(
 }
 
 // Takes a column out of the queue of its tree parent, and puts it into that of its other parent, if that is another one. Gives the next in the queue.
-fn pass_on(work: &mut [u32], m: usize, c: u32, j: u32, other: u32) -> u32
-    requires { ⌜ (planAt m ≤ length (now work)) × (m ≤ 4096) × (1 ≤ c) × (c ≤ m) × (other ≤ m) ⌝ }
-    ensures { λ r. ⌜ (r ≡ cell (now (work .entry)) (linksAt m) (c - 1)) × (now (work .exit) ≡ passedOn m (now (work .entry)) c j other) ⌝ }
+fn pass_on(work: &mut [u32], m: usize, c: Row, j: Row, other: Row) -> Row
+    requires { ⌜ (planAt m ≤ length (now work)) × (m ≤ 4096) × (1 ≤ c .0) × (c .0 ≤ m) × (other .0 ≤ m) ⌝ }
+    ensures { λ r. ⌜ (r .0 ≡ cell (now (work .entry)) (linksAt m) (c .0 - 1)) × (now (work .exit) ≡ passedOn m (now (work .entry)) (c .0) (j .0) (other .0)) ⌝ }
 {
-    let i = LINKS * m + (c - 1) as usize;
-    let after = work[i];
-    if other == j {
+    let i = LINKS * m + (c.0 - 1) as usize;
+    let after = Row(work[i]);
+    if other.0 == j.0 {
         work[i] = 0;
         return after;
     }
-    if other == 0 {
+    if other.0 == 0 {
         work[i] = 0;
         return after;
     }
-    let q = LOST * m + (other - 1) as usize;
+    let q = LOST * m + (other.0 - 1) as usize;
     work[i] = work[q];
-    work[q] = c;
+    work[q] = c.0;
     after
 }
 
@@ -169,19 +170,19 @@ pub fn count_children(
     work: &mut [u32],
     m: usize,
     n: usize,
-    j: u32,
+    j: Row,
     adding: bool,
 ) -> usize
-    requires { ⌜ SomeTurnUp (now heads) (now parents) (now rows) (now next) (now work) m j n adding ⌝ }
-    ensures { λ r. ⌜ ((R W : List Column) (used : ℕ) (place : ℕ → ℕ) → Columns (now (heads .entry)) (now (rows .entry)) (now (next .entry)) m R W adding → Parents (now (parents .entry)) m R W adding → Turn m R W adding (now (work .entry)) j used n 0 place → Emptied m R W adding (now (work .entry)) (now (work .exit)) j used r j place) ⌝ }
+    requires { ⌜ SomeTurnUp (now heads) (now parents) (now rows) (now next) (now work) m (j .0) n adding ⌝ }
+    ensures { λ r. ⌜ ((R W : List Column) (used : ℕ) (place : ℕ → ℕ) → Columns (now (heads .entry)) (now (rows .entry)) (now (next .entry)) m R W adding → Parents (now (parents .entry)) m R W adding → Turn m R W adding (now (work .entry)) (j .0) used n 0 place → Emptied m R W adding (now (work .entry)) (now (work .exit)) (j .0) used r (j .0) place) ⌝ }
 {
-    let head = CHILDREN * m + (j - 1) as usize;
-    let mut c = work[head];
+    let head = CHILDREN * m + (j.0 - 1) as usize;
+    let mut c = Row(work[head]);
     work[head] = 0;
     let mut l = n;
-    while c != 0 {
+    while c.0 != 0 {
         let other = other_parent(parents, work, m, c, adding);
-        l = count_child(heads, rows, next, work, m, l, c, other == j, adding);
+        l = count_child(heads, rows, next, work, m, l, c, other.0 == j.0, adding);
         c = pass_on(work, m, c, j, other);
     }
     l
@@ -195,20 +196,20 @@ pub fn count_lost(
     work: &mut [u32],
     m: usize,
     n: usize,
-    j: u32,
+    j: Row,
     adding: bool,
 ) -> usize
-    requires { ⌜ SomeTurn (now heads) (now rows) (now next) (now work) m j n adding ⌝ }
-    ensures { λ r. ⌜ ((R W : List Column) (used : ℕ) (place : ℕ → ℕ) → Columns (now (heads .entry)) (now (rows .entry)) (now (next .entry)) m R W adding → Turn m R W adding (now (work .entry)) j used n 0 place → Emptied m R W adding (now (work .entry)) (now (work .exit)) j used r (m + j) place) ⌝ }
+    requires { ⌜ SomeTurn (now heads) (now rows) (now next) (now work) m (j .0) n adding ⌝ }
+    ensures { λ r. ⌜ ((R W : List Column) (used : ℕ) (place : ℕ → ℕ) → Columns (now (heads .entry)) (now (rows .entry)) (now (next .entry)) m R W adding → Turn m R W adding (now (work .entry)) (j .0) used n 0 place → Emptied m R W adding (now (work .entry)) (now (work .exit)) (j .0) used r (m + j .0) place) ⌝ }
 {
-    let head = LOST * m + (j - 1) as usize;
-    let mut c = work[head];
+    let head = LOST * m + (j.0 - 1) as usize;
+    let mut c = Row(work[head]);
     work[head] = 0;
     let mut l = n;
-    while c != 0 {
+    while c.0 != 0 {
         l = count_without(heads, rows, next, work, m, l, c, adding);
-        let i = LINKS * m + (c - 1) as usize;
-        c = work[i];
+        let i = LINKS * m + (c.0 - 1) as usize;
+        c = Row(work[i]);
         work[i] = 0;
     }
     l

@@ -15,6 +15,7 @@ use crate::LABEL_WEIGHT;
 use crate::START_BIT;
 use crate::marks;
 use book::Id;
+use book::Row;
 use workspace::BUFFER;
 use workspace::MARKS;
 
@@ -26,7 +27,7 @@ pub fn mark_listed(work: &mut [u32], row_counts: &[u32], row_list: &[u32], m: us
     let mut k: usize = 0;
     let mut at: usize = 0;
     while k < row_counts.len() {
-        let row = row_list[at];
+        let row = Row(row_list[at]);
         marks::mark_start(work, m, flags, row, (k + 1) as u32);
         at += row_counts[k] as usize;
         k += 1;
@@ -48,22 +49,22 @@ pub fn mark_booked(
     let mut k: usize = 0;
     while k < ids.len() {
         let row = book::lowest_row(book_heads, book_rows, Id(ids[k]));
-        marks::mark_start(work, m, flags, row.0, (k + 1) as u32);
+        marks::mark_start(work, m, flags, row, (k + 1) as u32);
         k += 1;
     }
 }
 
 // Counts up the listed columns that start at j, and gives the number of touched rows.
-fn count_listed(work: &mut [u32], row_counts: &[u32], row_list: &[u32], m: usize, j: u32) -> usize
-    requires { ⌜ SomeStart (now «row_counts») (now «row_list») m (now work) j ⌝ }
-    ensures { λ r. ⌜ ((R W : List Column) (place : ℕ → ℕ) → Listed (now («row_counts» .entry)) (now («row_list» .entry)) W → CanStart m R W true (now (work .entry)) j place → Started m R W true (now (work .entry)) (now (work .exit)) r j place) ⌝ }
+fn count_listed(work: &mut [u32], row_counts: &[u32], row_list: &[u32], m: usize, j: Row) -> usize
+    requires { ⌜ SomeStart (now «row_counts») (now «row_list») m (now work) (j .0) ⌝ }
+    ensures { λ r. ⌜ ((R W : List Column) (place : ℕ → ℕ) → Listed (now («row_counts» .entry)) (now («row_list» .entry)) W → CanStart m R W true (now (work .entry)) (j .0) place → Started m R W true (now (work .entry)) (now (work .exit)) r (j .0) place) ⌝ }
 {
     let mut n: usize = 0;
     let mut k: usize = 0;
     let mut at: usize = 0;
     while k < row_counts.len() {
         let end = at + row_counts[k] as usize;
-        if row_list[at] == j {
+        if row_list[at] == j.0 {
             let g = differences::gather_rows(work, &row_list[at..end], m);
             n = differences::count_rows(work, m, n, g, true);
             at = end;
@@ -84,20 +85,20 @@ fn count_booked(
     work: &mut [u32],
     ids: &[u32],
     m: usize,
-    j: u32,
+    j: Row,
 ) -> usize
-    requires { ⌜ SomeStartBooked (now «book_heads») (now «book_rows») (now «book_next») (now ids) m (now work) j ⌝ }
-    ensures { λ r. ⌜ ((R W : List Column) (place : ℕ → ℕ) → BookHolds (now («book_heads» .entry)) (now («book_rows» .entry)) (now («book_next» .entry)) (now (ids .entry)) m W → CanStart m R W false (now (work .entry)) j place → Started m R W false (now (work .entry)) (now (work .exit)) r j place) ⌝ }
+    requires { ⌜ SomeStartBooked (now «book_heads») (now «book_rows») (now «book_next») (now ids) m (now work) (j .0) ⌝ }
+    ensures { λ r. ⌜ ((R W : List Column) (place : ℕ → ℕ) → BookHolds (now («book_heads» .entry)) (now («book_rows» .entry)) (now («book_next» .entry)) (now (ids .entry)) m W → CanStart m R W false (now (work .entry)) (j .0) place → Started m R W false (now (work .entry)) (now (work .exit)) r (j .0) place) ⌝ }
 {
     let mut n: usize = 0;
     let mut k: usize = 0;
     while k < ids.len() {
-        let id = ids[k];
-        let row = book::lowest_row(book_heads, book_rows, Id(id));
-        if row.0 == j {
+        let id = Id(ids[k]);
+        let row = book::lowest_row(book_heads, book_rows, id);
+        if row.0 == j.0 {
             let a = BUFFER * m;
             let e = MARKS * m;
-            let g = book::copy_rows(book_heads, book_rows, book_next, &mut work[a..e], Id(id));
+            let g = book::copy_rows(book_heads, book_rows, book_next, &mut work[a..e], id);
             n = differences::count_rows(work, m, n, g as usize, false);
             k += 1;
         } else {
@@ -113,12 +114,12 @@ pub fn start_listed(
     row_counts: &[u32],
     row_list: &[u32],
     m: usize,
-    j: u32,
+    j: Row,
 ) -> usize
-    requires { ⌜ SomeStart (now «row_counts») (now «row_list») m (now work) j × (startsAt m ≤ length (now work)) ⌝ }
-    ensures { λ r. ⌜ ((R W : List Column) (place : ℕ → ℕ) → Listed (now («row_counts» .entry)) (now («row_list» .entry)) W → CanStart m R W true (now (work .entry)) j place → ((i : ℕ) → 1 ≤ i → i ≤ length W → startOf W i ≡ j → markAt m (now (work .entry)) j % labelWeight ≡ startBit) → Started m R W true (now (work .entry)) (now (work .exit)) r j place) ⌝ }
+    requires { ⌜ SomeStart (now «row_counts») (now «row_list») m (now work) (j .0) × (startsAt m ≤ length (now work)) ⌝ }
+    ensures { λ r. ⌜ ((R W : List Column) (place : ℕ → ℕ) → Listed (now («row_counts» .entry)) (now («row_list» .entry)) W → CanStart m R W true (now (work .entry)) (j .0) place → ((i : ℕ) → 1 ≤ i → i ≤ length W → startOf W i ≡ j .0 → markAt m (now (work .entry)) (j .0) % labelWeight ≡ startBit) → Started m R W true (now (work .entry)) (now (work .exit)) r (j .0) place) ⌝ }
 {
-    if work[MARKS * m + (j - 1) as usize] % LABEL_WEIGHT == START_BIT {
+    if work[MARKS * m + (j.0 - 1) as usize] % LABEL_WEIGHT == START_BIT {
         return count_listed(work, row_counts, row_list, m, j);
     }
     0
@@ -132,12 +133,12 @@ pub fn start_booked(
     work: &mut [u32],
     ids: &[u32],
     m: usize,
-    j: u32,
+    j: Row,
 ) -> usize
-    requires { ⌜ SomeStartBooked (now «book_heads») (now «book_rows») (now «book_next») (now ids) m (now work) j × (startsAt m ≤ length (now work)) ⌝ }
-    ensures { λ r. ⌜ ((R W : List Column) (place : ℕ → ℕ) → BookHolds (now («book_heads» .entry)) (now («book_rows» .entry)) (now («book_next» .entry)) (now (ids .entry)) m W → CanStart m R W false (now (work .entry)) j place → ((i : ℕ) → 1 ≤ i → i ≤ length W → startOf W i ≡ j → markAt m (now (work .entry)) j % labelWeight ≡ startBit) → Started m R W false (now (work .entry)) (now (work .exit)) r j place) ⌝ }
+    requires { ⌜ SomeStartBooked (now «book_heads») (now «book_rows») (now «book_next») (now ids) m (now work) (j .0) × (startsAt m ≤ length (now work)) ⌝ }
+    ensures { λ r. ⌜ ((R W : List Column) (place : ℕ → ℕ) → BookHolds (now («book_heads» .entry)) (now («book_rows» .entry)) (now («book_next» .entry)) (now (ids .entry)) m W → CanStart m R W false (now (work .entry)) (j .0) place → ((i : ℕ) → 1 ≤ i → i ≤ length W → startOf W i ≡ j .0 → markAt m (now (work .entry)) (j .0) % labelWeight ≡ startBit) → Started m R W false (now (work .entry)) (now (work .exit)) r (j .0) place) ⌝ }
 {
-    if work[MARKS * m + (j - 1) as usize] % LABEL_WEIGHT == START_BIT {
+    if work[MARKS * m + (j.0 - 1) as usize] % LABEL_WEIGHT == START_BIT {
         return count_booked(book_heads, book_rows, book_next, work, ids, m, j);
     }
     0

@@ -29,8 +29,8 @@ use workspace::STARTS;
 // How far a walk came: whether all fits, the first and the last touched column, their number, the entries, the places of the plan, the free records left.
 pub struct Walk {
     pub fits: bool,
-    pub first: u32,
-    pub last: u32,
+    pub first: Row,
+    pub last: Row,
     pub count: u32,
     pub entries: u32,
     pub used: usize,
@@ -38,16 +38,16 @@ pub struct Walk {
 }
 
 // Begins the turn of j after the last touched column: the list of touched columns goes on to j, and j's plan starts at used.
-pub fn begin(work: &mut [u32], m: usize, last: u32, j: u32, used: usize)
-    requires { ⌜ (planAt m ≤ length (now work)) × (m ≤ 4096) × (last ≤ m) × (1 ≤ j) × (j ≤ m) × (used ≤ 1048576) ⌝ }
-    ensures { λ _. ⌜ now (work .exit) ≡ begun m (now (work .entry)) last j used ⌝ }
+pub fn begin(work: &mut [u32], m: usize, last: Row, j: Row, used: usize)
+    requires { ⌜ (planAt m ≤ length (now work)) × (m ≤ 4096) × (last .0 ≤ m) × (1 ≤ j .0) × (j .0 ≤ m) × (used ≤ 1048576) ⌝ }
+    ensures { λ _. ⌜ now (work .exit) ≡ begun m (now (work .entry)) (last .0) (j .0) used ⌝ }
 {
-    if last == 0 {
-        work[STARTS * m + (j - 1) as usize] = used as u32;
+    if last.0 == 0 {
+        work[STARTS * m + (j.0 - 1) as usize] = used as u32;
         return;
     }
-    work[NEXT * m + (last - 1) as usize] = j;
-    work[STARTS * m + (j - 1) as usize] = used as u32;
+    work[NEXT * m + (last.0 - 1) as usize] = j.0;
+    work[STARTS * m + (j.0 - 1) as usize] = used as u32;
 }
 
 // B, C and D for column j, then its plan, from place used on, with free records from avail on.
@@ -60,66 +60,67 @@ fn plan_column(
     work: &mut [u32],
     m: usize,
     n: usize,
-    j: u32,
+    j: Row,
     used: usize,
     avail: Rec,
     adding: bool,
 ) -> Emission
-    requires { ⌜ SomePlanned (now heads) (now parents) (now rows) (now counts) (now next) (now work) m n j used (avail .0) adding ⌝ }
-    ensures { λ e. ⌜ ((R W : List Column) → Columns (now (heads .entry)) (now (rows .entry)) (now (next .entry)) m R W adding → Parents (now (parents .entry)) m R W adding → Multiplicities (now (heads .entry)) (now (counts .entry)) (now (next .entry)) m R W adding → Turn m R W adding (now (work .entry)) j used n 0 (standing m R W j) → used + sizeOf (columnAt (before adding m R W) j) + length (chain (now (next .entry)) (avail .0)) ≤ length (now (next .entry)) → Planned (now (next .entry)) (now (work .entry)) (now (work .exit)) m R W adding j used (avail .0) e) ⌝ }
+    requires { ⌜ SomePlanned (now heads) (now parents) (now rows) (now counts) (now next) (now work) m n (j .0) used (avail .0) adding ⌝ }
+    ensures { λ e. ⌜ ((R W : List Column) → Columns (now (heads .entry)) (now (rows .entry)) (now (next .entry)) m R W adding → Parents (now (parents .entry)) m R W adding → Multiplicities (now (heads .entry)) (now (counts .entry)) (now (next .entry)) m R W adding → Turn m R W adding (now (work .entry)) (j .0) used n 0 (standing m R W (j .0)) → used + sizeOf (columnAt (before adding m R W) (j .0)) + length (chain (now (next .entry)) (avail .0)) ≤ length (now (next .entry)) → Planned (now (next .entry)) (now (work .entry)) (now (work .exit)) m R W adding (j .0) used (avail .0) e) ⌝ }
 {
     let l = queues::count_children(heads, parents, rows, next, work, m, n, j, adding);
     let k = queues::count_lost(heads, rows, next, work, m, l, j, adding);
-    let h = heads[(j - 1) as usize];
-    emission::emit(rows, counts, next, work, m, k, Row(j), Rec(h), used, avail)
+    let h = Rec(heads[(j.0 - 1) as usize]);
+    emission::emit(rows, counts, next, work, m, k, j, h, used, avail)
 }
 
 // The parent of j in the tree of all columns: the new one when adding, the old one when removing.
-fn tree_parent(parents: &[u16], j: u32, parent: u32, adding: bool) -> u32
-    requires { ⌜ (1 ≤ j) × (j ≤ length (now parents)) ⌝ }
-    ensures { λ r. ⌜ r ≡ pick adding parent (at (now (parents .entry)) j) ⌝ }
+fn tree_parent(parents: &[u16], j: Row, parent: Row, adding: bool) -> Row
+    requires { ⌜ (1 ≤ j .0) × (j .0 ≤ length (now parents)) ⌝ }
+    ensures { λ r. ⌜ r .0 ≡ pick adding (parent .0) (at (now (parents .entry)) (j .0)) ⌝ }
 {
     if adding {
         return parent;
     }
-    parents[(j - 1) as usize] as u32
+    Row(parents[(j.0 - 1) as usize] as u32)
 }
 
 // One step up: keeps the new parent of j, and marks its tree parent, whose queue j enters.
-fn step_up(work: &mut [u32], m: usize, flags: usize, j: u32, parent: u32, up: u32)
-    requires { ⌜ Room m flags (now work) × (1 ≤ j) × (j ≤ m) × (parent ≤ m) × (up ≤ m) × (markAt m (now work) j < 260) ⌝ }
-    ensures { λ _. ⌜ now (work .exit) ≡ steppedUp m flags (now (work .entry)) j parent up ⌝ }
+fn step_up(work: &mut [u32], m: usize, flags: usize, j: Row, parent: Row, up: Row)
+    requires { ⌜ Room m flags (now work) × (1 ≤ j .0) × (j .0 ≤ m) × (parent .0 ≤ m) × (up .0 ≤ m) × (markAt m (now work) (j .0) < 260) ⌝ }
+    ensures { λ _. ⌜ now (work .exit) ≡ steppedUp m flags (now (work .entry)) (j .0) (parent .0) (up .0) ⌝ }
 {
-    let i = (j - 1) as usize;
+    let i = (j.0 - 1) as usize;
     let x = work[MARKS * m + i];
-    work[MARKS * m + i] = x + PARENT_WEIGHT * parent;
-    if up == 0 {
+    work[MARKS * m + i] = x + PARENT_WEIGHT * parent.0;
+    if up.0 == 0 {
         return;
     }
     marks::mark_parent(work, m, flags, up, x / LABEL_WEIGHT);
-    let q = CHILDREN * m + (up - 1) as usize;
+    let q = CHILDREN * m + (up.0 - 1) as usize;
     work[LINKS * m + i] = work[q];
-    work[q] = j;
+    work[q] = j.0;
 }
 
 // The first touched column of a walk, with one more.
-fn first_of(first: u32, j: u32) -> u32
-    ensures { λ r. ⌜ r ≡ pick (eqb first 0) j first ⌝ }
+fn first_of(first: Row, j: Row) -> Row
+    ensures { λ r. ⌜ r .0 ≡ pick (eqb (first .0) 0) (j .0) (first .0) ⌝ }
 {
-    if first == 0 {
+    if first.0 == 0 {
         return j;
     }
     first
 }
 
 // The numbers of a walk with one column more.
-fn advance(walk: Walk, j: u32, e: Emission) -> Walk
+fn advance(walk: Walk, j: Row, e: Emission) -> Walk
     requires { ⌜ (walk .count < 4096) × (walk .entries ≤ 16777216) × (e .size ≤ 4096) ⌝ }
-    ensures { λ r. ⌜ (r .fits ≡ e .fits) × (r .first ≡ pick (eqb (walk .first) 0) j (walk .first)) × (r .last ≡ j) × (r .count ≡ walk .count + 1) × (r .entries ≡ walk .entries + e .size) × (r .used ≡ e .used) × (r .avail .0 ≡ e .avail .0) ⌝ }
+    ensures { λ r. ⌜ (r .fits ≡ e .fits) × (r .first .0 ≡ pick (eqb (walk .first .0) 0) (j .0) (walk .first .0)) × (r .last .0 ≡ j .0) × (r .count ≡ walk .count + 1) × (r .entries ≡ walk .entries + e .size) × (r .used ≡ e .used) × (r .avail .0 ≡ e .avail .0) ⌝ }
 {
     let size = e.size as u32;
     let avail = e.avail;
-    let first = first_of(walk.first, j);
+    let started = walk.first;
+    let first = first_of(started, j);
     Walk {
         fits: e.fits,
         first: first,
@@ -135,16 +136,10 @@ fn advance(walk: Walk, j: u32, e: Emission) -> Walk
 fn stopped(walk: Walk, e: Emission) -> Walk
     ensures { λ r. ⌜ (r .fits ≡ e .fits) × (r .used ≡ e .used) ⌝ }
 {
-    let avail = e.avail;
-    Walk {
-        fits: e.fits,
-        first: walk.first,
-        last: walk.last,
-        count: walk.count,
-        entries: walk.entries,
-        used: e.used,
-        avail: avail,
-    }
+    let mut w = walk;
+    w.fits = e.fits;
+    w.used = e.used;
+    w
 }
 
 // The turn of j after A: B, C and D, the column's plan, and one step up.
@@ -158,12 +153,12 @@ pub fn turn(
     m: usize,
     flags: usize,
     n: usize,
-    j: u32,
+    j: Row,
     walk: Walk,
     adding: bool,
 ) -> Walk
-    requires { ⌜ SomeTurning (now heads) (now parents) (now rows) (now counts) (now next) (now work) m flags adding n j (walk .first) (walk .last) (walk .count) (walk .entries) (walk .used) (walk .avail .0) ⌝ }
-    ensures { λ r. ⌜ ((R W : List Column) (free : ℕ) («work₀» : List ℕ) → Setting (now (heads .entry)) (now (parents .entry)) (now (rows .entry)) (now (counts .entry)) (now (next .entry)) m flags R W adding free → Turning (now (next .entry)) «work₀» (now (work .entry)) m flags R W adding free n j (walk .first) (walk .last) (walk .count) (walk .entries) (walk .used) (walk .avail .0) → Turned (now (next .entry)) «work₀» (now (work .exit)) m flags R W adding free j (walk .avail .0) (r .fits) (r .first) (r .last) (r .count) (r .entries) (r .used) (r .avail .0)) ⌝ }
+    requires { ⌜ SomeTurning (now heads) (now parents) (now rows) (now counts) (now next) (now work) m flags adding n (j .0) (walk .first .0) (walk .last .0) (walk .count) (walk .entries) (walk .used) (walk .avail .0) ⌝ }
+    ensures { λ r. ⌜ ((R W : List Column) (free : ℕ) («work₀» : List ℕ) → Setting (now (heads .entry)) (now (parents .entry)) (now (rows .entry)) (now (counts .entry)) (now (next .entry)) m flags R W adding free → Turning (now (next .entry)) «work₀» (now (work .entry)) m flags R W adding free n (j .0) (walk .first .0) (walk .last .0) (walk .count) (walk .entries) (walk .used) (walk .avail .0) → Turned (now (next .entry)) «work₀» (now (work .exit)) m flags R W adding free (j .0) (walk .avail .0) (r .fits) (r .first .0) (r .last .0) (r .count) (r .entries) (r .used) (r .avail .0)) ⌝ }
 {
     let used = walk.used;
     let avail = walk.avail;
@@ -182,7 +177,7 @@ pub fn turn(
         adding,
     );
     if e.fits {
-        let parent = e.parent.0;
+        let parent = e.parent;
         let up = tree_parent(parents, j, parent, adding);
         step_up(work, m, flags, j, parent, up);
         return advance(walk, j, e);

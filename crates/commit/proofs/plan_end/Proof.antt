@@ -14,7 +14,7 @@ add-result : tie.Need-add-result
 add-result c = search needs
 
 returns : tie.Need-returns
-returns c = rw (eq-eqb (c .before .args .after) 0 (c .if1 .taken)) refl
+returns c = rw (eq-eqb (c .before .before .args .after .0) 0 (c .if1 .taken)) refl
 
 sub-k : tie.Need-sub-k
 sub-k c = search needs
@@ -38,13 +38,13 @@ shared-slice-read-result : tie.Need-shared-slice-read-result
 shared-slice-read-result c = search needs
 
 cast-result : tie.Need-cast-result
-cast-result c = omega (arith, c .shared-slice-known .given (4 * c .before .before .args .m + (c .before .before .args .after - 1)))
+cast-result c = omega (arith, c .shared-slice-known .given (4 * c .before .before .before .before .args .m + (c .before .before .before .before .args .after .0 - 1)))
 
 add-result-3 : tie.Need-add-result-3
-add-result-3 c = omega (arith, c .shared-slice-known .given (4 * c .before .before .args .m + (c .before .before .args .after - 1)), c .before .before .pre .bound)
+add-result-3 c = omega (arith, c .shared-slice-known .given (4 * c .before .before .before .before .args .m + (c .before .before .before .before .args .after .0 - 1)), c .before .before .before .before .pre .bound)
 
 returns-2 : tie.Need-returns-2
-returns-2 c = rw (ne-eqb (c .before .before .args .after) 0 (c .before .if1 .left)) refl
+returns-2 c = rw (ne-eqb (c .before .before .before .before .args .after .0) 0 (c .before .before .if1 .left)) refl
 
 pub plan-end-spec : {M : Type 1} → statement M
 plan-end-spec =

@@ -12,26 +12,26 @@ use Rattle.commit.proofs.report_columns.Statement.{statement}
 use Rattle.commit.proofs.report_columns.Tie as tie
 
 abbrev Inv-loop : tie.InvT-loop
-Inv-loop parents₀ work₀ touched₀ labels₀ first m j₀ t₀ parents work touched labels j t =
-    (L L′ : List FactorColumn) (label : ℕ → ℕ) (columns : List ℕ) (used : ℕ) → CanReport L L′ label columns parents₀ work₀ touched₀ labels₀ j₀ used →
-    Reporting L L′ label columns used parents₀ work₀ touched₀ labels₀ parents work touched labels j t
+Inv-loop parents₀ work₀ touched₀ labels₀ m j₀ t₀ parents work touched labels j t =
+    (L L′ : List FactorColumn) (label : ℕ → ℕ) (columns : List ℕ) (used : ℕ) → CanReport L L′ label columns parents₀ work₀ touched₀ labels₀ (j₀ .0) used →
+    Reporting L L′ label columns used parents₀ work₀ touched₀ labels₀ parents work touched labels (j .0) t
 
 abbrev μ-loop : tie.MeasureT-loop
-μ-loop parents₀ work₀ touched₀ labels₀ first m j₀ t₀ parents work touched labels j t = left (length parents₀) j
+μ-loop parents₀ work₀ touched₀ labels₀ m j₀ t₀ parents work touched labels j t = left (length parents₀) (j .0)
 
 -- ---- the places, named
 
-abbrev in-turn : tie.After-slice-known2 Inv-loop μ-loop → tie.In-loop Inv-loop μ-loop
-in-turn c = c .before .before
+abbrev in-turn : tie.After-slice-known2 Inv-loop μ-loop → tie.Then1 Inv-loop μ-loop
+in-turn c = c .before .before .before
 
 -- the invariant for what the premise gives
 now-is : (c : tie.At-loop Inv-loop μ-loop) →
-    Reporting (c .before .pre .L) (c .before .pre .L′) (c .before .pre .label) (c .before .pre .columns) (c .before .pre .used) (c .before .args .parents .now) (c .before .args .work .now) (c .before .args .touched .now) (c .before .args .labels .now) (c .loop .parents) (c .loop .work) (c .loop .touched) (c .loop .labels) (c .loop .j) (c .loop .t)
+    Reporting (c .before .pre .L) (c .before .pre .L′) (c .before .pre .label) (c .before .pre .columns) (c .before .pre .used) (c .before .args .parents .now) (c .before .args .work .now) (c .before .args .touched .now) (c .before .args .labels .now) (c .loop .parents) (c .loop .work) (c .loop .touched) (c .loop .labels) (c .loop .j .0) (c .loop .t)
 now-is c = let p = c .before .pre in c .loop .inv (p .L) (p .L′) (p .label) (p .columns) (p .used) (p .can)
 
-facts : (c : tie.In-loop Inv-loop μ-loop) →
-    AtReport (c .before .before .args .parents .now) (c .before .loop .parents) (c .before .loop .work) (c .before .loop .touched) (c .before .loop .labels) (c .before .loop .j) (c .before .loop .t)
-facts c = at-report (c .before .before .pre .can) (now-is (c .before)) (c .loop-test .taken)
+facts : (c : tie.Then1 Inv-loop μ-loop) →
+    AtReport (c .before .before .before .args .parents .now) (c .before .before .loop .parents) (c .before .before .loop .work) (c .before .before .loop .touched) (c .before .before .loop .labels) (c .before .before .loop .j .0) (c .before .before .loop .t)
+facts c = at-report (c .before .before .before .pre .can) (now-is (c .before .before)) (c .if1 .taken)
 
 loop-holds : tie.Need-loop-holds Inv-loop μ-loop
 loop-holds c = λ L L′ label columns used can. reporting-start can
@@ -39,125 +39,125 @@ loop-holds c = λ L L′ label columns used can. reporting-start can
 -- ---- a turn: what is read
 
 sub-k : tie.Need-sub-k Inv-loop μ-loop
-sub-k c = let f = facts c in omega arith
+sub-k c = let f = facts (c .before) in omega arith
 
 cast-k : tie.Need-cast-k Inv-loop μ-loop
-cast-k c = let f = facts c in omega arith
+cast-k c = let f = facts (c .before) in omega arith
 
 mul-mark : tie.Need-mul-mark Inv-loop μ-loop
-mul-mark c = let f = facts c in omega arith
+mul-mark c = let f = facts (c .before) in omega arith
 
 add-mark : tie.Need-add-mark Inv-loop μ-loop
-add-mark c = let f = facts c in omega arith
+add-mark c = let f = facts (c .before) in omega arith
 
 mul-mark-2 : tie.Need-mul-mark-2 Inv-loop μ-loop
-mul-mark-2 c = let f = facts c in omega arith
+mul-mark-2 c = let f = facts (c .before) in omega arith
 
 slice-read-mark : tie.Need-slice-read-mark Inv-loop μ-loop
-slice-read-mark c = let f = facts (c .before) in omega arith
+slice-read-mark c = let f = facts (c .before .before) in omega arith
 
-mul-after : tie.Need-mul-after Inv-loop μ-loop
-mul-after c = let f = facts (c .before) in omega arith
+mul-parents : tie.Need-mul-parents Inv-loop μ-loop
+mul-parents c = let f = facts (c .before .before) in omega arith
 
-add-after : tie.Need-add-after Inv-loop μ-loop
-add-after c = let f = facts (c .before) in omega arith
+add-parents : tie.Need-add-parents Inv-loop μ-loop
+add-parents c = let f = facts (c .before .before) in omega arith
 
-mul-after-2 : tie.Need-mul-after-2 Inv-loop μ-loop
-mul-after-2 c = let f = facts (c .before) in omega arith
+mul-parents-2 : tie.Need-mul-parents-2 Inv-loop μ-loop
+mul-parents-2 c = let f = facts (c .before .before) in omega arith
 
-slice-read-after : tie.Need-slice-read-after Inv-loop μ-loop
-slice-read-after c = let f = facts (in-turn c) in omega arith
+slice-read-parents : tie.Need-slice-read-parents Inv-loop μ-loop
+slice-read-parents c = let f = facts (in-turn c) in omega arith
 
 -- ---- a turn: what is written
 
 cast-parents : tie.Need-cast-parents Inv-loop μ-loop
-cast-parents c = let f = facts (in-turn c) in omega (arith, c .before .slice-known .given (3 * length (in-turn c .before .before .args .parents .now) + (in-turn c .before .loop .j - 1)))
+cast-parents c = let f = facts (in-turn c) in omega (arith, c .before .slice-known .given (3 * length (in-turn c .before .before .before .args .parents .now) + (in-turn c .before .before .loop .j .0 - 1)))
 
-mul-parents : tie.Need-mul-parents Inv-loop μ-loop
-mul-parents c = let f = facts (in-turn c) in omega arith
+mul-parents-3 : tie.Need-mul-parents-3 Inv-loop μ-loop
+mul-parents-3 c = let f = facts (in-turn c) in omega arith
 
 slice-write-parents : tie.Need-slice-write-parents Inv-loop μ-loop
 slice-write-parents c = let f = facts (in-turn c) in omega arith
 
 cast-touched : tie.Need-cast-touched Inv-loop μ-loop
-cast-touched c = let f = facts (in-turn c) in omega arith
+cast-touched c = let f = facts (in-turn (c .before)) in omega arith
 
 mul-touched : tie.Need-mul-touched Inv-loop μ-loop
-mul-touched c = let f = facts (in-turn c) in omega arith
+mul-touched c = let f = facts (in-turn (c .before)) in omega arith
 
 slice-write-touched : tie.Need-slice-write-touched Inv-loop μ-loop
-slice-write-touched c = let f = facts (in-turn c) in omega arith
+slice-write-touched c = let f = facts (in-turn (c .before)) in omega arith
 
 cast-labels : tie.Need-cast-labels Inv-loop μ-loop
-cast-labels c = let f = facts (in-turn c) in omega (arith, c .before .slice-known .given (3 * length (in-turn c .before .before .args .parents .now) + (in-turn c .before .loop .j - 1)))
+cast-labels c = let f = facts (in-turn (c .before)) in omega (arith, c .before .before .slice-known .given (3 * length (in-turn (c .before) .before .before .before .args .parents .now) + (in-turn (c .before) .before .before .loop .j .0 - 1)))
 
 mul-labels : tie.Need-mul-labels Inv-loop μ-loop
-mul-labels c = let f = facts (in-turn c) in omega arith
+mul-labels c = let f = facts (in-turn (c .before)) in omega arith
 
 slice-write-labels : tie.Need-slice-write-labels Inv-loop μ-loop
-slice-write-labels c = let f = facts (in-turn c) in omega arith
+slice-write-labels c = let f = facts (in-turn (c .before)) in omega arith
 
 mul-work : tie.Need-mul-work Inv-loop μ-loop
-mul-work c = let f = facts (in-turn c) in omega arith
+mul-work c = let f = facts (in-turn (c .before)) in omega arith
 
 add-work : tie.Need-add-work Inv-loop μ-loop
-add-work c = let f = facts (in-turn c) in omega arith
+add-work c = let f = facts (in-turn (c .before)) in omega arith
 
 mul-work-2 : tie.Need-mul-work-2 Inv-loop μ-loop
-mul-work-2 c = let f = facts (in-turn c) in omega arith
+mul-work-2 c = let f = facts (in-turn (c .before)) in omega arith
 
 slice-write-work : tie.Need-slice-write-work Inv-loop μ-loop
-slice-write-work c = let f = facts (in-turn c) in omega arith
+slice-write-work c = let f = facts (in-turn (c .before)) in omega arith
 
 mul-work-3 : tie.Need-mul-work-3 Inv-loop μ-loop
-mul-work-3 c = let f = facts (in-turn c) in omega arith
+mul-work-3 c = let f = facts (in-turn (c .before)) in omega arith
 
 add-work-2 : tie.Need-add-work-2 Inv-loop μ-loop
-add-work-2 c = let f = facts (in-turn c) in omega arith
+add-work-2 c = let f = facts (in-turn (c .before)) in omega arith
 
 mul-work-4 : tie.Need-mul-work-4 Inv-loop μ-loop
-mul-work-4 c = let f = facts (in-turn c) in omega arith
+mul-work-4 c = let f = facts (in-turn (c .before)) in omega arith
 
 slice-write-work-2 : tie.Need-slice-write-work-2 Inv-loop μ-loop
-slice-write-work-2 c = let f = facts (in-turn c) in simp length-set (omega arith)
+slice-write-work-2 c = let f = facts (in-turn (c .before)) in simp length-set (omega arith)
 
 mul-work-5 : tie.Need-mul-work-5 Inv-loop μ-loop
-mul-work-5 c = let f = facts (in-turn c) in omega arith
+mul-work-5 c = let f = facts (in-turn (c .before)) in omega arith
 
 add-work-3 : tie.Need-add-work-3 Inv-loop μ-loop
-add-work-3 c = let f = facts (in-turn c) in omega arith
+add-work-3 c = let f = facts (in-turn (c .before)) in omega arith
 
 mul-work-6 : tie.Need-mul-work-6 Inv-loop μ-loop
-mul-work-6 c = let f = facts (in-turn c) in omega arith
+mul-work-6 c = let f = facts (in-turn (c .before)) in omega arith
 
 slice-write-work-3 : tie.Need-slice-write-work-3 Inv-loop μ-loop
-slice-write-work-3 c = let f = facts (in-turn c) in simp length-set (omega arith)
+slice-write-work-3 c = let f = facts (in-turn (c .before)) in simp length-set (omega arith)
 
 add-t : tie.Need-add-t Inv-loop μ-loop
-add-t c = let f = facts (in-turn c) in omega arith
+add-t c = let f = facts (in-turn (c .before)) in omega arith
 
 loop-less : tie.Need-loop-less Inv-loop μ-loop
-loop-less c = let d = in-turn c in left-less _ (d .before .loop .j) _ (d .loop-test .taken) (facts d .high) (facts d .rises)
+loop-less c = let d = in-turn (c .before) in left-less _ (d .before .before .loop .j .0) _ (d .if1 .taken) (facts d .high) (facts d .rises)
 
 loop-again : tie.Need-loop-again Inv-loop μ-loop
-loop-again c = let d = in-turn c in λ L L′ label columns used can. reporting-turn can (d .before .loop .inv L L′ label columns used can) (d .loop-test .taken)
+loop-again c = let d = in-turn (c .before) in λ L L′ label columns used can. reporting-turn can (d .before .before .loop .inv L L′ label columns used can) (d .if1 .taken)
 
 -- ---- after the loop
 
 same-length : tie.Need-same-length Inv-loop μ-loop
-same-length c = reporting-parents (c .before .before .pre .can) (now-is (c .before))
+same-length c = reporting-parents (c .before .before .before .pre .can) (now-is (c .before .before))
 
 same-length-2 : tie.Need-same-length-2 Inv-loop μ-loop
-same-length-2 c = reporting-work (c .before .before .pre .can) (now-is (c .before))
+same-length-2 c = reporting-work (c .before .before .before .pre .can) (now-is (c .before .before))
 
 same-length-3 : tie.Need-same-length-3 Inv-loop μ-loop
-same-length-3 c = reporting-touched (c .before .before .pre .can) (now-is (c .before))
+same-length-3 c = reporting-touched (c .before .before .before .pre .can) (now-is (c .before .before))
 
 same-length-4 : tie.Need-same-length-4 Inv-loop μ-loop
-same-length-4 c = reporting-labels (c .before .before .pre .can) (now-is (c .before))
+same-length-4 c = reporting-labels (c .before .before .before .pre .can) (now-is (c .before .before))
 
 returns : tie.Need-returns Inv-loop μ-loop
-returns c = λ L L′ label columns used can. reporting-end can (c .before .loop .inv L L′ label columns used can) (c .loop-test .left)
+returns c = λ L L′ label columns used can. reporting-end can (c .before .before .loop .inv L L′ label columns used can) (c .if1 .left)
 
 pub report-columns-spec : {M : Type 1} → statement M
 report-columns-spec =
@@ -172,12 +172,12 @@ report-columns-spec =
     add-mark
     mul-mark-2
     slice-read-mark
-    mul-after
-    add-after
-    mul-after-2
-    slice-read-after
-    cast-parents
     mul-parents
+    add-parents
+    mul-parents-2
+    slice-read-parents
+    cast-parents
+    mul-parents-3
     slice-write-parents
     cast-touched
     mul-touched

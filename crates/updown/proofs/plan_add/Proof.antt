@@ -20,7 +20,7 @@ abbrev walked : tie.After-clear-arg → tie.After-walk-add
 walked c = c .before .before .before
 
 abbrev fitting : tie.After-struct-known → tie.After-clear
-fitting c = c .before .before .before .before
+fitting c = c .before .before .before .before .before
 
 abbrev refused : tie.After-struct-known2 → tie.After-clear
 refused c = c .before .before .before .before .before
@@ -47,11 +47,11 @@ clear-requires c κs =
     let w = walked c in
     let k = marked (w .before) in add-long (start (k .before) .pre .can) (k .mark-listed .ensures) (w .walk-add .ensures)
 
-cast-t24 : tie.Need-cast-t24
-cast-t24 c =
+cast-t25 : tie.Need-cast-t25
+cast-t25 c =
     let w = walked (fitting c .before) in
     let k = marked (w .before) in
-    let h = add-used (start (k .before) .pre .can) (k .mark-listed .ensures) (w .walk-add .ensures) (c .before .if1 .taken) in omega arith
+    let h = add-used (start (k .before) .pre .can) (k .mark-listed .ensures) (w .walk-add .ensures) (c .before .before .if1 .taken) in omega arith
 
 same-length : tie.Need-same-length
 same-length c = search needs
@@ -59,7 +59,7 @@ same-length c = search needs
 returns : tie.Need-returns
 returns c =
     let w = walked (fitting c .before) in
-    let k = marked (w .before) in λ R W can. add-planned can (k .mark-listed .ensures) (w .walk-add .ensures) (fitting c .clear .ensures) (c .before .if1 .taken) true refl
+    let k = marked (w .before) in λ R W can. add-planned can (k .mark-listed .ensures) (w .walk-add .ensures) (fitting c .clear .ensures) (c .before .before .if1 .taken) true refl
 
 mul-clear : tie.Need-mul-clear
 mul-clear c = omega (arith, start (marked (walked (c .before .before .before .before .before) .before) .before) .pre .can .can .m-bound)
@@ -97,7 +97,7 @@ plan-add-spec =
     mark-listed-requires
     walk-add-requires
     clear-requires
-    cast-t24
+    cast-t25
     same-length
     returns
     mul-clear

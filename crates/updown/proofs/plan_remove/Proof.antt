@@ -26,14 +26,14 @@ walk-remove-requires c κs = let s = c .before .before .before .before .before .
 clear-requires : tie.Need-clear-requires
 clear-requires c κs = let s = c .before .before .before .before .before .before .before .before .before .before .before .before .before .before .before .before .before .before .before .pre in (c .before .before .before .walk-remove .ensures (s .R) (s .W) (c .before .before .before .before .before .before .before .before .before .before .before .before .before .before .before .before .before .before .before .args .work .now) (remove-leave (s .can) (c .before .before .before .before .before .before .before .mark-booked .ensures (c .before .before .before .before .before .before .before .before .before .before .before .before .before .before .before .before .before .before .before .args .book-next .now) (s .W) (remove-mark (s .can))))) .walking .room .long
 
-cast-t24 : tie.Need-cast-t24
-cast-t24 c = let s = c .before .before .before .before .before .before .before .before .before .before .before .before .before .before .before .before .before .before .before .before .before .before .before .pre in let b = (c .before .before .before .before .before .before .before .walk-remove .ensures (s .R) (s .W) (c .before .before .before .before .before .before .before .before .before .before .before .before .before .before .before .before .before .before .before .before .before .before .before .args .work .now) (remove-leave (s .can) (c .before .before .before .before .before .before .before .before .before .before .before .mark-booked .ensures (c .before .before .before .before .before .before .before .before .before .before .before .before .before .before .before .before .before .before .before .before .before .before .before .args .book-next .now) (s .W) (remove-mark (s .can))))) in let g = remove-leave (s .can) (c .before .before .before .before .before .before .before .before .before .before .before .mark-booked .ensures (c .before .before .before .before .before .before .before .before .before .before .before .before .before .before .before .before .before .before .before .before .before .before .before .args .book-next .now) (s .W) (remove-mark (s .can))) in omega (arith, b .numbers .room, g .setting .fitting (suc (length (c .before .before .before .before .before .before .before .before .before .before .before .before .before .before .before .before .before .before .before .before .before .before .before .args .heads .now))) (omega arith) (omega arith), g .setting .records)
+cast-t25 : tie.Need-cast-t25
+cast-t25 c = let s = c .before .before .before .before .before .before .before .before .before .before .before .before .before .before .before .before .before .before .before .before .before .before .before .before .pre in let b = (c .before .before .before .before .before .before .before .before .walk-remove .ensures (s .R) (s .W) (c .before .before .before .before .before .before .before .before .before .before .before .before .before .before .before .before .before .before .before .before .before .before .before .before .args .work .now) (remove-leave (s .can) (c .before .before .before .before .before .before .before .before .before .before .before .before .mark-booked .ensures (c .before .before .before .before .before .before .before .before .before .before .before .before .before .before .before .before .before .before .before .before .before .before .before .before .args .book-next .now) (s .W) (remove-mark (s .can))))) in let g = remove-leave (s .can) (c .before .before .before .before .before .before .before .before .before .before .before .before .mark-booked .ensures (c .before .before .before .before .before .before .before .before .before .before .before .before .before .before .before .before .before .before .before .before .before .before .before .before .args .book-next .now) (s .W) (remove-mark (s .can))) in omega (arith, b .numbers .room, g .setting .fitting (suc (length (c .before .before .before .before .before .before .before .before .before .before .before .before .before .before .before .before .before .before .before .before .before .before .before .before .args .heads .now))) (omega arith) (omega arith), g .setting .records)
 
 same-length : tie.Need-same-length
 same-length c = search needs
 
 returns : tie.Need-returns
-returns c = λ R W can. remove-planned can (c .before .before .before .before .before .before .before .before .before .before .before .mark-booked .ensures (c .before .before .before .before .before .before .before .before .before .before .before .before .before .before .before .before .before .before .before .before .before .before .before .args .book-next .now) (W) (remove-mark (can))) (c .before .before .before .before .before .before .before .walk-remove .ensures (R) (W) (c .before .before .before .before .before .before .before .before .before .before .before .before .before .before .before .before .before .before .before .before .before .before .before .args .work .now) (remove-leave (can) (c .before .before .before .before .before .before .before .before .before .before .before .mark-booked .ensures (c .before .before .before .before .before .before .before .before .before .before .before .before .before .before .before .before .before .before .before .before .before .before .before .args .book-next .now) (W) (remove-mark (can))))) (c .before .before .before .clear .ensures) true refl
+returns c = λ R W can. remove-planned can (c .before .before .before .before .before .before .before .before .before .before .before .before .mark-booked .ensures (c .before .before .before .before .before .before .before .before .before .before .before .before .before .before .before .before .before .before .before .before .before .before .before .before .args .book-next .now) (W) (remove-mark (can))) (c .before .before .before .before .before .before .before .before .walk-remove .ensures (R) (W) (c .before .before .before .before .before .before .before .before .before .before .before .before .before .before .before .before .before .before .before .before .before .before .before .before .args .work .now) (remove-leave (can) (c .before .before .before .before .before .before .before .before .before .before .before .before .mark-booked .ensures (c .before .before .before .before .before .before .before .before .before .before .before .before .before .before .before .before .before .before .before .before .before .before .before .before .args .book-next .now) (W) (remove-mark (can))))) (c .before .before .before .before .clear .ensures) true refl
 
 pub plan-remove-spec : {M : Type 1} → statement M
 plan-remove-spec =
@@ -45,6 +45,6 @@ plan-remove-spec =
     mark-booked-requires
     walk-remove-requires
     clear-requires
-    cast-t24
+    cast-t25
     same-length
     returns)

@@ -47,11 +47,11 @@ mul-if2-2 c = omega arith
 shared-slice-read-if2 : tie.Need-shared-slice-read-if2 Inv-loop μ-loop
 shared-slice-read-if2 c = omega arith
 
-add-result : tie.Need-add-result Inv-loop μ-loop
-add-result c = omega arith
+add-t20 : tie.Need-add-t20 Inv-loop μ-loop
+add-t20 c = omega arith
 
-cast-result : tie.Need-cast-result Inv-loop μ-loop
-cast-result c = omega arith
+cast-t21 : tie.Need-cast-t21 Inv-loop μ-loop
+cast-t21 c = omega arith
 
 returns : tie.Need-returns Inv-loop μ-loop
 returns c = passing-found (c .before .before .before .before .before .loop .inv) (c .before .before .before .before .loop-test .taken) (c .if2 .taken) refl
@@ -86,8 +86,8 @@ next-marked-spec =
     add-if2
     mul-if2-2
     shared-slice-read-if2
-    add-result
-    cast-result
+    add-t20
+    cast-t21
     returns
     add-i-2
     loop-less-2

@@ -29,10 +29,10 @@ plan-end-requires : tie.Need-plan-end-requires
 plan-end-requires c κs = search needs
 
 gather-plan-requires : tie.Need-gather-plan-requires
-gather-plan-requires c κs = (can-gather (c .before .before .before .before .before .before .pre .0), plan-read _ (c .before .before .plan-end .ensures) (c .before .before .before .before .before .before .pre .1 .plan))
+gather-plan-requires c κs = (can-gather (c .before .before .before .before .before .before .before .pre .0), plan-read _ (c .before .before .plan-end .ensures) (c .before .before .before .before .before .before .before .pre .1 .plan))
 
 count-rows-requires : tie.Need-count-rows-requires
-count-rows-requires c κs = can-count (c .before .before .before .gather-plan .ensures) (c .before .before .before .before .before .before .before .before .before .before .pre .0)
+count-rows-requires c κs = can-count (c .before .before .before .gather-plan .ensures) (c .before .before .before .before .before .before .before .before .before .before .before .pre .0)
 
 same-length : tie.Need-same-length
 same-length c = search needs
@@ -41,10 +41,10 @@ returns : tie.Need-returns
 returns c = kept-up _ (c .before .before .before .before .before .before .before .before .before .plan-end .ensures) _ (c .before .before .before .before .before .before .before .before .if1 .taken) (c .before .before .before .before .before .before .gather-plan .ensures) (c .before .before .count-rows .ensures)
 
 gather-plan-requires-2 : tie.Need-gather-plan-requires-2
-gather-plan-requires-2 c κs = (can-gather (c .before .before .before .before .before .before .pre .0), plan-read _ (c .before .before .plan-end .ensures) (c .before .before .before .before .before .before .pre .1 .plan))
+gather-plan-requires-2 c κs = (can-gather (c .before .before .before .before .before .before .before .pre .0), plan-read _ (c .before .before .plan-end .ensures) (c .before .before .before .before .before .before .before .pre .1 .plan))
 
 count-rows-requires-2 : tie.Need-count-rows-requires-2
-count-rows-requires-2 c κs = can-count (c .before .before .before .gather-plan2 .ensures) (c .before .before .before .before .before .before .before .before .before .before .pre .0)
+count-rows-requires-2 c κs = can-count (c .before .before .before .gather-plan2 .ensures) (c .before .before .before .before .before .before .before .before .before .before .before .pre .0)
 
 same-length-2 : tie.Need-same-length-2
 same-length-2 c = search needs

@@ -32,16 +32,16 @@ plan-end-requires : tie.Need-plan-end-requires
 plan-end-requires c κs = search needs
 
 gather-grown-requires : tie.Need-gather-grown-requires
-gather-grown-requires c κs = grow-read _ (c .before .before .before .before .before .second .ensures) _ (c .before .plan-end .ensures) _ (c .before .before .before .before .if1 .taken) (c .before .before .before .before .before .before .before .before .before .before .pre .0) (c .before .before .before .before .before .before .before .before .before .before .pre .1 .plan) (c .before .before .before .before .before .before .before .before .before .before .pre .1 .column)
+gather-grown-requires c κs = grow-read _ (c .before .before .before .before .before .before .second .ensures) _ (c .before .plan-end .ensures) _ (c .before .before .before .before .before .if1 .taken) (c .before .before .before .before .before .before .before .before .before .before .before .pre .0) (c .before .before .before .before .before .before .before .before .before .before .before .pre .1 .plan) (c .before .before .before .before .before .before .before .before .before .before .before .pre .1 .column)
 
 count-rows-requires : tie.Need-count-rows-requires
-count-rows-requires c κs = can-count (c .before .before .before .gather-grown .ensures) (c .before .before .before .before .before .before .before .before .before .before .before .before .before .before .pre .0)
+count-rows-requires c κs = can-count (c .before .before .before .gather-grown .ensures) (c .before .before .before .before .before .before .before .before .before .before .before .before .before .before .before .pre .0)
 
 same-length : tie.Need-same-length
 same-length c = search needs
 
 returns : tie.Need-returns
-returns c = grown-up _ (c .before .before .before .before .before .before .before .before .before .before .before .before .second .ensures) _ (c .before .before .before .before .before .before .before .before .plan-end .ensures) _ (c .before .before .before .before .before .before .before .before .before .before .before .if1 .taken) (c .before .before .before .before .before .before .gather-grown .ensures) (c .before .before .count-rows .ensures)
+returns c = grown-up _ (c .before .before .before .before .before .before .before .before .before .before .before .before .before .second .ensures) _ (c .before .before .before .before .before .before .before .before .plan-end .ensures) _ (c .before .before .before .before .before .before .before .before .before .before .before .before .if1 .taken) (c .before .before .before .before .before .before .gather-grown .ensures) (c .before .before .count-rows .ensures)
 
 gather-chain-requires : tie.Need-gather-chain-requires
 gather-chain-requires c κs = (can-gather (c .before .before .before .before .before .before .before .pre .0), column-rises (c .before .before .before .before .before .before .before .pre .1 .plan .column) (c .before .before .before .before .before .before .before .args .adding) (c .before .before .before .before .before .before .before .pre .1 .column) _ (c .before .before .second .ensures))

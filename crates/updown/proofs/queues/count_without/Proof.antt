@@ -44,16 +44,16 @@ plan-end-requires : tie.Need-plan-end-requires
 plan-end-requires c κs = search needs
 
 gather-pruned-requires : tie.Need-gather-pruned-requires
-gather-pruned-requires c κs = (can-gather (c .before .before .before .before .before .before .before .before .before .before .pre .0), column-rises (c .before .before .before .before .before .before .before .before .before .before .pre .1 .plan .column) (c .before .before .before .before .before .before .before .before .before .before .args .adding) (c .before .before .before .before .before .before .before .before .before .before .pre .1 .column) _ (c .before .before .before .before .before .second .ensures), plan-read _ (c .before .plan-end .ensures) (c .before .before .before .before .before .before .before .before .before .before .pre .1 .plan))
+gather-pruned-requires c κs = (can-gather (c .before .before .before .before .before .before .before .before .before .before .before .pre .0), column-rises (c .before .before .before .before .before .before .before .before .before .before .before .pre .1 .plan .column) (c .before .before .before .before .before .before .before .before .before .before .before .args .adding) (c .before .before .before .before .before .before .before .before .before .before .before .pre .1 .column) _ (c .before .before .before .before .before .before .second .ensures), plan-read _ (c .before .plan-end .ensures) (c .before .before .before .before .before .before .before .before .before .before .before .pre .1 .plan))
 
 count-rows-requires-2 : tie.Need-count-rows-requires-2
-count-rows-requires-2 c κs = can-count (c .before .before .before .gather-pruned .ensures) (c .before .before .before .before .before .before .before .before .before .before .before .before .before .before .pre .0)
+count-rows-requires-2 c κs = can-count (c .before .before .before .gather-pruned .ensures) (c .before .before .before .before .before .before .before .before .before .before .before .before .before .before .before .pre .0)
 
 same-length-2 : tie.Need-same-length-2
 same-length-2 c = search needs
 
 returns-2 : tie.Need-returns-2
-returns-2 c = pruned-up _ (c .before .before .before .before .before .before .before .before .before .before .before .before .second .ensures) _ (c .before .before .before .before .before .before .before .before .plan-end .ensures) _ (c .before .before .before .before .before .before .before .before .before .before .before .if1 .left) (c .before .before .before .before .before .before .gather-pruned .ensures) (c .before .before .count-rows2 .ensures)
+returns-2 c = pruned-up _ (c .before .before .before .before .before .before .before .before .before .before .before .before .before .second .ensures) _ (c .before .before .before .before .before .before .before .before .plan-end .ensures) _ (c .before .before .before .before .before .before .before .before .before .before .before .before .if1 .left) (c .before .before .before .before .before .before .gather-pruned .ensures) (c .before .before .count-rows2 .ensures)
 
 pub count-without-spec : {M : Type 1} → statement M
 count-without-spec =

@@ -11,29 +11,29 @@ sub-i c = search needs
 cast-i : tie.Need-cast-i
 cast-i c = search needs
 
-mul-result : tie.Need-mul-result
-mul-result c = search needs
+mul-t9 : tie.Need-mul-t9
+mul-t9 c = search needs
 
-shared-slice-read-result : tie.Need-shared-slice-read-result
-shared-slice-read-result c = search needs
+shared-slice-read-t11 : tie.Need-shared-slice-read-t11
+shared-slice-read-t11 c = search needs
 
-cast-result : tie.Need-cast-result
-cast-result c = omega (arith, c .shared-slice-known .given (c .before .before .args .c - 1))
+cast-t12 : tie.Need-cast-t12
+cast-t12 c = omega (arith, c .shared-slice-known .given (c .before .before .before .args .c .0 - 1))
 
 returns : tie.Need-returns
 returns c = rw (c .before .if1 .taken) refl
 
-mul-result-2 : tie.Need-mul-result-2
-mul-result-2 c = search needs
+mul-t13 : tie.Need-mul-t13
+mul-t13 c = search needs
 
-add-result : tie.Need-add-result
-add-result c = search needs
+add-t14 : tie.Need-add-t14
+add-t14 c = search needs
 
-mul-result-3 : tie.Need-mul-result-3
-mul-result-3 c = search needs
+mul-t15 : tie.Need-mul-t15
+mul-t15 c = search needs
 
-shared-slice-read-result-2 : tie.Need-shared-slice-read-result-2
-shared-slice-read-result-2 c = search needs
+shared-slice-read-t7 : tie.Need-shared-slice-read-t7
+shared-slice-read-t7 c = search needs
 
 returns-2 : tie.Need-returns-2
 returns-2 c = rw (c .before .if1 .left) refl
@@ -44,12 +44,12 @@ other-parent-spec =
     (tie.spec
     sub-i
     cast-i
-    mul-result
-    shared-slice-read-result
-    cast-result
+    mul-t9
+    shared-slice-read-t11
+    cast-t12
     returns
-    mul-result-2
-    add-result
-    mul-result-3
-    shared-slice-read-result-2
+    mul-t13
+    add-t14
+    mul-t15
+    shared-slice-read-t7
     returns-2)

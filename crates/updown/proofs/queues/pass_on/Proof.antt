@@ -18,11 +18,11 @@ cast-i c = search needs
 add-i : tie.Need-add-i
 add-i c = search needs
 
-mul-after : tie.Need-mul-after
-mul-after c = search needs
+mul-q : tie.Need-mul-q
+mul-q c = search needs
 
-slice-read-after : tie.Need-slice-read-after
-slice-read-after c = search needs
+slice-read-q : tie.Need-slice-read-q
+slice-read-q c = search needs
 
 mul-work : tie.Need-mul-work
 mul-work c = search needs
@@ -34,7 +34,7 @@ same-length : tie.Need-same-length
 same-length c = search needs
 
 returns : tie.Need-returns
-returns c = (refl, rw (eq-eqb (c .before .before .args .other) (c .before .before .args .j) (c .if1 .taken)) refl)
+returns c = (refl, rw (eq-eqb (c .before .before .before .before .before .args .other .0) (c .before .before .before .before .before .args .j .0) (c .if1 .taken)) refl)
 
 mul-work-2 : tie.Need-mul-work-2
 mul-work-2 c = search needs
@@ -46,10 +46,10 @@ same-length-2 : tie.Need-same-length-2
 same-length-2 c = search needs
 
 returns-2 : tie.Need-returns-2
-returns-2 c = (refl, rw (ne-eqb (c .before .before .before .args .other) (c .before .before .before .args .j) (c .before .if1 .left), eq-eqb (c .before .before .before .args .other) 0 (c .if2 .taken)) refl)
+returns-2 c = (refl, rw (ne-eqb (c .before .before .before .before .before .before .before .args .other .0) (c .before .before .before .before .before .before .before .args .j .0) (c .before .before .if1 .left), eq-eqb (c .before .before .before .before .before .before .before .args .other .0) 0 (c .if2 .taken)) refl)
 
-mul-q : tie.Need-mul-q
-mul-q c = search needs
+mul-q-2 : tie.Need-mul-q-2
+mul-q-2 c = search needs
 
 sub-q : tie.Need-sub-q
 sub-q c = search needs
@@ -82,7 +82,7 @@ same-length-3 : tie.Need-same-length-3
 same-length-3 c = search needs
 
 returns-3 : tie.Need-returns-3
-returns-3 c = (refl, rw (ne-eqb (c .before .before .before .before .args .other) (c .before .before .before .before .args .j) (c .before .before .if1 .left), ne-eqb (c .before .before .before .before .args .other) 0 (c .before .if2 .left)) refl)
+returns-3 c = (refl, rw (ne-eqb (c .before .before .before .before .before .before .before .before .before .args .other .0) (c .before .before .before .before .before .before .before .before .before .args .j .0) (c .before .before .before .before .if1 .left), ne-eqb (c .before .before .before .before .before .before .before .before .before .args .other .0) 0 (c .before .before .if2 .left)) refl)
 
 pub pass-on-spec : {M : Type 1} → statement M
 pass-on-spec =
@@ -92,8 +92,8 @@ pass-on-spec =
     sub-i
     cast-i
     add-i
-    mul-after
-    slice-read-after
+    mul-q
+    slice-read-q
     mul-work
     slice-write-work
     same-length
@@ -102,7 +102,7 @@ pass-on-spec =
     slice-write-work-2
     same-length-2
     returns-2
-    mul-q
+    mul-q-2
     sub-q
     cast-q
     add-q

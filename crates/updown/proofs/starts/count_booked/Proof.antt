@@ -12,7 +12,7 @@ use Rattle.updown.proofs.starts.count_booked.Statement.{statement}
 use Rattle.updown.proofs.starts.count_booked.Tie as tie
 
 abbrev Inv-loop : tie.InvT-loop
-Inv-loop book-heads book-rows book-next work₀ ids m j n₀ k₀ work n k = (k ≤ length ids) × ((R W : List Column) (place : ℕ → ℕ) → BookHolds book-heads book-rows book-next ids m W → CanStart m R W false work₀ j place → Counting m R W false work₀ work n j k place)
+Inv-loop book-heads book-rows book-next work₀ ids m j n₀ k₀ work n k = (k ≤ length ids) × ((R W : List Column) (place : ℕ → ℕ) → BookHolds book-heads book-rows book-next ids m W → CanStart m R W false work₀ (j .0) place → Counting m R W false work₀ work n (j .0) k place)
 
 abbrev μ-loop : tie.MeasureT-loop
 μ-loop book-heads book-rows book-next work₀ ids m j n₀ k₀ work n k = length ids - k
@@ -22,47 +22,47 @@ start c = c .before .before .before .before .before .before
 
 -- what holds at the loop's test, for the columns of the premise
 hand : (c : tie.At-loop Inv-loop μ-loop) →
-    Counting (start c .args .m) (start c .pre .R) (start c .pre .W) false (start c .args .work .now) (c .loop .work) (c .loop .n) (start c .args .j) (c .loop .k) (start c .pre .place)
+    Counting (start c .args .m) (start c .pre .R) (start c .pre .W) false (start c .args .work .now) (c .loop .work) (c .loop .n) (start c .args .j .0) (c .loop .k) (start c .pre .place)
 hand c = c .loop .inv .1 (start c .pre .R) (start c .pre .W) (start c .pre .place) (start c .pre .holds) (start c .pre .can)
 
 loop-holds : tie.Need-loop-holds Inv-loop μ-loop
 loop-holds c = (omega arith, λ R W place h can. counting-start can)
 
-mul-id : tie.Need-mul-id Inv-loop μ-loop
-mul-id c = omega arith
+mul-t15 : tie.Need-mul-t15 Inv-loop μ-loop
+mul-t15 c = omega arith
 
-shared-slice-read-id : tie.Need-shared-slice-read-id Inv-loop μ-loop
-shared-slice-read-id c = omega arith
+shared-slice-read-t18 : tie.Need-shared-slice-read-t18 Inv-loop μ-loop
+shared-slice-read-t18 c = omega arith
 
 lowest-row-requires : tie.Need-lowest-row-requires Inv-loop μ-loop
 lowest-row-requires c κs = let f = booked-first (start (c .before .before) .pre .holds) (c .before .before .loop .k) (c .before .loop-test .taken) in (f .0, f .1, f .2, f .3)
 
 mul-a : tie.Need-mul-a Inv-loop μ-loop
-mul-a c = omega (arith, (start (c .before .before .before .before .before) .pre .can) .narrow, booked-steady (start (c .before .before .before .before .before) .pre .can) (start (c .before .before .before .before .before) .pre .holds) (hand (c .before .before .before .before .before)) (c .before .before .before .before .loop-test .taken) .tally .touched .long)
+mul-a c = omega (arith, (start (c .before .before .before .before .before .before) .pre .can) .narrow, booked-steady (start (c .before .before .before .before .before .before) .pre .can) (start (c .before .before .before .before .before .before) .pre .holds) (hand (c .before .before .before .before .before .before)) (c .before .before .before .before .before .loop-test .taken) .tally .touched .long)
 
 mul-e : tie.Need-mul-e Inv-loop μ-loop
-mul-e c = omega (arith, (start (c .before .before .before .before .before) .pre .can) .narrow, booked-steady (start (c .before .before .before .before .before) .pre .can) (start (c .before .before .before .before .before) .pre .holds) (hand (c .before .before .before .before .before)) (c .before .before .before .before .loop-test .taken) .tally .touched .long)
+mul-e c = omega (arith, (start (c .before .before .before .before .before .before) .pre .can) .narrow, booked-steady (start (c .before .before .before .before .before .before) .pre .can) (start (c .before .before .before .before .before .before) .pre .holds) (hand (c .before .before .before .before .before .before)) (c .before .before .before .before .before .loop-test .taken) .tally .touched .long)
 
 mul-copy-rows : tie.Need-mul-copy-rows Inv-loop μ-loop
-mul-copy-rows c = omega (arith, (start (c .before .before .before .before .before) .pre .can) .narrow, booked-steady (start (c .before .before .before .before .before) .pre .can) (start (c .before .before .before .before .before) .pre .holds) (hand (c .before .before .before .before .before)) (c .before .before .before .before .loop-test .taken) .tally .touched .long)
+mul-copy-rows c = omega (arith, (start (c .before .before .before .before .before .before) .pre .can) .narrow, booked-steady (start (c .before .before .before .before .before .before) .pre .can) (start (c .before .before .before .before .before .before) .pre .holds) (hand (c .before .before .before .before .before .before)) (c .before .before .before .before .before .loop-test .taken) .tally .touched .long)
 
 sub-copy-rows : tie.Need-sub-copy-rows Inv-loop μ-loop
-sub-copy-rows c = omega (arith, (start (c .before .before .before .before .before) .pre .can) .narrow, booked-steady (start (c .before .before .before .before .before) .pre .can) (start (c .before .before .before .before .before) .pre .holds) (hand (c .before .before .before .before .before)) (c .before .before .before .before .loop-test .taken) .tally .touched .long)
+sub-copy-rows c = omega (arith, (start (c .before .before .before .before .before .before) .pre .can) .narrow, booked-steady (start (c .before .before .before .before .before .before) .pre .can) (start (c .before .before .before .before .before .before) .pre .holds) (hand (c .before .before .before .before .before .before)) (c .before .before .before .before .before .loop-test .taken) .tally .touched .long)
 
 part-copy-rows-start : tie.Need-part-copy-rows-start Inv-loop μ-loop
-part-copy-rows-start c = omega (arith, (start (c .before .before .before .before .before) .pre .can) .narrow, booked-steady (start (c .before .before .before .before .before) .pre .can) (start (c .before .before .before .before .before) .pre .holds) (hand (c .before .before .before .before .before)) (c .before .before .before .before .loop-test .taken) .tally .touched .long)
+part-copy-rows-start c = omega (arith, (start (c .before .before .before .before .before .before) .pre .can) .narrow, booked-steady (start (c .before .before .before .before .before .before) .pre .can) (start (c .before .before .before .before .before .before) .pre .holds) (hand (c .before .before .before .before .before .before)) (c .before .before .before .before .before .loop-test .taken) .tally .touched .long)
 
 part-copy-rows-end : tie.Need-part-copy-rows-end Inv-loop μ-loop
-part-copy-rows-end c = omega (arith, (start (c .before .before .before .before .before) .pre .can) .narrow, booked-steady (start (c .before .before .before .before .before) .pre .can) (start (c .before .before .before .before .before) .pre .holds) (hand (c .before .before .before .before .before)) (c .before .before .before .before .loop-test .taken) .tally .touched .long)
+part-copy-rows-end c = omega (arith, (start (c .before .before .before .before .before .before) .pre .can) .narrow, booked-steady (start (c .before .before .before .before .before .before) .pre .can) (start (c .before .before .before .before .before .before) .pre .holds) (hand (c .before .before .before .before .before .before)) (c .before .before .before .before .before .loop-test .taken) .tally .touched .long)
 
 copy-rows-requires : tie.Need-copy-rows-requires Inv-loop μ-loop
-copy-rows-requires c κs = booked-copy (start (c .before .before .before .before .before .before) .pre .holds) (c .before .before .before .before .before .before .loop .k) (c .before .before .before .before .before .loop-test .taken) _ (part-length (start (c .before .before .before .before .before .before) .args .m) (c .before .before .before .before .before .before .loop .work) (booked-steady (start (c .before .before .before .before .before .before) .pre .can) (start (c .before .before .before .before .before .before) .pre .holds) (hand (c .before .before .before .before .before .before)) (c .before .before .before .before .before .loop-test .taken) .tally .touched .long))
+copy-rows-requires c κs = booked-copy (start (c .before .before .before .before .before .before .before) .pre .holds) (c .before .before .before .before .before .before .before .loop .k) (c .before .before .before .before .before .before .loop-test .taken) _ (part-length (start (c .before .before .before .before .before .before .before) .args .m) (c .before .before .before .before .before .before .before .loop .work) (booked-steady (start (c .before .before .before .before .before .before .before) .pre .can) (start (c .before .before .before .before .before .before .before) .pre .holds) (hand (c .before .before .before .before .before .before .before)) (c .before .before .before .before .before .before .loop-test .taken) .tally .touched .long))
 
 cast-count-rows : tie.Need-cast-count-rows Inv-loop μ-loop
 cast-count-rows c = omega arith
 
 count-rows-requires : tie.Need-count-rows-requires Inv-loop μ-loop
-count-rows-requires c κs = can-count (booked-gathered (start (c .before .before .before .before .before .before .before .before .before .before) .pre .can) (start (c .before .before .before .before .before .before .before .before .before .before) .pre .holds) (hand (c .before .before .before .before .before .before .before .before .before .before)) (c .before .before .before .before .before .before .before .before .before .loop-test .taken) _ _ (c .before .before .before .copy-rows .ensures .0) (c .before .before .before .copy-rows .ensures .1)) (booked-steady (start (c .before .before .before .before .before .before .before .before .before .before) .pre .can) (start (c .before .before .before .before .before .before .before .before .before .before) .pre .holds) (hand (c .before .before .before .before .before .before .before .before .before .before)) (c .before .before .before .before .before .before .before .before .before .loop-test .taken))
+count-rows-requires c κs = can-count (booked-gathered (start (c .before .before .before .before .before .before .before .before .before .before .before) .pre .can) (start (c .before .before .before .before .before .before .before .before .before .before .before) .pre .holds) (hand (c .before .before .before .before .before .before .before .before .before .before .before)) (c .before .before .before .before .before .before .before .before .before .before .loop-test .taken) _ _ (c .before .before .before .copy-rows .ensures .0) (c .before .before .before .copy-rows .ensures .1)) (booked-steady (start (c .before .before .before .before .before .before .before .before .before .before .before) .pre .can) (start (c .before .before .before .before .before .before .before .before .before .before .before) .pre .holds) (hand (c .before .before .before .before .before .before .before .before .before .before .before)) (c .before .before .before .before .before .before .before .before .before .before .loop-test .taken))
 
 add-k : tie.Need-add-k Inv-loop μ-loop
 add-k c = omega arith
@@ -71,7 +71,7 @@ loop-less : tie.Need-loop-less Inv-loop μ-loop
 loop-less c = omega arith
 
 loop-again : tie.Need-loop-again Inv-loop μ-loop
-loop-again c = (omega arith, λ R W place h can. booked-here can h (c .before .before .before .before .before .before .before .before .before .before .before .before .before .loop .inv .1 R W place h can) (c .before .before .before .before .before .before .before .before .before .before .before .before .loop-test .taken) (c .before .before .before .before .before .before .before .before .before .before .lowest-row .ensures) (c .before .before .before .before .before .before .before .before .if1 .taken) (booked-gathered can h (c .before .before .before .before .before .before .before .before .before .before .before .before .before .loop .inv .1 R W place h can) (c .before .before .before .before .before .before .before .before .before .before .before .before .loop-test .taken) _ _ (c .before .before .before .before .before .before .copy-rows .ensures .0) (c .before .before .before .before .before .before .copy-rows .ensures .1)) (c .before .before .count-rows .ensures))
+loop-again c = (omega arith, λ R W place h can. booked-here can h (c .before .before .before .before .before .before .before .before .before .before .before .before .before .before .loop .inv .1 R W place h can) (c .before .before .before .before .before .before .before .before .before .before .before .before .before .loop-test .taken) (c .before .before .before .before .before .before .before .before .before .before .before .lowest-row .ensures) (c .before .before .before .before .before .before .before .before .if1 .taken) (booked-gathered can h (c .before .before .before .before .before .before .before .before .before .before .before .before .before .before .loop .inv .1 R W place h can) (c .before .before .before .before .before .before .before .before .before .before .before .before .before .loop-test .taken) _ _ (c .before .before .before .before .before .before .copy-rows .ensures .0) (c .before .before .before .before .before .before .copy-rows .ensures .1)) (c .before .before .count-rows .ensures))
 
 add-k-2 : tie.Need-add-k-2 Inv-loop μ-loop
 add-k-2 c = omega arith
@@ -80,7 +80,7 @@ loop-less-2 : tie.Need-loop-less-2 Inv-loop μ-loop
 loop-less-2 c = omega arith
 
 loop-again-2 : tie.Need-loop-again-2 Inv-loop μ-loop
-loop-again-2 c = (omega arith, λ R W place h can. booked-past can h (c .before .before .before .before .before .loop .inv .1 R W place h can) (c .before .before .before .before .loop-test .taken) (c .before .before .lowest-row .ensures) (c .if1 .left))
+loop-again-2 c = (omega arith, λ R W place h can. booked-past can h (c .before .before .before .before .before .before .loop .inv .1 R W place h can) (c .before .before .before .before .before .loop-test .taken) (c .before .before .before .lowest-row .ensures) (c .if1 .left))
 
 same-length : tie.Need-same-length Inv-loop μ-loop
 same-length c = (hand (c .before)) .only .same-length
@@ -95,8 +95,8 @@ count-booked-spec =
     Inv-loop
     μ-loop
     loop-holds
-    mul-id
-    shared-slice-read-id
+    mul-t15
+    shared-slice-read-t18
     lowest-row-requires
     mul-a
     mul-e

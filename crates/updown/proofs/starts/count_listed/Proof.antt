@@ -12,7 +12,7 @@ use Rattle.updown.proofs.starts.count_listed.Statement.{statement}
 use Rattle.updown.proofs.starts.count_listed.Tie as tie
 
 abbrev Inv-loop : tie.InvT-loop
-Inv-loop work₀ row-counts row-list m j n₀ k₀ at₀ work n k at = (k ≤ length row-counts) × ((R W : List Column) (place : ℕ → ℕ) → Listed row-counts row-list W → CanStart m R W true work₀ j place → Reading row-counts row-list W k at × Counting m R W true work₀ work n j k place)
+Inv-loop work₀ row-counts row-list m j n₀ k₀ at₀ work n k at = (k ≤ length row-counts) × ((R W : List Column) (place : ℕ → ℕ) → Listed row-counts row-list W → CanStart m R W true work₀ (j .0) place → Reading row-counts row-list W k at × Counting m R W true work₀ work n (j .0) k place)
 
 abbrev μ-loop : tie.MeasureT-loop
 μ-loop work₀ row-counts row-list m j n₀ k₀ at₀ work n k at = length row-counts - k
@@ -23,7 +23,7 @@ start c = c .before .before .before .before
 -- what holds at the loop's test, for the columns of the premise
 hand : (c : tie.At-loop Inv-loop μ-loop) →
     Reading (start c .args .row-counts .now) (start c .args .row-list .now) (start c .pre .W) (c .loop .k) (c .loop .at) ×
-    Counting (start c .args .m) (start c .pre .R) (start c .pre .W) true (start c .args .work .now) (c .loop .work) (c .loop .n) (start c .args .j) (c .loop .k) (start c .pre .place)
+    Counting (start c .args .m) (start c .pre .R) (start c .pre .W) true (start c .args .work .now) (c .loop .work) (c .loop .n) (start c .args .j .0) (c .loop .k) (start c .pre .place)
 hand c = c .loop .inv .1 (start c .pre .R) (start c .pre .W) (start c .pre .place) (start c .pre .listed) (start c .pre .can)
 
 loop-holds : tie.Need-loop-holds Inv-loop μ-loop
@@ -48,22 +48,22 @@ shared-slice-read-if1 : tie.Need-shared-slice-read-if1 Inv-loop μ-loop
 shared-slice-read-if1 c = listed-first (start (c .before .before .before) .pre .can) ((hand (c .before .before .before)) .0) ((hand (c .before .before .before)) .1) (c .before .before .loop-test .taken) .0
 
 mul-gather-rows : tie.Need-mul-gather-rows Inv-loop μ-loop
-mul-gather-rows c = omega (arith, reading-end ((hand (c .before .before .before .before .before)) .0) (c .before .before .before .before .loop-test .taken))
+mul-gather-rows c = omega (arith, reading-end ((hand (c .before .before .before .before .before .before)) .0) (c .before .before .before .before .before .loop-test .taken))
 
 sub-gather-rows : tie.Need-sub-gather-rows Inv-loop μ-loop
-sub-gather-rows c = omega (arith, reading-end ((hand (c .before .before .before .before .before)) .0) (c .before .before .before .before .loop-test .taken))
+sub-gather-rows c = omega (arith, reading-end ((hand (c .before .before .before .before .before .before)) .0) (c .before .before .before .before .before .loop-test .taken))
 
 part-gather-rows-start : tie.Need-part-gather-rows-start Inv-loop μ-loop
-part-gather-rows-start c = omega (arith, reading-end ((hand (c .before .before .before .before .before)) .0) (c .before .before .before .before .loop-test .taken))
+part-gather-rows-start c = omega (arith, reading-end ((hand (c .before .before .before .before .before .before)) .0) (c .before .before .before .before .before .loop-test .taken))
 
 part-gather-rows-end : tie.Need-part-gather-rows-end Inv-loop μ-loop
-part-gather-rows-end c = omega (arith, reading-end ((hand (c .before .before .before .before .before)) .0) (c .before .before .before .before .loop-test .taken))
+part-gather-rows-end c = omega (arith, reading-end ((hand (c .before .before .before .before .before .before)) .0) (c .before .before .before .before .before .loop-test .taken))
 
 gather-rows-requires : tie.Need-gather-rows-requires Inv-loop μ-loop
-gather-rows-requires c κs = listed-gather (start (c .before .before .before .before .before .before) .pre .can) ((hand (c .before .before .before .before .before .before)) .0) ((hand (c .before .before .before .before .before .before)) .1) (c .before .before .before .before .before .loop-test .taken)
+gather-rows-requires c κs = listed-gather (start (c .before .before .before .before .before .before .before) .pre .can) ((hand (c .before .before .before .before .before .before .before)) .0) ((hand (c .before .before .before .before .before .before .before)) .1) (c .before .before .before .before .before .before .loop-test .taken)
 
 count-rows-requires : tie.Need-count-rows-requires Inv-loop μ-loop
-count-rows-requires c κs = can-count (c .before .before .before .gather-rows .ensures) (counting-steady (start (c .before .before .before .before .before .before .before .before .before .before) .pre .can) ((hand (c .before .before .before .before .before .before .before .before .before .before)) .1) (omega (arith, (hand (c .before .before .before .before .before .before .before .before .before .before)) .0 .size, (c .before .before .before .before .before .before .before .before .before .loop-test .taken))))
+count-rows-requires c κs = can-count (c .before .before .before .gather-rows .ensures) (counting-steady (start (c .before .before .before .before .before .before .before .before .before .before .before) .pre .can) ((hand (c .before .before .before .before .before .before .before .before .before .before .before)) .1) (omega (arith, (hand (c .before .before .before .before .before .before .before .before .before .before .before)) .0 .size, (c .before .before .before .before .before .before .before .before .before .before .loop-test .taken))))
 
 add-k : tie.Need-add-k Inv-loop μ-loop
 add-k c = omega arith
@@ -72,7 +72,7 @@ loop-less : tie.Need-loop-less Inv-loop μ-loop
 loop-less c = omega arith
 
 loop-again : tie.Need-loop-again Inv-loop μ-loop
-loop-again c = (omega arith, λ R W place h can. (reading-next (c .before .before .before .before .before .before .before .before .before .before .before .before .before .loop .inv .1 R W place h can .0) (c .before .before .before .before .before .before .before .before .before .before .before .before .loop-test .taken), listed-here can (c .before .before .before .before .before .before .before .before .before .before .before .before .before .loop .inv .1 R W place h can .0) (c .before .before .before .before .before .before .before .before .before .before .before .before .before .loop .inv .1 R W place h can .1) (c .before .before .before .before .before .before .before .before .before .before .before .before .loop-test .taken) (c .before .before .before .before .before .before .before .before .before .if1 .taken) (c .before .before .before .before .before .before .gather-rows .ensures) (c .before .before .count-rows .ensures)))
+loop-again c = (omega arith, λ R W place h can. (reading-next (c .before .before .before .before .before .before .before .before .before .before .before .before .before .before .loop .inv .1 R W place h can .0) (c .before .before .before .before .before .before .before .before .before .before .before .before .before .loop-test .taken), listed-here can (c .before .before .before .before .before .before .before .before .before .before .before .before .before .before .loop .inv .1 R W place h can .0) (c .before .before .before .before .before .before .before .before .before .before .before .before .before .before .loop .inv .1 R W place h can .1) (c .before .before .before .before .before .before .before .before .before .before .before .before .before .loop-test .taken) (c .before .before .before .before .before .before .before .before .before .if1 .taken) (c .before .before .before .before .before .before .gather-rows .ensures) (c .before .before .count-rows .ensures)))
 
 add-k-2 : tie.Need-add-k-2 Inv-loop μ-loop
 add-k-2 c = omega arith
@@ -81,7 +81,7 @@ loop-less-2 : tie.Need-loop-less-2 Inv-loop μ-loop
 loop-less-2 c = omega arith
 
 loop-again-2 : tie.Need-loop-again-2 Inv-loop μ-loop
-loop-again-2 c = (omega arith, λ R W place h can. (reading-next (c .before .before .before .before .loop .inv .1 R W place h can .0) (c .before .before .before .loop-test .taken), listed-past can (c .before .before .before .before .loop .inv .1 R W place h can .0) (c .before .before .before .before .loop .inv .1 R W place h can .1) (c .before .before .before .loop-test .taken) (c .if1 .left)))
+loop-again-2 c = (omega arith, λ R W place h can. (reading-next (c .before .before .before .before .before .loop .inv .1 R W place h can .0) (c .before .before .before .before .loop-test .taken), listed-past can (c .before .before .before .before .before .loop .inv .1 R W place h can .0) (c .before .before .before .before .before .loop .inv .1 R W place h can .1) (c .before .before .before .before .loop-test .taken) (c .if1 .left)))
 
 same-length : tie.Need-same-length Inv-loop μ-loop
 same-length c = (hand (c .before)) .1 .only .same-length

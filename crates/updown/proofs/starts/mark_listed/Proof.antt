@@ -27,11 +27,11 @@ hand c = c .loop .inv .1 (start c .pre .W) (start c .pre .can)
 loop-holds : tie.Need-loop-holds Inv-loop μ-loop
 loop-holds c = (omega arith, λ W can. (reading-start (can .listed), starts-none (can .bare)))
 
-mul-row : tie.Need-mul-row Inv-loop μ-loop
-mul-row c = let f = marking-row (start (c .before) .pre .can) ((hand (c .before)) .0) ((hand (c .before)) .1) (c .loop-test .taken) in omega arith
+mul-mark-start : tie.Need-mul-mark-start Inv-loop μ-loop
+mul-mark-start c = let f = marking-row (start (c .before) .pre .can) ((hand (c .before)) .0) ((hand (c .before)) .1) (c .loop-test .taken) in omega arith
 
-shared-slice-read-row : tie.Need-shared-slice-read-row Inv-loop μ-loop
-shared-slice-read-row c = marking-row (start (c .before .before) .pre .can) ((hand (c .before .before)) .0) ((hand (c .before .before)) .1) (c .before .loop-test .taken) .0
+shared-slice-read-mark-start : tie.Need-shared-slice-read-mark-start Inv-loop μ-loop
+shared-slice-read-mark-start c = marking-row (start (c .before .before) .pre .can) ((hand (c .before .before)) .0) ((hand (c .before .before)) .1) (c .before .loop-test .taken) .0
 
 add-mark-start : tie.Need-add-mark-start Inv-loop μ-loop
 add-mark-start c = omega arith
@@ -76,8 +76,8 @@ mark-listed-spec =
     Inv-loop
     μ-loop
     loop-holds
-    mul-row
-    shared-slice-read-row
+    mul-mark-start
+    shared-slice-read-mark-start
     add-mark-start
     cast-mark-start
     mark-start-requires

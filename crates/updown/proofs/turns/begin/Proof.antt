@@ -31,7 +31,7 @@ same-length : tie.Need-same-length
 same-length c = search needs
 
 returns : tie.Need-returns
-returns c = rw (eq-eqb (c .before .args .last) 0 (c .if1 .taken)) refl
+returns c = rw (eq-eqb (c .before .before .before .args .last .0) 0 (c .before .if1 .taken)) refl
 
 mul-work-3 : tie.Need-mul-work-3
 mul-work-3 c = search needs
@@ -76,7 +76,7 @@ same-length-2 : tie.Need-same-length-2
 same-length-2 c = search needs
 
 returns-2 : tie.Need-returns-2
-returns-2 c = rw (ne-eqb (c .before .args .last) 0 (c .if1 .left)) refl
+returns-2 c = rw (ne-eqb (c .before .before .before .before .args .last .0) 0 (c .before .before .if1 .left)) refl
 
 pub begin-spec : {M : Type 1} → statement M
 begin-spec =

@@ -46,10 +46,10 @@ same-length : tie.Need-same-length
 same-length c = search needs
 
 returns : tie.Need-returns
-returns c = rw (eq-eqb (c .before .before .before .args .up) 0 (c .if1 .taken)) refl
+returns c = rw (eq-eqb (c .before .before .before .before .before .before .args .up .0) 0 (c .if1 .taken)) refl
 
 mark-parent-requires : tie.Need-mark-parent-requires
-mark-parent-requires c κs = (record { m-bound = c .before .before .before .before .pre .0 .m-bound; low = c .before .before .before .before .pre .0 .low; long = simp length-set (c .before .before .before .before .pre .0 .long) }, omega arith, omega arith, omega arith)
+mark-parent-requires c κs = (record { m-bound = c .before .before .before .before .before .before .before .pre .0 .m-bound; low = c .before .before .before .before .before .before .before .pre .0 .low; long = simp length-set (c .before .before .before .before .before .before .before .pre .0 .long) }, omega arith, omega arith, omega arith)
 
 mul-q : tie.Need-mul-q
 mul-q c = search needs
@@ -67,7 +67,7 @@ mul-work-4 : tie.Need-mul-work-4
 mul-work-4 c = search needs
 
 slice-read-work : tie.Need-slice-read-work
-slice-read-work c = omega (arith, simp length-set at (c .before .before .before .mark-parent .kept .0), c .before .before .before .before .before .before .before .before .pre .0 .low, c .before .before .before .before .before .before .before .before .pre .0 .long)
+slice-read-work c = omega (arith, simp length-set at (c .before .before .before .before .mark-parent .kept .0), c .before .before .before .before .before .before .before .before .before .before .before .before .pre .0 .low, c .before .before .before .before .before .before .before .before .before .before .before .before .pre .0 .long)
 
 mul-work-5 : tie.Need-mul-work-5
 mul-work-5 c = search needs
@@ -79,19 +79,19 @@ mul-work-6 : tie.Need-mul-work-6
 mul-work-6 c = search needs
 
 slice-write-work-2 : tie.Need-slice-write-work-2
-slice-write-work-2 c = omega (arith, simp length-set at (c .before .before .before .mark-parent .kept .0), c .before .before .before .before .before .before .before .before .pre .0 .low, c .before .before .before .before .before .before .before .before .pre .0 .long)
+slice-write-work-2 c = omega (arith, simp length-set at (c .before .before .before .before .mark-parent .kept .0), c .before .before .before .before .before .before .before .before .before .before .before .before .pre .0 .low, c .before .before .before .before .before .before .before .before .before .before .before .before .pre .0 .long)
 
 mul-work-7 : tie.Need-mul-work-7
 mul-work-7 c = search needs
 
 slice-write-work-3 : tie.Need-slice-write-work-3
-slice-write-work-3 c = simp length-set (omega (arith, simp length-set at (c .before .before .before .mark-parent .kept .0), c .before .before .before .before .before .before .before .before .pre .0 .low, c .before .before .before .before .before .before .before .before .pre .0 .long))
+slice-write-work-3 c = simp length-set (omega (arith, simp length-set at (c .before .before .before .before .mark-parent .kept .0), c .before .before .before .before .before .before .before .before .before .before .before .before .pre .0 .low, c .before .before .before .before .before .before .before .before .before .before .before .before .pre .0 .long))
 
 same-length-2 : tie.Need-same-length-2
-same-length-2 c = simp length-set (simp length-set at (c .before .before .before .mark-parent .kept .0))
+same-length-2 c = simp length-set (simp length-set at (c .before .before .before .before .mark-parent .kept .0))
 
 returns-2 : tie.Need-returns-2
-returns-2 c = rw (c .before .before .before .mark-parent .ensures, ne-eqb (c .before .before .before .before .before .before .before .before .args .up) 0 (c .before .before .before .before .before .if1 .left)) refl
+returns-2 c = rw (c .before .before .before .before .mark-parent .ensures, ne-eqb (c .before .before .before .before .before .before .before .before .before .before .before .before .args .up .0) 0 (c .before .before .before .before .before .before .if1 .left)) refl
 
 pub step-up-spec : {M : Type 1} → statement M
 step-up-spec =

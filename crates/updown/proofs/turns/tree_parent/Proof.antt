@@ -8,32 +8,32 @@ use Rattle.updown.proofs.turns.tree_parent.Tie as tie
 returns : tie.Need-returns
 returns c = search needs
 
-sub-result : tie.Need-sub-result
-sub-result c = search needs
+sub-t6 : tie.Need-sub-t6
+sub-t6 c = search needs
 
-cast-result : tie.Need-cast-result
-cast-result c = search needs
+cast-t7 : tie.Need-cast-t7
+cast-t7 c = search needs
 
-mul-result : tie.Need-mul-result
-mul-result c = search needs
+mul-t8 : tie.Need-mul-t8
+mul-t8 c = search needs
 
-shared-slice-read-result : tie.Need-shared-slice-read-result
-shared-slice-read-result c = search needs
+shared-slice-read-t10 : tie.Need-shared-slice-read-t10
+shared-slice-read-t10 c = search needs
 
-cast-result-2 : tie.Need-cast-result-2
-cast-result-2 c = omega (arith, c .shared-slice-known .given (c .before .before .args .j - 1))
+cast-t11 : tie.Need-cast-t11
+cast-t11 c = omega (arith, c .shared-slice-known .given (c .before .before .before .args .j .0 - 1))
 
 returns-2 : tie.Need-returns-2
-returns-2 c = rw (c .before .if1 .left) refl
+returns-2 c = rw (c .before .before .if1 .left) refl
 
 pub tree-parent-spec : {M : Type 1} → statement M
 tree-parent-spec =
     tie.close
     (tie.spec
     returns
-    sub-result
-    cast-result
-    mul-result
-    shared-slice-read-result
-    cast-result-2
+    sub-t6
+    cast-t7
+    mul-t8
+    shared-slice-read-t10
+    cast-t11
     returns-2)
