@@ -5,7 +5,7 @@
 typedef struct { uint32_t number, done; nigvalds_factor factor; } Ran;
 
 /* crates/bench_driver: a check, then the batches of the plan by the unchecked entries */
-Ran nigvalds_run_batches(nigvalds_factor factor, NIGVALDS_CHANGED_TABLES, uint16_t *touched, size_t touched_length, uint16_t *labels, size_t labels_length,
+Ran bench_run_batches(nigvalds_factor factor, NIGVALDS_CHANGED_TABLES, uint16_t *touched, size_t touched_length, uint16_t *labels, size_t labels_length,
                          const uint32_t *plan, size_t plan_length, const uint32_t *ids, size_t ids_length, const uint32_t *row_counts,
                          size_t row_counts_length, const uint32_t *row_list, size_t row_list_length);
 
@@ -21,7 +21,7 @@ static void keep(Fac *f, nigvalds_factor r) { f->ffree = r.free; f->bfree = r.bo
 
 uint32_t ours_run(Fac *f, const Flat *x, uint16_t *touched, uint16_t *labels)
 {
-    Ran a = nigvalds_run_batches(record(f), TABLES(f), REPORT(f), x->plan, 6 * x->batches, x->ids, x->n_ids, x->counts, x->n_counts, x->rows, x->n_rows);
+    Ran a = bench_run_batches(record(f), TABLES(f), REPORT(f), x->plan, 6 * x->batches, x->ids, x->n_ids, x->counts, x->n_counts, x->rows, x->n_rows);
     keep(f, a.factor);
     return a.number;
 }

@@ -14,17 +14,17 @@ use Rattle.workspace.specs.Regions.{IsZero}
 use Rattle.book.specs.Book as book
 use Rattle.tables.specs.Stored.{Stored, Sized, isSoundFor}
 use Rattle.tables.specs.Stays.{Beyond, TailsStay}
-use Rattle.tables.specs.Tables.{Tables, Limits, State, storedIn, bookIn, registerOf, isSound}
+use Rattle.tables.specs.Tables.{Tables, Sizes, State, storedIn, bookIn, registerOf, isSound}
 use Rattle.tables.proofs.Tables.{Long}
 use Rattle.calls.specs.Refusals.{accepted, bounds, sizesRefusal, workFor}
 use Rattle.calls.specs.Steps.{World}
-use Rattle.batch.specs.Outcome.{cutLimits, cutWorld, CanFind, CanBatch}
+use Rattle.batch.specs.Outcome.{cutSizes, cutWorld, CanFind, CanBatch}
 use Rattle.batch.specs.Parts.{storedWhole, bookWhole}
 use Rattle.batch.proofs.Cut.{stored-whole, book-whole}
 
--- ---- tables cut to limits, and put back
+-- ---- tables cut to sizes, and put back
 
-abbrev pub cutTables : Limits → Tables → Tables
+abbrev pub cutTables : Sizes → Tables → Tables
 cutTables l t =
     record {
       heads = take (l .m) (t .heads);
@@ -38,7 +38,7 @@ cutTables l t =
     }
 
 -- prefixes before the tails of the whole tables
-abbrev pub joinTables : Limits → (cut whole : Tables) → Tables
+abbrev pub joinTables : Sizes → (cut whole : Tables) → Tables
 joinTables l y t =
     record {
       heads = y .heads ++ drop (l .m) (t .heads);
@@ -51,11 +51,11 @@ joinTables l y t =
       bookNext = y .bookNext ++ drop (l .c) (t .bookNext);
     }
 
-abbrev pub worldFor : Limits → (free bookFree : ℕ) → Tables → World
-worldFor l f g t = record { state = record { limits = l; free = f; bookFree = g }; tables = t }
+abbrev pub worldFor : Sizes → (free bookFree : ℕ) → Tables → World
+worldFor l f g t = record { state = record { sizes = l; free = f; bookFree = g }; tables = t }
 
 -- what was cut and put back is as it was
-pub join-cut : (l : Limits) (t : Tables) → joinTables l (cutTables l t) t ≡ t
+pub join-cut : (l : Sizes) (t : Tables) → joinTables l (cutTables l t) t ≡ t
 join-cut l t = λ i.
     record {
       heads = take-append-drop (l .m) (t .heads) i;
@@ -68,8 +68,8 @@ join-cut l t = λ i.
       bookNext = take-append-drop (l .c) (t .bookNext) i;
     }
 
--- tables of just the limits
-pub record Fits (l : Limits) (y : Tables) : Type 0 where
+-- tables of just the sizes
+pub record Fits (l : Sizes) (y : Tables) : Type 0 where
   pub heads : length (y .heads) ≡ l .m
   pub parents : length (y .parents) ≡ l .m
   pub rows : length (y .rows) ≡ l .f
@@ -79,7 +79,7 @@ pub record Fits (l : Limits) (y : Tables) : Type 0 where
   pub book-rows : length (y .bookRows) ≡ l .c
   pub book-next : length (y .bookNext) ≡ l .c
 
-pub cut-fits : (l : Limits) (t : Tables) → Long l t → Fits l (cutTables l t)
+pub cut-fits : (l : Sizes) (t : Tables) → Long l t → Fits l (cutTables l t)
 cut-fits l t h =
     record {
       heads = length-take-le (l .m) (t .heads) (h .heads);
@@ -98,9 +98,9 @@ beyond n xs ys p q =
 
 -- ---- tables that fit are read whole, alone or before any tails
 
-module _ {l : Limits} {y : Tables} (z : Fits l y) (f g : ℕ) where
-  pub limits-are : cutLimits y ≡ l
-  limits-are = λ i. record { m = z .heads i; n = z .book-heads i; f = z .next i; c = z .book-next i }
+module _ {l : Sizes} {y : Tables} (z : Fits l y) (f g : ℕ) where
+  pub cut-sizes-are : cutSizes y ≡ l
+  cut-sizes-are = λ i. record { m = z .heads i; n = z .book-heads i; f = z .next i; c = z .book-next i }
 
   pub stored-fits : storedIn (cutWorld y f g .state) y ≡ storedWhole y f
   stored-fits =
@@ -146,7 +146,7 @@ module _ {l : Limits} {y : Tables} (z : Fits l y) (f g : ℕ) where
 
 -- ---- the cut tables of a usable factor
 
-module _ {l : Limits} {t : Tables} (long : Long l t) (f g : ℕ) where
+module _ {l : Sizes} {t : Tables} (long : Long l t) (f g : ℕ) where
   pub stored-lifts : storedIn (cutWorld (cutTables l t) f g .state) (cutTables l t) ≡ storedIn (worldFor l f g t .state) t
   stored-lifts = stored-fits (cut-fits l t long) f g
 
@@ -163,10 +163,10 @@ module _ {l : Limits} {t : Tables} (long : Long l t) (f g : ℕ) where
       IsZero w 0 (workFor l) → l .m ≤ length a → l .m ≤ length b → CanBatch (cutWorld (cutTables l t) f g) w a b
   lift-can {w} {a} {b} sizes sound room zero p q =
       let z : Fits l (cutTables l t) = cut-fits l t long in
-      let e : l ≡ cutLimits (cutTables l t) = sym (limits-are z f g) in
+      let e : l ≡ cutSizes (cutTables l t) = sym (cut-sizes-are z f g) in
       record {
         find = record {
-          in-range = subst (λ (x : Limits). sizesRefusal bounds x ≡ accepted) e sizes;
+          in-range = subst (λ (x : Sizes). sizesRefusal bounds x ≡ accepted) e sizes;
           heads = refl;
           parents = z .parents ∙ sym (z .heads);
           rows = z .rows ∙ sym (z .next);
@@ -176,9 +176,9 @@ module _ {l : Limits} {t : Tables} (long : Long l t) (f g : ℕ) where
           book-rows = z .book-rows ∙ sym (z .book-next);
           book-next = refl;
           sound = sound-lifts ∙ sound;
-          long = subst (λ (x : Limits). workFor x ≤ length w) e room;
-          zero = subst (λ (x : Limits). IsZero w 0 (workFor x)) e zero;
+          long = subst (λ (x : Sizes). workFor x ≤ length w) e room;
+          zero = subst (λ (x : Sizes). IsZero w 0 (workFor x)) e zero;
         };
-        touched-long = subst (λ (x : Limits). x .m ≤ length a) e p;
-        labels-long = subst (λ (x : Limits). x .m ≤ length b) e q;
+        touched-long = subst (λ (x : Sizes). x .m ≤ length a) e p;
+        labels-long = subst (λ (x : Sizes). x .m ≤ length b) e q;
       }

@@ -212,7 +212,7 @@ fn run(
 
 // Reads the tables through once, then runs the batches of the plan: its numbers, six a batch, are described in plan.rt. Numbers 1 to 6 refuse the run.
 #[no_mangle]
-pub extern "C" fn nigvalds_run_batches(
+pub extern "C" fn bench_run_batches(
     factor: Factor,
     heads: &[u32],
     parents: &mut [u16],

@@ -18,7 +18,7 @@ use Rattle.pool.specs.Changes.{Has, Changed}
 use Rattle.pool.proofs.Chains.{After, linked-after, linked-in, linked-once, linked-some}
 use Rattle.pool.proofs.Changes.{changed-cut, PoolAfter, pool-changed}
 use Rattle.book.specs.Book.{bookOf, isBooked, columnFor, columnFits, isSound, ColumnStays}
-use Rattle.book.specs.Records.{CanWrite, Written}
+use Rattle.book.specs.Records.{CanWrite, RowsWritten}
 use Rattle.book.specs.Entries.{CanAdd, Added}
 use Rattle.book.proofs.Columns.{absent-zero, some-booked, booked-within}
 use Rattle.book.proofs.Sound.{Sound, sound-of, of-sound, Fitting, fitting, rows-narrow}
@@ -49,7 +49,7 @@ module _ {hs xs ns : List ℕ} {f id : ℕ} {list : List ℕ} (q : CanAdd (bookO
         narrow = λ i. omega (arith, rows-narrow (q .has .m) list (fit .rise) i, q .narrow);
       }
 
-  module _ {ys : List ℕ} {p : ℕ} (w : Written xs ys ns list f p) where
+  module _ {ys : List ℕ} {p : ℕ} (w : RowsWritten xs ys ns list f p) where
     cut : Cut (chain ns f) (length list) p
     cut = cut-at (chain ns f) (length list) p (fit .some) (q .room) (w .last-is)
 

@@ -14,7 +14,7 @@ use Rattle.lists.proofs.Times.{times-nil, times-self, times-other, times-cons, 
 use Rattle.lists.proofs.Place.{put-length, at-put-same, at-put-other}
 use Rattle.pool.specs.Chains.{chain, lastOf, Linked}
 use Rattle.pool.proofs.Chains.{linked-chain, linked-self, linked-end, Step, linked-step, linked-some}
-use Rattle.book.specs.Records.{putAll, clearAll, HasChain, CanWrite, Written, Cleared}
+use Rattle.book.specs.Records.{putAll, clearAll, HasChain, CanWrite, RowsWritten, Cleared}
 
 -- ---- putAll
 
@@ -133,7 +133,7 @@ module _ {rows₀ next list : List ℕ} {head : ℕ} (pre : CanWrite rows₀ nex
         };
       }
 
-  pub writing-end : {rows : List ℕ} {r last k : ℕ} → Writing rows₀ next list head rows r last k → length list ≤ k → Written rows₀ rows next list head last
+  pub writing-end : {rows : List ℕ} {r last k : ℕ} → Writing rows₀ next list head rows r last k → length list ≤ k → RowsWritten rows₀ rows next list head last
   writing-end {rows} {r} {last} {k} i h =
       let e : k ≡ length list = omega (arith, i .within) in
       let none : drop k list ≡ [] = ap (λ (n : ℕ). drop n list) e ∙ drop-length-nil list in

@@ -31,7 +31,7 @@ pub record CanWrite (rows next list : List ℕ) (head : ℕ) : Type 0 where
   pub narrow : (i : ℕ) → getD list i 0 < 65536
 
 -- the rows stand at the chain's first records, and last is the record of the last of them
-pub record Written (rows₀ rows next list : List ℕ) (head last : ℕ) : Type 0 where
+pub record RowsWritten (rows₀ rows next list : List ℕ) (head last : ℕ) : Type 0 where
   pub last-is : last ≡ at (chain next head) (length list)
   pub rows-are : rows ≡ putAll rows₀ (chain next head) list
 

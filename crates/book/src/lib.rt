@@ -10,7 +10,7 @@ ghost use Rattle.lists.specs.Lists.{at, over};
 ghost use Rattle.pool.specs.Chains.{chain, Linked};
 ghost use Rattle.pool.specs.Walks.{NoMarks};
 ghost use Rattle.book.specs.Book.{bookOf, tablesOf, isBooked, columnFor, isSound};
-ghost use Rattle.book.specs.Records.{HasChain, CanWrite, Written, Cleared};
+ghost use Rattle.book.specs.Records.{HasChain, CanWrite, RowsWritten, Cleared};
 ghost use Rattle.book.specs.Walks.{CanWalk, FreeWalked, ColumnWalked};
 ghost use Rattle.book.specs.Entries.{opened, CanAdd, Added, CanRemove, Removed, CanCopy, firstRow, HasHead};
 use pool::Rec;
@@ -223,7 +223,7 @@ pub fn copy_rows(heads: &[u32], rows: &[u16], next: &[u32], list: &mut [u32], id
 // Writes the rows of list along the chain from head, and gives the last record written.
 fn write_rows(rows: &mut [u16], next: &[u32], list: &[u32], head: Rec) -> Rec
     requires { ⌜ CanWrite (now rows) (now next) (now list) (head .0) ⌝ }
-    ensures { λ p. ⌜ Written (now (rows .entry)) (now (rows .exit)) (now (next .entry)) (now (list .entry)) (head .0) (p .0) ⌝ }
+    ensures { λ p. ⌜ RowsWritten (now (rows .entry)) (now (rows .exit)) (now (next .entry)) (now (list .entry)) (head .0) (p .0) ⌝ }
 {
     let mut r = head.0;
     let mut last = head.0;

@@ -11,7 +11,7 @@ use Rattle.symbolic.specs.Columns.{Column, Register}
 use Rattle.symbolic.specs.Factor.{factorFor, sizeSum}
 use Rattle.symbolic.specs.Change.{idsOf, added}
 use Rattle.workspace.specs.Layout.{workNeed}
-use Rattle.tables.specs.Tables.{Tables, Limits, longEnough}
+use Rattle.tables.specs.Tables.{Tables, Sizes, longEnough}
 
 -- ---- a refusal: its number, and "the position for the column and row checks and 0 otherwise". Accepted is 0.
 
@@ -54,7 +54,7 @@ abbrev pub bounds : Bounds
 bounds = record { m = 4096; n = 16384; f = 1048576; c = 262144 }
 
 -- "1: m; 2: n; 3: F; 4: C outside its range"; F is at least m
-abbrev pub sizesRefusal : Bounds → Limits → Refusal
+abbrev pub sizesRefusal : Bounds → Sizes → Refusal
 sizesRefusal b l =
     orElse (unless (isIn 1 (b .m) (l .m)) 1 0)
     (orElse (unless (isIn 1 (b .n) (l .n)) 2 0) (orElse (unless (isIn (l .m) (b .f) (l .f)) 3 0) (unless (isIn 1 (b .c) (l .c)) 4 0)))
@@ -62,16 +62,20 @@ sizesRefusal b l =
 -- ---- 5, every call: tables
 
 -- "needs W = .. of them"
-abbrev pub workFor : Limits → ℕ
+abbrev pub workFor : Sizes → ℕ
 workFor l = workNeed (l .m) (l .n) (l .f) (l .c)
 
 -- "5: some table or list needed is too short": one of the eight tables, or the work table
-abbrev pub shortRefusal : Limits → Tables → (work : List ℕ) → Refusal
+abbrev pub shortRefusal : Sizes → Tables → (work : List ℕ) → Refusal
 shortRefusal l t w = unless (longEnough l t && leb (workFor l) (length w)) 5 0
 
--- 5 for a batch, which also needs its lists for touched columns and labels
-abbrev pub shortBatch : Limits → Tables → (work touched labels : List ℕ) → Refusal
-shortBatch l t w a b = unless (longEnough l t && leb (workFor l) (length w) && leb (l .m) (length a) && leb (l .m) (length b)) 5 0
+-- "The lists for touched columns and labels .. need m places each"
+abbrev pub listsLong : (m : ℕ) → (touched labels : List ℕ) → Bool
+listsLong m ts ls = leb m (length ts) && leb m (length ls)
+
+-- 1 to 5, in their order; isLong: the call's own lists are long enough
+abbrev pub earlyRefusal : Sizes → Tables → (work : List ℕ) → (isLong : Bool) → Refusal
+earlyRefusal l t w z = orElse (sizesRefusal bounds l) (orElse (shortRefusal l t w) (unless z 5 0))
 
 -- ---- 7 to 16, batches
 
@@ -81,9 +85,9 @@ batchOf [] ns rs = []
 batchOf (i ∷ is) [] rs = []
 batchOf (i ∷ is) (n ∷ ns) rs = record { id = i; rows = take n rs } ∷ batchOf is ns (drop n rs)
 
--- an id is live: the register has a column under it
-abbrev pub isLive : Register → (id : ℕ) → Bool
-isLive r i = among i (idsOf (r .columns))
+-- an id is booked: the register has a column under it
+abbrev pub inRegister : Register → (id : ℕ) → Bool
+inRegister r i = among i (idsOf (r .columns))
 
 -- 13 or 14, row by row
 unfoldable pub rowsRefusal : (m position above : ℕ) → (rows : List ℕ) → Refusal
@@ -97,7 +101,7 @@ columnsRefusal r n p bs (i ∷ is) [] rs = refusal 7 0
 columnsRefusal r n p bs (i ∷ is) (k ∷ ns) rs =
     orElse (unless (isIn 1 n i) 8 p)
     (orElse (unless (not (among i bs)) 9 p)
-    (orElse (unless (not (isLive r i)) 10 p)
+    (orElse (unless (not (inRegister r i)) 10 p)
     (orElse (unless (isIn 1 256 k && leb k (length rs)) 12 p)
     (orElse (rowsRefusal (r .m) p 0 (take k rs)) (columnsRefusal r n (suc p) (i ∷ bs) is ns (drop k rs))))))
 
@@ -106,11 +110,11 @@ abbrev pub rowSum : List Column → ℕ
 rowSum cs = sumOf (λ (c : Column). length (c .rows)) cs
 
 -- 15: book rows would exceed C; 16: the sum of all pattern sizes would exceed F
-abbrev pub roomRefusal : Limits → Register → Refusal
+abbrev pub roomRefusal : Sizes → Register → Refusal
 roomRefusal l r = orElse (unless (leb (rowSum (r .columns)) (l .c)) 15 0) (unless (leb (sizeSum (factorFor r)) (l .f)) 16 0)
 
 -- 7 to 16 of an addition, in document 01's order
-abbrev pub addRefusal : Limits → Register → (ids counts rows : List ℕ) → Refusal
+abbrev pub addRefusal : Sizes → Register → (ids counts rows : List ℕ) → Refusal
 addRefusal l r is ns rs =
     orElse (unless (isIn 1 64 (length is) && eqb (length ns) (length is)) 7 0)
     (orElse (columnsRefusal r (l .n) 1 [] is ns rs) (roomRefusal l (added r (batchOf is ns rs))))
@@ -120,10 +124,10 @@ unfoldable pub idsRefusal : Register → (n position : ℕ) → (before ids : Li
 idsRefusal r n p bs [] = accepted
 idsRefusal r n p bs (i ∷ is) =
     orElse (unless (isIn 1 n i) 8 p)
-    (orElse (unless (not (among i bs)) 9 p) (orElse (unless (isLive r i) 11 p) (idsRefusal r n (suc p) (i ∷ bs) is)))
+    (orElse (unless (not (among i bs)) 9 p) (orElse (unless (inRegister r i) 11 p) (idsRefusal r n (suc p) (i ∷ bs) is)))
 
 -- 7, 8, 9 or 11 of a removal, in document 01's order
-abbrev pub removeRefusal : Limits → Register → (ids : List ℕ) → Refusal
+abbrev pub removeRefusal : Sizes → Register → (ids : List ℕ) → Refusal
 removeRefusal l r is = orElse (unless (isIn 1 64 (length is)) 7 0) (idsRefusal r (l .n) 1 [] is)
 
 -- ---- 17 and 18, questions

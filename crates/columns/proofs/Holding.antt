@@ -11,14 +11,14 @@ use native.Mathlib.Omega.{arith}
 use lib.Dec.{leb}
 use lib.ListN.{length, getD}
 use borrow.Author.Tests.{le-leb, lt-leb, eq-eqb, ne-eqb}
-use Rattle.lists.specs.Lists.{Mem, first, later, at, put, valuesAt, times, rises}
+use Rattle.lists.specs.Lists.{Mem, first, later, at, put, valuesAt, times, rises, pairsOf}
 use Rattle.lists.proofs.Tests.{zero-or-pos, eq-or-ne, and-both}
 use Rattle.lists.proofs.Rising.{rises-in}
 use Rattle.lists.proofs.Place.{values-append, values-length, values-frame, values-put}
 use Rattle.symbolic.specs.Factor.{patternFrom, nonZero}
 use Rattle.symbolic.proofs.Patterns.{pattern-append, counts-append, pattern-rises, pattern-find}
 use Rattle.pool.specs.Chains.{lastOf}
-use Rattle.columns.specs.Search.{lastBelow, countOf, entriesAt, pairs}
+use Rattle.columns.specs.Search.{lastBelow, countOf, entriesAt}
 use Rattle.columns.specs.Commit.{HoldsFrom}
 use Rattle.columns.proofs.Searching.{above-none}
 
@@ -249,12 +249,12 @@ rises-once xs a b {y = y} (r ∷ rs) h first (later m) e = absurd (omega (arith,
 rises-once xs a b {x = x} (r ∷ rs) h (later m) first e = absurd (omega (arith, later-above xs a b r rs h x m))
 rises-once xs a b (r ∷ rs) h (later m) (later n) e = rises-once xs (suc (at xs r)) b rs (and-both (leb a (at xs r) && leb (at xs r) b) (rises (suc (at xs r)) b (valuesAt xs rs)) h .1) m n e
 
-pub entries-pairs : (xs cs rs : List ℕ) → entriesAt xs cs rs ≡ pairs (valuesAt xs rs) (valuesAt cs rs)
-unfolding entriesAt pairs valuesAt
+pub entries-pairs : (xs cs rs : List ℕ) → entriesAt xs cs rs ≡ pairsOf (valuesAt xs rs) (valuesAt cs rs)
+unfolding entriesAt pairsOf valuesAt
 entries-pairs xs cs [] = refl
 entries-pairs xs cs (r ∷ rs) = ap (λ (l : List ℕ). at xs r ∷ at cs r ∷ l) (entries-pairs xs cs rs)
 
-pub holds-pairs : {xs cs : List ℕ} {a : ℕ} {ns rs : List ℕ} → HoldsFrom xs cs a ns rs → entriesAt xs cs rs ≡ pairs (patternFrom a ns) (nonZero ns)
+pub holds-pairs : {xs cs : List ℕ} {a : ℕ} {ns rs : List ℕ} → HoldsFrom xs cs a ns rs → entriesAt xs cs rs ≡ pairsOf (patternFrom a ns) (nonZero ns)
 holds-pairs {xs} {cs} {a} {ns} {rs} h = entries-pairs xs cs rs ∙ rw (h .rows, h .counts) refl
 
 -- ---- other tables with the same entries

@@ -10,7 +10,7 @@ use native.Mathlib.Omega.{arith}
 use lib.Dec.{eqb}
 use lib.ListN.{length}
 use borrow.Author.Tests.{eqb-true, eq-eqb}
-use Rattle.lists.specs.Lists.{Mem, at, valuesAt, allZero, same, times}
+use Rattle.lists.specs.Lists.{Mem, at, valuesAt, allZero, same, times, pairsOf}
 use Rattle.lists.proofs.Tests.{cases, eq-or-ne, and-both, both-and}
 use Rattle.lists.proofs.Member.{same-eq, same-self, zero-at}
 use Rattle.lists.proofs.Times.{times-self, times-cons, times-mem}
@@ -19,7 +19,7 @@ use Rattle.pool.specs.Chains.{chain}
 use Rattle.pool.proofs.Whole.{pool-linked}
 use Rattle.tables.specs.Stored.{Stored, recordsOf, holdsColumn, holdsFrom, freeZero}
 use Rattle.tables.specs.Stays.{ColumnStays, EntriesKeep}
-use Rattle.columns.specs.Search.{countOf, entriesAt, pairs, CanSearch, CanRead, CanCount, CanCopy}
+use Rattle.columns.specs.Search.{countOf, entriesAt, CanSearch, CanRead, CanCount, CanCopy}
 use Rattle.columns.specs.Commit.{HoldsFrom, Holds, ZeroAt, Ready, ChainStays}
 use Rattle.columns.proofs.Holding.{values-mem, holds-length, holds-rises, holds-count, holds-pairs, holds-frame, rises-once}
 
@@ -92,7 +92,7 @@ module _ (s : Stored) (j : ℕ) {ns : List ℕ} (h : Holds s j ns) where
   held-count i a = let q : 1 + (i - 1) ≡ i = omega arith in rw q at (holds-count 1 ns (recordsOf s j) (i - 1) h)
 
   -- row and multiplicity of each record
-  pub held-pairs : entriesAt (s .rows) (s .counts) (recordsOf s j) ≡ pairs (patternFrom 1 ns) (nonZero ns)
+  pub held-pairs : entriesAt (s .rows) (s .counts) (recordsOf s j) ≡ pairsOf (patternFrom 1 ns) (nonZero ns)
   held-pairs = holds-pairs h
 
 pub held-multiplicity : (s : Stored) (fs : List FactorColumn) (i j : ℕ) → 1 ≤ i → holdsColumn s j (columnAt fs j) ≡ true →

@@ -32,12 +32,6 @@ unfoldable pub entriesAt : (rows counts records : List ℕ) → List ℕ
 entriesAt xs ns [] = []
 entriesAt xs ns (r ∷ rs) = at xs r ∷ at ns r ∷ entriesAt xs ns rs
 
--- two lists of one length, in turns
-unfoldable pub pairs : List ℕ → List ℕ → List ℕ
-pairs [] ns = []
-pairs (x ∷ xs) [] = []
-pairs (x ∷ xs) (n ∷ ns) = x ∷ n ∷ pairs xs ns
-
 -- ---- what can be read
 
 -- a chain that ends, with a row for each of its records

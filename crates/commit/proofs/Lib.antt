@@ -2,5 +2,4 @@ pub mod Standing
 pub mod Wiped
 pub mod Committing
 pub mod Reporting
-pub mod Written
-pub mod Planned
+pub mod PlanWritten

@@ -1,4 +1,4 @@
--- From what the two passes and the last clearing leave to `Written`: what they ask of a plan that can be written (`can-commits`, `can-report`), the work
+-- From what the two passes and the last clearing leave to `PlanWritten`: what they ask of a plan that can be written (`can-commits`, `can-report`), the work
 -- table as it was before the plan, and each column, planned or not, as the new factor has it (`written`). Assumes nothing.
 use mathlib.Core.Path.{_≡_, refl, sym, ap, _∙_, subst}
 use mathlib.Core.Logic.{_⊎_, inl, inr}
@@ -24,8 +24,9 @@ use Rattle.tables.proofs.Stored as stored
 use Rattle.tables.proofs.Revised.{revised-sound}
 use Rattle.columns.specs.Commit.{Holds, Ready, ChainStays}
 use Rattle.columns.proofs.Stored.{stays-holds, held-keep}
-use Rattle.updown.specs.Plans.{planAt, PlansFrom}
-use Rattle.commit.specs.Writes.{CanWrite, Written}
+use Rattle.updown.specs.Plans.{PlansFrom}
+use Rattle.workspace.specs.Layout.{planAt}
+use Rattle.commit.specs.Writes.{CanWrite, PlanWritten}
 use Rattle.commit.specs.Passes.{putAll, wiped, CanCommitPlans, PlansCommitted, CanReport, Reported}
 use Rattle.commit.proofs.Wiped.{PlaceOf, all-length, all-other, all-at, wiped-length, wiped-cases}
 
@@ -152,7 +153,7 @@ module _ {s : Stored} {cs ds : List Column} {label : ℕ → ℕ} {columns befor
         ]
 
     pub written : {work′ work″ touched′ labels′ : List ℕ} → Reported L′ label columns (s .parents) work touched labels parents work′ touched′ labels′ →
-        work″ ≡ cleared work′ (planAt m) used → Written s ds label columns before touched labels after work″ touched′ labels′
+        work″ ≡ cleared work′ (planAt m) used → PlanWritten s ds label columns before touched labels after work″ touched′ labels′
     written {work′} {work″} r e =
         let z : (allZero (valuesAt rows (chain next free)) ≡ true) × (allZero (valuesAt counts (chain next free)) ≡ true) =
         and-both (allZero (valuesAt rows (chain next free))) (allZero (valuesAt counts (chain next free))) (c .ready .zero) in

@@ -49,7 +49,7 @@ pub record SomeWrite (s : Stored) (work touched labels : List ℕ) (first used :
   pub can : CanWrite s cs ds label columns before work touched labels first count entries used
 
 -- sound for ds; heads stay; columns that are not planned stay whole; entries that stay keep their record; the work table is as it was before the plan
-pub record Written (s : Stored) (ds : List Column) (label : ℕ → ℕ) (columns : List ℕ) (before touched labels : List ℕ) (after : Stored) (work touched′ labels′ : List ℕ) : Type 0 where
+pub record PlanWritten (s : Stored) (ds : List Column) (label : ℕ → ℕ) (columns : List ℕ) (before touched labels : List ℕ) (after : Stored) (work touched′ labels′ : List ℕ) : Type 0 where
   pub sized : Sized after
   pub heads : after .heads ≡ s .heads
   pub sound : isSoundFor ds after ≡ true
@@ -63,4 +63,4 @@ pub record Written (s : Stored) (ds : List Column) (label : ℕ → ℕ) (column
 abbrev pub WrittenAll : (s : Stored) (work touched labels : List ℕ) (first used : ℕ) (after : Stored) (work′ touched′ labels′ : List ℕ) → Type 0
 WrittenAll s w a b first used t w′ a′ b′ =
     (cs ds : List Column) (label : ℕ → ℕ) (columns before : List ℕ) (count entries : ℕ) →
-    CanWrite s cs ds label columns before w a b first count entries used → Written s ds label columns before a b t w′ a′ b′
+    CanWrite s cs ds label columns before w a b first count entries used → PlanWritten s ds label columns before a b t w′ a′ b′

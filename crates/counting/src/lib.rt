@@ -17,12 +17,14 @@ ghost use Rattle.counting.specs.Given.{
   CanTallyAll,
 };
 use book::Id;
+use book::Row;
 
-// Puts number i at the front of the list of value v, heads from place a on and nexts from place b on; value 0 has no list.
-pub fn link(work: &mut [u32], a: usize, b: usize, v: u32, i: u32)
-    requires { ⌜ CanLink (now work) a b v i ⌝ }
-    ensures { λ _. ⌜ now (work .exit) ≡ linkedIn (now (work .entry)) a b v i ⌝ }
+// Puts number i, an id or a column, at the front of the list of row v, heads from place a on and nexts from place b on; row 0 has no list.
+pub fn link(work: &mut [u32], a: usize, b: usize, row: Row, i: u32)
+    requires { ⌜ CanLink (now work) a b (row .0) i ⌝ }
+    ensures { λ _. ⌜ now (work .exit) ≡ linkedIn (now (work .entry)) a b (row .0) i ⌝ }
 {
+    let v = row.0;
     if v == 0 {
         return;
     }
@@ -48,7 +50,7 @@ pub fn link_columns(
     while i < book_heads.len() {
         let k = (i + 1) as u32;
         let first = book::first_row(book_heads, book_rows, Id(k));
-        link(work, a, b, first.0, k);
+        link(work, a, b, first, k);
         i += 1;
     }
 }
@@ -67,13 +69,14 @@ fn tally(work: &mut [u32], a: usize, e: usize)
 }
 
 // Counts the rows of each child of column j but the child's first, out of the stash. Gives their number.
-fn tally_children(work: &mut [u32], m: usize, f: usize, j: u32) -> u32
-    requires { ⌜ CanTallyChildren (now work) m f j ⌝ }
-    ensures { λ r. ⌜ Counted m f (now (work .entry)) (now (work .exit)) (gathered (stashed (now (work .entry)) m f) (childrenIn (now (work .entry)) m j)) r ⌝ }
+fn tally_children(work: &mut [u32], m: usize, f: usize, j: Row) -> u32
+    requires { ⌜ CanTallyChildren (now work) m f (j .0) ⌝ }
+    ensures { λ r. ⌜ Counted m f (now (work .entry)) (now (work .exit)) (gathered (stashed (now (work .entry)) m f) (childrenIn (now (work .entry)) m (j .0))) r ⌝ }
 {
+    let column = j.0;
     let stash = 8 * m + f;
     let mut given: u32 = 0;
-    let mut c = work[m + (j - 1) as usize];
+    let mut c = work[m + (column - 1) as usize];
     while c != 0 {
         let k = (c - 1) as usize;
         let a = work[4 * m + k];
@@ -93,16 +96,17 @@ fn tally_columns(
     work: &mut [u32],
     m: usize,
     f: usize,
-    j: u32,
+    j: Row,
 ) -> u32
-    requires { ⌜ CanTallyColumns (now «book_heads») (now «book_rows») (now «book_next») (now work) m f j ⌝ }
-    ensures { λ r. ⌜ Counted m f (now (work .entry)) (now (work .exit)) (gathered (bookRows (now («book_heads» .entry)) (now («book_rows» .entry)) (now («book_next» .entry))) (startingIn (now (work .entry)) m f (length (now («book_heads» .entry))) (length (now («book_next» .entry))) j)) r ⌝ }
+    requires { ⌜ CanTallyColumns (now «book_heads») (now «book_rows») (now «book_next») (now work) m f (j .0) ⌝ }
+    ensures { λ r. ⌜ Counted m f (now (work .entry)) (now (work .exit)) (gathered (bookRows (now («book_heads» .entry)) (now («book_rows» .entry)) (now («book_next» .entry))) (startingIn (now (work .entry)) m f (length (now («book_heads» .entry))) (length (now («book_next» .entry))) (j .0))) r ⌝ }
 {
+    let column = j.0;
     let a = 8 * m + 4 * f;
     let e = a + 256;
     let nexts = a + 1024 + book_next.len();
     let mut given: u32 = 0;
-    let mut i = work[3 * m + (j - 1) as usize];
+    let mut i = work[3 * m + (column - 1) as usize];
     while i != 0 {
         let n = book::copy_rows(book_heads, book_rows, book_next, &mut work[a..e], Id(i));
         tally(work, a, a + n as usize);
@@ -120,12 +124,13 @@ pub fn tally_all(
     work: &mut [u32],
     m: usize,
     f: usize,
-    j: u32,
+    j: Row,
 ) -> u32
-    requires { ⌜ CanTallyAll (now «book_heads») (now «book_rows») (now «book_next») (now work) m f j ⌝ }
-    ensures { λ r. ⌜ Counted m f (now (work .entry)) (now (work .exit)) (givenIn (now («book_heads» .entry)) (now («book_rows» .entry)) (now («book_next» .entry)) (now (work .entry)) m f j) r ⌝ }
+    requires { ⌜ CanTallyAll (now «book_heads») (now «book_rows») (now «book_next») (now work) m f (j .0) ⌝ }
+    ensures { λ r. ⌜ Counted m f (now (work .entry)) (now (work .exit)) (givenIn (now («book_heads» .entry)) (now («book_rows» .entry)) (now («book_next» .entry)) (now (work .entry)) m f (j .0)) r ⌝ }
 {
-    work[(j - 1) as usize] = 1;
+    let column = j.0;
+    work[(column - 1) as usize] = 1;
     let children = tally_children(work, m, f, j);
     let columns = tally_columns(book_heads, book_rows, book_next, work, m, f, j);
     1 + children + columns

@@ -61,7 +61,7 @@ module _ {rows counts next w₀ : List ℕ} {m n j head used avail : ℕ} {old n
   chain-short = sym (values-length rows (chain next head)) ∙ ap length (can .old-rows)
 
   abbrev first-walk : Walk
-  first-walk = record { at = head; used = used; size = 0; parent = 0; avail = avail; fits = true }
+  first-walk = record { at = record { 0 = head }; used = used; size = 0; parent = record { 0 = 0 }; avail = record { 0 = avail }; fits = true }
 
   start-going : Going rows counts next m j used avail old new 0 w₀ first-walk
   start-going =
@@ -164,8 +164,8 @@ module _ {rows counts next w₀ : List ℕ} {m n j head used avail : ℕ} {old n
         in-rows : s < m
         in-rows = omega (arith, row-some, row-within)
 
-        pub old-value : storedAt rows counts (next-walk .at) row-here ≡ getD old s 0
-        old-value = ap (storedAt rows counts (next-walk .at)) (sym s-is) ∙ value-is can passed-going in-rows
+        pub old-value : storedAt rows counts (next-walk .at .0) row-here ≡ getD old s 0
+        old-value = ap (storedAt rows counts (next-walk .at .0)) (sym s-is) ∙ value-is can passed-going in-rows
 
         -- the difference makes the new one of the old one
         pub new-value : getD new s 0 + base ≡ getD old s 0 + at w row-here
@@ -180,11 +180,11 @@ module _ {rows counts next w₀ : List ℕ} {m n j head used avail : ℕ} {old n
         pub new-fits : getD new s 0 < 65536
         new-fits = can .small row-here
 
-        pub walk-inside : next-walk .at ≤ length next
-        walk-inside = linked-head next (next-walk .at) (chain next (next-walk .at)) (p .linked)
+        pub walk-inside : next-walk .at .0 ≤ length next
+        walk-inside = linked-head next (next-walk .at .0) (chain next (next-walk .at .0)) (p .linked)
 
         -- a row that was there has a record at hand
-        pub record-inside : getD old s 0 ≢ 0 → (1 ≤ next-walk .at) × (next-walk .at ≤ length next)
+        pub record-inside : getD old s 0 ≢ 0 → (1 ≤ next-walk .at .0) × (next-walk .at .0 ≤ length next)
         record-inside z = turn-inside can passed-going in-rows z
 
         pub advanced-small : (o : ℕ) → advanced next o next-walk .size < 4294967295
@@ -195,7 +195,7 @@ module _ {rows counts next w₀ : List ℕ} {m n j head used avail : ℕ} {old n
             ]
 
         -- what the code computed is these
-        module _ {o o′ : ℕ} {v : Walk} (a : o ≡ storedAt rows counts (next-walk .at) row-here) (b : o′ ≡ o + at w row-here - base)
+        module _ {o o′ : ℕ} {v : Walk} (a : o ≡ storedAt rows counts (next-walk .at .0) row-here) (b : o′ ≡ o + at w row-here - base)
             (c : v ≡ counting j row-here o′ (advanced next o next-walk)) where
           o-is : o ≡ getD old s 0
           o-is = a ∙ old-value
@@ -248,7 +248,7 @@ module _ {rows counts next w₀ : List ℕ} {m n j head used avail : ℕ} {old n
 
     module _ (h : n ≤ i) {last : Walk} (p : Passed rows next j 4097 walk last) where
       abbrev e : Emission
-      e = record { fits = last .fits; used = last .used; size = last .size; parent = record { 0 = last .parent }; avail = record { 0 = last .avail } }
+      e = record { fits = last .fits; used = last .used; size = last .size; parent = last .parent; avail = last .avail }
 
       -- the rest of the chain does not change
       last-going : walk .fits ≡ true → Going rows counts next m j used avail old new m w last
@@ -262,8 +262,8 @@ module _ {rows counts next w₀ : List ℕ} {m n j head used avail : ℕ} {old n
           top : (k : ℕ) → Mem k (valuesAt rows (p .records)) → k ≤ t + length (drop t old)
           top k q =
               rises-in (suc t) (t + length (drop t old))
-              (subst (λ (xs : List ℕ). Mem k xs) (sym (values-append rows (p .records) (chain next (last .at))) ∙ ap (valuesAt rows) (sym (p .parts)) ∙ g .progress .going y .left .rows-left)
-              (mem-left (valuesAt rows (chain next (last .at))) q)) (pattern-rises (suc t) (drop t old) (t + length (drop t old)) (omega arith)) .1
+              (subst (λ (xs : List ℕ). Mem k xs) (sym (values-append rows (p .records) (chain next (last .at .0))) ∙ ap (valuesAt rows) (sym (p .parts)) ∙ g .progress .going y .left .rows-left)
+              (mem-left (valuesAt rows (chain next (last .at .0))) q)) (pattern-rises (suc t) (drop t old) (t + length (drop t old)) (omega arith)) .1
 
           rest-same : (u : ℕ) → t ≤ u → u < m → getD old u 0 ≡ getD new u 0
           rest-same u a b =
@@ -316,4 +316,4 @@ module _ {rows counts next w₀ : List ℕ} {m n j head used avail : ℕ} {old n
           enough : last .fits ≡ true → ofKind 1 (planFrom 1 old new) ≤ length (chain next avail)
           enough y =
               let l : Plan next m j used avail old new w e = plan-made y in
-              omega (arith, ap length (l .free-parts), length-append (l .taken) (chain next (last .avail)), l .taken-size, ap (ofKind 1) (l .entries))
+              omega (arith, ap length (l .free-parts), length-append (l .taken) (chain next (last .avail .0)), l .taken-size, ap (ofKind 1) (l .entries))

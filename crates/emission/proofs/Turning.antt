@@ -47,11 +47,11 @@ abbrev pub onward-at : (next : List ℕ) → (old q : ℕ) → ℕ
 onward-at next o q = pick (eqb o 0) q (at next q)
 
 pub record Fields (next : List ℕ) (j row o o′ : ℕ) (w v : Walk) : Type 0 where
-  pub at-is : v .at ≡ onward-at next o (w .at)
+  pub at-is : v .at .0 ≡ onward-at next o (w .at .0)
   pub size-is : v .size ≡ w .size + one (not (eqb o′ 0))
-  pub parent-is : v .parent ≡ pick (eqb o′ 0) (w .parent) (firstOver j (w .parent) row)
+  pub parent-is : v .parent .0 ≡ pick (eqb o′ 0) (w .parent .0) (firstOver j (w .parent .0) row)
   pub used-is : v .used ≡ w .used
-  pub avail-is : v .avail ≡ w .avail
+  pub avail-is : v .avail .0 ≡ w .avail .0
   pub fits-is : v .fits ≡ w .fits
 
 pub fields : (next : List ℕ) (j row o o′ : ℕ) (w : Walk) → Fields next j row o o′ w (counting j row o′ (advanced next o w))
@@ -70,19 +70,19 @@ fields next j row o o′ w =
 -- ---- while the plan fits
 
 pub record Going (rows counts next : List ℕ) (m j used avail : ℕ) (old new : List ℕ) (t : ℕ) (w : List ℕ) (walk : Walk) : Type 0 where
-  pub left : Left rows counts j old new t (chain next (walk .at)) (walk .size) (walk .parent) (planPart m w used (walk .used))
-  pub linked : Linked next (walk .at) (chain next (walk .at))
-  pub free : Linked next (walk .avail) (chain next (walk .avail))
+  pub left : Left rows counts j old new t (chain next (walk .at .0)) (walk .size) (walk .parent .0) (planPart m w used (walk .used))
+  pub linked : Linked next (walk .at .0) (chain next (walk .at .0))
+  pub free : Linked next (walk .avail .0) (chain next (walk .avail .0))
   pub taken : List ℕ
-  pub parts : chain next avail ≡ taken ++ chain next (walk .avail)
+  pub parts : chain next avail ≡ taken ++ chain next (walk .avail .0)
   pub taken-size : length taken ≡ ofKind 1 (planPart m w used (walk .used))
   pub used-low : used ≤ walk .used
-  pub room : walk .used + length (chain next (walk .at)) + length (chain next (walk .avail)) ≤ length next
+  pub room : walk .used + length (chain next (walk .at .0)) + length (chain next (walk .avail .0)) ≤ length next
 
 -- at any time
 pub record Progress (rows counts next : List ℕ) (m j used avail : ℕ) (old new : List ℕ) (t : ℕ) (w : List ℕ) (walk : Walk) : Type 0 where
-  pub linked : Linked next (walk .at) (chain next (walk .at))
-  pub small : walk .size + length (chain next (walk .at)) < 4294967296
+  pub linked : Linked next (walk .at .0) (chain next (walk .at .0))
+  pub small : walk .size + length (chain next (walk .at .0)) < 4294967296
   pub used-low : used ≤ walk .used
   pub used-high : walk .used ≤ length next
   pub going : walk .fits ≡ true → Going rows counts next m j used avail old new t w walk
@@ -96,7 +96,7 @@ pub record Turned (rows counts next : List ℕ) (m j used avail : ℕ) (old new 
 
 module _ {rows counts next w₀ : List ℕ} {m n j head used avail : ℕ} {old new : List ℕ} (can : CanEmit rows counts next w₀ m n j head used avail old new) where
   module _ {t : ℕ} {w : List ℕ} {walk : Walk} (g : Going rows counts next m j used avail old new t w walk) where
-    pub going-short : walk .size + length (chain next (walk .at)) ≤ 8192
+    pub going-short : walk .size + length (chain next (walk .at .0)) ≤ 8192
     going-short =
         omega (
           arith,
@@ -105,7 +105,7 @@ module _ {rows counts next w₀ : List ℕ} {m n j head used avail : ℕ} {old n
           can .new-long,
           can .old-long,
           can .narrow,
-          values-length rows (chain next (walk .at)),
+          values-length rows (chain next (walk .at .0)),
           ap length (g .left .rows-left),
           pattern-short t (drop t old),
           length-drop t old,
@@ -114,21 +114,21 @@ module _ {rows counts next w₀ : List ℕ} {m n j head used avail : ℕ} {old n
     -- ---- records passed over: those of g rows that do not change
 
     module _ {bound : ℕ} {after : Walk} (p : Passed rows next j bound walk after) where
-      halves : valuesAt rows (p .records) ++ valuesAt rows (chain next (after .at)) ≡ patternFrom (suc t) (drop t old)
-      halves = sym (values-append rows (p .records) (chain next (after .at))) ∙ ap (valuesAt rows) (sym (p .parts)) ∙ g .left .rows-left
+      halves : valuesAt rows (p .records) ++ valuesAt rows (chain next (after .at .0)) ≡ patternFrom (suc t) (drop t old)
+      halves = sym (values-append rows (p .records) (chain next (after .at .0))) ∙ ap (valuesAt rows) (sym (p .parts)) ∙ g .left .rows-left
 
-      rest-rises : rises (suc t) (t + length (drop t old)) (valuesAt rows (chain next (after .at))) ≡ true
+      rest-rises : rises (suc t) (t + length (drop t old)) (valuesAt rows (chain next (after .at .0))) ≡ true
       rest-rises =
-          rises-right (suc t) (t + length (drop t old)) (valuesAt rows (p .records)) (valuesAt rows (chain next (after .at)))
+          rises-right (suc t) (t + length (drop t old)) (valuesAt rows (p .records)) (valuesAt rows (chain next (after .at .0)))
           (subst (λ (xs : List ℕ). rises (suc t) (t + length (drop t old)) xs ≡ true) (sym halves) (pattern-rises (suc t) (drop t old) (t + length (drop t old)) (omega arith)))
 
-      rest-above : (i : ℕ) → Mem i (valuesAt rows (chain next (after .at))) → bound ≤ i
+      rest-above : (i : ℕ) → Mem i (valuesAt rows (chain next (after .at .0))) → bound ≤ i
       rest-above i q =
-          elim (eq-or-ne (after .at) 0) [
-            | inl z ↦ absurd (no-member (subst (λ (xs : List ℕ). Mem i xs) (ap (valuesAt rows) (chain-over next (after .at) z (p .linked)) ∙ values-none rows) q))
+          elim (eq-or-ne (after .at .0) 0) [
+            | inl z ↦ absurd (no-member (subst (λ (xs : List ℕ). Mem i xs) (ap (valuesAt rows) (chain-over next (after .at .0) z (p .linked)) ∙ values-none rows) q))
             | inr z ↦
-                let e : valuesAt rows (chain next (after .at)) ≡ at rows (after .at) ∷ valuesAt rows (chain next (at next (after .at))) =
-                ap (valuesAt rows) (chain-onward next (after .at) z (p .linked) .parts) ∙ values-front rows (after .at) (chain next (at next (after .at))) in
+                let e : valuesAt rows (chain next (after .at .0)) ≡ at rows (after .at .0) ∷ valuesAt rows (chain next (at next (after .at .0))) =
+                ap (valuesAt rows) (chain-onward next (after .at .0) z (p .linked) .parts) ∙ values-front rows (after .at .0) (chain next (at next (after .at .0))) in
                 omega (
                   arith,
                   p .above z,
@@ -144,19 +144,19 @@ module _ {rows counts next w₀ : List ℕ} {m n j head used avail : ℕ} {old n
           ((u : ℕ) → t ≤ u → u < s → getD old u 0 ≡ getD new u 0) → Going rows counts next m j used avail old new s w after
       going-pass s a b c low unchanged =
           let e : t + (s - t) ≡ s = omega arith in
-          let l : Left rows counts j old new (t + (s - t)) (chain next (after .at)) (walk .size + length (p .records)) (firstOf j (walk .parent) (valuesAt rows (p .records)))
+          let l : Left rows counts j old new (t + (s - t)) (chain next (after .at .0)) (walk .size + length (p .records)) (firstOf j (walk .parent .0) (valuesAt rows (p .records)))
           (planPart m w used (walk .used)) =
-          left-pass (s - t) t (p .records) (chain next (after .at)) (walk .size) (walk .parent) (omega (arith, can .old-long)) (can .new-long ∙ sym (can .old-long))
+          left-pass (s - t) t (p .records) (chain next (after .at .0)) (walk .size) (walk .parent .0) (omega (arith, can .old-long)) (can .new-long ∙ sym (can .old-long))
           (λ u x y. unchanged u x (omega arith)) (λ i q. omega (arith, low i (p .below i (mem-among q)) q)) (λ i q. omega (arith, rest-above i q))
-          (subst (λ (rs : List ℕ). Left rows counts j old new t rs (walk .size) (walk .parent) (planPart m w used (walk .used))) (p .parts) (g .left)) in
+          (subst (λ (rs : List ℕ). Left rows counts j old new t rs (walk .size) (walk .parent .0) (planPart m w used (walk .used))) (p .parts) (g .left)) in
           record {
-            left = rw (p .used) (left-as (subst (λ (u : ℕ). Left rows counts j old new u (chain next (after .at)) (walk .size + length (p .records))
-                (firstOf j (walk .parent) (valuesAt rows (p .records))) (planPart m w used (walk .used))) e l) (sym (p .size)) (sym (p .parent)) refl);
+            left = rw (p .used) (left-as (subst (λ (u : ℕ). Left rows counts j old new u (chain next (after .at .0)) (walk .size + length (p .records))
+                (firstOf j (walk .parent .0) (valuesAt rows (p .records))) (planPart m w used (walk .used))) e l) (sym (p .size)) (sym (p .parent)) refl);
             linked = p .linked;
             free = rw (p .avail) (g .free);
             taken = g .taken;
             parts = rw (p .avail) (g .parts);
             taken-size = rw (p .used) (g .taken-size);
             used-low = omega (arith, p .used, g .used-low);
-            room = omega (arith, p .used, ap length (p .parts), length-append (p .records) (chain next (after .at)), ap (λ (x : ℕ). length (chain next x)) (p .avail), g .room);
+            room = omega (arith, p .used, ap length (p .parts), length-append (p .records) (chain next (after .at .0)), ap (λ (x : ℕ). length (chain next x)) (p .avail), g .room);
           }

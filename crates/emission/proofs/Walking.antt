@@ -24,13 +24,13 @@ first-push j p (y ∷ xs) x = first-push j (firstOver j p y) xs x
 
 pub record Walking (rows next : List ℕ) (j bound : ℕ) (before now : Walk) : Type 0 where
   pub records : List ℕ
-  pub parts : chain next (before .at) ≡ records ++ chain next (now .at)
-  pub linked : Linked next (now .at) (chain next (now .at))
+  pub parts : chain next (before .at .0) ≡ records ++ chain next (now .at .0)
+  pub linked : Linked next (now .at .0) (chain next (now .at .0))
   pub below : (i : ℕ) → among i (valuesAt rows records) ≡ true → i < bound
   pub size : now .size ≡ before .size + length records
-  pub parent : now .parent ≡ firstOf j (before .parent) (valuesAt rows records)
+  pub parent : now .parent .0 ≡ firstOf j (before .parent .0) (valuesAt rows records)
   pub used : now .used ≡ before .used
-  pub avail : now .avail ≡ before .avail
+  pub avail : now .avail .0 ≡ before .avail .0
   pub fits : now .fits ≡ before .fits
 
 module _ {rows next : List ℕ} {j bound : ℕ} {before : Walk} (can : CanPass rows next before) where
@@ -50,17 +50,17 @@ module _ {rows next : List ℕ} {j bound : ℕ} {before : Walk} (can : CanPass r
       }
 
   module _ {now : Walk} (g : Walking rows next j bound before now) where
-    module _ (z : now .at ≢ 0) where
-      pub walking-onward : Onward next (now .at)
-      walking-onward = chain-onward next (now .at) z (g .linked)
+    module _ (z : now .at .0 ≢ 0) where
+      pub walking-onward : Onward next (now .at .0)
+      walking-onward = chain-onward next (now .at .0) z (g .linked)
 
       pub walking-small : now .size < 4294967295
       walking-small =
-          omega (arith, g .size, can .small, ap length (g .parts), length-append (g .records) (chain next (now .at)), ap length (walking-onward .parts))
+          omega (arith, g .size, can .small, ap length (g .parts), length-append (g .records) (chain next (now .at .0)), ap length (walking-onward .parts))
 
-      pub walking-next : at rows (now .at) < bound → Walking rows next j bound before (onTo (at next (now .at)) (stays j (at rows (now .at)) now))
+      pub walking-next : at rows (now .at .0) < bound → Walking rows next j bound before (onTo (at next (now .at .0)) (stays j (at rows (now .at .0)) now))
       walking-next l =
-          let r : ℕ = now .at in
+          let r : ℕ = now .at .0 in
           let e : valuesAt rows (g .records ++ (r ∷ [])) ≡ valuesAt rows (g .records) ++ (at rows r ∷ []) =
           values-append rows (g .records) (r ∷ []) ∙ ap (λ (xs : List ℕ). valuesAt rows (g .records) ++ xs) (values-one rows r) in
           record {
@@ -72,14 +72,14 @@ module _ {rows next : List ℕ} {j bound : ℕ} {before : Walk} (can : CanPass r
               | inr n ↦ omega (arith, only-member n)
             ];
             size = omega (arith, g .size, length-append (g .records) (r ∷ []));
-            parent = ap (λ (p : ℕ). firstOver j p (at rows r)) (g .parent) ∙ sym (first-push j (before .parent) (valuesAt rows (g .records)) (at rows r)) ∙
-                ap (firstOf j (before .parent)) (sym e);
+            parent = ap (λ (p : ℕ). firstOver j p (at rows r)) (g .parent) ∙ sym (first-push j (before .parent .0) (valuesAt rows (g .records)) (at rows r)) ∙
+                ap (firstOf j (before .parent .0)) (sym e);
             used = g .used;
             avail = g .avail;
             fits = g .fits;
           }
 
-    done : (now .at ≢ 0 → bound ≤ at rows (now .at)) → Passed rows next j bound before now
+    done : (now .at .0 ≢ 0 → bound ≤ at rows (now .at .0)) → Passed rows next j bound before now
     done a =
         record {
           records = g .records;
@@ -94,8 +94,8 @@ module _ {rows next : List ℕ} {j bound : ℕ} {before : Walk} (can : CanPass r
           fits = g .fits;
         }
 
-    pub passed-stop : bound ≤ at rows (now .at) → Passed rows next j bound before now
+    pub passed-stop : bound ≤ at rows (now .at .0) → Passed rows next j bound before now
     passed-stop l = done (λ z. l)
 
-    pub passed-end : now .at ≡ 0 → Passed rows next j bound before now
+    pub passed-end : now .at .0 ≡ 0 → Passed rows next j bound before now
     passed-end e = done (λ z. absurd (z e))

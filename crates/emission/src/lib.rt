@@ -5,8 +5,9 @@ ghost use mathlib.Core.Logic.{_≢_};
 ghost use Prim.Native.Nat.{_+_, _*_, _≤_, _<_};
 ghost use lib.ListN.{length, set};
 ghost use Rattle.lists.specs.Lists.{at};
+ghost use Rattle.workspace.specs.Layout.{planAt};
 ghost use Rattle.emission.specs.Plans.{kindFor};
-ghost use Rattle.emission.specs.Walks.{firstOver, stays, longer, taking, full, CanPass, Passed, storedAt, counting, advanced, CanPlan, Planned};
+ghost use Rattle.emission.specs.Walks.{firstOver, stays, longer, taking, CanPass, Passed, storedAt, counting, advanced, CanPlan, Planned};
 ghost use Rattle.emission.specs.Emit.{Ready, Emits};
 use book::Row;
 use differences::BASE;
@@ -15,11 +16,11 @@ use pool::Rec;
 // A walk of a chain: the record at hand, the plan's end, the rows counted and the first above the diagonal, the next free record, and whether there was
 // one for each new row.
 pub struct Walk {
-    pub at: u32,
+    pub at: Rec,
     pub used: usize,
     pub size: usize,
-    pub parent: u32,
-    pub avail: u32,
+    pub parent: Row,
+    pub avail: Rec,
     pub fits: bool,
 }
 
@@ -33,63 +34,75 @@ pub struct Emission {
 }
 
 // The first row above j so far, with one row more.
-fn first_over(j: u32, first: u32, row: u32) -> u32
-    ensures { λ r. ⌜ r ≡ firstOver j first row ⌝ }
+fn first_over(j: Row, first: Row, row: Row) -> Row
+    ensures { λ r. ⌜ r .0 ≡ firstOver (j .0) (first .0) (row .0) ⌝ }
 {
-    if first != 0 {
+    let f = first.0;
+    if f != 0 {
         return first;
     }
-    if j < row {
+    let d = j.0;
+    let i = row.0;
+    if d < i {
         return row;
     }
     first
 }
 
 // Counts a row that stays.
-fn stay(walk: Walk, j: u32, row: u32) -> Walk
+fn stay(walk: Walk, j: Row, row: Row) -> Walk
     requires { ⌜ walk .size < 4294967295 ⌝ }
-    ensures { λ w. ⌜ w ≡ stays j row walk ⌝ }
+    ensures { λ w. ⌜ w ≡ stays (j .0) (row .0) walk ⌝ }
 {
-    let parent = first_over(j, walk.parent, row);
+    let at = walk.at;
+    let first = walk.parent;
+    let avail = walk.avail;
+    let size = walk.size + 1;
+    let parent = first_over(j, first, row);
     Walk {
-        at: walk.at,
+        at: at,
         used: walk.used,
-        size: walk.size + 1,
+        size: size,
         parent: parent,
-        avail: walk.avail,
+        avail: avail,
         fits: walk.fits,
     }
 }
 
 // Passes over the records with rows below a bound: they stay.
-fn pass(rows: &[u16], next: &[u32], walk: Walk, j: u32, bound: u32) -> Walk
+fn pass(rows: &[u16], next: &[u32], walk: Walk, j: Row, bound: Row) -> Walk
     requires { ⌜ CanPass (now rows) (now next) walk ⌝ }
-    ensures { λ w. ⌜ Passed (now (rows .entry)) (now (next .entry)) j bound walk w ⌝ }
+    ensures { λ w. ⌜ Passed (now (rows .entry)) (now (next .entry)) (j .0) (bound .0) walk w ⌝ }
 {
+    let least = bound.0;
     let mut w = walk;
-    while w.at != 0 {
-        let at = w.at;
-        let i = (at - 1) as usize;
+    while w.at.0 != 0 {
+        let r = w.at.0;
+        let i = (r - 1) as usize;
         let row = rows[i] as u32;
-        if bound <= row {
+        if least <= row {
             return w;
         }
-        w = stay(w, j, row);
-        w.at = next[i];
+        w = stay(w, j, Row(row));
+        let q = next[i];
+        let after = Rec(q);
+        w.at = after;
     }
     w
 }
 
 // The multiplicity of a row in the record at hand, 0 if that is of another row.
-fn stored(rows: &[u16], counts: &[u16], at: u32, row: u32) -> u32
-    requires { ⌜ (at ≤ length (now rows)) × (at ≤ length (now counts)) ⌝ }
-    ensures { λ n. ⌜ n ≡ storedAt (now (rows .entry)) (now (counts .entry)) at row ⌝ }
+fn stored(rows: &[u16], counts: &[u16], r: Rec, row: Row) -> u32
+    requires { ⌜ (r .0 ≤ length (now rows)) × (r .0 ≤ length (now counts)) ⌝ }
+    ensures { λ n. ⌜ n ≡ storedAt (now (rows .entry)) (now (counts .entry)) (r .0) (row .0) ⌝ }
 {
-    if at == 0 {
+    let k = r.0;
+    if k == 0 {
         return 0;
     }
-    let i = (at - 1) as usize;
-    if rows[i] as u32 != row {
+    let i = (k - 1) as usize;
+    let x = row.0;
+    if rows[i] as u32 != x {
         return 0;
     }
     counts[i] as u32
@@ -97,15 +110,17 @@ fn stored(rows: &[u16], counts: &[u16], at: u32, row: u32) -> u32
 
 // Leaves the record at hand behind if the row was there.
 fn advance(next: &[u32], walk: Walk, old: u32) -> Walk
-    requires { ⌜ (old ≢ 0 → (1 ≤ walk .at) × (walk .at ≤ length (now next))) ⌝ }
+    requires { ⌜ (old ≢ 0 → (1 ≤ walk .at .0) × (walk .at .0 ≤ length (now next))) ⌝ }
     ensures { λ w. ⌜ w ≡ advanced (now (next .entry)) old walk ⌝ }
 {
     if old == 0 {
         return walk;
     }
-    let at = walk.at;
+    let r = walk.at.0;
+    let q = next[(r - 1) as usize];
+    let after = Rec(q);
     let mut w = walk;
-    w.at = next[(at - 1) as usize];
+    w.at = after;
     w
 }
 
@@ -114,18 +129,18 @@ fn kind_for(old: u32, new: u32) -> u32
     ensures { λ r. ⌜ r ≡ kindFor old new ⌝ }
 {
     if old == 0 {
-        return 1;
+        return workspace::NEW;
     }
     if 0 < new {
-        return 0;
+        return workspace::CHANGED;
     }
-    2
+    workspace::GONE
 }
 
 // Counts a row with its new multiplicity, if it stays.
-fn count_row(walk: Walk, j: u32, row: u32, new: u32) -> Walk
+fn count_row(walk: Walk, j: Row, row: Row, new: u32) -> Walk
     requires { ⌜ walk .size < 4294967295 ⌝ }
-    ensures { λ w. ⌜ w ≡ counting j row new walk ⌝ }
+    ensures { λ w. ⌜ w ≡ counting (j .0) (row .0) new walk ⌝ }
 {
     if new == 0 {
         return walk;
@@ -135,23 +150,25 @@ fn count_row(walk: Walk, j: u32, row: u32, new: u32) -> Walk
 
 // Takes the next free record.
 fn take_free(next: &[u32], walk: Walk) -> Walk
-    requires { ⌜ (1 ≤ walk .avail) × (walk .avail ≤ length (now next)) ⌝ }
+    requires { ⌜ (1 ≤ walk .avail .0) × (walk .avail .0 ≤ length (now next)) ⌝ }
     ensures { λ w. ⌜ w ≡ taking (now (next .entry)) walk ⌝ }
 {
-    let free = walk.avail;
+    let free = walk.avail.0;
+    let q = next[(free - 1) as usize];
+    let left = Rec(q);
     let mut w = walk;
-    w.avail = next[(free - 1) as usize];
+    w.avail = left;
     w
 }
 
 // Writes an entry at the plan's end.
 fn put(work: &mut [u32], m: usize, walk: Walk, entry: u32) -> Walk
-    requires { ⌜ 8 * m + walk .used < length (now work) ⌝ }
-    ensures work { λ w. ⌜ now (work .exit) ≡ set (now (work .entry)) (8 * m + walk .used) entry ⌝ }
+    requires { ⌜ planAt m + walk .used < length (now work) ⌝ }
+    ensures work { λ w. ⌜ now (work .exit) ≡ set (now (work .entry)) (planAt m + walk .used) entry ⌝ }
     ensures walk { λ w. ⌜ w ≡ longer walk ⌝ }
 {
     let used = walk.used;
-    work[8 * m + used] = entry;
+    work[workspace::PLAN * m + used] = entry;
     let mut w = walk;
     w.used = used + 1;
     w
@@ -163,20 +180,25 @@ fn plan_row(
     work: &mut [u32],
     m: usize,
     walk: Walk,
-    row: u32,
+    row: Row,
     old: u32,
     new: u32,
 ) -> Walk
-    requires { ⌜ CanPlan (now next) (now work) m row old new walk ⌝ }
-    ensures { λ w. ⌜ Planned (now (next .entry)) (now (work .entry)) m row old new walk (now (work .exit)) w ⌝ }
+    requires { ⌜ CanPlan (now next) (now work) m (row .0) old new walk ⌝ }
+    ensures { λ w. ⌜ Planned (now (next .entry)) (now (work .entry)) m (row .0) old new walk (now (work .exit)) w ⌝ }
 {
     if old == new {
         return walk;
     }
     if old != 0 {
-        return put(work, m, walk, workspace::pack(row, new, kind_for(old, new)));
+        return put(
+            work,
+            m,
+            walk,
+            workspace::pack(row.0, new, kind_for(old, new)),
+        );
     }
-    let free = walk.avail;
+    let free = walk.avail.0;
     if free == 0 {
         let mut w = walk;
         w.fits = false;
@@ -186,7 +208,7 @@ fn plan_row(
         work,
         m,
         take_free(next, walk),
-        workspace::pack(row, new, kind_for(old, new)),
+        workspace::pack(row.0, new, kind_for(old, new)),
     )
 }
 
@@ -206,13 +228,12 @@ pub fn emit(
     requires { ⌜ Ready (now rows) (now counts) (now next) (now work) m n (j .0) (head .0) used (avail .0) ⌝ }
     ensures { λ e. ⌜ Emits (now (rows .entry)) (now (counts .entry)) (now (next .entry)) (now (work .entry)) m n (j .0) (head .0) used (avail .0) (now (work .exit)) e ⌝ }
 {
-    let diagonal = j.0;
     let mut walk = Walk {
-        at: head.0,
+        at: head,
         used: used,
         size: 0,
-        parent: 0,
-        avail: avail.0,
+        parent: Row(0),
+        avail: avail,
         fits: true,
     };
     let mut i: usize = 0;
@@ -223,22 +244,25 @@ pub fn emit(
         work[k] = 0;
         work[m + i] = 0;
         if walk.fits {
-            let w = pass(rows, next, walk, diagonal, row);
-            let old = stored(rows, counts, w.at, row);
+            let w = pass(rows, next, walk, j, Row(row));
+            let at = w.at;
+            let old = stored(rows, counts, at, Row(row));
             let new = old + x - BASE;
-            let v = count_row(advance(next, w, old), diagonal, row, new);
-            walk = plan_row(next, work, m, v, row, old, new);
+            let v = count_row(advance(next, w, old), j, Row(row), new);
+            walk = plan_row(next, work, m, v, Row(row), old, new);
             i += 1;
         } else {
             i += 1;
         }
     }
-    let last = pass(rows, next, walk, diagonal, 4097);
+    let last = pass(rows, next, walk, j, Row(4097));
+    let parent = last.parent;
+    let left = last.avail;
     Emission {
         fits: last.fits,
         used: last.used,
         size: last.size,
-        parent: Row(last.parent),
-        avail: Rec(last.avail),
+        parent: parent,
+        avail: left,
     }
 }

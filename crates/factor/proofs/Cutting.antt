@@ -14,7 +14,7 @@ use Rattle.workspace.specs.Regions.{IsZero, OnlyIn, cleared, zeroFirst}
 use Rattle.workspace.proofs.Regions.{cleared-zero, cleared-only, cleared-unique, only-trans, only-wider, only-zero, zero-part, first-cleared}
 use Rattle.book.specs.Book as book
 use Rattle.tables.specs.Stored.{Sized, isSoundFor}
-use Rattle.tables.specs.Tables.{Tables, Limits, State, longEnough, storedIn, bookIn, registerOf, isSound}
+use Rattle.tables.specs.Tables.{Tables, Sizes, State, longEnough, storedIn, bookIn, registerOf, isSound}
 use Rattle.tables.proofs.Tables.{Long, long-facts, sound-stored}
 use Rattle.calls.specs.Refusals.{accepted, isAccepted, bounds, sizesRefusal, workFor}
 use Rattle.calls.proofs.Refusals.{InRange, sizes-facts}
@@ -26,33 +26,33 @@ use Rattle.factor.specs.Admission.{HasPlaces, Usable}
 -- ---- lengths
 
 pub record Cut (s : State) (t : Tables) : Type 0 where
-  pub heads : length (storedIn s t .heads) ≡ s .limits .m
-  pub parents : length (storedIn s t .parents) ≡ s .limits .m
-  pub rows : length (storedIn s t .rows) ≡ s .limits .f
-  pub counts : length (storedIn s t .counts) ≡ s .limits .f
-  pub next : length (storedIn s t .next) ≡ s .limits .f
-  pub bookHeads : length (bookIn s t .heads) ≡ s .limits .n
-  pub bookRows : length (bookIn s t .rows) ≡ s .limits .c
-  pub bookNext : length (bookIn s t .next) ≡ s .limits .c
+  pub heads : length (storedIn s t .heads) ≡ s .sizes .m
+  pub parents : length (storedIn s t .parents) ≡ s .sizes .m
+  pub rows : length (storedIn s t .rows) ≡ s .sizes .f
+  pub counts : length (storedIn s t .counts) ≡ s .sizes .f
+  pub next : length (storedIn s t .next) ≡ s .sizes .f
+  pub bookHeads : length (bookIn s t .heads) ≡ s .sizes .n
+  pub bookRows : length (bookIn s t .rows) ≡ s .sizes .c
+  pub bookNext : length (bookIn s t .next) ≡ s .sizes .c
 
-pub cut : (s : State) (t : Tables) → longEnough (s .limits) t ≡ true → Cut s t
+pub cut : (s : State) (t : Tables) → longEnough (s .sizes) t ≡ true → Cut s t
 cut s t z =
-    let h : Long (s .limits) t = long-facts (s .limits) t z in
+    let h : Long (s .sizes) t = long-facts (s .sizes) t z in
     record {
-      heads = length-take-le (s .limits .m) (t .heads) (h .heads);
-      parents = length-take-le (s .limits .m) (t .parents) (h .parents);
-      rows = length-take-le (s .limits .f) (t .rows) (h .rows);
-      counts = length-take-le (s .limits .f) (t .counts) (h .counts);
-      next = length-take-le (s .limits .f) (t .next) (h .next);
-      bookHeads = length-take-le (s .limits .n) (t .bookHeads) (h .bookHeads);
-      bookRows = length-take-le (s .limits .c) (t .bookRows) (h .bookRows);
-      bookNext = length-take-le (s .limits .c) (t .bookNext) (h .bookNext);
+      heads = length-take-le (s .sizes .m) (t .heads) (h .heads);
+      parents = length-take-le (s .sizes .m) (t .parents) (h .parents);
+      rows = length-take-le (s .sizes .f) (t .rows) (h .rows);
+      counts = length-take-le (s .sizes .f) (t .counts) (h .counts);
+      next = length-take-le (s .sizes .f) (t .next) (h .next);
+      bookHeads = length-take-le (s .sizes .n) (t .bookHeads) (h .bookHeads);
+      bookRows = length-take-le (s .sizes .c) (t .bookRows) (h .bookRows);
+      bookNext = length-take-le (s .sizes .c) (t .bookNext) (h .bookNext);
     }
 
 cut-sized : {s : State} {t : Tables} → Cut s t → Sized (storedIn s t)
 cut-sized c = record { parents-long = c .parents ∙ sym (c .heads); rows-long = c .rows ∙ sym (c .next); counts-long = c .counts ∙ sym (c .next) }
 
-pub in-range : (l : Limits) → sizesRefusal bounds l ≡ accepted → InRange l
+pub in-range : (l : Sizes) → sizesRefusal bounds l ≡ accepted → InRange l
 in-range l e = sizes-facts l (ap isAccepted e)
 
 -- ---- usable tables
@@ -68,7 +68,7 @@ module _ {s : State} {t : Tables} (u : Usable s t) where
   rows-are = sym (sizes .heads)
 
   narrow : length (storedIn s t .heads) ≤ 4096
-  narrow = omega (arith, sizes .heads, in-range (s .limits) (u .sizes) .m-high)
+  narrow = omega (arith, sizes .heads, in-range (s .sizes) (u .sizes) .m-high)
 
   pub usable-columns : ColumnsFor (storedIn s t .heads) (storedIn s t .rows) (storedIn s t .counts) (storedIn s t .next) (registerOf s t)
   usable-columns = stored-columns (storedIn s t) (registerOf s t) rows-are stored
@@ -84,14 +84,14 @@ module _ {s : State} {t : Tables} (u : Usable s t) where
 
 -- ---- read through
 
-module _ (s : State) {t : Tables} {w : List ℕ} (r : HasPlaces (s .limits) t w) where
+module _ (s : State) {t : Tables} {w : List ℕ} (r : HasPlaces (s .sizes) t w) where
   lengths : Cut s t
   lengths = cut s t (r .long)
 
   abbrev need : ℕ
   need = workNeed (length (storedIn s t .heads)) (length (bookIn s t .heads)) (length (storedIn s t .next)) (length (bookIn s t .next))
 
-  need-is : need ≡ workFor (s .limits)
+  need-is : need ≡ workFor (s .sizes)
   need-is = let c = lengths in omega arith
 
   -- what is answered is soundness
@@ -99,29 +99,29 @@ module _ (s : State) {t : Tables} {w : List ℕ} (r : HasPlaces (s .limits) t w)
   read-sound = ap (λ (m : ℕ). book.isSound m (bookIn s t) && isSoundFor (live (registerOf s t)) (storedIn s t)) (lengths .heads)
 
   -- the first W places are all of them
-  room : 0 + workFor (s .limits) ≤ length w
+  room : 0 + workFor (s .sizes) ≤ length w
   room = omega (arith, r .room)
 
   -- the work table made ready
-  module _ {x : List ℕ} (e : x ≡ madeReady w (s .limits .m) (s .limits .f) (s .limits .c)) where
+  module _ {x : List ℕ} (e : x ≡ madeReady w (s .sizes .m) (s .sizes .f) (s .sizes .c)) where
     abbrev front : List ℕ
-    front = cleared w 0 (8 * s .limits .m + s .limits .f)
+    front = cleared w 0 (8 * s .sizes .m + s .sizes .f)
 
-    front-only : OnlyIn 0 (8 * s .limits .m + s .limits .f) w front
-    front-only = cleared-only w 0 (8 * s .limits .m + s .limits .f) (omega (arith, r .room))
+    front-only : OnlyIn 0 (8 * s .sizes .m + s .sizes .f) w front
+    front-only = cleared-only w 0 (8 * s .sizes .m + s .sizes .f) (omega (arith, r .room))
 
-    marks-room : bookMarks (s .limits .m) (s .limits .f) + s .limits .c ≤ length front
+    marks-room : bookMarks (s .sizes .m) (s .sizes .f) + s .sizes .c ≤ length front
     marks-room = omega (arith, r .room, front-only .same-length)
 
-    marks-only : OnlyIn (bookMarks (s .limits .m) (s .limits .f)) (s .limits .c) front x
-    marks-only = rw e (cleared-only front (bookMarks (s .limits .m) (s .limits .f)) (s .limits .c) marks-room)
+    marks-only : OnlyIn (bookMarks (s .sizes .m) (s .sizes .f)) (s .sizes .c) front x
+    marks-only = rw e (cleared-only front (bookMarks (s .sizes .m) (s .sizes .f)) (s .sizes .c) marks-room)
 
     long : length x ≡ length w
     long = marks-only .same-length ∙ front-only .same-length
 
     pub can-read-through : CanReadThrough (storedIn s t) (bookIn s t) x
     can-read-through =
-        let i : InRange (s .limits) = in-range (s .limits) (r .sizes) in
+        let i : InRange (s .sizes) = in-range (s .sizes) (r .sizes) in
         let c : Cut s t = lengths in
         record {
           stored = cut-sized c;
@@ -133,24 +133,24 @@ module _ (s : State) {t : Tables} {w : List ℕ} (r : HasPlaces (s .limits) t w)
           c-bound = omega (arith, c .bookNext, i .c-high);
           long = omega (arith, need-is, r .room, long);
           front-zero =
-              let z : IsZero front 0 (8 * s .limits .m + s .limits .f) = cleared-zero w 0 (8 * s .limits .m + s .limits .f) (omega (arith, r .room)) in
-              zero-part x 0 (8 * s .limits .m + s .limits .f) 0 (8 * length (storedIn s t .heads) + length (storedIn s t .next))
-              (only-zero marks-only 0 (8 * s .limits .m + s .limits .f) (inr (omega arith)) z) (omega arith) (omega (arith, c .heads, c .next));
+              let z : IsZero front 0 (8 * s .sizes .m + s .sizes .f) = cleared-zero w 0 (8 * s .sizes .m + s .sizes .f) (omega (arith, r .room)) in
+              zero-part x 0 (8 * s .sizes .m + s .sizes .f) 0 (8 * length (storedIn s t .heads) + length (storedIn s t .next))
+              (only-zero marks-only 0 (8 * s .sizes .m + s .sizes .f) (inr (omega arith)) z) (omega arith) (omega (arith, c .heads, c .next));
           marks-zero =
-              let z : IsZero x (bookMarks (s .limits .m) (s .limits .f)) (s .limits .c) =
-              rw e (cleared-zero front (bookMarks (s .limits .m) (s .limits .f)) (s .limits .c) marks-room) in
-              zero-part x (bookMarks (s .limits .m) (s .limits .f)) (s .limits .c) (bookMarks (length (storedIn s t .heads)) (length (storedIn s t .next)))
+              let z : IsZero x (bookMarks (s .sizes .m) (s .sizes .f)) (s .sizes .c) =
+              rw e (cleared-zero front (bookMarks (s .sizes .m) (s .sizes .f)) (s .sizes .c) marks-room) in
+              zero-part x (bookMarks (s .sizes .m) (s .sizes .f)) (s .sizes .c) (bookMarks (length (storedIn s t .heads)) (length (storedIn s t .next)))
               (length (bookIn s t .next)) z (omega (arith, c .heads, c .next)) (omega (arith, c .heads, c .next, c .bookNext));
         }
 
     module _ {y : List ℕ} (o : OnlyIn 0 need x y) where
-      pub read-room : 0 + workFor (s .limits) ≤ length y
+      pub read-room : 0 + workFor (s .sizes) ≤ length y
       read-room = omega (arith, o .same-length, long, r .room)
 
       -- the table cleared again is the table cleared
-      pub read-clears : {n : ℕ} → n ≡ workFor (s .limits) → cleared y 0 n ≡ zeroFirst (workFor (s .limits)) w
+      pub read-clears : {n : ℕ} → n ≡ workFor (s .sizes) → cleared y 0 n ≡ zeroFirst (workFor (s .sizes)) w
       read-clears z =
-          let W : ℕ = workFor (s .limits) in
+          let W : ℕ = workFor (s .sizes) in
           let p : OnlyIn 0 W w x =
           only-trans (only-wider 0 W (omega arith) (omega arith) front-only) (only-wider 0 W (omega arith) (omega arith) marks-only) in
           let q : OnlyIn 0 W x y = subst (λ (n : ℕ). OnlyIn 0 n x y) need-is o in

@@ -14,14 +14,14 @@ use Rattle.pool.specs.Opening.{openedNexts}
 use Rattle.pool.proofs.Opening.{opened-length}
 use Rattle.book.specs.Book.{Book, bookOf}
 use Rattle.book.specs.Entries.{opened}
-use Rattle.tables.specs.Tables.{Tables, Limits, tablesOf}
+use Rattle.tables.specs.Tables.{Tables, Sizes, tablesOf}
 use Rattle.tables.proofs.Tables.{Long, long-facts}
 use Rattle.columns.specs.Opened.{openedRows, openedCounts, CanOpen, Opened}
 use Rattle.columns.proofs.Filling.{rows-length, counts-length}
 use Rattle.calls.specs.Refusals.{workFor}
 use Rattle.calls.proofs.Refusals.{InRange}
 use Rattle.factor.specs.Admission.{HasPlaces}
-use Rattle.factor.specs.Written.{HoldColumns, ColumnsWritten, HoldBook, BookWritten, Written}
+use Rattle.factor.specs.Written.{HoldColumns, ColumnsWritten, HoldBook, BookWritten, OpeningWritten}
 use Rattle.factor.proofs.Cutting.{in-range}
 
 -- a part of n places that was written whole, and the places beyond
@@ -85,7 +85,7 @@ module _ {n c : ℕ} {hs rs ns : List ℕ} (h : HoldBook n c hs rs ns) where
 
 -- ---- all tables
 
-module _ {l : Limits} {t : Tables} {w : List ℕ} (a : HasPlaces l t w) where
+module _ {l : Sizes} {t : Tables} {w : List ℕ} (a : HasPlaces l t w) where
   range : InRange l
   range = in-range l (a .sizes)
 
@@ -117,7 +117,7 @@ module _ {l : Limits} {t : Tables} {w : List ℕ} (a : HasPlaces l t w) where
   pub all-written : {hs ps rs cs ns bh br bn x : List ℕ} {free bookFree k : ℕ} →
       ColumnsWritten (l .m) (l .f) (t .heads) (t .parents) (t .rows) (t .counts) (t .next) hs ps rs cs ns free →
       BookWritten (l .n) (l .c) (t .bookHeads) (t .bookRows) (t .bookNext) bh br bn bookFree → x ≡ cleared w 0 k → k ≡ workFor l →
-      Written l t w (tablesOf hs ps rs cs ns bh br bn) x free bookFree
+      OpeningWritten l t w (tablesOf hs ps rs cs ns bh br bn) x free bookFree
   all-written p q e z =
       record {
         tables = λ i. record {

@@ -13,10 +13,10 @@ use Rattle.factor.specs.declared.Changed.{Changed}
 -- usable tables, a work table whose first W places are zero, and lists long enough for the report
 pub record CanChange (s : State) (t : Tables) (work touched labels : List ℕ) : Type 0 where
   pub usable : Usable s t
-  pub room : workFor (s .limits) ≤ length work
-  pub zero : IsZero work 0 (workFor (s .limits))
-  pub touched-long : s .limits .m ≤ length touched
-  pub labels-long : s .limits .m ≤ length labels
+  pub room : workFor (s .sizes) ≤ length work
+  pub zero : IsZero work 0 (workFor (s .sizes))
+  pub touched-long : s .sizes .m ≤ length touched
+  pub labels-long : s .sizes .m ≤ length labels
 
 -- the numbers of a batch's answer, without the record
 abbrev pub changedAnswer : Changed → Answer

@@ -1,4 +1,4 @@
 pub mod Entries
 pub mod Admission
-pub mod Written
+pub mod OpeningWritten
 pub mod Batches

@@ -7,7 +7,7 @@ use lib.ListN.{length, replicate}
 use Rattle.lists.specs.Lists.{over, upFrom}
 use Rattle.workspace.specs.Regions.{zeroFirst}
 use Rattle.pool.specs.Opening.{openedNexts, freeHead}
-use Rattle.tables.specs.Tables.{Tables, Limits}
+use Rattle.tables.specs.Tables.{Tables, Sizes}
 use Rattle.tables.specs.Opening.{openedState, openedTables}
 use Rattle.columns.specs.Opened.{openedRows, openedCounts}
 use Rattle.calls.specs.Refusals.{workFor}
@@ -47,7 +47,7 @@ pub record BookWritten (n c : ℕ) (heads₀ rows₀ next₀ heads rows next : L
   pub free-is : free ≡ freeHead 0 c
 
 -- all tables, the work table and the two free heads after an opening
-pub record Written (l : Limits) (t₀ : Tables) (work₀ : List ℕ) (t : Tables) (work : List ℕ) (free bookFree : ℕ) : Type 0 where
+pub record OpeningWritten (l : Sizes) (t₀ : Tables) (work₀ : List ℕ) (t : Tables) (work : List ℕ) (free bookFree : ℕ) : Type 0 where
   pub tables : t ≡ openedTables l t₀
   pub left : work ≡ zeroFirst (workFor l) work₀
   pub free-is : free ≡ openedState l .free

@@ -1,10 +1,10 @@
 // What is found before a call is answered: numbers 1 to 5, the tables read through within their sizes for number 6, and both.
 ghost use mathlib.Core.Path.{_≡_};
 ghost use Rattle.workspace.specs.Regions.{zeroFirst};
-ghost use Rattle.tables.specs.Tables.{isSound, limitsOf, tablesOf};
-ghost use Rattle.calls.specs.Refusals.{workFor};
+ghost use Rattle.tables.specs.Tables.{isSound, sizesOf, tablesOf};
+ghost use Rattle.calls.specs.Refusals.{workFor, earlyRefusal};
 ghost use Rattle.factor.specs.Entries.{stateOf};
-ghost use Rattle.factor.specs.Admission.{earlyFor, Admitted, HasPlaces};
+ghost use Rattle.factor.specs.Admission.{Admitted, HasPlaces};
 use crate::Factor;
 use pool::Rec;
 
@@ -22,7 +22,7 @@ pub fn early(
     work: &[u32],
     lists: bool,
 ) -> u32
-    ensures { λ r. ⌜ r ≡ earlyFor (limitsOf (factor .m) (factor .n) (factor .f) (factor .c)) (tablesOf (now (heads .entry)) (now (parents .entry)) (now (rows .entry)) (now (counts .entry)) (now (next .entry)) (now («book_heads» .entry)) (now («book_rows» .entry)) (now («book_next» .entry))) (now (work .entry)) lists .number ⌝ }
+    ensures { λ r. ⌜ r ≡ earlyRefusal (sizesOf (factor .m) (factor .n) (factor .f) (factor .c)) (tablesOf (now (heads .entry)) (now (parents .entry)) (now (rows .entry)) (now (counts .entry)) (now (next .entry)) (now («book_heads» .entry)) (now («book_rows» .entry)) (now («book_next» .entry))) (now (work .entry)) lists .number ⌝ }
 {
     let number = refusals::sizes(
         factor.m,
@@ -73,9 +73,9 @@ pub fn read_through(
     book_next: &[u32],
     work: &mut [u32],
 ) -> bool
-    requires { ⌜ HasPlaces (limitsOf (factor .m) (factor .n) (factor .f) (factor .c)) (tablesOf (now heads) (now parents) (now rows) (now counts) (now next) (now «book_heads») (now «book_rows») (now «book_next»)) (now work) ⌝ }
+    requires { ⌜ HasPlaces (sizesOf (factor .m) (factor .n) (factor .f) (factor .c)) (tablesOf (now heads) (now parents) (now rows) (now counts) (now next) (now «book_heads») (now «book_rows») (now «book_next»)) (now work) ⌝ }
     ensures answer { λ a. ⌜ a ≡ isSound (stateOf factor) (tablesOf (now (heads .entry)) (now (parents .entry)) (now (rows .entry)) (now (counts .entry)) (now (next .entry)) (now («book_heads» .entry)) (now («book_rows» .entry)) (now («book_next» .entry))) ⌝ }
-    ensures work { λ a. ⌜ now (work .exit) ≡ zeroFirst (workFor (limitsOf (factor .m) (factor .n) (factor .f) (factor .c))) (now (work .entry)) ⌝ }
+    ensures work { λ a. ⌜ now (work .exit) ≡ zeroFirst (workFor (sizesOf (factor .m) (factor .n) (factor .f) (factor .c))) (now (work .entry)) ⌝ }
 {
     let m = factor.m as usize;
     let n = factor.n as usize;

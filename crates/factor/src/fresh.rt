@@ -1,7 +1,7 @@
 // What an accepted opening writes, within the sizes: the tables of L, those of the book, and zeros in the work table.
-ghost use Rattle.tables.specs.Tables.{limitsOf, tablesOf};
+ghost use Rattle.tables.specs.Tables.{sizesOf, tablesOf};
 ghost use Rattle.factor.specs.Admission.{HasPlaces};
-ghost use Rattle.factor.specs.Written.{HoldColumns, ColumnsWritten, HoldBook, BookWritten, Written};
+ghost use Rattle.factor.specs.Written.{HoldColumns, ColumnsWritten, HoldBook, BookWritten, OpeningWritten};
 use pool::Rec;
 
 // The free head of L, then that of the book.
@@ -23,8 +23,8 @@ pub fn write(
     f: u32,
     c: u32,
 ) -> Heads
-    requires { ⌜ HasPlaces (limitsOf m n f c) (tablesOf (now heads) (now parents) (now rows) (now counts) (now next) (now «book_heads») (now «book_rows») (now «book_next»)) (now work) ⌝ }
-    ensures { λ r. ⌜ Written (limitsOf m n f c) (tablesOf (now (heads .entry)) (now (parents .entry)) (now (rows .entry)) (now (counts .entry)) (now (next .entry)) (now («book_heads» .entry)) (now («book_rows» .entry)) (now («book_next» .entry))) (now (work .entry)) (tablesOf (now (heads .exit)) (now (parents .exit)) (now (rows .exit)) (now (counts .exit)) (now (next .exit)) (now («book_heads» .exit)) (now («book_rows» .exit)) (now («book_next» .exit))) (now (work .exit)) (r .0 .0) (r .1 .0) ⌝ }
+    requires { ⌜ HasPlaces (sizesOf m n f c) (tablesOf (now heads) (now parents) (now rows) (now counts) (now next) (now «book_heads») (now «book_rows») (now «book_next»)) (now work) ⌝ }
+    ensures { λ r. ⌜ OpeningWritten (sizesOf m n f c) (tablesOf (now (heads .entry)) (now (parents .entry)) (now (rows .entry)) (now (counts .entry)) (now (next .entry)) (now («book_heads» .entry)) (now («book_rows» .entry)) (now («book_next» .entry))) (now (work .entry)) (tablesOf (now (heads .exit)) (now (parents .exit)) (now (rows .exit)) (now (counts .exit)) (now (next .exit)) (now («book_heads» .exit)) (now («book_rows» .exit)) (now («book_next» .exit))) (now (work .exit)) (r .0 .0) (r .1 .0) ⌝ }
 {
     let free = write_columns(heads, parents, rows, counts, next, m, f);
     let book_free = write_book(book_heads, book_rows, book_next, n, c);

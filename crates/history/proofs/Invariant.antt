@@ -13,92 +13,90 @@ use Rattle.symbolic.proofs.Bags.{bag-mem, bag-all}
 use Rattle.book.specs.Book.{columnFits}
 use Rattle.book.proofs.Columns.{ids-distinct}
 use Rattle.tables.specs.Stored.{Stored, holdsFrom}
-use Rattle.tables.specs.Tables.{Tables, Limits, longEnough, storedIn, bookIn, registerOf, isSound}
+use Rattle.tables.specs.Tables.{Tables, Sizes, longEnough, storedIn, bookIn, isSound}
 use Rattle.tables.specs.Opening.{openedState, openedTables}
 use Rattle.tables.proofs.Stored.{stands-chain}
 use Rattle.tables.proofs.Tables.{sound-fits, sound-factor, fits-rows}
 use Rattle.tables.proofs.Opening.{opened-columns, opened-sound, opened-long}
 use Rattle.calls.specs.Refusals.{accepted, isAccepted, bounds, sizesRefusal}
-use Rattle.calls.specs.Calls.{opening, withDefault}
-use Rattle.calls.specs.Steps.{World}
+use Rattle.calls.specs.Calls.{opening, Lent, callOf, withDefault}
+use Rattle.calls.specs.Steps.{World, bookedIn}
 use Rattle.calls.proofs.Refusals.{InRange, sizes-facts}
 use Rattle.calls.proofs.Numbers.{Ready}
 use Rattle.calls.proofs.Order.{bag-factor}
 use Rattle.history.specs.Runs.{Plain}
 use Rattle.history.specs.Statements.{Consistent}
-
--- the columns that a world's book holds
-abbrev pub booked : World → Register
-booked u = registerOf (u .state) (u .tables)
+use Rattle.history.proofs.Reports.{held-factor}
 
 pub record Inv (p : Plain) (u : World) : Type 0 where
-  pub in-range : sizesRefusal bounds (p .limits) ≡ accepted
-  pub limits : u .state .limits ≡ p .limits
-  pub rows : p .register .m ≡ p .limits .m
-  pub long : longEnough (p .limits) (u .tables) ≡ true
+  pub in-range : sizesRefusal bounds (p .sizes) ≡ accepted
+  pub sizes : u .state .sizes ≡ p .sizes
+  pub rows : p .register .m ≡ p .sizes .m
+  pub long : longEnough (p .sizes) (u .tables) ≡ true
   pub sound : isSound (u .state) (u .tables) ≡ true
-  pub bag : Bag (booked u .columns) (p .register .columns)
+  pub bag : Bag (bookedIn u .columns) (p .register .columns)
   pub once : noRepeats (idsOf (p .register .columns)) ≡ true
 
 -- the book's ids stand once, whatever the tables hold
-pub book-once : (u : World) → noRepeats (idsOf (booked u .columns)) ≡ true
+pub book-once : (u : World) → noRepeats (idsOf (bookedIn u .columns)) ≡ true
 book-once u = ids-distinct (bookIn (u .state) (u .tables))
 
 -- ---- what it gives
 
 module _ {p : Plain} {u : World} (i : Inv p u) where
-  pub inv-rows : booked u .m ≡ p .register .m
-  inv-rows = ap (λ (l : Limits). l .m) (i .limits) ∙ sym (i .rows)
+  pub inv-rows : bookedIn u .m ≡ p .register .m
+  inv-rows = ap (λ (l : Sizes). l .m) (i .sizes) ∙ sym (i .rows)
 
-  pub inv-long : longEnough (u .state .limits) (u .tables) ≡ true
-  inv-long = ap (λ (l : Limits). longEnough l (u .tables)) (i .limits) ∙ i .long
+  pub inv-long : longEnough (u .state .sizes) (u .tables) ≡ true
+  inv-long = ap (λ (l : Sizes). longEnough l (u .tables)) (i .sizes) ∙ i .long
 
-  inv-numbers : holdsFrom (storedIn (u .state) (u .tables)) (factorFor (p .register)) 1 (p .limits .m) ≡ true
+  inv-numbers : holdsFrom (storedIn (u .state) (u .tables)) (factorFor (p .register)) 1 (p .sizes .m) ≡ true
   inv-numbers =
       let s : Stored = storedIn (u .state) (u .tables) in
-      ap (λ (l : Limits). holdsFrom s (factorFor (p .register)) 1 (l .m)) (sym (i .limits)) ∙
-      ap (λ (fs : List FactorColumn). holdsFrom s fs 1 (u .state .limits .m)) (sym (bag-factor (booked u) (p .register) inv-rows (i .bag))) ∙
+      ap (λ (l : Sizes). holdsFrom s (factorFor (p .register)) 1 (l .m)) (sym (i .sizes)) ∙
+      ap (λ (fs : List FactorColumn). holdsFrom s fs 1 (u .state .sizes .m)) (sym (bag-factor (bookedIn u) (p .register) inv-rows (i .bag))) ∙
       sound-factor (u .state) (u .tables) inv-long (i .sound)
 
-  pub inv-fits : all (columnFits (p .limits .m)) (p .register .columns) ≡ true
+  pub inv-fits : all (columnFits (p .sizes .m)) (p .register .columns) ≡ true
   inv-fits =
-      subst (λ (l : Limits). all (columnFits (l .m)) (p .register .columns) ≡ true) (i .limits)
-      (bag-all (columnFits (u .state .limits .m)) (booked u .columns) (p .register .columns) (i .bag) (sound-fits (u .state) (u .tables) (i .sound)))
+      subst (λ (l : Sizes). all (columnFits (l .m)) (p .register .columns) ≡ true) (i .sizes)
+      (bag-all (columnFits (u .state .sizes .m)) (bookedIn u .columns) (p .register .columns) (i .bag) (sound-fits (u .state) (u .tables) (i .sound)))
 
   pub inv-consistent : Consistent p u
   inv-consistent =
-      let m : ℕ = p .limits .m in
+      let m : ℕ = p .sizes .m in
       let s : Stored = storedIn (u .state) (u .tables) in
       let h : holdsFrom s (factorOf m (live (p .register))) 1 m ≡ true =
       ap (λ (n : ℕ). holdsFrom s (factorOf n (live (p .register))) 1 m) (sym (i .rows)) ∙ inv-numbers in
       record {
         in-range = i .in-range;
-        limits = i .limits;
+        sizes = i .sizes;
         rows = i .rows;
         long = i .long;
         sound = i .sound;
-        columns = λ c. (λ k. bag-mem (p .register .columns) (booked u .columns) (λ f. sym (i .bag f)) k, λ k. bag-mem (booked u .columns) (p .register .columns) (i .bag) k);
+        columns = λ c. (λ k. bag-mem (p .register .columns) (bookedIn u .columns) (λ f. sym (i .bag f)) k, λ k. bag-mem (bookedIn u .columns) (p .register .columns) (i .bag) k);
         book-once = book-once u;
         register-once = i .once;
-        numbers = inv-numbers;
+        factor = held-factor (p .register) u (subst (λ (n : ℕ). holdsFrom s (factorFor (p .register)) 1 n ≡ true) (sym (i .rows)) inv-numbers);
+        stored = inv-numbers;
         chains = λ x j a b d. stands-chain m (live (p .register)) s h (fits-rows m (p .register .columns) inv-fits) x j a b d;
       }
 
 -- ---- an accepted opening
 
-abbrev pub openedPlain : Limits → Plain
-openedPlain l = record { limits = withDefault l; register = record { m = l .m; columns = [] } }
+abbrev pub openedPlain : Sizes → Plain
+openedPlain l = record { sizes = withDefault l; register = record { m = l .m; columns = [] } }
 
-abbrev pub openedWorld : Limits → Tables → World
+abbrev pub openedWorld : Sizes → Tables → World
 openedWorld l t = record { state = openedState (withDefault l); tables = openedTables (withDefault l) t }
 
-pub inv-opened : (l k : Limits) (t : Tables) (w : List ℕ) → Ready k t (opening l w) → Inv (openedPlain l) (openedWorld l t)
+pub inv-opened : (l k : Sizes) (t : Tables) (w : Lent) → Ready k t (callOf (opening l) w) → Inv (openedPlain l) (openedWorld l t)
 unfolding noRepeats idsOf
 inv-opened l k t w r =
     let f : InRange (withDefault l) = sizes-facts (withDefault l) (ap isAccepted (r .sizes)) in
     record {
       in-range = r .sizes;
-      limits = refl;
+      sizes = refl;
       rows = refl;
       long = opened-long (withDefault l) t (f .f-low) (r .room .tables);
       sound = opened-sound (withDefault l) t (f .f-low);

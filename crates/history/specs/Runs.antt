@@ -7,9 +7,10 @@ use Prim.Native.Nat.{ℕ}
 use lib.Dec.{eqb}
 use Rattle.lists.specs.Lists.{pick}
 use Rattle.symbolic.specs.Columns.{Register}
-use Rattle.tables.specs.Tables.{Limits}
-use Rattle.calls.specs.Calls.{Call, opening, registerAfter, limitsAfter, withDefault}
-use Rattle.calls.specs.Steps.{Answer, Lent, World, Transition}
+use Rattle.tables.specs.Tables.{Sizes}
+use Rattle.calls.specs.Calls.{opening, Lent, Call, callOf, withDefault, sizesAfter}
+use Rattle.calls.specs.Changes.{registerAfter}
+use Rattle.calls.specs.Steps.{Answer, World, Transition}
 
 -- a call with everything lent to it, the numbers it answered and the lists it left
 pub record Event : Type 0 where
@@ -22,16 +23,16 @@ unfoldable pub Run : World → List Event → World → Type 0
 Run u [] v = v ≡ u
 Run u (e ∷ es) v = (x : World) × (Transition u (e .call) (e .answer) (e .left) x × Run x es v)
 
--- the plain register with the limits: "It sees each call's arguments and number, never the tables."
+-- the plain register with the sizes: "It sees each call's arguments and number, never the tables."
 pub record Plain : Type 0 where
-  pub limits : Limits
+  pub sizes : Sizes
   pub register : Register
 
 -- the register after one more call: "A refused call, a check or a question: nothing changes."
 abbrev pub plainNext : Plain → Event → Plain
 plainNext p e =
     pick (eqb (e .answer .number) 0)
-    (record { limits = limitsAfter (p .limits) (e .call); register = registerAfter (p .register) (e .call) }) p
+    (record { sizes = sizesAfter (p .sizes) (e .call .entry); register = registerAfter (p .register) (e .call .entry) }) p
 
 -- the register after a list of calls
 unfoldable pub plainAfter : Plain → List Event → Plain
@@ -41,10 +42,10 @@ plainAfter p (e ∷ es) = plainAfter (plainNext p e) es
 -- "It starts just after an accepted opening of any sizes": u is what it left, "at first the opening's m and no column"
 pub record Begun (u : World) (p : Plain) : Type 0 where
   pub before : World
-  pub asked : Limits
-  pub work : List ℕ
+  pub asked : Sizes
+  pub lent : Lent
   pub answer : Answer
   pub left : Lent
-  pub step : Transition before (opening asked work) answer left u
+  pub step : Transition before (callOf (opening asked) lent) answer left u
   pub taken : answer .number ≡ 0
-  pub plain : p ≡ record { limits = withDefault asked; register = record { m = asked .m; columns = [] } }
+  pub plain : p ≡ record { sizes = withDefault asked; register = record { m = asked .m; columns = [] } }

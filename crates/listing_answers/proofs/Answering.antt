@@ -6,7 +6,7 @@ use mathlib.Core.List.{List, [], _∷_}
 use Prim.Native.Nat.{ℕ, _≤_}
 use native.Mathlib.Omega.{arith}
 use lib.ListN.{length, take}
-use Rattle.tables.specs.Tables.{Tables, Limits, State, limitsOf}
+use Rattle.tables.specs.Tables.{Tables, Sizes, State, sizesOf}
 use Rattle.calls.specs.Calls.{adding}
 use Rattle.factor.specs.Entries.{stateOf, worldOf, openingAnswer, OpenStep}
 use Rattle.factor.specs.Batches.{CanChange}
@@ -41,21 +41,21 @@ shows line u e r w = by-command line u e (record { bytes = shownBy (u .world); s
 pub can-show : (x : Factor) (t : Tables) (w a b : List ℕ) {places room : ℕ} → Ready (memoryOf x t w a b) → 1000 ≤ places → 91520 ≤ room → CanShowAll (stateOf x) t places room
 can-show x t w a b r p q =
     elim (r .usable) [
-      | inl e ↦ record { usable = inl e; few = omega (arith, ap (λ (s : State). s .limits .m) e); entries = omega arith; fits = q }
+      | inl e ↦ record { usable = inl e; few = omega (arith, ap (λ (s : State). s .sizes .m) e); entries = omega arith; fits = q }
       | inr c ↦ record { usable = inr (c .usable); few = omega (arith, c .touched-long, r .lengths .touched); entries = omega arith; fits = q }
     ]
 
 -- ---- add
 
 pub adds : (line : List ℕ) (u : Memory) (i n : ℕ) (rows : List ℕ) {out₀ out : List ℕ} {x : Printed} {v : Memory} → commandOf line ≡ Add i n → rows ≡ rowsOf line →
-    Answers (BatchAnswered u (adding (i ∷ []) (n ∷ []) rows (u .work) (u .touched) (u .labels))) out₀ out x v → Answers (Answered u line) out₀ out x v
+    Answers (BatchAnswered u (adding (i ∷ []) (n ∷ []) rows)) out₀ out x v → Answers (Answered u line) out₀ out x v
 adds line u i n rows {out₀} {out} {x} {v} e f a =
     by-command line u e
-    (subst (λ (rs : List ℕ). Answers (BatchAnswered u (adding (i ∷ []) (n ∷ []) rs (u .work) (u .touched) (u .labels))) out₀ out x v) f a)
+    (subst (λ (rs : List ℕ). Answers (BatchAnswered u (adding (i ∷ []) (n ∷ []) rs)) out₀ out x v) f a)
 
 -- ---- open
 
-module _ (l : Limits) (t : Tables) (w : List ℕ) (x₀ : Factor) (a b out₀ : List ℕ) (t′ : Tables) (w′ out : List ℕ) (ready : Ready (memoryOf x₀ t w a b)) where
+module _ (l : Sizes) (t : Tables) (w : List ℕ) (x₀ : Factor) (a b out₀ : List ℕ) (t′ : Tables) (w′ out : List ℕ) (ready : Ready (memoryOf x₀ t w a b)) where
   by-opening : (o : Opening) (x : Printed) → OpenStep l t w o t′ w′ → OpeningPrinted x₀ o out₀ out x →
       Answers (λ bs v. OpenAnswered (memoryOf x₀ t w a b) l bs v) out₀ out x (memoryOf (x .factor) t′ w′ a b)
   by-opening (Opened y) x s p =

@@ -13,7 +13,7 @@ use Rattle.symbolic.specs.Columns.{Register}
 use Rattle.symbolic.specs.Factor.{factorFor, parentOf}
 use Rattle.tables.specs.Tables.{Tables, State, registerOf}
 use Rattle.calls.specs.Refusals.{accepted, isAccepted, bounds, sizesRefusal}
-use Rattle.calls.specs.Report.{columnList}
+use Rattle.calls.specs.Questions.{columnList}
 use Rattle.calls.specs.Steps.{refusedBy, World}
 use Rattle.calls.proofs.Refusals.{InRange, sizes-facts}
 use Rattle.factor.specs.Admission.{Usable}
@@ -130,15 +130,15 @@ lines-keep {s} {t} {out₀} {out} {out′} {end} {j} {end′} p h w l =
 pub shown-closed : (s : State) (t : Tables) → s ≡ noState → noLine 1 0 ≡ shownBy (record { state = s; tables = t })
 shown-closed s t e = sym (ap (λ (x : State). shownBy (record { state = x; tables = t })) e)
 
-pub usable-some : {s : State} {t : Tables} → Usable s t → 1 ≤ s .limits .m
-usable-some {s} u = sizes-facts (s .limits) (ap isAccepted (u .sizes)) .m-low
+pub usable-some : {s : State} {t : Tables} → Usable s t → 1 ≤ s .sizes .m
+usable-some {s} u = sizes-facts (s .sizes) (ap isAccepted (u .sizes)) .m-low
 
-pub usable-shown : {s : State} {t : Tables} → Usable s t → shownTo (registerOf s t) (s .limits .m) ≡ shownBy (record { state = s; tables = t })
+pub usable-shown : {s : State} {t : Tables} → Usable s t → shownTo (registerOf s t) (s .sizes .m) ≡ shownBy (record { state = s; tables = t })
 usable-shown {s} {t} u = rw (u .sizes) refl
 
 -- m is 0: no factor is open; otherwise the tables are usable
-pub shows-none : {s : State} {t : Tables} {n k : ℕ} → CanShowAll s t n k → s .limits .m ≡ 0 → s ≡ noState
+pub shows-none : {s : State} {t : Tables} {n k : ℕ} → CanShowAll s t n k → s .sizes .m ≡ 0 → s ≡ noState
 shows-none c e = elim (c .usable) [ inl q ↦ q | inr u ↦ absurd (omega (arith, usable-some u)) ]
 
-pub shows-some : {s : State} {t : Tables} {n k : ℕ} → CanShowAll s t n k → (s .limits .m ≡ 0 → ⊥) → Usable s t
-shows-some c d = elim (c .usable) [ inl q ↦ absurd (d (ap (λ (s : State). s .limits .m) q)) | inr u ↦ u ]
+pub shows-some : {s : State} {t : Tables} {n k : ℕ} → CanShowAll s t n k → (s .sizes .m ≡ 0 → ⊥) → Usable s t
+shows-some c d = elim (c .usable) [ inl q ↦ absurd (d (ap (λ (s : State). s .sizes .m) q)) | inr u ↦ u ]

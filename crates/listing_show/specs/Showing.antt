@@ -10,9 +10,9 @@ use lib.ListN.{take}
 use Rattle.lists.specs.Lists.{pick}
 use Rattle.symbolic.specs.Columns.{Register}
 use Rattle.symbolic.specs.Factor.{factorFor, parentOf}
-use Rattle.tables.specs.Tables.{Tables, State, registerOf, limitsOf}
+use Rattle.tables.specs.Tables.{Tables, State, registerOf, sizesOf}
 use Rattle.calls.specs.Refusals.{isAccepted, bounds, sizesRefusal}
-use Rattle.calls.specs.Report.{columnList}
+use Rattle.calls.specs.Questions.{columnList}
 use Rattle.calls.specs.Steps.{Answer, refusedBy, World}
 use Rattle.factor.specs.Admission.{Usable}
 use Rattle.listing_text.specs.Text.{okLine, noLine, showPairs, showLine, Written}
@@ -35,12 +35,12 @@ shownTo r (suc k) = shownTo r k ++ shownLine r (suc k)
 -- all columns; sizes of 0 are refused, "`show` too"
 abbrev pub shownBy : World → List ℕ
 shownBy u =
-    pick (isAccepted (sizesRefusal bounds (u .state .limits))) (shownTo (registerOf (u .state) (u .tables)) (u .state .limits .m))
-    (answerLine (refusedBy (sizesRefusal bounds (u .state .limits))))
+    pick (isAccepted (sizesRefusal bounds (u .state .sizes))) (shownTo (registerOf (u .state) (u .tables)) (u .state .sizes .m))
+    (answerLine (refusedBy (sizesRefusal bounds (u .state .sizes))))
 
 -- "Before an accepted open the sizes are 0"
 abbrev pub noState : State
-noState = record { limits = limitsOf 0 0 0 0; free = 0; bookFree = 0 }
+noState = record { sizes = sizesOf 0 0 0 0; free = 0; bookFree = 0 }
 
 -- ---- what the functions ask and promise
 
@@ -57,9 +57,9 @@ pub record PairsWritten (out₀ entries : List ℕ) (at count : ℕ) (out : List
 -- a column of usable tables, places for its entries, and room for its line
 pub record CanShow (s : State) (t : Tables) (places room : ℕ) (j at : ℕ) : Type 0 where
   pub usable : Usable s t
-  pub few : s .limits .m ≤ 64
+  pub few : s .sizes .m ≤ 64
   pub low : 1 ≤ j
-  pub high : j ≤ s .limits .m
+  pub high : j ≤ s .sizes .m
   pub entries : 128 ≤ places
   pub fits : at + 1430 ≤ room
 
@@ -71,6 +71,6 @@ pub record LineWritten (s : State) (t : Tables) (out₀ : List ℕ) (j at : ℕ)
 -- no factor is open, or one with usable tables; room for all lines
 pub record CanShowAll (s : State) (t : Tables) (places room : ℕ) : Type 0 where
   pub usable : (s ≡ noState) ⊎ Usable s t
-  pub few : s .limits .m ≤ 64
+  pub few : s .sizes .m ≤ 64
   pub entries : 128 ≤ places
   pub fits : 91520 ≤ room

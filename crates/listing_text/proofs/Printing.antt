@@ -7,10 +7,11 @@ use native.Mathlib.Omega.{arith}
 use native.Mathlib.Numerals.{add-one}
 use lib.ListN.{length, getD, take, drop, set, length-append, length-drop, length-set}
 use lib.Seq.{length-take-le, take-suc, set-split, take-at, drop-append-add, drop-drop}
-use Rattle.listing_text.specs.Text.{decimal, newline, markedNumber, okLine, noLine, showHead, showPair, showPairs, written, Room, Written}
+use Rattle.lists.specs.Lists.{writtenAt}
+use Rattle.listing_text.specs.Text.{decimal, newline, markedNumber, okLine, noLine, showHead, showPair, showPairs, Room, Written}
 use Rattle.listing_text.proofs.Decimal.{decimal-small, decimal-more, decimal-room}
 
-pub written-length : (out : List ℕ) (at : ℕ) (bs : List ℕ) → at + length bs ≤ length out → length (written out at bs) ≡ length out
+pub written-length : (out : List ℕ) (at : ℕ) (bs : List ℕ) → at + length bs ≤ length out → length (writtenAt at bs out) ≡ length out
 written-length out at bs h =
     omega (
       arith,
@@ -26,18 +27,18 @@ written-byte out at b h =
     record { out-is = set-split out at b h ∙ ap (λ (n : ℕ). take at out ++ (b ∷ drop n out)) (sym (add-one at)); next-is = refl }
 
 -- bytes after bytes
-written-twice : (out : List ℕ) (at : ℕ) (xs ys : List ℕ) → at + length xs ≤ length out → written (written out at xs) (at + length xs) ys ≡ written out at (xs ++ ys)
+written-twice : (out : List ℕ) (at : ℕ) (xs ys : List ℕ) → at + length xs ≤ length out → writtenAt (at + length xs) ys (writtenAt at xs out) ≡ writtenAt at (xs ++ ys) out
 written-twice out at xs ys h =
     let p : List ℕ = take at out ++ xs in
     let q : List ℕ = drop (at + length xs) out in
     let size : length p ≡ at + length xs = omega (arith, length-append (take at out) xs, length-take-le at out (omega arith)) in
-    let cut : written out at xs ≡ p ++ q = sym (append-assoc (take at out) xs q) in
+    let cut : writtenAt at xs out ≡ p ++ q = sym (append-assoc (take at out) xs q) in
     let front : take (at + length xs) (p ++ q) ≡ p = take-at p q (at + length xs) size in
     let whole : at + length xs + length ys ≡ at + length (xs ++ ys) = omega (arith, length-append xs ys) in
     let tail : drop (at + length xs + length ys) (p ++ q) ≡ drop (at + length (xs ++ ys)) out =
     ap (λ (n : ℕ). drop (n + length ys) (p ++ q)) (sym size) ∙ drop-append-add p q (length ys) ∙ drop-drop (length ys) (at + length xs) out
     ∙ ap (λ (n : ℕ). drop n out) whole in
-    ap (λ (l : List ℕ). written l (at + length xs) ys) cut ∙ rw (front, tail) (append-assoc (take at out) xs (ys ++ drop (at + length (xs ++ ys)) out) ∙ ap (λ (l : List ℕ). take at out ++ l) (sym (append-assoc xs ys (drop (at + length (xs ++ ys)) out))))
+    ap (λ (l : List ℕ). writtenAt (at + length xs) ys l) cut ∙ rw (front, tail) (append-assoc (take at out) xs (ys ++ drop (at + length (xs ++ ys)) out) ∙ ap (λ (l : List ℕ). take at out ++ l) (sym (append-assoc xs ys (drop (at + length (xs ++ ys)) out))))
 
 pub written-join : {out₀ out₁ out₂ : List ℕ} {at next end : ℕ} {xs ys : List ℕ} → next ≤ length out₀
     → Written out₀ at xs out₁ next → Written out₁ next ys out₂ end → Written out₀ at (xs ++ ys) out₂ end

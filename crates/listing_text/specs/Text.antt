@@ -5,8 +5,8 @@ use mathlib.Core.Path.{_≡_}
 use mathlib.Core.List.{List, [], _∷_, _++_}
 use Prim.Native.Nat.{ℕ, zero, suc, _+_, _/_, _%_, _≤_}
 use lib.Dec.{ltb}
-use lib.ListN.{length, take, drop}
-use Rattle.lists.specs.Lists.{pick}
+use lib.ListN.{length}
+use Rattle.lists.specs.Lists.{pick, writtenAt}
 
 -- ---- numbers
 
@@ -57,15 +57,11 @@ showLine j p es = showHead j p ++ showPairs es ++ newline
 
 -- ---- what the printer's functions ask and promise
 
--- a list with bytes written over it from a place on
-abbrev pub written : List ℕ → (at : ℕ) → (bytes : List ℕ) → List ℕ
-written out at bs = take at out ++ (bs ++ drop (at + length bs) out)
-
 -- room for bytes from a place on
 pub record Room (out : List ℕ) (at : ℕ) (bytes : List ℕ) : Type 0 where
   pub room : at + length bytes ≤ length out
 
 -- the bytes are written, and the result is the place after them
 pub record Written (out₀ : List ℕ) (at : ℕ) (bytes out : List ℕ) (next : ℕ) : Type 0 where
-  pub out-is : out ≡ written out₀ at bytes
+  pub out-is : out ≡ writtenAt at bytes out₀
   pub next-is : next ≡ at + length bytes

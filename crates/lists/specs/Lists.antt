@@ -4,7 +4,7 @@ use mathlib.Core.Bool.{Bool, true, false, _&&_, _||_, not}
 use mathlib.Core.List.{List, [], _∷_, _++_}
 use Prim.Native.Nat.{ℕ, zero, suc, _+_, _-_}
 use lib.Dec.{ltb, leb, eqb}
-use lib.ListN.{length, getD, set, drop}
+use lib.ListN.{length, getD, set, take, drop}
 
 -- ---- choices and tests
 
@@ -95,6 +95,16 @@ valuesAt xs (r ∷ rs) = at xs r ∷ valuesAt xs rs
 -- a list written over the front of another
 abbrev pub over : {A : Type 0} → (new old : List A) → List A
 over xs old = xs ++ drop (length xs) old
+
+-- a list written over another from a place on
+abbrev pub writtenAt : (place : ℕ) → (new old : List ℕ) → List ℕ
+writtenAt p xs old = take p old ++ (xs ++ drop (p + length xs) old)
+
+-- two lists that keep step, in turns
+unfoldable pub pairsOf : (firsts seconds : List ℕ) → List ℕ
+pairsOf [] ys = []
+pairsOf (x ∷ xs) [] = []
+pairsOf (x ∷ xs) (y ∷ ys) = x ∷ y ∷ pairsOf xs ys
 
 -- ---- rising lists
 

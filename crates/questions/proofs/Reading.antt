@@ -8,7 +8,7 @@ use Prim.Native.Nat.{ℕ, suc, _+_, _*_, _-_, _≤_}
 use native.Mathlib.Omega.{arith}
 use lib.Dec.{eqb}
 use lib.ListN.{length}
-use Rattle.lists.specs.Lists.{at}
+use Rattle.lists.specs.Lists.{at, pairsOf}
 use Rattle.lists.proofs.Tests.{cases}
 use Rattle.lists.proofs.Place.{values-length}
 use Rattle.symbolic.specs.Columns.{Register, live}
@@ -18,17 +18,11 @@ use Rattle.pool.specs.Chains.{chain}
 use Rattle.pool.proofs.Whole.{pool-linked}
 use Rattle.tables.specs.Stored.{Stored, Sized, isSoundFor}
 use Rattle.tables.proofs.Stored.{SoundFor, Holds, sound-facts}
-use Rattle.columns.specs.Search.{countOf, entriesAt, pairs, CanRead, CanCount, CanCopy}
+use Rattle.columns.specs.Search.{countOf, entriesAt, CanRead, CanCount, CanCopy}
 use Rattle.columns.proofs.Holding.{holds-rises, holds-count, holds-pairs}
 use Rattle.columns.proofs.Copying.{entries-length}
-use Rattle.calls.specs.Report.{pairsOf, columnList}
+use Rattle.calls.specs.Questions.{columnList}
 use Rattle.questions.specs.Asked.{ColumnsFor, ParentsFor, CanAsk, CanFollow}
-
-pairs-same : (xs ns : List ℕ) → pairs xs ns ≡ pairsOf xs ns
-unfolding pairs pairsOf
-pairs-same [] ns = refl
-pairs-same (x ∷ xs) [] = refl
-pairs-same (x ∷ xs) (n ∷ ns) = ap (λ (l : List ℕ). x ∷ n ∷ l) (pairs-same xs ns)
 
 pattern-short : (a : ℕ) (ns : List ℕ) → length (patternFrom a ns) ≤ length ns
 unfolding patternFrom
@@ -54,7 +48,7 @@ module _ {hs rs cs ns : List ℕ} {r : Register} (f : ColumnsFor hs rs cs ns r) 
   read-size = sym (values-length rs (chain ns (at hs j))) ∙ ap length (f .column j a b .rows)
 
   pub read-entries : entriesAt rs cs (chain ns (at hs j)) ≡ columnList r j
-  read-entries = holds-pairs (f .column j a b) ∙ pairs-same (patternFrom 1 counts) (nonZero counts)
+  read-entries = holds-pairs (f .column j a b)
 
   pub read-places : 2 * length (chain ns (at hs j)) ≡ length (columnList r j)
   read-places = sym (entries-length rs cs (chain ns (at hs j))) ∙ ap length read-entries

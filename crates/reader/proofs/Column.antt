@@ -24,7 +24,7 @@ use Rattle.tables.specs.Tables.{Tables, State, storedIn, registerOf}
 use Rattle.tables.proofs.Stored.{Holds, SoundFor, sound-facts, stored-column}
 use Rattle.tables.proofs.Tables.{Long, long-facts, sound-stored, sound-factor, stored-rows}
 use Rattle.columns.proofs.Holding.{values-mem}
-use Rattle.reader.specs.Reading.{entryAt, readings, allGiven, entriesOf, entriesIn, end}
+use Rattle.reader.specs.Reading.{entryAt, readings, allGiven, entriesGiven, entriesIn, end}
 use Rattle.reader.specs.Statements.{ReadsColumn, ReadsTables, NoEntry, none, past-rows, past-counts, past-next, unused, ReadsEnd, ReadsTablesEnd}
 use Rattle.reader.specs.declared.Entry.the-variants.{End}
 use Rattle.reader.proofs.Reading.{InUse, entry-end, readings-end, readings-of}
@@ -51,22 +51,22 @@ longer-take n xs h =
 begin-self : (s : Stored) → Begin s (s .rows) (s .counts) (s .next)
 begin-self s = record { rows = longer-self (s .rows); counts = longer-self (s .counts); next = longer-self (s .next) }
 
-module _ (s : State) (t : Tables) (l : Long (s .limits) t) where
+module _ (s : State) (t : Tables) (l : Long (s .sizes) t) where
   begin-tables : Begin (storedIn s t) (t .rows) (t .counts) (t .next)
   begin-tables =
       record {
-        rows = longer-take (s .limits .f) (t .rows) (l .rows);
-        counts = longer-take (s .limits .f) (t .counts) (l .counts);
-        next = longer-take (s .limits .f) (t .next) (l .next);
+        rows = longer-take (s .sizes .f) (t .rows) (l .rows);
+        counts = longer-take (s .sizes .f) (t .counts) (l .counts);
+        next = longer-take (s .sizes .f) (t .next) (l .next);
       }
 
   sized-tables : Sized (storedIn s t)
   sized-tables =
-      let next : length (take (s .limits .f) (t .next)) ≡ s .limits .f = length-take-le (s .limits .f) (t .next) (l .next) in
+      let next : length (take (s .sizes .f) (t .next)) ≡ s .sizes .f = length-take-le (s .sizes .f) (t .next) (l .next) in
       record {
-        parents-long = length-take-le (s .limits .m) (t .parents) (l .parents) ∙ sym (length-take-le (s .limits .m) (t .heads) (l .heads));
-        rows-long = length-take-le (s .limits .f) (t .rows) (l .rows) ∙ sym next;
-        counts-long = length-take-le (s .limits .f) (t .counts) (l .counts) ∙ sym next;
+        parents-long = length-take-le (s .sizes .m) (t .parents) (l .parents) ∙ sym (length-take-le (s .sizes .m) (t .heads) (l .heads));
+        rows-long = length-take-le (s .sizes .f) (t .rows) (l .rows) ∙ sym next;
+        counts-long = length-take-le (s .sizes .f) (t .counts) (l .counts) ∙ sym next;
       }
 
 -- ---- what is read of them
@@ -79,8 +79,8 @@ given-end (suc k) = ap (λ es. end ∷ es) (given-end k)
 module _ (s : Stored) (z : Sized s) (xs cs ns : List ℕ) (b : Begin s xs cs ns) where
   -- a chain whose records have rows
   chain-read : (h : ℕ) (rs : List ℕ) → Linked (s .next) h rs → ((x : ℕ) → Mem x rs → at (s .rows) x ≢ 0) → (k : ℕ) →
-      allGiven (readings (length rs + k) xs cs ns h) ≡ entriesOf (valuesAt (s .rows) rs) (valuesAt (s .counts) rs) ++ replicate k end
-  unfolding Linked valuesAt entriesOf allGiven
+      allGiven (readings (length rs + k) xs cs ns h) ≡ entriesGiven (valuesAt (s .rows) rs) (valuesAt (s .counts) rs) ++ replicate k end
+  unfolding Linked valuesAt entriesGiven allGiven
   chain-read h [] l some k =
       let e : entryAt xs cs ns h ≡ End = entry-end xs cs ns h (λ u. omega (arith, l, u .low)) in
       let q : 0 + k ≡ k = omega arith in
@@ -135,15 +135,15 @@ reads-end cs s z h = end-read s z (s .rows) (s .counts) (s .next) (begin-self s)
 
 pub reads-tables : ReadsTables
 reads-tables s t z h j low high k =
-    let l : Long (s .limits) t = long-facts (s .limits) t z in
+    let l : Long (s .sizes) t = long-facts (s .sizes) t z in
     let p : SoundFor (live (registerOf s t)) (storedIn s t) = sound-facts (live (registerOf s t)) (storedIn s t) (sound-stored s t h) in
-    let m : length (storedIn s t .heads) ≡ s .limits .m = stored-rows s t z in
-    let e : at (t .heads) j ≡ at (storedIn s t .heads) j = longer-take (s .limits .m) (t .heads) (l .heads) .same j low (omega arith) in
+    let m : length (storedIn s t .heads) ≡ s .sizes .m = stored-rows s t z in
+    let e : at (t .heads) j ≡ at (storedIn s t .heads) j = longer-take (s .sizes .m) (t .heads) (l .heads) .same j low (omega arith) in
     rw e
     (column-read (storedIn s t) (sized-tables s t l) (t .rows) (t .counts) (t .next) (begin-tables s t l) j (columnAt (factorFor (registerOf s t)) j)
-    (pool-linked (p .pool) j low (omega arith)) (stored-column (s .limits .m) (live (registerOf s t)) (storedIn s t) (sound-factor s t z h) j low high) k)
+    (pool-linked (p .pool) j low (omega arith)) (stored-column (s .sizes .m) (live (registerOf s t)) (storedIn s t) (sound-factor s t z h) j low high) k)
 
 pub reads-tables-end : ReadsTablesEnd
 reads-tables-end s t z h =
-    let l : Long (s .limits) t = long-facts (s .limits) t z in
+    let l : Long (s .sizes) t = long-facts (s .sizes) t z in
     end-read (storedIn s t) (sized-tables s t l) (t .rows) (t .counts) (t .next) (begin-tables s t l) (sound-facts (live (registerOf s t)) (storedIn s t) (sound-stored s t h))

@@ -52,11 +52,11 @@ allGiven [] = []
 allGiven (e ∷ es) = given e ∷ allGiven es
 
 -- rows with their multiplicities
-unfoldable pub entriesOf : (rows counts : List ℕ) → List Given
-entriesOf [] cs = []
-entriesOf (x ∷ xs) [] = []
-entriesOf (x ∷ xs) (c ∷ cs) = entry x c ∷ entriesOf xs cs
+unfoldable pub entriesGiven : (rows counts : List ℕ) → List Given
+entriesGiven [] cs = []
+entriesGiven (x ∷ xs) [] = []
+entriesGiven (x ∷ xs) (c ∷ cs) = entry x c ∷ entriesGiven xs cs
 
 -- the entries of a factor column, "row then multiplicity", rising
 abbrev pub entriesIn : FactorColumn → List Given
-entriesIn f = entriesOf (patternOf f) (multiplicitiesOf f)
+entriesIn f = entriesGiven (patternOf f) (multiplicitiesOf f)

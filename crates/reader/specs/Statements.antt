@@ -30,7 +30,7 @@ ReadsColumn =
 -- the same of sound tables, which may be longer than the sizes, and of the register that their book holds
 abbrev pub ReadsTables : Type 0
 ReadsTables =
-    (s : State) (t : Tables) → longEnough (s .limits) t ≡ true → isSound s t ≡ true → (j : ℕ) → 1 ≤ j → j ≤ s .limits .m → (k : ℕ) →
+    (s : State) (t : Tables) → longEnough (s .sizes) t ≡ true → isSound s t ≡ true → (j : ℕ) → 1 ≤ j → j ≤ s .sizes .m → (k : ℕ) →
     allGiven (readings (sizeOf (columnAt (factorFor (registerOf s t)) j) + k) (t .rows) (t .counts) (t .next) (at (t .heads) j)) ≡
     entriesIn (columnAt (factorFor (registerOf s t)) j) ++ replicate k end
 
@@ -57,8 +57,8 @@ ReadsEnd =
 -- the same of sound tables, which may be longer than the sizes
 abbrev pub ReadsTablesEnd : Type 0
 ReadsTablesEnd =
-    (s : State) (t : Tables) → longEnough (s .limits) t ≡ true → isSound s t ≡ true → (r : ℕ) →
-    NoEntry (t .rows) (t .counts) (t .next) (chain (take (s .limits .f) (t .next)) (s .free)) r → (k : ℕ) →
+    (s : State) (t : Tables) → longEnough (s .sizes) t ≡ true → isSound s t ≡ true → (r : ℕ) →
+    NoEntry (t .rows) (t .counts) (t .next) (chain (take (s .sizes .f) (t .next)) (s .free)) r → (k : ℕ) →
     readings k (t .rows) (t .counts) (t .next) r ≡ replicate k End
 
 -- ---- calls of a reader are readings from its place on

@@ -22,12 +22,12 @@ use Rattle.pool.specs.Chains.{chain}
 use Rattle.book.specs.Book.{Book, isBooked, columnsIn, columnFits, isSound}
 use Rattle.book.proofs.Columns.{ids-booked}
 use Rattle.book.proofs.Sound.{Fitting, fitting, rows-room}
-use Rattle.tables.specs.Tables.{Limits}
+use Rattle.tables.specs.Tables.{Sizes}
 use Rattle.calls.specs.Refusals as calls
-use Rattle.calls.specs.Refusals.{isAccepted, orElse, unless, isLive, rowsRefusal, columnsRefusal, rowSum, addRefusal, idsRefusal, removeRefusal, batchOf}
+use Rattle.calls.specs.Refusals.{isAccepted, orElse, unless, inRegister, rowsRefusal, columnsRefusal, rowSum, addRefusal, idsRefusal, removeRefusal, batchOf}
 use Rattle.calls.proofs.Choices.{or-both, unless-holds, or-assoc}
 use Rattle.calls.proofs.Refusals.{ColumnsFit, columns-facts, IdsFit, ids-facts}
-use Rattle.refusals.specs.Offsets.{offsetOf, columnAt}
+use Rattle.refusals.specs.Offsets.{offsetOf, columnLent}
 use Rattle.refusals.specs.Found.{registerIn, addFound, removeFound}
 use Rattle.refusals.proofs.Finding.{rows-few}
 use Rattle.refusals.proofs.Offsets.{offset-first, offset-rises, batch-length, batch-at}
@@ -35,7 +35,7 @@ use Rattle.refusals.proofs.Offsets.{offset-first, offset-rises, batch-l
 -- ---- the whole refusal
 
 -- an addition's: 7 to 15, then 16
-pub add-refusal : (l : Limits) (m : ℕ) (b : Book) (is ns rs : List ℕ) → l .n ≡ length (b .heads) → l .c ≡ length (b .next) →
+pub add-refusal : (l : Sizes) (m : ℕ) (b : Book) (is ns rs : List ℕ) → l .n ≡ length (b .heads) → l .c ≡ length (b .next) →
     addRefusal l (registerIn m b) is ns rs ≡
     orElse (addFound m b is ns rs) (unless (leb (sizeSum (factorFor (added (registerIn m b) (batchOf is ns rs)))) (l .f)) 16 0)
 add-refusal l m b is ns rs e h =
@@ -48,7 +48,7 @@ add-refusal l m b is ns rs e h =
     sym (or-assoc s (orElse p q) t ∙ ap (λ (x : calls.Refusal). orElse s x) (or-assoc p q t))
 
 -- a removal's is the found one
-pub remove-refusal : (l : Limits) (m : ℕ) (b : Book) (is : List ℕ) → l .n ≡ length (b .heads) → removeRefusal l (registerIn m b) is ≡ removeFound m b is
+pub remove-refusal : (l : Sizes) (m : ℕ) (b : Book) (is : List ℕ) → l .n ≡ length (b .heads) → removeRefusal l (registerIn m b) is ≡ removeFound m b is
 remove-refusal l m b is e =
     ap (λ (n : ℕ). orElse (unless (isIn 1 64 (length is)) 7 0) (idsRefusal (registerIn m b) n 1 [] is)) e
 
@@ -62,7 +62,7 @@ columns-counts r n p bs (i ∷ is) [] rs h = absurd (omega (arith, eqb-true 7 0 
 columns-counts r n p bs (i ∷ is) (k ∷ ns) rs h =
     let a : calls.Refusal = unless (isIn 1 n i) 8 p in
     let b : calls.Refusal = unless (not (among i bs)) 9 p in
-    let c : calls.Refusal = unless (not (isLive r i)) 10 p in
+    let c : calls.Refusal = unless (not (inRegister r i)) 10 p in
     let d : calls.Refusal = unless (isIn 1 256 k && leb k (length rs)) 12 p in
     let e : calls.Refusal = rowsRefusal (r .m) p 0 (take k rs) in
     let f : calls.Refusal = columnsRefusal r n (suc p) (i ∷ bs) is ns (drop k rs) in
@@ -109,8 +109,8 @@ add-ready m b is ns rs h =
       named = named;
       absent = λ k l.
           sym (ids-booked b (getD is k 0) (named k l .0)) ∙
-          refute (isLive (registerIn m b) (getD is k 0)) (λ e.
-          omega (arith, f .apart (getD is k 0), mem-times (place-mem is k 0 l), pos-one (among (getD is k 0) [] || isLive (registerIn m b) (getD is k 0)) (or-right (among (getD is k 0) []) (isLive (registerIn m b) (getD is k 0)) e)));
+          refute (inRegister (registerIn m b) (getD is k 0)) (λ e.
+          omega (arith, f .apart (getD is k 0), mem-times (place-mem is k 0 l), pos-one (among (getD is k 0) [] || inRegister (registerIn m b) (getD is k 0)) (or-right (among (getD is k 0) []) (inRegister (registerIn m b) (getD is k 0)) e)));
       batch-ids = f .ids;
       batch-fits = f .fits;
       batch-rows = f .used;
@@ -131,24 +131,24 @@ module _ {m : ℕ} {b : Book} {is ns rs : List ℕ} (a : AddReady m b is ns rs) 
 
   module _ (k : ℕ) (h : k < length is) where
     -- the column at a place is the batch's, and fits
-    pub ready-at : (d : Column) → getD (batchOf is ns rs) k d ≡ columnAt is ns rs k
+    pub ready-at : (d : Column) → getD (batchOf is ns rs) k d ≡ columnLent is ns rs k
     ready-at d = batch-at is ns rs k d (a .counted) h
 
-    pub ready-fits : columnFits m (columnAt is ns rs k) ≡ true
+    pub ready-fits : columnFits m (columnLent is ns rs k) ≡ true
     ready-fits =
-        let d : Column = columnAt is ns rs k in
+        let d : Column = columnLent is ns rs k in
         subst (λ (c : Column). columnFits m c ≡ true) (ready-at d) (all-at (columnFits m) (place-mem (batchOf is ns rs) k d (omega (arith, ready-length))) (a .batch-fits))
 
     -- its rows lie within the list, and are as many as its count says: 1 to 256
     pub ready-within : offsetOf ns k + getD ns k 0 ≤ length rs
     ready-within = omega (arith, offset-rises ns k (length is) h (omega (arith, a .counted)), a .used)
 
-    pub ready-count : length (columnAt is ns rs k .rows) ≡ getD ns k 0
+    pub ready-count : length (columnLent is ns rs k .rows) ≡ getD ns k 0
     ready-count = length-take-le (getD ns k 0) (drop (offsetOf ns k) rs) (omega (arith, ready-within, length-drop (offsetOf ns k) rs))
 
     pub ready-range : (1 ≤ getD ns k 0) × (getD ns k 0 ≤ 256)
     ready-range =
-        let f : Fitting m (columnAt is ns rs k .rows) = fitting m (columnAt is ns rs k) ready-fits in
+        let f : Fitting m (columnLent is ns rs k .rows) = fitting m (columnLent is ns rs k) ready-fits in
         (omega (arith, f .some, ready-count), omega (arith, f .few, ready-count))
 
 -- ---- a removal
@@ -174,5 +174,5 @@ remove-ready m b is h =
       few = w .1;
       distinct = of-once is (λ x. omega (arith, f .apart x));
       named = named;
-      booked = λ k l. sym (ids-booked b (getD is k 0) (named k l .0)) ∙ all-at (isLive (registerIn m b)) (place-mem is k 0 l) (f .live);
+      booked = λ k l. sym (ids-booked b (getD is k 0) (named k l .0)) ∙ all-at (inRegister (registerIn m b)) (place-mem is k 0 l) (f .live);
     }

@@ -12,11 +12,11 @@ use lib.ListN.{length}
 use borrow.Author.Tests.{le-leb}
 use Rattle.lists.specs.Lists.{isIn}
 use Rattle.lists.proofs.Tests.{lt-or-le, refute, in-range}
-use Rattle.tables.specs.Tables.{Tables, Limits, longEnough, limitsOf}
-use Rattle.calls.specs.Refusals.{Refusal, refusal, Bounds, isAccepted, orElse, unless, bounds, sizesRefusal, workFor, shortRefusal, shortBatch, rowRefusal, roomFor}
+use Rattle.tables.specs.Tables.{Tables, Sizes, longEnough, sizesOf}
+use Rattle.calls.specs.Refusals.{Refusal, refusal, Bounds, isAccepted, orElse, unless, bounds, sizesRefusal, workFor, shortRefusal, rowRefusal, roomFor}
 use Rattle.calls.specs.Calls.{withDefault}
 use Rattle.calls.proofs.Choices.{or-first}
-use Rattle.refusals.specs.Early.{defaultRecords, factorLong, bookLong, listsLong, NoRoom}
+use Rattle.refusals.specs.Early.{recordsFor, factorLong, bookLong, NoRoom}
 use Rattle.refusals.proofs.Tests.{below-not, is-out, is-in, unless-accepted, test-refusal}
 
 -- ---- 1 to 4
@@ -29,7 +29,7 @@ in-order w x y z e f g h = rw (e, f, g, h) refl
 
 module _ (b : Bounds) (m n f c : ℕ) where
   abbrev pub numberOf : ℕ
-  numberOf = sizesRefusal b (limitsOf m n f c) .number
+  numberOf = sizesRefusal b (sizesOf m n f c) .number
 
   abbrev onM : Bool
   onM = isIn 1 (b .m) m
@@ -66,7 +66,7 @@ module _ (b : Bounds) (m n f c : ℕ) where
 
 -- ---- 5
 
-module _ (l : Limits) (t : Tables) (w : List ℕ) where
+module _ (l : Sizes) (t : Tables) (w : List ℕ) where
   abbrev factorTest : Bool
   factorTest = factorLong (l .m) (l .f) (t .heads) (t .parents) (t .rows) (t .counts) (t .next)
 
@@ -104,7 +104,7 @@ module _ (l : Limits) (t : Tables) (w : List ℕ) where
 -- ---- for callers
 
 -- 1 to 4 have no position
-pub sizes-refusal : (l : Limits) {r : ℕ} → r ≡ sizesRefusal bounds l .number → sizesRefusal bounds l ≡ refusal r 0
+pub sizes-refusal : (l : Sizes) {r : ℕ} → r ≡ sizesRefusal bounds l .number → sizesRefusal bounds l ≡ refusal r 0
 sizes-refusal l {r} e =
     let q : sizesRefusal bounds l .position ≡ 0 = nowhere (isIn 1 4096 (l .m)) (isIn 1 16384 (l .n)) (isIn (l .m) 1048576 (l .f)) (isIn 1 262144 (l .c)) in
     λ i. record { number = sym e i; position = q i }
@@ -116,24 +116,8 @@ sizes-refusal l {r} e =
     nowhere true true true false = refl
     nowhere true true true true = refl
 
--- a batch's number 5, from the answers of `short` and `short_lists`
-pub short-batch : (l : Limits) (t : Tables) (w a b : List ℕ) {x y : Bool} → x ≡ not (isAccepted (shortRefusal l t w)) → y ≡ not (listsLong (l .m) a b) →
-    shortBatch l t w a b ≡ unless (not x && not y) 5 0
-short-batch l t w a b {x} {y} e h =
-    ap (λ (z : Bool). unless z 5 0)
-    (four (longEnough l t && leb (workFor l) (length w)) (leb (l .m) (length a)) (leb (l .m) (length b)) x y
-    (e ∙ ap not (unless-accepted (longEnough l t && leb (workFor l) (length w)) 5 0 refl)) h)
-  where
-    twice : (z : Bool) → z ≡ not (not z)
-    twice true = refl
-    twice false = refl
-
-    four : (z u v x y : Bool) → x ≡ not z → y ≡ not (u && v) → z && u && v ≡ not x && not y
-    four true u v x y e h = rw (e, h) (twice (u && v))
-    four false u v x y e h = rw e refl
-
 -- number 5, from the answer of `short`
-pub short-refusal : (l : Limits) (t : Tables) (w : List ℕ) {x : Bool} → x ≡ not (isAccepted (shortRefusal l t w)) → shortRefusal l t w ≡ unless (not x) 5 0
+pub short-refusal : (l : Sizes) (t : Tables) (w : List ℕ) {x : Bool} → x ≡ not (isAccepted (shortRefusal l t w)) → shortRefusal l t w ≡ unless (not x) 5 0
 short-refusal l t w e = test-refusal (longEnough l t && leb (workFor l) (length w)) 5 refl e
 
 -- 17 and 18, from the answers of `row_outside` and `room_outside`
@@ -144,11 +128,11 @@ pub room-refusal : (xs : List ℕ) (p n : ℕ) {x : Bool} → NoRoom (length xs)
 room-refusal xs p n e = test-refusal (leb (p + n) (length xs)) 18 refl (e xs refl)
 
 -- an m that is allowed gets document 01's default
-pub default-allowed : (m n f c : ℕ) → m ≤ 4096 → limitsOf m n (defaultRecords m f) c ≡ withDefault (limitsOf m n f c)
+pub default-allowed : (m n f c : ℕ) → m ≤ 4096 → sizesOf m n (recordsFor m f) c ≡ withDefault (sizesOf m n f c)
 default-allowed m n f c h = rw (le-leb m 268435455 (omega arith)) refl
 
 -- the default changes no number: any other m is refused by 1
-pub default-refusal : (m n f c : ℕ) → sizesRefusal bounds (limitsOf m n (defaultRecords m f) c) ≡ sizesRefusal bounds (withDefault (limitsOf m n f c))
+pub default-refusal : (m n f c : ℕ) → sizesRefusal bounds (sizesOf m n (recordsFor m f) c) ≡ sizesRefusal bounds (withDefault (sizesOf m n f c))
 default-refusal m n f c =
     elim (lt-or-le 4096 m) [
       | inl h ↦

@@ -10,7 +10,7 @@ use lib.ListN.{length, getD, take, drop}
 use Rattle.lists.proofs.Tests.{eq-or-ne}
 use Rattle.symbolic.specs.Columns.{Column}
 use Rattle.calls.specs.Refusals.{batchOf}
-use Rattle.refusals.specs.Offsets.{offsetOf, columnAt}
+use Rattle.refusals.specs.Offsets.{offsetOf, columnLent}
 use Rattle.refusals.proofs.Positions.{drop-more}
 
 -- ---- offsets
@@ -43,7 +43,7 @@ batch-length [] ns rs e = refl
 batch-length (i ∷ is) [] rs e = absurd (omega arith)
 batch-length (i ∷ is) (n ∷ ns) rs e = ap suc (batch-length is ns (drop n rs) (omega arith))
 
-pub batch-at : (is ns rs : List ℕ) (k : ℕ) (d : Column) → length ns ≡ length is → k < length is → getD (batchOf is ns rs) k d ≡ columnAt is ns rs k
+pub batch-at : (is ns rs : List ℕ) (k : ℕ) (d : Column) → length ns ≡ length is → k < length is → getD (batchOf is ns rs) k d ≡ columnLent is ns rs k
 unfolding batchOf offsetOf
 batch-at [] ns rs k d e h = absurd (omega arith)
 batch-at (i ∷ is) [] rs k d e h = absurd (omega arith)

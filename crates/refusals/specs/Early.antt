@@ -1,25 +1,26 @@
--- The four sizes and the eight tables as the definitions of numbers 1 to 5 read them; the records that an opening with F = 0 gets; when the tables of L,
--- those of the book and a batch's lists are long enough, each group by itself; the room that an answer asks for. The numbers are in calls, Refusals.
+-- The four sizes and the eight tables as the definitions of numbers 1 to 5 read them; the records that an opening with F = 0 gets; when the tables of L
+-- and those of the book are long enough, each group by itself; the room that an answer asks for. The numbers are in calls, Refusals.
 -- Assumes nothing: these are definitions.
 use mathlib.Core.Path.{_≡_}
 use mathlib.Core.Bool.{Bool, _&&_, not}
 use mathlib.Core.List.{List}
-use Prim.Native.Nat.{ℕ, _*_}
+use Prim.Native.Nat.{ℕ}
 use lib.Dec.{leb, eqb}
 use lib.ListN.{length}
 use Rattle.lists.specs.Lists.{pick}
-use Rattle.tables.specs.Tables.{Tables, Limits}
+use Rattle.tables.specs.Tables.{Tables, Sizes}
+use Rattle.calls.specs.Calls.{defaultRecords}
 use Rattle.calls.specs.Refusals.{Bounds, isAccepted, roomFor}
 
 -- the four largest sizes as one record
 abbrev pub largest : (m n f c : ℕ) → Bounds
 largest m n f c = record { m = m; n = n; f = f; c = c }
 
--- "F .. at opening 0 means 16 × m", for an m whose 16 × m fits 32 bits; number 1 refuses any other, whatever F is
-abbrev pub defaultRecords : (m f : ℕ) → ℕ
-defaultRecords m f = pick (leb m 268435455 && eqb f 0) (16 * m) f
+-- the records that an opening gets for those it asks, for an m whose 16 × m fits 32 bits; number 1 refuses any other, whatever F is
+abbrev pub recordsFor : (m f : ℕ) → ℕ
+recordsFor m f = pick (leb m 268435455 && eqb f 0) (defaultRecords m) f
 
--- ---- long enough: the tables of L, those of the book, a batch's lists
+-- ---- long enough: the tables of L, those of the book
 
 -- the tables of L have places for m heads and parents, and for F rows, multiplicities and nexts
 abbrev pub factorLong : (m f : ℕ) → (heads parents rows counts next : List ℕ) → Bool
@@ -29,10 +30,6 @@ factorLong m f hs ps rs cs ns =
 -- the tables of the book have places for n heads, and for C rows and nexts
 abbrev pub bookLong : (n c : ℕ) → (heads rows next : List ℕ) → Bool
 bookLong n c hs rs ns = leb n (length hs) && leb c (length rs) && leb c (length ns)
-
--- "The lists for touched columns and labels .. need m places each"
-abbrev pub listsLong : (m : ℕ) → (touched labels : List ℕ) → Bool
-listsLong m ts ls = leb m (length ts) && leb m (length ls)
 
 -- an answer is refused by 18, for every list of that length
 abbrev pub NoRoom : (len place places : ℕ) → (answer : Bool) → Type 0

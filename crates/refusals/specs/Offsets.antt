@@ -13,5 +13,5 @@ offsetOf (n ∷ ns) zero = 0
 offsetOf (n ∷ ns) (suc k) = n + offsetOf ns k
 
 -- the column at place k
-abbrev pub columnAt : (ids counts rows : List ℕ) → (k : ℕ) → Column
-columnAt is ns rs k = record { id = getD is k 0; rows = take (getD ns k 0) (drop (offsetOf ns k) rs) }
+abbrev pub columnLent : (ids counts rows : List ℕ) → (k : ℕ) → Column
+columnLent is ns rs k = record { id = getD is k 0; rows = take (getD ns k 0) (drop (offsetOf ns k) rs) }

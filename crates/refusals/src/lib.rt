@@ -4,11 +4,11 @@ ghost use mathlib.Core.Path.{_≡_};
 ghost use mathlib.Core.Bool.{not};
 ghost use Prim.Native.Nat.{_+_, _≤_, _<_};
 ghost use lib.ListN.{length, getD, drop};
-ghost use Rattle.tables.specs.Tables.{limitsOf, tablesOf};
+ghost use Rattle.tables.specs.Tables.{sizesOf, tablesOf};
 ghost use Rattle.lists.specs.Lists.{isIn, among};
-ghost use Rattle.calls.specs.Refusals.{refusal, isAccepted, sizesRefusal, shortRefusal, rowRefusal};
+ghost use Rattle.calls.specs.Refusals.{refusal, isAccepted, sizesRefusal, shortRefusal, listsLong, rowRefusal};
 ghost use Rattle.book.specs.Book.{isBooked};
-ghost use Rattle.refusals.specs.Early.{largest, defaultRecords, factorLong, bookLong, listsLong, NoRoom};
+ghost use Rattle.refusals.specs.Early.{largest, recordsFor, factorLong, bookLong, NoRoom};
 ghost use Rattle.refusals.specs.Parts.{IsNumber, before, idRefusal, rowsPart, countRefusal, columnRefusal, leavingRefusal, InStep, HasPlace};
 ghost use Rattle.refusals.specs.Found.{found, HasBook, ColumnsFound, AddFound, IdsFound, RemoveFound};
 use book::Id;
@@ -66,7 +66,7 @@ pub fn sizes(
     most_records: u32,
     most_booked: u32,
 ) -> u32
-    ensures { λ r. ⌜ r ≡ sizesRefusal (largest «most_rows» «most_ids» «most_records» «most_booked») (limitsOf m n f c) .number ⌝ }
+    ensures { λ r. ⌜ r ≡ sizesRefusal (largest «most_rows» «most_ids» «most_records» «most_booked») (sizesOf m n f c) .number ⌝ }
 {
     if outside(1, most_rows, m) {
         return 1;
@@ -88,7 +88,7 @@ const MOST_DEFAULTED: u32 = 268435455;
 
 // The F of an opening: 16 * m where 0 is asked for and 16 * m fits.
 pub fn default_records(m: u32, f: u32) -> u32
-    ensures { λ r. ⌜ r ≡ defaultRecords m f ⌝ }
+    ensures { λ r. ⌜ r ≡ recordsFor m f ⌝ }
 {
     if MOST_DEFAULTED < m {
         return f;
@@ -155,7 +155,7 @@ pub fn short(
     f: u32,
     c: u32,
 ) -> bool
-    ensures { λ r. ⌜ r ≡ not (isAccepted (shortRefusal (limitsOf m n f c) (tablesOf (now (heads .entry)) (now (parents .entry)) (now (rows .entry)) (now (counts .entry)) (now (next .entry)) (now («book_heads» .entry)) (now («book_rows» .entry)) (now («book_next» .entry))) (now (work .entry)))) ⌝ }
+    ensures { λ r. ⌜ r ≡ not (isAccepted (shortRefusal (sizesOf m n f c) (tablesOf (now (heads .entry)) (now (parents .entry)) (now (rows .entry)) (now (counts .entry)) (now (next .entry)) (now («book_heads» .entry)) (now («book_rows» .entry)) (now («book_next» .entry))) (now (work .entry)))) ⌝ }
 {
     if short_factor(heads, parents, rows, counts, next, m, f) {
         return true;

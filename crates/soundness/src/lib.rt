@@ -10,6 +10,7 @@ ghost use Rattle.book.specs.Walks.{WalkedWith};
 ghost use Rattle.soundness.specs.Checking.{CanCheckFree, zeroChain, CanCheckEntry, EntryChecked, CanCheck, Checked};
 ghost use Rattle.soundness.specs.State.{State, CanReadColumn, ColumnsRead, Prepared, FactorRead, WithinWork};
 ghost use Rattle.soundness.specs.ReadThrough.{CanReadThrough, areSound, madeReady};
+use book::Row;
 use pool::Rec;
 use pool::Visit;
 use pool::Walk;
@@ -44,25 +45,27 @@ fn check_free(rows: &[u16], counts: &[u16], next: &[u32], marks: &mut [u32], fre
 }
 
 // Whether a row and its multiplicity are the next entry of a column with the counters: then takes the counter away and writes the row at place p.
-fn check_entry(work: &mut [u32], m: usize, p: usize, before: u32, row: u32, count: u32) -> bool
+fn check_entry(work: &mut [u32], m: usize, p: usize, before: Row, row: Row, count: u32) -> bool
     requires { ⌜ CanCheckEntry (now work) m p ⌝ }
-    ensures { λ a. ⌜ EntryChecked (now (work .entry)) (now (work .exit)) m p before row count a ⌝ }
+    ensures { λ a. ⌜ EntryChecked (now (work .entry)) (now (work .exit)) m p (before .0) (row .0) count a ⌝ }
 {
-    if row <= before {
+    let low = before.0;
+    let x = row.0;
+    if x <= low {
         return false;
     }
-    if m < row as usize {
+    if m < x as usize {
         return false;
     }
     if count == 0 {
         return false;
     }
-    let i = (row - 1) as usize;
+    let i = (x - 1) as usize;
     if work[i] != count {
         return false;
     }
     work[i] = 0;
-    work[p] = row;
+    work[p] = x;
     true
 }
 
@@ -76,14 +79,14 @@ fn check_chain(
     m: usize,
     met: usize,
     given: u32,
-    head: u32,
+    head: Rec,
 ) -> Walk
     requires { ⌜ CanCheck (now rows) (now counts) (now next) (now work) m met given ⌝ }
-    ensures { λ a. ⌜ Checked (now (rows .entry)) (now (counts .entry)) (now (next .entry)) (now (work .entry)) (now (work .exit)) m met head a ⌝ }
+    ensures { λ a. ⌜ Checked (now (rows .entry)) (now (counts .entry)) (now (next .entry)) (now (work .entry)) (now (work .exit)) m met (head .0) a ⌝ }
 {
     let a = 8 * m;
     let e = a + next.len();
-    let mut r = head;
+    let mut r = head.0;
     let mut n = met;
     let mut left = given;
     let mut before: u32 = 0;
@@ -96,7 +99,7 @@ fn check_chain(
                 let i = (r - 1) as usize;
                 let row = rows[i] as u32;
                 let count = counts[i] as u32;
-                if !check_entry(work, m, e + n, before, row, count) {
+                if !check_entry(work, m, e + n, Row(before), Row(row), count) {
                     return Walk::Cut;
                 }
                 left -= count;
@@ -113,14 +116,15 @@ fn check_chain(
 }
 
 // The second of the rows at places a to e - 1, or 0 where there is none.
-fn second(work: &[u32], a: usize, e: usize) -> u32
+fn second(work: &[u32], a: usize, e: usize) -> Row
     requires { ⌜ (a ≤ e) × (e ≤ length (now work)) ⌝ }
-    ensures { λ r. ⌜ r ≡ getD (region (now (work .entry)) a (e - a)) 1 0 ⌝ }
+    ensures { λ r. ⌜ r .0 ≡ getD (region (now (work .entry)) a (e - a)) 1 0 ⌝ }
 {
     if a + 1 < e {
-        return work[a + 1];
+        let row = work[a + 1];
+        return Row(row);
     }
-    0
+    Row(0)
 }
 
 // Reads column j of L, after met records: its chain must hold what the definition gives, and its parent be the second row or 0. Links it to its parent.
@@ -136,28 +140,31 @@ fn read_column(
     work: &mut [u32],
     free: Rec,
     book_free: Rec,
-    j: u32,
+    j: Row,
     met: usize,
 ) -> Walk
-    requires { ⌜ CanReadColumn (storedOf (now heads) (now parents) (now rows) (now counts) (now next) (free .0)) (bookOf (now «book_heads») (now «book_rows») (now «book_next») («book_free» .0)) (now work) j met ⌝ }
-    ensures { λ a. ⌜ ColumnsRead (storedOf (now (heads .entry)) (now (parents .entry)) (now (rows .entry)) (now (counts .entry)) (now (next .entry)) (free .0)) (bookOf (now («book_heads» .entry)) (now («book_rows» .entry)) (now («book_next» .entry)) («book_free» .0)) (now (work .entry)) (now (work .exit)) (j + 1) a ⌝ }
+    requires { ⌜ CanReadColumn (storedOf (now heads) (now parents) (now rows) (now counts) (now next) (free .0)) (bookOf (now «book_heads») (now «book_rows») (now «book_next») («book_free» .0)) (now work) (j .0) met ⌝ }
+    ensures { λ a. ⌜ ColumnsRead (storedOf (now (heads .entry)) (now (parents .entry)) (now (rows .entry)) (now (counts .entry)) (now (next .entry)) (free .0)) (bookOf (now («book_heads» .entry)) (now («book_rows» .entry)) (now («book_next» .entry)) («book_free» .0)) (now (work .entry)) (now (work .exit)) (j .0 + 1) a ⌝ }
 {
     let m = heads.len();
     let f = next.len();
-    let i = (j - 1) as usize;
+    let column = j.0;
+    let i = (column - 1) as usize;
     let given = counting::tally_all(book_heads, book_rows, book_next, work, m, f, j);
-    match check_chain(rows, counts, next, work, m, met, given, heads[i]) {
+    let head = heads[i];
+    match check_chain(rows, counts, next, work, m, met, given, Rec(head)) {
         Walk::Cut => {
             return Walk::Cut;
         }
         Walk::Ended(n) => {
             let stash = 8 * m + f;
-            let parent = second(work, stash + met, stash + n);
+            let up = second(work, stash + met, stash + n);
+            let parent = up.0;
             if parents[i] as u32 != parent {
                 return Walk::Cut;
             }
-            counting::link(work, m, 2 * m, parent, j);
-            work[4 * m + j as usize] = n as u32;
+            counting::link(work, m, 2 * m, up, column);
+            work[4 * m + column as usize] = n as u32;
             return Walk::Ended(n);
         }
     }
@@ -197,7 +204,7 @@ fn read_columns(
             work,
             free,
             book_free,
-            j,
+            Row(j),
             n,
         ) {
             Walk::Cut => {

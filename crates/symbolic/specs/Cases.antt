@@ -1,5 +1,5 @@
 -- Document 01's instances as far as the factor alone decides them; the table of starred instances is history/specs/Instances.antt. Computed here: the
--- state listed there, the same columns as one batch, a removal, equal columns, sizes, grades, a path. proofs/Instances.antt has a term. Assumes nothing.
+-- state listedColumns there, the same columns as one batch, a removal, equal columns, sizes, grades, a path. proofs/Instances.antt has a term. Assumes nothing.
 use mathlib.Core.Path.{_≡_}
 use mathlib.Core.List.{List, [], _∷_}
 use Prim.Native.Nat.{ℕ}
@@ -8,9 +8,9 @@ use Rattle.symbolic.specs.Factor.{FactorColumn, factorOf, columnAt, patt
 use Rattle.symbolic.specs.Batch.{touched, labelsOf, entriesOf, gradeOf}
 use Rattle.symbolic.specs.Change.{without, columnsOf}
 
--- the columns of the listed state: {1,3}, {1,4}, {2,3} under ids 1, 2, 3
-abbrev pub listed : List Column
-listed = record { id = 1; rows = 1 ∷ 3 ∷ [] } ∷ record { id = 2; rows = 1 ∷ 4 ∷ [] } ∷ record { id = 3; rows = 2 ∷ 3 ∷ [] } ∷ []
+-- the columns of the listedColumns state: {1,3}, {1,4}, {2,3} under ids 1, 2, 3
+abbrev pub listedColumns : List Column
+listedColumns = record { id = 1; rows = 1 ∷ 3 ∷ [] } ∷ record { id = 2; rows = 1 ∷ 4 ∷ [] } ∷ record { id = 3; rows = 2 ∷ 3 ∷ [] } ∷ []
 
 -- a factor column with a given parent and given multiplicities of rows 1 to m
 abbrev pub column : (parent : ℕ) → (counts : List ℕ) → FactorColumn
@@ -20,22 +20,22 @@ column p ns = record { counts = ns; parent = p }
 pub record Cases : Type 0 where
   -- 1. "Fresh, m = 1: L_1 is 1:1, parent 0"
   pub fresh : factorOf 1 [] ≡ column 0 (1 ∷ []) ∷ []
-  -- 2. "The state listed above, row by row"
+  -- 2. "The state listedColumns above, row by row"
   pub state :
-      factorOf 5 listed ≡
+      factorOf 5 listedColumns ≡
       column 3 (3 ∷ 0 ∷ 1 ∷ 1 ∷ 0 ∷ []) ∷ column 3 (0 ∷ 2 ∷ 1 ∷ 0 ∷ 0 ∷ []) ∷ column 4 (0 ∷ 0 ∷ 3 ∷ 1 ∷ 0 ∷ []) ∷ column 0 (0 ∷ 0 ∷ 0 ∷ 2 ∷ 0 ∷ []) ∷
       column 0 (0 ∷ 0 ∷ 0 ∷ 0 ∷ 1 ∷ []) ∷ []
-  pub first-rows : patternOf (columnAt (factorOf 5 listed) 1) ≡ 1 ∷ 3 ∷ 4 ∷ []
-  pub first-counts : multiplicitiesOf (columnAt (factorOf 5 listed) 1) ≡ 3 ∷ 1 ∷ 1 ∷ []
+  pub first-rows : patternOf (columnAt (factorOf 5 listedColumns) 1) ≡ 1 ∷ 3 ∷ 4 ∷ []
+  pub first-counts : multiplicitiesOf (columnAt (factorOf 5 listedColumns) 1) ≡ 3 ∷ 1 ∷ 1 ∷ []
   -- 3. "The three columns as one batch: touched 1 2 3 4, labels 2 3 3 3, entries 8"
-  pub batch-touched : touched (factorOf 5 listed) listed ≡ 1 ∷ 2 ∷ 3 ∷ 4 ∷ []
-  pub batch-labels : labelsOf (factorOf 5 listed) listed (1 ∷ 2 ∷ 3 ∷ 4 ∷ []) ≡ 2 ∷ 3 ∷ 3 ∷ 3 ∷ []
-  pub batch-entries : entriesOf (factorOf 5 listed) (1 ∷ 2 ∷ 3 ∷ 4 ∷ []) ≡ 8
+  pub batch-touched : touched (factorOf 5 listedColumns) listedColumns ≡ 1 ∷ 2 ∷ 3 ∷ 4 ∷ []
+  pub batch-labels : labelsOf (factorOf 5 listedColumns) listedColumns (1 ∷ 2 ∷ 3 ∷ 4 ∷ []) ≡ 2 ∷ 3 ∷ 3 ∷ 3 ∷ []
+  pub batch-entries : entriesOf (factorOf 5 listedColumns) (1 ∷ 2 ∷ 3 ∷ 4 ∷ []) ≡ 8
   -- 4. "Then remove 2: touched 1 3 4, entries 4; L_1 is 1:2 3:1, L_3 is 3:3 with parent 0, L_4 is 4:1"
-  pub removal-touched : touched (factorOf 5 listed) (columnsOf (2 ∷ []) listed) ≡ 1 ∷ 3 ∷ 4 ∷ []
-  pub removal-entries : entriesOf (factorOf 5 (without (2 ∷ []) listed)) (1 ∷ 3 ∷ 4 ∷ []) ≡ 4
+  pub removal-touched : touched (factorOf 5 listedColumns) (columnsOf (2 ∷ []) listedColumns) ≡ 1 ∷ 3 ∷ 4 ∷ []
+  pub removal-entries : entriesOf (factorOf 5 (without (2 ∷ []) listedColumns)) (1 ∷ 3 ∷ 4 ∷ []) ≡ 4
   pub removal-state :
-      factorOf 5 (without (2 ∷ []) listed) ≡
+      factorOf 5 (without (2 ∷ []) listedColumns) ≡
       column 3 (2 ∷ 0 ∷ 1 ∷ 0 ∷ 0 ∷ []) ∷ column 3 (0 ∷ 2 ∷ 1 ∷ 0 ∷ 0 ∷ []) ∷ column 0 (0 ∷ 0 ∷ 3 ∷ 0 ∷ 0 ∷ []) ∷ column 0 (0 ∷ 0 ∷ 0 ∷ 1 ∷ 0 ∷ []) ∷
       column 0 (0 ∷ 0 ∷ 0 ∷ 0 ∷ 1 ∷ []) ∷ []
   -- 5. "{1,3} twice under two ids, one removed: L_1 is 1:2 3:1, L_3 is 3:2"
@@ -45,9 +45,9 @@ pub record Cases : Type 0 where
   -- 6. "{5} alone: L_5 is 5:2"
   pub alone : columnAt (factorOf 5 (record { id = 1; rows = 5 ∷ [] } ∷ [])) 5 ≡ column 0 (0 ∷ 0 ∷ 0 ∷ 0 ∷ 2 ∷ [])
   -- 7. "Case 3 with F = 9 is accepted, with F = 8 refused by 16": it needs 9 records
-  pub batch-size : sizeSum (factorOf 5 listed) ≡ 9
+  pub batch-size : sizeSum (factorOf 5 listedColumns) ≡ 9
   -- 8. "255 entries give grade 1, 256 give 2"
   pub grade-one : gradeOf 255 ≡ 1
   pub grade-two : gradeOf 256 ≡ 2
   -- 9. "Path of 1 in case 2: 1 3 4"
-  pub path : pathOf (factorOf 5 listed) 1 ≡ 1 ∷ 3 ∷ 4 ∷ []
+  pub path : pathOf (factorOf 5 listedColumns) 1 ≡ 1 ∷ 3 ∷ 4 ∷ []

@@ -25,7 +25,7 @@ use Rattle.book.specs.Book as book
 use Rattle.book.specs.Entries.{opened}
 use Rattle.book.proofs.Opened as booked
 use Rattle.tables.specs.Stored.{Stored, recordsOf, isSoundFor}
-use Rattle.tables.specs.Tables.{Tables, Limits, longEnough, storedIn, bookIn, registerOf, isSound}
+use Rattle.tables.specs.Tables.{Tables, Sizes, longEnough, storedIn, bookIn, registerOf, isSound}
 use Rattle.tables.specs.Opening.{openedState, openedTables}
 use Rattle.tables.proofs.Stored.{Holds, facts-sound}
 use Rattle.tables.proofs.Tables.{Long, long-facts, facts-long}
@@ -36,7 +36,7 @@ use Rattle.tables.proofs.Tables.{Long, long-facts, facts-long}
 pub take-over : (n : ℕ) (new old : List ℕ) → length new ≡ n → take n (over new old) ≡ new
 take-over n new old e = take-at new (drop (length new) old) n e
 
-abbrev pub openedStored : Limits → Stored
+abbrev pub openedStored : Sizes → Stored
 openedStored l =
     record {
       heads = upFrom 1 (l .m);
@@ -51,7 +51,7 @@ openedStored l =
 padded : (xs : List ℕ) (m f : ℕ) → length xs ≡ m → m ≤ f → length (xs ++ replicate (f - m) 0) ≡ f
 padded xs m f e h = omega (arith, length-append xs (replicate (f - m) 0), length-replicate {A = ℕ} (f - m) 0)
 
-module _ (l : Limits) (t : Tables) (h : l .m ≤ l .f) where
+module _ (l : Sizes) (t : Tables) (h : l .m ≤ l .f) where
   pub opened-stored : storedIn (openedState l) (openedTables l t) ≡ openedStored l
   opened-stored =
       let a : take (l .m) (openedTables l t .heads) ≡ upFrom 1 (l .m) = take-over (l .m) (upFrom 1 (l .m)) (t .heads) (up-length 1 (l .m)) in
@@ -108,7 +108,7 @@ used-chain a k h i p q =
     let e : at N i ≡ 0 = opened-used a k (i - 1) (omega arith) in
     linked-chain N i (i ∷ []) (linked-cons N i [] p (omega (arith, opened-length a k h)) (subst (λ (x : ℕ). Linked N x []) (sym e) (linked-nil N)))
 
-module _ (l : Limits) (h : l .m ≤ l .f) where
+module _ (l : Sizes) (h : l .m ≤ l .f) where
   heads-pool : Pool (openedNexts (l .m) (l .f)) (upFrom 1 (l .m)) (freeHead (l .m) (l .f))
   heads-pool =
       subst (λ (hs : List ℕ). Pool (openedNexts (l .m) (l .f)) hs (freeHead (l .m) (l .f))) (append-nil (upFrom 1 (l .m)))
@@ -146,7 +146,7 @@ module _ (l : Limits) (h : l .m ≤ l .f) where
 
 -- ---- all tables
 
-module _ (l : Limits) (t : Tables) (h : l .m ≤ l .f) where
+module _ (l : Sizes) (t : Tables) (h : l .m ≤ l .f) where
   pub opened-columns : registerOf (openedState l) (openedTables l t) .columns ≡ []
   opened-columns = ap (λ (b : book.Book). book.columnsIn b) (opened-book l t h) ∙ booked.opened-columns (l .n) (l .c)
 

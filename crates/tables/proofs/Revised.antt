@@ -17,7 +17,7 @@ use Rattle.symbolic.specs.Factor.{FactorColumn, factorOf, columnAt}
 use Rattle.pool.specs.Chains.{chain}
 use Rattle.pool.specs.Whole.{Pool}
 use Rattle.tables.specs.Stored.{Stored, recordsOf, holdsFrom, isSoundFor}
-use Rattle.tables.specs.Tables.{Tables, Limits}
+use Rattle.tables.specs.Tables.{Tables, Sizes}
 use Rattle.tables.specs.Stays.{ColumnStays, Beyond, TailsStay}
 use Rattle.tables.proofs.Stored.{Holds, column-holds, holds-column, holds-at, holds-make, facts-sound}
 
@@ -44,7 +44,7 @@ beyond-self n xs = record { same-length = refl; same-tail = refl }
 pub beyond-joins : {n : ℕ} {xs ys zs : List ℕ} → Beyond n xs ys → Beyond n ys zs → Beyond n xs zs
 beyond-joins s t = record { same-length = t .same-length ∙ s .same-length; same-tail = t .same-tail ∙ s .same-tail }
 
-pub tails-self : (l : Limits) (t : Tables) → TailsStay l t t
+pub tails-self : (l : Sizes) (t : Tables) → TailsStay l t t
 tails-self l t =
     record {
       heads = beyond-self (l .m) (t .heads);
@@ -57,7 +57,7 @@ tails-self l t =
       bookNext = beyond-self (l .c) (t .bookNext);
     }
 
-pub tails-join : {l : Limits} {t u v : Tables} → TailsStay l t u → TailsStay l u v → TailsStay l t v
+pub tails-join : {l : Sizes} {t u v : Tables} → TailsStay l t u → TailsStay l u v → TailsStay l t v
 tails-join a b =
     record {
       heads = beyond-joins (a .heads) (b .heads);

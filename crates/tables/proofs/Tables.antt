@@ -1,5 +1,5 @@
 -- The tables within their sizes: long enough as facts (`Long`), and what stays so when the tails stay (`tails-long`); soundness in its two halves, what
--- it says of the booked columns (`sound-fits`) and of the stored ones against the limits (`sound-factor`).
+-- it says of the booked columns (`sound-fits`) and of the stored ones against the sizes (`sound-factor`).
 -- Assumes nothing.
 use mathlib.Core.Path.{_≡_, subst}
 use mathlib.Core.Bool.{Bool, true, _&&_}
@@ -18,13 +18,13 @@ use Rattle.symbolic.specs.Factor.{factorOf, factorFor}
 use Rattle.book.specs.Book as book
 use Rattle.book.proofs.Sound.{columns-fit, columns-rows}
 use Rattle.tables.specs.Stored.{isSoundFor, holdsFrom}
-use Rattle.tables.specs.Tables.{Tables, Limits, State, longEnough, storedIn, bookIn, registerOf, isSound}
+use Rattle.tables.specs.Tables.{Tables, Sizes, State, longEnough, storedIn, bookIn, registerOf, isSound}
 use Rattle.tables.specs.Stays.{TailsStay}
 use Rattle.tables.proofs.Stored.{sound-holds}
 
 -- ---- long enough
 
-pub record Long (l : Limits) (t : Tables) : Type 0 where
+pub record Long (l : Sizes) (t : Tables) : Type 0 where
   pub heads : l .m ≤ length (t .heads)
   pub parents : l .m ≤ length (t .parents)
   pub rows : l .f ≤ length (t .rows)
@@ -34,7 +34,7 @@ pub record Long (l : Limits) (t : Tables) : Type 0 where
   pub bookRows : l .c ≤ length (t .bookRows)
   pub bookNext : l .c ≤ length (t .bookNext)
 
-module _ (l : Limits) (t : Tables) where
+module _ (l : Sizes) (t : Tables) where
   pub long-facts : longEnough l t ≡ true → Long l t
   long-facts z =
       let a : Bool = leb (l .m) (length (t .heads)) in
@@ -71,7 +71,7 @@ module _ (l : Limits) (t : Tables) where
       (le-leb (l .c) (length (t .bookRows)) (h .bookRows))) (le-leb (l .c) (length (t .bookNext)) (h .bookNext))
 
 -- tables whose lengths stay stay long enough
-pub tails-long : (l : Limits) (t u : Tables) → TailsStay l t u → longEnough l t ≡ true → longEnough l u ≡ true
+pub tails-long : (l : Sizes) (t u : Tables) → TailsStay l t u → longEnough l t ≡ true → longEnough l u ≡ true
 tails-long l t u s z =
     let h : Long l t = long-facts l t z in
     facts-long l u (record {
@@ -88,25 +88,25 @@ tails-long l t u s z =
 -- ---- sound
 
 module _ (s : State) (t : Tables) where
-  pub sound-book : isSound s t ≡ true → book.isSound (s .limits .m) (bookIn s t) ≡ true
-  sound-book h = and-both (book.isSound (s .limits .m) (bookIn s t)) (isSoundFor (live (registerOf s t)) (storedIn s t)) h .0
+  pub sound-book : isSound s t ≡ true → book.isSound (s .sizes .m) (bookIn s t) ≡ true
+  sound-book h = and-both (book.isSound (s .sizes .m) (bookIn s t)) (isSoundFor (live (registerOf s t)) (storedIn s t)) h .0
 
   pub sound-stored : isSound s t ≡ true → isSoundFor (live (registerOf s t)) (storedIn s t) ≡ true
-  sound-stored h = and-both (book.isSound (s .limits .m) (bookIn s t)) (isSoundFor (live (registerOf s t)) (storedIn s t)) h .1
+  sound-stored h = and-both (book.isSound (s .sizes .m) (bookIn s t)) (isSoundFor (live (registerOf s t)) (storedIn s t)) h .1
 
   -- every booked column has 1 to 256 rows, rising, within 1 to m
-  pub sound-fits : isSound s t ≡ true → all (book.columnFits (s .limits .m)) (registerOf s t .columns) ≡ true
-  sound-fits h = columns-fit (s .limits .m) (bookIn s t) (sound-book h)
+  pub sound-fits : isSound s t ≡ true → all (book.columnFits (s .sizes .m)) (registerOf s t .columns) ≡ true
+  sound-fits h = columns-fit (s .sizes .m) (bookIn s t) (sound-book h)
 
   -- so its rows rise within 1 to m
-  pub sound-rows : isSound s t ≡ true → all (fitsRows (s .limits .m)) (registerOf s t .columns) ≡ true
-  sound-rows h = columns-rows (s .limits .m) (bookIn s t) (sound-book h)
+  pub sound-rows : isSound s t ≡ true → all (fitsRows (s .sizes .m)) (registerOf s t .columns) ≡ true
+  sound-rows h = columns-rows (s .sizes .m) (bookIn s t) (sound-book h)
 
-  pub stored-rows : longEnough (s .limits) t ≡ true → length (storedIn s t .heads) ≡ s .limits .m
-  stored-rows z = length-take-le (s .limits .m) (t .heads) (long-facts (s .limits) t z .heads)
+  pub stored-rows : longEnough (s .sizes) t ≡ true → length (storedIn s t .heads) ≡ s .sizes .m
+  stored-rows z = length-take-le (s .sizes .m) (t .heads) (long-facts (s .sizes) t z .heads)
 
   -- "the factor equals the definition above for the live columns"
-  pub sound-factor : longEnough (s .limits) t ≡ true → isSound s t ≡ true → holdsFrom (storedIn s t) (factorFor (registerOf s t)) 1 (s .limits .m) ≡ true
+  pub sound-factor : longEnough (s .sizes) t ≡ true → isSound s t ≡ true → holdsFrom (storedIn s t) (factorFor (registerOf s t)) 1 (s .sizes .m) ≡ true
   sound-factor z h =
       subst (λ (n : ℕ). holdsFrom (storedIn s t) (factorOf n (live (registerOf s t))) 1 n ≡ true) (stored-rows z)
       (sound-holds (live (registerOf s t)) (storedIn s t) (sound-stored h))

@@ -6,14 +6,14 @@ use Prim.Native.Nat.{_+_, _-_}
 use lib.ListN.{replicate}
 use Rattle.lists.specs.Lists.{over, upFrom}
 use Rattle.pool.specs.Opening.{openedNexts, freeHead}
-use Rattle.tables.specs.Tables.{Tables, Limits, State}
+use Rattle.tables.specs.Tables.{Tables, Sizes, State}
 
 -- the record of an accepted opening: its sizes, and the heads of the two free chains
-abbrev pub openedState : Limits → State
-openedState l = record { limits = l; free = freeHead (l .m) (l .f); bookFree = freeHead 0 (l .c) }
+abbrev pub openedState : Sizes → State
+openedState l = record { sizes = l; free = freeHead (l .m) (l .f); bookFree = freeHead 0 (l .c) }
 
 -- the tables after an accepted opening: column j has record j and parent 0, no id is live, all other records are free
-abbrev pub openedTables : Limits → Tables → Tables
+abbrev pub openedTables : Sizes → Tables → Tables
 openedTables l t =
     record {
       heads = over (upFrom 1 (l .m)) (t .heads);

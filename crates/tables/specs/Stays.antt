@@ -2,12 +2,14 @@
 -- The book has its own `ColumnStays`. Both are read within the sizes, before and after one call.
 -- Assumes nothing: these are definitions.
 use mathlib.Core.Path.{_≡_}
+use mathlib.Core.Bool.{true}
 use mathlib.Core.List.{List}
 use Prim.Native.Nat.{ℕ}
 use lib.ListN.{length, drop}
 use Rattle.lists.specs.Lists.{Mem, at}
+use Rattle.symbolic.specs.Factor.{FactorColumn, inPattern}
 use Rattle.tables.specs.Stored.{Stored, recordsOf}
-use Rattle.tables.specs.Tables.{Tables, Limits}
+use Rattle.tables.specs.Tables.{Tables, Sizes}
 
 -- "A factor column is altered unless its head, its parent and every record of its chain stay, each record with its number, row, multiplicity and next"
 pub record ColumnStays (before after : Stored) (j : ℕ) : Type 0 where
@@ -23,13 +25,18 @@ abbrev pub EntriesKeep : (before after : Stored) (j : ℕ) → Type 0
 EntriesKeep b a j =
     (x y : ℕ) → Mem x (recordsOf b j) → Mem y (recordsOf a j) → at (b .rows) x ≡ at (a .rows) y → x ≡ y
 
+-- the same of the entries that stand in a third factor too, that of the columns which stay while others leave and enter
+abbrev pub EntriesStay : (staying : List FactorColumn) (before after : Stored) (j : ℕ) → Type 0
+EntriesStay fs b a j =
+    (x y : ℕ) → Mem x (recordsOf b j) → Mem y (recordsOf a j) → at (b .rows) x ≡ at (a .rows) y → inPattern fs (at (b .rows) x) j ≡ true → x ≡ y
+
 -- "Table places beyond the sizes keep their content"; lengths stay
 pub record Beyond (n : ℕ) (before after : List ℕ) : Type 0 where
   pub same-length : length after ≡ length before
   pub same-tail : drop n after ≡ drop n before
 
 -- each of the eight tables keeps what stands beyond its size
-pub record TailsStay (l : Limits) (before after : Tables) : Type 0 where
+pub record TailsStay (l : Sizes) (before after : Tables) : Type 0 where
   pub heads : Beyond (l .m) (before .heads) (after .heads)
   pub parents : Beyond (l .m) (before .parents) (after .parents)
   pub rows : Beyond (l .f) (before .rows) (after .rows)

@@ -1,4 +1,4 @@
--- The eight lent tables, the four limits and the two free heads; when the tables are long enough, and when they are sound. The book is read through
+-- The eight lent tables, the four sizes and the two free heads; when the tables are long enough, and when they are sound. The book is read through
 -- its own definitions, the stored columns through Stored.antt. A later table or size enters here.
 -- Assumes nothing: these are definitions.
 use mathlib.Core.Bool.{Bool, _&&_}
@@ -23,15 +23,15 @@ pub record Tables : Type 0 where
   pub bookNext : List ℕ
 
 -- the four sizes
-pub record Limits : Type 0 where
+pub record Sizes : Type 0 where
   pub m : ℕ
   pub n : ℕ
   pub f : ℕ
   pub c : ℕ
 
 -- four sizes as one
-abbrev pub limitsOf : (m n f c : ℕ) → Limits
-limitsOf m n f c = record { m = m; n = n; f = f; c = c }
+abbrev pub sizesOf : (m n f c : ℕ) → Sizes
+sizesOf m n f c = record { m = m; n = n; f = f; c = c }
 
 -- eight tables as one
 abbrev pub tablesOf : (heads parents rows counts next bookHeads bookRows bookNext : List ℕ) → Tables
@@ -40,12 +40,12 @@ tablesOf hs ps rs cs ns bh br bn =
 
 -- the record of sizes and free heads
 pub record State : Type 0 where
-  pub limits : Limits
+  pub sizes : Sizes
   pub free : ℕ
   pub bookFree : ℕ
 
 -- "tables need m, n, F or C places": each has at least so many
-abbrev pub longEnough : Limits → Tables → Bool
+abbrev pub longEnough : Sizes → Tables → Bool
 longEnough l t =
     leb (l .m) (length (t .heads)) && leb (l .m) (length (t .parents)) && leb (l .f) (length (t .rows)) && leb (l .f) (length (t .counts)) &&
     leb (l .f) (length (t .next)) && leb (l .n) (length (t .bookHeads)) && leb (l .c) (length (t .bookRows)) && leb (l .c) (length (t .bookNext))
@@ -54,23 +54,23 @@ longEnough l t =
 abbrev pub storedIn : State → Tables → Stored
 storedIn s t =
     record {
-      heads = take (s .limits .m) (t .heads);
-      parents = take (s .limits .m) (t .parents);
-      rows = take (s .limits .f) (t .rows);
-      counts = take (s .limits .f) (t .counts);
-      next = take (s .limits .f) (t .next);
+      heads = take (s .sizes .m) (t .heads);
+      parents = take (s .sizes .m) (t .parents);
+      rows = take (s .sizes .f) (t .rows);
+      counts = take (s .sizes .f) (t .counts);
+      next = take (s .sizes .f) (t .next);
       free = s .free;
     }
 
 -- the book, within the sizes
 abbrev pub bookIn : State → Tables → book.Book
 bookIn s t =
-    book.bookOf (take (s .limits .n) (t .bookHeads)) (take (s .limits .c) (t .bookRows)) (take (s .limits .c) (t .bookNext)) (s .bookFree)
+    book.bookOf (take (s .sizes .n) (t .bookHeads)) (take (s .sizes .c) (t .bookRows)) (take (s .sizes .c) (t .bookNext)) (s .bookFree)
 
 -- the register that the book holds, by rising id
 abbrev pub registerOf : State → Tables → Register
-registerOf s t = record { m = s .limits .m; columns = book.columnsIn (bookIn s t) }
+registerOf s t = record { m = s .sizes .m; columns = book.columnsIn (bookIn s t) }
 
 -- "Tables are sound if ..": the book is sound, and the stored columns are the definition's for the live columns
 abbrev pub isSound : State → Tables → Bool
-isSound s t = book.isSound (s .limits .m) (bookIn s t) && isSoundFor (live (registerOf s t)) (storedIn s t)
+isSound s t = book.isSound (s .sizes .m) (bookIn s t) && isSoundFor (live (registerOf s t)) (storedIn s t)

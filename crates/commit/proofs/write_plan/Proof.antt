@@ -1,4 +1,4 @@
--- `commit::write_plan` meets its contract: the two passes ask what `CanWrite` gives, and what they leave makes `Written`. Assumes nothing.
+-- `commit::write_plan` meets its contract: the two passes ask what `CanWrite` gives, and what they leave makes `PlanWritten`. Assumes nothing.
 use Prim.Native.Nat.{ℕ}
 use native.Mathlib.Omega.{arith}
 use borrow.Author.Needs.{needs}

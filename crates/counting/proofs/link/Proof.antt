@@ -9,7 +9,7 @@ use Rattle.counting.proofs.link.Statement.{statement}
 use Rattle.counting.proofs.link.Tie as tie
 
 -- a value that is not 0 has a head in the table
-head-in : (c : tie.Else1) → c .before .args .a + (c .before .args .v - 1) < length (c .before .args .work .now)
+head-in : (c : tie.Else1) → c .before .args .a + (c .before .args .row .0 - 1) < length (c .before .args .work .now)
 head-in c = c .before .pre .head-in (omega arith)
 
 returns : tie.Need-returns

@@ -11,10 +11,10 @@ use Rattle.counting.proofs.tally_children.Statement.{statement}
 use Rattle.counting.proofs.tally_children.Tie as tie
 
 abbrev Inv-loop : tie.InvT-loop
-Inv-loop work₀ m f j stash given₀ c₀ work given c = Children work₀ m f j work given c
+Inv-loop work₀ m f column stash given₀ c₀ work given c = Children work₀ m f column work given c
 
 abbrev μ-loop : tie.MeasureT-loop
-μ-loop work₀ m f j stash given₀ c₀ work given c = length (chain (region work₀ (childNext m) m) c)
+μ-loop work₀ m f column stash given₀ c₀ work given c = length (chain (region work₀ (childNext m) m) c)
 
 abbrev start : tie.In-loop Inv-loop μ-loop → tie.Start Inv-loop μ-loop
 start c = c .before .before .before .before

@@ -14,10 +14,10 @@ use Rattle.counting.proofs.tally_columns.Statement.{statement}
 use Rattle.counting.proofs.tally_columns.Tie as tie
 
 abbrev Inv-loop : tie.InvT-loop
-Inv-loop book-heads book-rows book-next work₀ m f j a e nexts given₀ i₀ work given i = Starting book-heads book-rows book-next work₀ m f j work given i
+Inv-loop book-heads book-rows book-next work₀ m f column a e nexts given₀ i₀ work given i = Starting book-heads book-rows book-next work₀ m f column work given i
 
 abbrev μ-loop : tie.MeasureT-loop
-μ-loop book-heads book-rows book-next work₀ m f j a e nexts given₀ i₀ work given i = length (chain (region work₀ (columnNext m f (length book-next)) (length book-heads)) i)
+μ-loop book-heads book-rows book-next work₀ m f column a e nexts given₀ i₀ work given i = length (chain (region work₀ (columnNext m f (length book-next)) (length book-heads)) i)
 
 abbrev start : tie.In-loop Inv-loop μ-loop → tie.Start Inv-loop μ-loop
 start c = c .before .before .before .before .before .before .before

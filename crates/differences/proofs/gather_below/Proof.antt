@@ -12,10 +12,10 @@ use Rattle.differences.proofs.gather_below.Statement.{statement}
 use Rattle.differences.proofs.gather_below.Tie as tie
 
 abbrev Inv-loop : tie.InvT-loop
-Inv-loop work₀ m k from to kind bound n₀ a₀ work n a = Reaching m work₀ k from to kind bound work n a
+Inv-loop work₀ m k from to kind least n₀ a₀ work n a = Reaching m work₀ k from to kind least work n a
 
 abbrev μ-loop : tie.MeasureT-loop
-μ-loop work₀ m k from to kind bound n₀ a₀ work n a = to - a
+μ-loop work₀ m k from to kind least n₀ a₀ work n a = to - a
 
 -- ---- places
 

@@ -31,7 +31,7 @@ returns-2 : tie.Need-returns-2
 returns-2 c =
     let s = c .before .before .before .before .before .args in
     let h : s .a < s .to = omega arith in
-    rw (lt-ltb (s .a) (s .to) h, ne-eqb (rowOf (cell (s .work .now) (8 * s .m) (s .a))) (s .row) (λ e. c .if2 .taken (c .before .row-of .ensures ∙ e))) refl
+    rw (lt-ltb (s .a) (s .to) h, ne-eqb (rowOf (cell (s .work .now) (8 * s .m) (s .a))) (s .row .0) (λ e. c .if2 .taken (c .before .row-of .ensures ∙ e))) refl
 
 kind-of-requires : tie.Need-kind-of-requires
 kind-of-requires c κs = search needs
@@ -40,8 +40,8 @@ returns-3 : tie.Need-returns-3
 returns-3 c =
     let s = c .before .before .before .before .before .before .args in
     let h : s .a < s .to = omega arith in
-    let e : rowOf (cell (s .work .now) (8 * s .m) (s .a)) ≡ s .row = omega (arith, c .before .before .row-of .ensures) in
-    rw (c .kind-of .ensures, lt-ltb (s .a) (s .to) h, eq-eqb (rowOf (cell (s .work .now) (8 * s .m) (s .a))) (s .row) e) refl
+    let e : rowOf (cell (s .work .now) (8 * s .m) (s .a)) ≡ s .row .0 = omega (arith, c .before .before .row-of .ensures) in
+    rw (c .kind-of .ensures, lt-ltb (s .a) (s .to) h, eq-eqb (rowOf (cell (s .work .now) (8 * s .m) (s .a))) (s .row .0) e) refl
 
 pub is-gone-spec : {M : Type 1} → statement M
 is-gone-spec =

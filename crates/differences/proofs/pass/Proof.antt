@@ -8,10 +8,10 @@ use Rattle.differences.proofs.pass.Statement.{statement}
 use Rattle.differences.proofs.pass.Tie as tie
 
 abbrev Inv-loop : tie.InvT-loop
-Inv-loop work m from to row a₀ a = Passing m work from to row a
+Inv-loop work m from to least a₀ a = Passing m work from to least a
 
 abbrev μ-loop : tie.MeasureT-loop
-μ-loop work m from to row a₀ a = to - a
+μ-loop work m from to least a₀ a = to - a
 
 loop-holds : tie.Need-loop-holds Inv-loop μ-loop
 loop-holds c = passing-start (c .before .pre .order)

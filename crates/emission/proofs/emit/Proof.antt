@@ -33,12 +33,12 @@ use Rattle.emission.proofs.emit.Statement.{statement}
 use Rattle.emission.proofs.emit.Tie as tie
 
 abbrev Inv-loop : tie.InvT-loop
-Inv-loop rows counts next work₀ m n used diagonal walk₀ i₀ work walk i =
-    (old new : List ℕ) → CanEmit rows counts next work₀ m n diagonal (walk₀ .at) used (walk₀ .avail) old new →
-    Emitting rows counts next work₀ m n diagonal used (walk₀ .avail) old new work walk i
+Inv-loop rows counts next work₀ m n j used walk₀ i₀ work walk i =
+    (old new : List ℕ) → CanEmit rows counts next work₀ m n (j .0) (walk₀ .at .0) used (walk₀ .avail .0) old new →
+    Emitting rows counts next work₀ m n (j .0) used (walk₀ .avail .0) old new work walk i
 
 abbrev μ-loop : tie.MeasureT-loop
-μ-loop rows counts next work₀ m n used diagonal walk₀ i₀ work walk i = n - i
+μ-loop rows counts next work₀ m n j used walk₀ i₀ work walk i = n - i
 
 -- ---- places
 
@@ -48,8 +48,14 @@ start c = c .before .before .before .before .before .before
 abbrev in-turn : tie.Then1 Inv-loop μ-loop → tie.In-loop Inv-loop μ-loop
 in-turn c = c .before .before .before
 
+abbrev passed : tie.After-stored Inv-loop μ-loop → tie.After-pass Inv-loop μ-loop
+passed c = c .before .before
+
+abbrev in-read : tie.After-stored Inv-loop μ-loop → tie.In-loop Inv-loop μ-loop
+in-read c = in-turn (passed c .before)
+
 abbrev in-call : tie.After-plan-row Inv-loop μ-loop → tie.In-loop Inv-loop μ-loop
-in-call c = in-turn (c .before .before .before .before .before .before)
+in-call c = in-read (c .before .before .before .before)
 
 -- ---- what a turn asks
 
@@ -87,31 +93,30 @@ facts c =
 
 -- the old multiplicity that was read, and the new one
 pub record Values (c : tie.After-stored Inv-loop μ-loop) : Type 0 where
-  pub old-is : c .stored .result ≡ getD (ready (in-turn (c .before .before)) .old) (row-at (in-turn (c .before .before)) - 1) 0
-  pub new-is : getD (ready (in-turn (c .before .before)) .new) (row-at (in-turn (c .before .before)) - 1) 0 + base ≡
-      c .stored .result + at (in-turn (c .before .before) .before .loop .work) (row-at (in-turn (c .before .before)))
-  pub new-small : getD (ready (in-turn (c .before .before)) .new) (row-at (in-turn (c .before .before)) - 1) 0 < 65536
+  pub old-is : c .stored .result ≡ getD (ready (in-read c) .old) (row-at (in-read c) - 1) 0
+  pub new-is : getD (ready (in-read c) .new) (row-at (in-read c) - 1) 0 + base ≡ c .stored .result + at (in-read c .before .loop .work) (row-at (in-read c))
+  pub new-small : getD (ready (in-read c) .new) (row-at (in-read c) - 1) 0 < 65536
 
 values : (c : tie.After-stored Inv-loop μ-loop) → Values c
 values c =
-    let d = in-turn (c .before .before) in
-    let y = c .before .before .if1 .taken in
-    let e = c .stored .ensures ∙ old-value (ready d .can) (held d) (d .loop-test .taken) y (c .before .pass .ensures) in
+    let d = in-read c in
+    let y = passed c .before .if1 .taken in
+    let e = c .stored .ensures ∙ old-value (ready d .can) (held d) (d .loop-test .taken) y (passed c .pass .ensures) in
     record {
       old-is = e;
-      new-is = omega (arith, e, new-value (ready d .can) (held d) (d .loop-test .taken) y (c .before .pass .ensures));
-      new-small = new-fits (ready d .can) (held d) (d .loop-test .taken) y (c .before .pass .ensures);
+      new-is = omega (arith, e, new-value (ready d .can) (held d) (d .loop-test .taken) y (passed c .pass .ensures));
+      new-small = new-fits (ready d .can) (held d) (d .loop-test .taken) y (passed c .pass .ensures);
     }
 
 abbrev new-at : tie.After-stored Inv-loop μ-loop → ℕ
-new-at c = c .stored .result + at (in-turn (c .before .before) .before .loop .work) (row-at (in-turn (c .before .before))) - base
+new-at c = c .stored .result + at (in-read c .before .loop .work) (row-at (in-read c)) - base
 
 walk-is : (c : tie.After-count-row Inv-loop μ-loop) → c .count-row .result ≡
-    counting (start (in-turn (c .before .before .before .before)) .args .j .0) (row-at (in-turn (c .before .before .before .before))) (new-at (c .before .before))
-    (advanced (start (in-turn (c .before .before .before .before)) .args .next .now) (c .before .before .stored .result) (c .before .before .before .pass .result))
+    counting (start (in-read (c .before .before)) .args .j .0) (row-at (in-read (c .before .before))) (new-at (c .before .before))
+    (advanced (start (in-read (c .before .before)) .args .next .now) (c .before .before .stored .result) (passed (c .before .before) .pass .result))
 walk-is c =
     let s = c .before .before in
-    let d = in-turn (s .before .before) in
+    let d = in-read s in
     c .count-row .ensures ∙ ap (λ (w : Walk). counting (start d .args .j .0) (row-at d) (new-at s) w) (c .before .advance .ensures)
 
 -- ---- needs
@@ -159,7 +164,7 @@ pass-requires : tie.Need-pass-requires Inv-loop μ-loop
 pass-requires c κs = let d = in-turn c in emitting-pass (ready d .can) (held d)
 
 stored-requires : tie.Need-stored-requires Inv-loop μ-loop
-stored-requires c κs = let d = in-turn (c .before) in let q = walk-inside (ready d .can) (held d) (d .loop-test .taken) (c .before .if1 .taken) (c .pass .ensures) in omega (arith, ready d .can .rows-long, ready d .can .counts-long)
+stored-requires c κs = let p = c .before in let d = in-turn (p .before) in let q = walk-inside (ready d .can) (held d) (d .loop-test .taken) (p .before .if1 .taken) (p .pass .ensures) in omega (arith, ready d .can .rows-long, ready d .can .counts-long)
 
 add-new : tie.Need-add-new Inv-loop μ-loop
 add-new c = let v = values c in omega arith
@@ -168,17 +173,17 @@ sub-new : tie.Need-sub-new Inv-loop μ-loop
 sub-new c = let v = values c in omega arith
 
 advance-requires : tie.Need-advance-requires Inv-loop μ-loop
-advance-requires c κs = let d = in-turn (c .before .before) in (λ z. record-inside (ready d .can) (held d) (d .loop-test .taken) (c .before .before .if1 .taken) (c .before .pass .ensures) (λ e. z (values c .old-is ∙ e)))
+advance-requires c κs = let d = in-read c in (λ z. record-inside (ready d .can) (held d) (d .loop-test .taken) (passed c .before .if1 .taken) (passed c .pass .ensures) (λ e. z (values c .old-is ∙ e)))
 
 count-row-requires : tie.Need-count-row-requires Inv-loop μ-loop
-count-row-requires c κs = let s = c .before in let d = in-turn (s .before .before) in omega (arith, ap (λ (w : Walk). w .size) (c .advance .ensures), advanced-small (ready d .can) (held d) (d .loop-test .taken) (s .before .before .if1 .taken) (s .before .pass .ensures) (s .stored .result))
+count-row-requires c κs = let s = c .before in let d = in-read s in omega (arith, ap (λ (w : Walk). w .size) (c .advance .ensures), advanced-small (ready d .can) (held d) (d .loop-test .taken) (passed s .before .if1 .taken) (passed s .pass .ensures) (s .stored .result))
 
 plan-row-requires : tie.Need-plan-row-requires Inv-loop μ-loop
 plan-row-requires c κs =
     let k = c .before in
     let s = k .before .before in
-    let d = in-turn (s .before .before) in
-    emitting-plan (ready d .can) (held d) (d .loop-test .taken) (s .before .before .if1 .taken) (s .before .pass .ensures) (s .stored .ensures) refl (walk-is k)
+    let d = in-read s in
+    emitting-plan (ready d .can) (held d) (d .loop-test .taken) (passed s .before .if1 .taken) (passed s .pass .ensures) (s .stored .ensures) refl (walk-is k)
 
 add-i : tie.Need-add-i Inv-loop μ-loop
 add-i c = let f = facts (in-call (c .before .before)) in omega arith
@@ -192,7 +197,7 @@ loop-again c =
     let k = p .before .before in
     let s = k .before .before in
     let d = in-call p in
-    λ old new can. emitting-turn can (d .before .loop .inv old new can) (d .loop-test .taken) (s .before .before .if1 .taken) (s .before .pass .ensures) (s .stored .ensures) refl (walk-is k)
+    λ old new can. emitting-turn can (d .before .loop .inv old new can) (d .loop-test .taken) (passed s .before .if1 .taken) (passed s .pass .ensures) (s .stored .ensures) refl (walk-is k)
     (p .plan-row .ensures)
 
 add-i-2 : tie.Need-add-i-2 Inv-loop μ-loop
@@ -208,10 +213,10 @@ pass-requires-2 : tie.Need-pass-requires-2 Inv-loop μ-loop
 pass-requires-2 c κs = let r = c .before .before .before .before .before .before .pre in emitting-pass (r .can) (c .before .loop .inv (r .old) (r .new) (r .can))
 
 same-length : tie.Need-same-length Inv-loop μ-loop
-same-length c = let d = c .before in let r = d .before .before .before .before .before .before .pre in emitting-length (r .can) (d .before .loop .inv (r .old) (r .new) (r .can))
+same-length c = let d = c .before .before .before in let r = d .before .before .before .before .before .before .pre in emitting-length (r .can) (d .before .loop .inv (r .old) (r .new) (r .can))
 
 returns : tie.Need-returns Inv-loop μ-loop
-returns c = let d = c .before in λ old new can. emitting-done can (d .before .loop .inv old new can) (omega arith) (c .pass2 .ensures)
+returns c = let p = c .before .before in let d = p .before in λ old new can. emitting-done can (d .before .loop .inv old new can) (omega arith) (p .pass2 .ensures)
 
 pub emit-spec : {M : Type 1} → statement M
 emit-spec =

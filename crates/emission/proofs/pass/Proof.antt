@@ -11,10 +11,10 @@ use Rattle.emission.proofs.pass.Statement.{statement}
 use Rattle.emission.proofs.pass.Tie as tie
 
 abbrev Inv-loop : tie.InvT-loop
-Inv-loop rows next j bound w₀ w = Walking rows next j bound w₀ w
+Inv-loop rows next j least w₀ w = Walking rows next (j .0) least w₀ w
 
 abbrev μ-loop : tie.MeasureT-loop
-μ-loop rows next j bound w₀ w = length (chain next (w .at))
+μ-loop rows next j least w₀ w = length (chain next (w .at .0))
 
 -- ---- places
 
@@ -23,9 +23,9 @@ start c = c .before .before .before .before .before
 
 -- what a turn asks, at the loop's test
 pub record Facts (c : tie.Then1 Inv-loop μ-loop) : Type 0 where
-  pub low : 1 ≤ c .before .before .loop .w .at
-  pub in-next : c .before .before .loop .w .at ≤ length (start c .args .next .now)
-  pub in-rows : c .before .before .loop .w .at ≤ length (start c .args .rows .now)
+  pub low : 1 ≤ c .before .before .loop .w .at .0
+  pub in-next : c .before .before .loop .w .at .0 ≤ length (start c .args .next .now)
+  pub in-rows : c .before .before .loop .w .at .0 ≤ length (start c .args .rows .now)
   pub good : length (start c .args .next .now) * 4 < 2 ^ 63
 
 facts : (c : tie.Then1 Inv-loop μ-loop) → Facts c
@@ -52,7 +52,7 @@ shared-slice-read-row : tie.Need-shared-slice-read-row Inv-loop μ-loop
 shared-slice-read-row c = let f = facts (c .before) in omega arith
 
 cast-row : tie.Need-cast-row Inv-loop μ-loop
-cast-row c = omega (arith, c .shared-slice-known3 .given (c .before .before .before .loop .w .at - 1))
+cast-row c = omega (arith, c .shared-slice-known3 .given (c .before .before .before .loop .w .at .0 - 1))
 
 returns : tie.Need-returns Inv-loop μ-loop
 returns c = let d = c .before .before in passed-stop (start d .pre) (d .before .before .loop .inv) (c .if2 .taken)
@@ -60,11 +60,11 @@ returns c = let d = c .before .before in passed-stop (start d .pre) (d .before .
 stay-requires : tie.Need-stay-requires Inv-loop μ-loop
 stay-requires c κs = let d = c .before .before in walking-small (start d .pre) (d .before .before .loop .inv) (d .if1 .taken)
 
-mul-w : tie.Need-mul-w Inv-loop μ-loop
-mul-w c = let f = facts (c .before .before .before) in omega arith
+mul-q : tie.Need-mul-q Inv-loop μ-loop
+mul-q c = let f = facts (c .before .before .before) in omega arith
 
-shared-slice-read-w : tie.Need-shared-slice-read-w Inv-loop μ-loop
-shared-slice-read-w c = let f = facts (c .before .before .before .before) in omega arith
+shared-slice-read-q : tie.Need-shared-slice-read-q Inv-loop μ-loop
+shared-slice-read-q c = let f = facts (c .before .before .before .before) in omega arith
 
 loop-less : tie.Need-loop-less Inv-loop μ-loop
 loop-less c = let d = c .before .before .before .before in onward-less (walking-onward (start d .pre) (d .before .before .loop .inv) (d .if1 .taken))
@@ -89,8 +89,8 @@ pass-spec =
     cast-row
     returns
     stay-requires
-    mul-w
-    shared-slice-read-w
+    mul-q
+    shared-slice-read-q
     loop-less
     loop-again
     returns-2)

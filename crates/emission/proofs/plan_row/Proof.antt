@@ -18,7 +18,7 @@ kind-for-requires : tie.Need-kind-for-requires
 kind-for-requires c κs = search needs
 
 pack-requires : tie.Need-pack-requires
-pack-requires c κs = let s = c .before .before .before .before .before .before in rw (c .kind-for .ensures) (entry-fits (s .args .row) (s .args .old) (s .args .new) (s .pre .row-low) (s .pre .row-high) (s .pre .new-small))
+pack-requires c κs = let s = c .before .before .before .before .before .before in rw (c .kind-for .ensures) (entry-fits (s .args .row .0) (s .args .old) (s .args .new) (s .pre .row-low) (s .pre .row-high) (s .pre .new-small))
 
 put-requires : tie.Need-put-requires
 put-requires c κs = let t = c .before .before .before in t .before .before .before .before .pre .place (λ z. absurd (t .if2 .taken z))
@@ -32,7 +32,7 @@ returns-2 c =
     let t = p .before .before .before .before in
     let s = t .before .before .before .before in
     stored (t .if2 .taken) (t .before .if1 .left)
-    (p .put .ensures .0 ∙ ap (set (s .args .work .now) (8 * s .args .m + s .args .walk .used)) (p .before .pack .ensures ∙ ap (packed (s .args .row) (s .args .new)) (p .before .before .kind-for .ensures)))
+    (p .put .ensures .0 ∙ ap (set (s .args .work .now) (8 * s .args .m + s .args .walk .used)) (p .before .pack .ensures ∙ ap (packed (s .args .row .0) (s .args .new)) (p .before .before .kind-for .ensures)))
     (p .put .ensures .1)
 
 returns-3 : tie.Need-returns-3
@@ -45,7 +45,7 @@ kind-for-requires-2 : tie.Need-kind-for-requires-2
 kind-for-requires-2 c κs = search needs
 
 pack-requires-2 : tie.Need-pack-requires-2
-pack-requires-2 c κs = let s = c .before .before .before .before .before .before .before .before in rw (c .kind-for2 .ensures) (entry-fits (s .args .row) (s .args .old) (s .args .new) (s .pre .row-low) (s .pre .row-high) (s .pre .new-small))
+pack-requires-2 c κs = let s = c .before .before .before .before .before .before .before .before in rw (c .kind-for2 .ensures) (entry-fits (s .args .row .0) (s .args .old) (s .args .new) (s .pre .row-low) (s .pre .row-high) (s .pre .new-small))
 
 put-requires-2 : tie.Need-put-requires-2
 put-requires-2 c κs =
@@ -65,7 +65,7 @@ returns-4 c =
     let s = t .before .before .before .before .before in
     fresh (t .before .if2 .left) (t .before .before .if1 .left) (t .if3 .left)
     (p .put2 .ensures .0 ∙ ap (λ (w : Walk). set (s .args .work .now) (8 * s .args .m + w .used) (p .before .pack2 .result)) (f .take-free .ensures) ∙
-    ap (set (s .args .work .now) (8 * s .args .m + s .args .walk .used)) (p .before .pack2 .ensures ∙ ap (packed (s .args .row) (s .args .new)) (p .before .before .kind-for2 .ensures)))
+    ap (set (s .args .work .now) (8 * s .args .m + s .args .walk .used)) (p .before .pack2 .ensures ∙ ap (packed (s .args .row .0) (s .args .new)) (p .before .before .kind-for2 .ensures)))
     (p .put2 .ensures .1 ∙ ap longer (f .take-free .ensures))
 
 pub plan-row-spec : {M : Type 1} → statement M

@@ -1,17 +1,21 @@
 -- `emission::stay` meets its contract: one more in size, and the first row above the diagonal. Assumes nothing.
-use mathlib.Core.Path.{refl}
+use mathlib.Core.Path.{ap}
+use Prim.Native.Nat.{ℕ, _+_}
+use Rattle.emission.specs.declared.Walk.{Walk}
 use borrow.Author.Needs.{needs}
 use Rattle.emission.proofs.stay.Statement.{statement}
 use Rattle.emission.proofs.stay.Tie as tie
 
+add-size : tie.Need-add-size
+add-size c = search needs
+
 first-over-requires : tie.Need-first-over-requires
 first-over-requires c κs = search needs
 
-add-t5 : tie.Need-add-t5
-add-t5 c = search needs
-
 returns : tie.Need-returns
-returns c = rw (c .before .first-over .ensures) refl
+returns c =
+    let w = c .before .before .before .before .before .args .walk in
+    ap (λ (p : ℕ). record { at = w .at; used = w .used; size = w .size + 1; parent = record { 0 = p }; avail = w .avail; fits = w .fits }) (c .first-over .ensures)
 
 pub stay-spec : {M : Type 1} → statement M
-stay-spec = tie.close (tie.spec first-over-requires add-t5 returns)
+stay-spec = tie.close (tie.spec add-size first-over-requires returns)

@@ -23,7 +23,7 @@ shared-slice-read-if2 : tie.Need-shared-slice-read-if2
 shared-slice-read-if2 c = search needs
 
 cast-if2 : tie.Need-cast-if2
-cast-if2 c = omega (arith, c .shared-slice-known .given (c .before .before .args .at - 1))
+cast-if2 c = omega (arith, c .shared-slice-known .given (c .before .before .args .r .0 - 1))
 
 returns-2 : tie.Need-returns-2
 returns-2 c = rw (ne-eqb _ 0 (c .before .before .if1 .left), ne-eqb _ _ (c .if2 .taken)) refl
@@ -35,7 +35,7 @@ shared-slice-read-result : tie.Need-shared-slice-read-result
 shared-slice-read-result c = search needs
 
 cast-result : tie.Need-cast-result
-cast-result c = omega (arith, c .shared-slice-known2 .given (c .before .before .before .before .args .at - 1))
+cast-result c = omega (arith, c .shared-slice-known2 .given (c .before .before .before .before .args .r .0 - 1))
 
 returns-3 : tie.Need-returns-3
 returns-3 c = rw (ne-eqb _ 0 (c .before .before .before .if1 .left), eq-eqb _ _ (c .before .if2 .left)) refl

@@ -7,7 +7,7 @@ use Prim.Native.Nat.{ℕ, _≤_}
 use native.Mathlib.Omega.{arith}
 use borrow.Author.Needs.{needs}
 use lib.ListN.{length, take}
-use Rattle.tables.specs.Tables.{Tables, limitsOf, tablesOf}
+use Rattle.tables.specs.Tables.{Tables, sizesOf, tablesOf}
 use Rattle.listing_text.specs.Command.{commandOf}
 use Rattle.listing_text.specs.declared.command.Command.the-variants.{Open, Add, Drop, Show, Unknown}
 use Rattle.listing_show.proofs.Showing.{no-fits}
@@ -148,7 +148,7 @@ returns c =
     let l = o .open-line .last in
     let g = s .pre .1 .1 .lengths in
     let a =
-    opens (limitsOf (v .0) (v .1 .0) (v .1 .1 .0) (v .1 .1 .1 .0)) (tables s) (s .args .work .now) (s .args .factor) (s .args .touched .now) (s .args .labels .now) (s .args .out .now)
+    opens (sizesOf (v .0) (v .1 .0) (v .1 .1 .0) (v .1 .1 .1 .0)) (tables s) (s .args .work .now) (s .args .factor) (s .args .touched .now) (s .args .labels .now) (s .args .out .now)
     (tablesOf (l .1 .0) (l .1 .1 .0) (l .1 .1 .1 .0) (l .1 .1 .1 .1 .0) (l .1 .1 .1 .1 .1 .0) (l .1 .1 .1 .1 .1 .1 .0) (l .1 .1 .1 .1 .1 .1 .1 .0) (l .1 .1 .1 .1 .1 .1 .1 .1 .0)) (l .1 .1 .1 .1 .1 .1 .1 .1 .1 .0) (l .1 .1 .1 .1 .1 .1 .1 .1 .1 .1 .0) (s .pre .1 .1) (s .args .line .now) (o .open-line .result) (o .open-line .ensures) (is-open q) in (
       a,
       record {

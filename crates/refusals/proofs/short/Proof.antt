@@ -1,6 +1,6 @@
 -- `refusals::short` meets its contract: the tables of L, those of the book, then the work table. Assumes nothing.
 use borrow.Author.Needs.{needs}
-use Rattle.tables.specs.Tables.{Tables, Limits, limitsOf, tablesOf}
+use Rattle.tables.specs.Tables.{Tables, Sizes, sizesOf, tablesOf}
 use Rattle.refusals.proofs.Early.{short-first, short-second, short-third}
 use Rattle.refusals.proofs.short.Statement.{statement}
 use Rattle.refusals.proofs.short.Tie as tie
@@ -8,8 +8,8 @@ use Rattle.refusals.proofs.short.Tie as tie
 abbrev entry : tie.After-short-factor → tie.Start
 entry c = c .before .before .before .before .before .before .before .before .before .before
 
-abbrev limitsAt : tie.Start → Limits
-limitsAt s = limitsOf (s .args .m) (s .args .n) (s .args .f) (s .args .c)
+abbrev sizesAt : tie.Start → Sizes
+sizesAt s = sizesOf (s .args .m) (s .args .n) (s .args .f) (s .args .c)
 
 abbrev tablesAt : tie.Start → Tables
 tablesAt s =
@@ -22,7 +22,7 @@ short-factor-requires c κs = search needs
 returns : tie.Need-returns
 returns c =
     let s : tie.Start = entry (c .before) in
-    short-first (limitsAt s) (tablesAt s) (s .args .work .now) (c .before .short-factor .ensures) (c .if1 .taken)
+    short-first (sizesAt s) (tablesAt s) (s .args .work .now) (c .before .short-factor .ensures) (c .if1 .taken)
 
 short-book-requires : tie.Need-short-book-requires
 short-book-requires c κs = search needs
@@ -31,7 +31,7 @@ returns-2 : tie.Need-returns-2
 returns-2 c =
     let one : tie.After-short-factor = c .before .before .before in
     let s : tie.Start = entry one in
-    short-second (limitsAt s) (tablesAt s) (s .args .work .now) (one .short-factor .ensures) (c .before .before .if1 .left) (c .before .short-book .ensures) (c .if2 .taken)
+    short-second (sizesAt s) (tablesAt s) (s .args .work .now) (one .short-factor .ensures) (c .before .before .if1 .left) (c .before .short-book .ensures) (c .if2 .taken)
 
 work-need-requires : tie.Need-work-need-requires
 work-need-requires c κs = search needs
@@ -42,7 +42,7 @@ returns-3 c =
     let one : tie.After-short-factor = two .before .before in
     let s : tie.Start = entry one in
     rw (c .work-need .ensures)
-    (short-third (limitsAt s) (tablesAt s) (s .args .work .now) (one .short-factor .ensures) (two .before .if1 .left) (two .short-book .ensures) (c .before .if2 .left))
+    (short-third (sizesAt s) (tablesAt s) (s .args .work .now) (one .short-factor .ensures) (two .before .if1 .left) (two .short-book .ensures) (c .before .if2 .left))
 
 pub short-spec : {M : Type 1} → statement M
 short-spec =

@@ -26,10 +26,10 @@ use Rattle.soundness.proofs.check_chain.Statement.{statement}
 use Rattle.soundness.proofs.check_chain.Tie as tie
 
 abbrev Inv-loop : tie.InvT-loop
-Inv-loop rows counts next work₀ m met given head a e r₀ n₀ left₀ before₀ work r n left before = Checking rows counts next work₀ m met head work r n left before
+Inv-loop rows counts next work₀ m met given a e r₀ n₀ left₀ before₀ work r n left before = Checking rows counts next work₀ m met r₀ work r n left before
 
 abbrev μ-loop : tie.MeasureT-loop
-μ-loop rows counts next work₀ m met given head a e r₀ n₀ left₀ before₀ work r n left before = length next - n
+μ-loop rows counts next work₀ m met given a e r₀ n₀ left₀ before₀ work r n left before = length next - n
 
 abbrev entry : tie.In-loop Inv-loop μ-loop → tie.Start Inv-loop μ-loop
 entry t = t .before .before .before .before .before .before

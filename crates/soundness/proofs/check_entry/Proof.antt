@@ -8,6 +8,9 @@ use Rattle.soundness.proofs.check_entry.Tie as tie
 returns : tie.Need-returns
 returns c = entry-low (c .if1 .taken)
 
+cast-if2 : tie.Need-cast-if2
+cast-if2 c = search needs
+
 returns-2 : tie.Need-returns-2
 returns-2 c = entry-high (c .if2 .taken)
 
@@ -52,6 +55,7 @@ check-entry-spec =
     tie.close
     (tie.spec
     returns
+    cast-if2
     returns-2
     returns-3
     sub-i

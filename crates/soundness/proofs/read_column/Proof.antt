@@ -40,7 +40,7 @@ booked e = bookOf (e .args .book-heads .now) (e .args .book-rows .now) (e .args 
 
 found : (c : tie.After-known-told) →
     Found (stored (started (tallied-at (walked-at c)))) (booked (started (tallied-at (walked-at c)))) (started (tallied-at (walked-at c)) .args .work .now)
-    (tallied-at (walked-at c) .tally-all .last .1 .1 .1 .0) (started (tallied-at (walked-at c)) .args .j) (started (tallied-at (walked-at c)) .args .met) (c .before .n .given .0 .0)
+    (tallied-at (walked-at c) .tally-all .last .1 .1 .1 .0) (started (tallied-at (walked-at c)) .args .j .0) (started (tallied-at (walked-at c)) .args .met) (c .before .n .given .0 .0)
 found c =
     let k = walked-at c in
     let t = tallied-at k in
@@ -48,7 +48,7 @@ found c =
 
 facts : (c : tie.After-known-told) →
     CloseFacts (stored (started (tallied-at (walked-at c)))) (booked (started (tallied-at (walked-at c)))) (walked-at c .check-chain .last .1 .1 .1 .0)
-    (started (tallied-at (walked-at c)) .args .j) (started (tallied-at (walked-at c)) .args .met) (c .before .n .given .0 .0)
+    (started (tallied-at (walked-at c)) .args .j .0) (started (tallied-at (walked-at c)) .args .met) (c .before .n .given .0 .0)
 facts c =
     let k = walked-at c in
     let t = tallied-at k in
@@ -63,11 +63,11 @@ cast-i c = search needs
 tally-all-requires : tie.Need-tally-all-requires
 tally-all-requires c κs = let p = c .before .before .before .before .before .before .before .before .before .before .pre in ready-tally (p .state) (p .inside)
 
-mul-check-chain : tie.Need-mul-check-chain
-mul-check-chain c = search needs
+mul-head : tie.Need-mul-head
+mul-head c = search needs
 
-shared-slice-read-check-chain : tie.Need-shared-slice-read-check-chain
-shared-slice-read-check-chain c = search needs
+shared-slice-read-head : tie.Need-shared-slice-read-head
+shared-slice-read-head c = search needs
 
 check-chain-requires : tie.Need-check-chain-requires
 check-chain-requires c κs =
@@ -86,7 +86,7 @@ returns c =
     let k = refused c in
     let t = tallied-at k in
     let p = started t .pre in
-    closing-cut (p .state) (t .tally-all .ensures) (k .check-chain .ensures) (started t .args .j + 1)
+    closing-cut (p .state) (t .tally-all .ensures) (k .check-chain .ensures) (started t .args .j .0 + 1)
     (column-cut (p .state) (p .inside) (t .tally-all .ensures) (k .check-chain .ensures) (c .enum-told .given .1))
 
 enum-known-n : tie.Need-enum-known-n
@@ -114,7 +114,7 @@ shared-slice-read-if1 : tie.Need-shared-slice-read-if1
 shared-slice-read-if1 c = let f = facts (compared c) in omega arith
 
 cast-if1 : tie.Need-cast-if1
-cast-if1 c = omega (arith, c .shared-slice-known10 .given (started (tallied-at (walked-at (compared c))) .args .j - 1))
+cast-if1 c = omega (arith, c .shared-slice-known10 .given (started (tallied-at (walked-at (compared c))) .args .j .0 - 1))
 
 same-length-2 : tie.Need-same-length-2
 same-length-2 c = search needs
@@ -127,11 +127,11 @@ returns-2 c =
     let p = started t .pre in
     let f = found h in
     let q = closing-second (p .state) (p .inside) f (t .tally-all .ensures) (k .check-chain .ensures) _ _ refl refl in
-    closing-cut (p .state) (t .tally-all .ensures) (k .check-chain .ensures) (started t .args .j + 1)
+    closing-cut (p .state) (t .tally-all .ensures) (k .check-chain .ensures) (started t .args .j .0 + 1)
     (closing-differs (p .state) (p .inside) f (λ e. c .if1 .taken (e ∙ sym (c .before .before .second .ensures ∙ q))))
 
 mul-link : tie.Need-mul-link
-mul-link c = search needs
+mul-link c = let f = facts (compared (c .before .before)) in omega arith
 
 link-requires : tie.Need-link-requires
 link-requires c κs =
@@ -140,7 +140,7 @@ link-requires c κs =
     let t = tallied-at k in
     let p = started t .pre in
     let f = found h in
-    closing-link (p .state) (p .inside) f (t .tally-all .ensures) (k .check-chain .ensures) (c .before .before .before .second .result)
+    closing-link (p .state) (p .inside) f (t .tally-all .ensures) (k .check-chain .ensures) (c .before .before .before .second .result .0)
     (c .before .before .before .second .ensures ∙ closing-second (p .state) (p .inside) f (t .tally-all .ensures) (k .check-chain .ensures) _ _ refl refl)
 
 cast-work : tie.Need-cast-work
@@ -148,6 +148,9 @@ cast-work c = let f = facts (compared (linking c)) in omega arith
 
 mul-work : tie.Need-mul-work
 mul-work c = let f = facts (compared (linking c)) in omega arith
+
+cast-work-2 : tie.Need-cast-work-2
+cast-work-2 c = let f = facts (compared (linking c)) in omega arith
 
 add-work : tie.Need-add-work
 add-work c = let f = facts (compared (linking c)) in omega arith
@@ -165,7 +168,7 @@ same-length-3 c =
     let t = tallied-at k in
     let p = started t .pre in
     let f = found h in
-    closing-only (p .state) (p .inside) f (t .tally-all .ensures) (k .check-chain .ensures) (linking c .before .second .result)
+    closing-only (p .state) (p .inside) f (t .tally-all .ensures) (k .check-chain .ensures) (linking c .before .second .result .0)
     (linking c .before .second .ensures ∙ closing-second (p .state) (p .inside) f (t .tally-all .ensures) (k .check-chain .ensures) _ _ refl refl)
     (c .before .before .before .before .if1 .left) (c .before .before .link .ensures) refl .same-length
 
@@ -176,7 +179,7 @@ returns-3 c =
     let t = tallied-at k in
     let p = started t .pre in
     let f = found h in
-    closing-end (p .state) (p .inside) f (t .tally-all .ensures) (k .check-chain .ensures) (linking c .before .second .result)
+    closing-end (p .state) (p .inside) f (t .tally-all .ensures) (k .check-chain .ensures) (linking c .before .second .result .0)
     (linking c .before .second .ensures ∙ closing-second (p .state) (p .inside) f (t .tally-all .ensures) (k .check-chain .ensures) _ _ refl refl)
     (c .before .before .before .before .if1 .left) (c .before .before .link .ensures) refl
 
@@ -187,8 +190,8 @@ read-column-spec =
     sub-i
     cast-i
     tally-all-requires
-    mul-check-chain
-    shared-slice-read-check-chain
+    mul-head
+    shared-slice-read-head
     check-chain-requires
     enum-told
     same-length
@@ -208,6 +211,7 @@ read-column-spec =
     link-requires
     cast-work
     mul-work
+    cast-work-2
     add-work
     mul-work-2
     slice-write-work

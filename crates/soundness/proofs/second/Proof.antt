@@ -12,14 +12,14 @@ use Rattle.soundness.proofs.second.Tie as tie
 add-if1 : tie.Need-add-if1
 add-if1 c = omega arith
 
-add-result : tie.Need-add-result
-add-result c = search needs
+add-row : tie.Need-add-row
+add-row c = search needs
 
-mul-result : tie.Need-mul-result
-mul-result c = search needs
+mul-row : tie.Need-mul-row
+mul-row c = search needs
 
-shared-slice-read-result : tie.Need-shared-slice-read-result
-shared-slice-read-result c = search needs
+shared-slice-read-row : tie.Need-shared-slice-read-row
+shared-slice-read-row c = search needs
 
 returns : tie.Need-returns
 returns c = sym (region-cell (c .before .before .args .work .now) (c .before .before .args .a) (c .before .before .args .e - c .before .before .args .a) 1 (omega arith))
@@ -29,4 +29,4 @@ returns-2 c = sym (List·getD-eq-default (region (c .before .args .work .now) (c
 
 pub second-spec : {M : Type 1} → statement M
 second-spec =
-    tie.close (tie.spec add-if1 add-result mul-result shared-slice-read-result returns returns-2)
+    tie.close (tie.spec add-if1 add-row mul-row shared-slice-read-row returns returns-2)

@@ -1,6 +1,6 @@
 -- `admission::early` meets its contract: sizes, tables, then the lists of a batch. Assumes nothing.
 use borrow.Author.Needs.{needs}
-use Rattle.tables.specs.Tables.{Tables, Limits, limitsOf, tablesOf}
+use Rattle.tables.specs.Tables.{Tables, Sizes, sizesOf, tablesOf}
 use Rattle.factor.proofs.Admitting.{early-sizes, early-short, early-none, early-lists}
 use Rattle.factor.proofs.admission.early.Statement.{statement}
 use Rattle.factor.proofs.admission.early.Tie as tie
@@ -12,8 +12,8 @@ entry c = c .before .before .before .before .before .before .before .before .bef
 abbrev measured : tie.After-short → tie.After-sizes
 measured c = c .before .before
 
-abbrev limitsAt : tie.Start → Limits
-limitsAt s = limitsOf (s .args .factor .m) (s .args .factor .n) (s .args .factor .f) (s .args .factor .c)
+abbrev sizesAt : tie.Start → Sizes
+sizesAt s = sizesOf (s .args .factor .m) (s .args .factor .n) (s .args .factor .f) (s .args .factor .c)
 
 abbrev tablesAt : tie.Start → Tables
 tablesAt s = tablesOf (s .args .heads .now) (s .args .parents .now) (s .args .rows .now) (s .args .counts .now) (s .args .next .now) (s .args .book-heads .now) (s .args .book-rows .now) (s .args .book-next .now)
@@ -24,7 +24,7 @@ sizes-requires c κs = search needs
 returns : tie.Need-returns
 returns c =
     let s : tie.Start = entry (c .before) in
-    early-sizes (limitsAt s) (tablesAt s) (s .args .work .now) (s .args .lists) (c .before .sizes .ensures) (c .if1 .taken)
+    early-sizes (sizesAt s) (tablesAt s) (s .args .work .now) (s .args .lists) (c .before .sizes .ensures) (c .if1 .taken)
 
 short-requires : tie.Need-short-requires
 short-requires c κs = search needs
@@ -33,20 +33,20 @@ returns-2 : tie.Need-returns-2
 returns-2 c =
     let d : tie.After-short = c .before in
     let s : tie.Start = entry (measured d) in
-    early-short (limitsAt s) (tablesAt s) (s .args .work .now) (measured d .sizes .ensures) (d .before .if1 .left) (d .short .ensures) (s .args .lists) (c .if2 .taken)
+    early-short (sizesAt s) (tablesAt s) (s .args .work .now) (measured d .sizes .ensures) (d .before .if1 .left) (d .short .ensures) (s .args .lists) (c .if2 .taken)
 
 returns-3 : tie.Need-returns-3
 returns-3 c =
     let d : tie.After-short = c .before .before in
     let s : tie.Start = entry (measured d) in
-    early-none (limitsAt s) (tablesAt s) (s .args .work .now) (measured d .sizes .ensures) (d .before .if1 .left) (d .short .ensures) (c .before .if2 .left)
+    early-none (sizesAt s) (tablesAt s) (s .args .work .now) (measured d .sizes .ensures) (d .before .if1 .left) (d .short .ensures) (c .before .if2 .left)
     (s .args .lists) (c .if3 .taken)
 
 returns-4 : tie.Need-returns-4
 returns-4 c =
     let d : tie.After-short = c .before .before in
     let s : tie.Start = entry (measured d) in
-    early-lists (limitsAt s) (tablesAt s) (s .args .work .now) (measured d .sizes .ensures) (d .before .if1 .left) (d .short .ensures) (c .before .if2 .left)
+    early-lists (sizesAt s) (tablesAt s) (s .args .work .now) (measured d .sizes .ensures) (d .before .if1 .left) (d .short .ensures) (c .before .if2 .left)
     (s .args .lists) (c .if3 .left)
 
 pub early-spec : {M : Type 1} → statement M
