@@ -1,8 +1,19 @@
 // Columns read through the reader, a line each: row:multiplicity of an entry, `end` at the end, for a given number of reads. Sound tables, those of {1, 3}
 // and {2, 3} after {1, 4} has left, with two free records; then the free records, record 0 and records past the tables; then tables whose first column
 // is a cycle, which gives entries for ever.
+ghost use mathlib.Core.Path.{_≡_};
+ghost use Rattle.reader.specs.Reading.{entryAt};
 use pool::Rec;
 use reader::Entry;
+use reader::Reader;
+
+// What a reader from record r on reads first.
+fn read_at<'a>(rows: &'a [u16], counts: &'a [u16], next: &'a [u32], r: Rec) -> Entry
+    ensures { λ e. ⌜ e ≡ entryAt (now (rows .entry)) (now (counts .entry)) (now (next .entry)) (r .0) ⌝ }
+{
+    let mut reader = Reader::new(rows, counts, next, r);
+    reader.read()
+}
 
 fn short(x: u16) -> u64 {
     x as u64
@@ -32,14 +43,14 @@ fn tell(e: Entry) {
 }
 
 // Writes what so many reads from a record on give.
-fn show(rows: &[u16], counts: &[u16], next: &[u32], from: u32, reads: usize) {
+fn show<'a>(rows: &'a [u16], counts: &'a [u16], next: &'a [u32], from: u32, reads: usize) {
     io::write_all(1, b"from ");
     io::print_decimal(1, wide(from));
     io::write_all(1, b":");
     let mut at = Rec(from);
     let mut i: usize = 0;
     while i < reads {
-        let e = reader::entry_at(rows, counts, next, at);
+        let e = read_at(rows, counts, next, at);
         tell(e);
         at = reader::place_after(e);
         i += 1;

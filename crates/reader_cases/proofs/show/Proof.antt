@@ -31,8 +31,8 @@ write-all-requires-2 c κs = search needs
 loop-holds : tie.Need-loop-holds Inv-loop μ-loop
 loop-holds c = search needs
 
-entry-at-requires : tie.Need-entry-at-requires Inv-loop μ-loop
-entry-at-requires c κs = search needs
+read-at-requires : tie.Need-read-at-requires Inv-loop μ-loop
+read-at-requires c κs = search needs
 
 tell-requires : tie.Need-tell-requires Inv-loop μ-loop
 tell-requires c κs = search needs
@@ -71,7 +71,7 @@ show-spec =
     slice-aggregate-write-all-2
     write-all-requires-2
     loop-holds
-    entry-at-requires
+    read-at-requires
     tell-requires
     place-after-requires
     add-i
