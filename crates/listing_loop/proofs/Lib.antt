@@ -1,3 +1,2 @@
 pub mod Keeping
-pub mod Cutting
-pub mod Serving
+pub mod Running

@@ -1,143 +1,25 @@
-// The listing program: reads standard input in pieces of any size and answers it line by line. The tables serve m 64, n 256, F 2,048 and C 2,048. A loop
-// needs a number that falls: at most 2^64 - 1 reads are made. What is proved is that the lines of a piece are answered in turn, each in the state that the
-// line before it left (`Served`), and that between lines the unchecked entries may be called (`Ready`). What is read and written no contract can say.
+// The listing program: reads standard input in pieces of any size, answers it line by line, and writes the answers of a piece together. The tables serve m 64,
+// n 256, F 2,048 and C 2,048. A loop needs a number that falls: at most 2^64 - 1 reads are made. What is proved of the whole program is `Listed`: the bytes
+// handed to the output are the answers, in order, to the lines of the bytes that the reads gave, the last line among them if it lacks its newline.
 ghost use mathlib.Core.Path.{_≡_};
-ghost use Prim.Native.Nat.{_-_, _≤_, _<_};
-ghost use lib.ListN.{length, take, drop};
+ghost use mathlib.Core.List.{[]};
+ghost use Prim.Native.Nat.{_≤_};
+ghost use lib.ListN.{length};
 ghost use Rattle.tables.specs.Tables.{tablesOf};
 ghost use Rattle.listing_answers.specs.Listing.{memoryOf, Ready};
-ghost use Rattle.listing_loop.specs.Serving.{LineAnswered, Served, SomeServed};
+ghost use Rattle.streams.specs.Passing.{Passed};
+ghost use Rattle.listing_loop.specs.Running.{PieceAnswered, InputAnswered, AllAnswered, Listed};
 use factor::Factor;
-use libc::STDIN_FILENO;
-use libc::STDOUT_FILENO;
+use streams::Streams;
 
-// After a line or a part of one: the factor, the place after it in the piece, and how much is held of a line that is not ended.
-struct Turn {
-    factor: Factor,
-    place: usize,
-    filled: usize,
-}
-
-// The factor after a piece, and how much there is of a line that is not ended.
+// After a piece: the factor, how much is held of a line that is not ended, and what went through.
 struct Progress {
     factor: Factor,
     filled: usize,
+    streams: Streams,
 }
 
-// Answers a line and writes the bytes.
-fn write_answer(
-    factor: Factor,
-    heads: &mut [u32],
-    parents: &mut [u16],
-    rows: &mut [u16],
-    counts: &mut [u16],
-    next: &mut [u32],
-    book_heads: &mut [u32],
-    book_rows: &mut [u16],
-    book_next: &mut [u32],
-    work: &mut [u32],
-    touched: &mut [u16],
-    labels: &mut [u16],
-    list: &mut [u32],
-    out: &mut [u8],
-    line: &[u8],
-) -> Factor
-    requires places { ⌜ 1000 ≤ length (now list) ⌝ }
-    requires room { ⌜ 91520 ≤ length (now out) ⌝ }
-    requires ready { ⌜ Ready (memoryOf factor (tablesOf (now heads) (now parents) (now rows) (now counts) (now next) (now «book_heads») (now «book_rows») (now «book_next»)) (now work) (now touched) (now labels)) ⌝ }
-    ensures ready { λ r. ⌜ Ready (memoryOf r (tablesOf (now (heads .exit)) (now (parents .exit)) (now (rows .exit)) (now (counts .exit)) (now (next .exit)) (now («book_heads» .exit)) (now («book_rows» .exit)) (now («book_next» .exit))) (now (work .exit)) (now (touched .exit)) (now (labels .exit))) ⌝ }
-    ensures answered { λ r. ⌜ LineAnswered (memoryOf factor (tablesOf (now (heads .entry)) (now (parents .entry)) (now (rows .entry)) (now (counts .entry)) (now (next .entry)) (now («book_heads» .entry)) (now («book_rows» .entry)) (now («book_next» .entry))) (now (work .entry)) (now (touched .entry)) (now (labels .entry))) (now (line .entry)) (memoryOf r (tablesOf (now (heads .exit)) (now (parents .exit)) (now (rows .exit)) (now (counts .exit)) (now (next .exit)) (now («book_heads» .exit)) (now («book_rows» .exit)) (now («book_next» .exit))) (now (work .exit)) (now (touched .exit)) (now (labels .exit))) ⌝ }
-{
-    let x = listing_answers::answer(
-        factor,
-        heads,
-        parents,
-        rows,
-        counts,
-        next,
-        book_heads,
-        book_rows,
-        book_next,
-        work,
-        touched,
-        labels,
-        list,
-        out,
-        line,
-    );
-    let end = x.end;
-    let after = x.factor;
-    io::write_all(STDOUT_FILENO, &out[..end]);
-    after
-}
-
-// Takes the next line of a piece, or what the piece has of it, and answers it where it is ended.
-fn answer_next(
-    factor: Factor,
-    heads: &mut [u32],
-    parents: &mut [u16],
-    rows: &mut [u16],
-    counts: &mut [u16],
-    next: &mut [u32],
-    book_heads: &mut [u32],
-    book_rows: &mut [u16],
-    book_next: &mut [u32],
-    work: &mut [u32],
-    touched: &mut [u16],
-    labels: &mut [u16],
-    list: &mut [u32],
-    out: &mut [u8],
-    line: &mut [u8],
-    piece: &[u8],
-    place: usize,
-    filled: usize,
-) -> Turn
-    requires places { ⌜ 1000 ≤ length (now list) ⌝ }
-    requires room { ⌜ 91520 ≤ length (now out) ⌝ }
-    requires ready { ⌜ Ready (memoryOf factor (tablesOf (now heads) (now parents) (now rows) (now counts) (now next) (now «book_heads») (now «book_rows») (now «book_next»)) (now work) (now touched) (now labels)) ⌝ }
-    requires fits { ⌜ filled ≤ length (now line) ⌝ }
-    requires more { ⌜ place < length (now piece) ⌝ }
-    requires whole { ⌜ length (now line) ≡ 2000 ⌝ }
-    ensures ready { λ r. ⌜ Ready (memoryOf (r .factor) (tablesOf (now (heads .exit)) (now (parents .exit)) (now (rows .exit)) (now (counts .exit)) (now (next .exit)) (now («book_heads» .exit)) (now («book_rows» .exit)) (now («book_next» .exit))) (now (work .exit)) (now (touched .exit)) (now (labels .exit))) ⌝ }
-    ensures fits { λ r. ⌜ r .filled ≤ length (now (line .entry)) ⌝ }
-    ensures moves { λ r. ⌜ place < r .place ⌝ }
-    ensures within { λ r. ⌜ r .place ≤ length (now (piece .entry)) ⌝ }
-    ensures served { λ r. ⌜ Served (take (r .place - place) (drop place (now (piece .entry)))) (now (line .entry)) filled (memoryOf factor (tablesOf (now (heads .entry)) (now (parents .entry)) (now (rows .entry)) (now (counts .entry)) (now (next .entry)) (now («book_heads» .entry)) (now («book_rows» .entry)) (now («book_next» .entry))) (now (work .entry)) (now (touched .entry)) (now (labels .entry))) (now (line .exit)) (r .filled) (memoryOf (r .factor) (tablesOf (now (heads .exit)) (now (parents .exit)) (now (rows .exit)) (now (counts .exit)) (now (next .exit)) (now («book_heads» .exit)) (now («book_rows» .exit)) (now («book_next» .exit))) (now (work .exit)) (now (touched .exit)) (now (labels .exit))) ⌝ }
-{
-    let taken = listing_lines::take_line(piece, line, place, filled);
-    let end = taken.length;
-    if taken.ended {
-        let after = write_answer(
-            factor,
-            heads,
-            parents,
-            rows,
-            counts,
-            next,
-            book_heads,
-            book_rows,
-            book_next,
-            work,
-            touched,
-            labels,
-            list,
-            out,
-            &line[..end],
-        );
-        return Turn {
-            factor: after,
-            place: taken.place,
-            filled: 0,
-        };
-    }
-    Turn {
-        factor,
-        place: taken.place,
-        filled: end,
-    }
-}
-
-// Answers the lines that end in a piece.
+// Answers the lines that end in a piece, and writes the answers.
 fn answer_piece(
     factor: Factor,
     heads: &mut [u32],
@@ -156,6 +38,7 @@ fn answer_piece(
     line: &mut [u8],
     piece: &[u8],
     filled: usize,
+    streams: Streams,
 ) -> Progress
     requires places { ⌜ 1000 ≤ length (now list) ⌝ }
     requires room { ⌜ 91520 ≤ length (now out) ⌝ }
@@ -164,13 +47,17 @@ fn answer_piece(
     requires whole { ⌜ length (now line) ≡ 2000 ⌝ }
     ensures ready { λ r. ⌜ Ready (memoryOf (r .factor) (tablesOf (now (heads .exit)) (now (parents .exit)) (now (rows .exit)) (now (counts .exit)) (now (next .exit)) (now («book_heads» .exit)) (now («book_rows» .exit)) (now («book_next» .exit))) (now (work .exit)) (now (touched .exit)) (now (labels .exit))) ⌝ }
     ensures fits { λ r. ⌜ r .filled ≤ length (now (line .entry)) ⌝ }
-    ensures served { λ r. ⌜ Served (now (piece .entry)) (now (line .entry)) filled (memoryOf factor (tablesOf (now (heads .entry)) (now (parents .entry)) (now (rows .entry)) (now (counts .entry)) (now (next .entry)) (now («book_heads» .entry)) (now («book_rows» .entry)) (now («book_next» .entry))) (now (work .entry)) (now (touched .entry)) (now (labels .entry))) (now (line .exit)) (r .filled) (memoryOf (r .factor) (tablesOf (now (heads .exit)) (now (parents .exit)) (now (rows .exit)) (now (counts .exit)) (now (next .exit)) (now («book_heads» .exit)) (now («book_rows» .exit)) (now («book_next» .exit))) (now (work .exit)) (now (touched .exit)) (now (labels .exit))) ⌝ }
+    ensures answered { λ r. ⌜ PieceAnswered (now (piece .entry)) (now (line .entry)) filled streams (memoryOf factor (tablesOf (now (heads .entry)) (now (parents .entry)) (now (rows .entry)) (now (counts .entry)) (now (next .entry)) (now («book_heads» .entry)) (now («book_rows» .entry)) (now («book_next» .entry))) (now (work .entry)) (now (touched .entry)) (now (labels .entry))) (now (line .exit)) (r .filled) (r .streams) (memoryOf (r .factor) (tablesOf (now (heads .exit)) (now (parents .exit)) (now (rows .exit)) (now (counts .exit)) (now (next .exit)) (now («book_heads» .exit)) (now («book_rows» .exit)) (now («book_next» .exit))) (now (work .exit)) (now (touched .exit)) (now (labels .exit))) ⌝ }
 {
     let mut current = factor;
     let mut held = filled;
     let mut place = 0;
+    let mut waiting = 0;
+    let mut passed = streams;
     while place < piece.len() {
-        let turn = answer_next(
+        let room = streams::make_room(passed, out, waiting, 91520);
+        passed = room.streams;
+        let turn = listing_output::answer_next(
             current,
             heads,
             parents,
@@ -189,14 +76,18 @@ fn answer_piece(
             piece,
             place,
             held,
+            room.count,
         );
         current = turn.factor;
         held = turn.filled;
         place = turn.place;
+        waiting = turn.waiting;
     }
+    let after = streams::write(passed, &out[..waiting]);
     Progress {
         factor: current,
         filled: held,
+        streams: after,
     }
 }
 
@@ -218,6 +109,7 @@ fn answer_pieces(
     out: &mut [u8],
     line: &mut [u8],
     piece: &mut [u8],
+    streams: Streams,
 ) -> Progress
     requires places { ⌜ 1000 ≤ length (now list) ⌝ }
     requires room { ⌜ 91520 ≤ length (now out) ⌝ }
@@ -225,18 +117,22 @@ fn answer_pieces(
     requires whole { ⌜ length (now line) ≡ 2000 ⌝ }
     ensures ready { λ r. ⌜ Ready (memoryOf (r .factor) (tablesOf (now (heads .exit)) (now (parents .exit)) (now (rows .exit)) (now (counts .exit)) (now (next .exit)) (now («book_heads» .exit)) (now («book_rows» .exit)) (now («book_next» .exit))) (now (work .exit)) (now (touched .exit)) (now (labels .exit))) ⌝ }
     ensures fits { λ r. ⌜ r .filled ≤ length (now (line .entry)) ⌝ }
-    ensures served { λ r. ⌜ SomeServed (now (line .entry)) (memoryOf factor (tablesOf (now (heads .entry)) (now (parents .entry)) (now (rows .entry)) (now (counts .entry)) (now (next .entry)) (now («book_heads» .entry)) (now («book_rows» .entry)) (now («book_next» .entry))) (now (work .entry)) (now (touched .entry)) (now (labels .entry))) (now (line .exit)) (r .filled) (memoryOf (r .factor) (tablesOf (now (heads .exit)) (now (parents .exit)) (now (rows .exit)) (now (counts .exit)) (now (next .exit)) (now («book_heads» .exit)) (now («book_rows» .exit)) (now («book_next» .exit))) (now (work .exit)) (now (touched .exit)) (now (labels .exit))) ⌝ }
+    ensures answered { λ r. ⌜ InputAnswered (now (line .entry)) streams (memoryOf factor (tablesOf (now (heads .entry)) (now (parents .entry)) (now (rows .entry)) (now (counts .entry)) (now (next .entry)) (now («book_heads» .entry)) (now («book_rows» .entry)) (now («book_next» .entry))) (now (work .entry)) (now (touched .entry)) (now (labels .entry))) (now (line .exit)) (r .filled) (r .streams) (memoryOf (r .factor) (tablesOf (now (heads .exit)) (now (parents .exit)) (now (rows .exit)) (now (counts .exit)) (now (next .exit)) (now («book_heads» .exit)) (now («book_rows» .exit)) (now («book_next» .exit))) (now (work .exit)) (now (touched .exit)) (now (labels .exit))) ⌝ }
 {
     let mut current = factor;
     let mut held = 0;
+    let mut passed = streams;
     let mut reads: u64 = 18446744073709551615;
     while reads > 0 {
         reads -= 1;
-        let count = io::count(libc::read(STDIN_FILENO, piece), piece);
+        let got = streams::read(passed, piece);
+        let count = got.count;
+        passed = got.streams;
         if count == 0 {
             return Progress {
                 factor: current,
                 filled: held,
+                streams: passed,
             };
         }
         let progress = answer_piece(
@@ -257,13 +153,16 @@ fn answer_pieces(
             line,
             &piece[..count],
             held,
+            passed,
         );
         current = progress.factor;
         held = progress.filled;
+        passed = progress.streams;
     }
     Progress {
         factor: current,
         filled: held,
+        streams: passed,
     }
 }
 
@@ -285,11 +184,14 @@ fn serve(
     out: &mut [u8],
     line: &mut [u8],
     piece: &mut [u8],
-)
+    streams: Streams,
+) -> Streams
     requires places { ⌜ 1000 ≤ length (now list) ⌝ }
     requires room { ⌜ 91520 ≤ length (now out) ⌝ }
     requires ready { ⌜ Ready (memoryOf factor (tablesOf (now heads) (now parents) (now rows) (now counts) (now next) (now «book_heads») (now «book_rows») (now «book_next»)) (now work) (now touched) (now labels)) ⌝ }
     requires whole { ⌜ length (now line) ≡ 2000 ⌝ }
+    requires fresh { ⌜ Passed streams [] [] ⌝ }
+    ensures { λ r. ⌜ AllAnswered (memoryOf factor (tablesOf (now (heads .entry)) (now (parents .entry)) (now (rows .entry)) (now (counts .entry)) (now (next .entry)) (now («book_heads» .entry)) (now («book_rows» .entry)) (now («book_next» .entry))) (now (work .entry)) (now (touched .entry)) (now (labels .entry))) r ⌝ }
 {
     let progress = answer_pieces(
         factor,
@@ -308,33 +210,42 @@ fn serve(
         out,
         line,
         piece,
+        streams,
     );
     let current = progress.factor;
     let end = progress.filled;
-    if end > 0 {
-        write_answer(
-            current,
-            heads,
-            parents,
-            rows,
-            counts,
-            next,
-            book_heads,
-            book_rows,
-            book_next,
-            work,
-            touched,
-            labels,
-            list,
-            out,
-            &line[..end],
-        );
+    let passed = progress.streams;
+    if end == 0 {
+        return passed;
     }
+    let x = listing_output::answer_line(
+        current,
+        heads,
+        parents,
+        rows,
+        counts,
+        next,
+        book_heads,
+        book_rows,
+        book_next,
+        work,
+        touched,
+        labels,
+        list,
+        out,
+        &line[..end],
+        0,
+    );
+    let last = x.end;
+    streams::write(passed, &out[..last])
 }
 
-// The whole program.
-pub fn run() {
+// The whole program, and what went through.
+pub fn run() -> Streams
+    ensures { λ r. ⌜ Listed r ⌝ }
+{
     let factor = listing_answers::closed();
+    let streams = streams::start();
     let mut heads = [0u32; 64];
     let mut parents = [0u16; 64];
     let mut rows = [0u16; 2048];
@@ -347,7 +258,7 @@ pub fn run() {
     let mut touched = [0u16; 64];
     let mut labels = [0u16; 64];
     let mut list = [0u32; 1000];
-    let mut out = [0u8; 98304];
+    let mut out = [0u8; 131072];
     let mut line = [0u8; 2000];
     let mut piece = [0u8; 4096];
     serve(
@@ -367,5 +278,6 @@ pub fn run() {
         &mut out,
         &mut line,
         &mut piece,
-    );
+        streams,
+    )
 }

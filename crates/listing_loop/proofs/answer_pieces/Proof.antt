@@ -1,29 +1,27 @@
--- `answer_pieces` meets its contract. The loop's invariant: the next line may follow (`Keeping`), the piece's list keeps its length, and what the reads gave is served. The measure is the
--- number of reads left. Assumes nothing.
+-- `answer_pieces` meets its contract. The loop's invariant: the next line may follow (`Keeping`), the piece's list keeps its length, and what the reads gave is answered
+-- (`InputAnswered`). The measure is the number of reads left. Assumes nothing.
 use mathlib.Core.Path.{_≡_, refl, sym, _∙_}
-use mathlib.Core.List.{[]}
-use Prim.Native.Nat.{_≤_}
 use native.Mathlib.Omega.{arith}
 use borrow.Author.Needs.{needs}
 use lib.ListN.{length}
 use lib.Seq.{length-take-le}
 use Rattle.tables.specs.Tables.{tablesOf}
 use Rattle.listing_answers.specs.Listing.{Memory, memoryOf}
-use Rattle.listing_loop.specs.Serving.{SomeServed}
+use Rattle.listing_loop.specs.Running.{InputAnswered}
 use Rattle.listing_loop.proofs.Keeping.{Keeping}
-use Rattle.listing_loop.proofs.Serving.{served-none, some-more}
+use Rattle.listing_loop.proofs.Running.{input-none, input-end, input-more}
 use Rattle.listing_loop.proofs.answer_pieces.Statement.{statement}
 use Rattle.listing_loop.proofs.answer_pieces.Tie as tie
 
 abbrev Inv-loop : tie.InvT-loop
-Inv-loop heads₀ parents₀ rows₀ counts₀ next₀ book-heads₀ book-rows₀ book-next₀ work₀ touched₀ labels₀ list₀ out₀ line₀ piece₀ current₀ held₀ reads₀ heads parents rows counts next book-heads book-rows book-next work touched labels list out line piece current held reads =
+Inv-loop heads₀ parents₀ rows₀ counts₀ next₀ book-heads₀ book-rows₀ book-next₀ work₀ touched₀ labels₀ list₀ out₀ line₀ piece₀ current₀ held₀ passed₀ reads₀ heads parents rows counts next book-heads book-rows book-next work touched labels list out line piece current held passed reads =
     Keeping (memoryOf current (tablesOf heads parents rows counts next book-heads book-rows book-next) work touched labels) list₀ out₀ line₀ list out line held ×
     ((length piece ≡ length piece₀) ×
-    SomeServed line₀ (memoryOf current₀ (tablesOf heads₀ parents₀ rows₀ counts₀ next₀ book-heads₀ book-rows₀ book-next₀) work₀ touched₀ labels₀) line held
+    InputAnswered line₀ passed₀ (memoryOf current₀ (tablesOf heads₀ parents₀ rows₀ counts₀ next₀ book-heads₀ book-rows₀ book-next₀) work₀ touched₀ labels₀) line held passed
     (memoryOf current (tablesOf heads parents rows counts next book-heads book-rows book-next) work touched labels))
 
 abbrev μ-loop : tie.MeasureT-loop
-μ-loop heads₀ parents₀ rows₀ counts₀ next₀ book-heads₀ book-rows₀ book-next₀ work₀ touched₀ labels₀ list₀ out₀ line₀ piece₀ current₀ held₀ reads₀ heads parents rows counts next book-heads book-rows book-next work touched labels list out line piece current held reads =
+μ-loop heads₀ parents₀ rows₀ counts₀ next₀ book-heads₀ book-rows₀ book-next₀ work₀ touched₀ labels₀ list₀ out₀ line₀ piece₀ current₀ held₀ passed₀ reads₀ heads parents rows counts next book-heads book-rows book-next work touched labels list out line piece current held passed reads =
     reads
 
 abbrev memoryAt : tie.Start Inv-loop μ-loop → Memory
@@ -34,23 +32,24 @@ memoryAt s =
 abbrev entry : tie.At-loop Inv-loop μ-loop → tie.Start Inv-loop μ-loop
 entry c = c .before .before .before .before .before .before .before .before .before .before .before .before .before .before .before .before
 
-abbrev ended : tie.Then1 Inv-loop μ-loop → tie.In-loop Inv-loop μ-loop
-ended c = c .before .before .before .before .before .before .before
+abbrev over : tie.Then1 Inv-loop μ-loop → tie.After-read Inv-loop μ-loop
+over c = c .before .before .before .before
 
-abbrev read : tie.Else1 Inv-loop μ-loop → tie.In-loop Inv-loop μ-loop
-read c = c .before .before .before .before .before .before .before
+abbrev got : tie.Else1 Inv-loop μ-loop → tie.After-read Inv-loop μ-loop
+got c = c .before .before .before .before
+
+abbrev turn : tie.After-read Inv-loop μ-loop → tie.In-loop Inv-loop μ-loop
+turn c = c .before .before
 
 abbrev chosen : tie.After-answer-piece Inv-loop μ-loop → tie.Else1 Inv-loop μ-loop
 chosen c = c .before .before .before .before .before .before .before .before .before .before .before .before .before .before .before .before
 
--- the piece has as many bytes as were read
-counted : (c : tie.Else1 Inv-loop μ-loop) → c .before .count .result ≤ length (c .before .before .before .before .before .read .last .1 .0)
-counted c = c .before .count .ensures .0 .0
-
 loop-holds : tie.Need-loop-holds Inv-loop μ-loop
 loop-holds c =
-    let s = c .before .before .before .before .before .before .before .before .before .before .before .before .before .before .before in
-    (record { ready = s .pre .1 .1 .0; list-long = refl; out-long = refl; line-long = refl; fits = omega arith }, (refl, record { text = []; served = served-none (s .args .line .now) 0 (memoryAt s) }))
+    let s = c .before .before .before .before .before .before .before .before .before .before .before .before .before .before .before in (
+      record { ready = s .pre .1 .1 .0; list-long = refl; out-long = refl; line-long = refl; fits = omega arith },
+      (refl, input-none (s .args .line .now) (s .args .streams) (memoryAt s)),
+    )
 
 sub-reads : tie.Need-sub-reads Inv-loop μ-loop
 sub-reads c = omega arith
@@ -58,80 +57,81 @@ sub-reads c = omega arith
 read-requires : tie.Need-read-requires Inv-loop μ-loop
 read-requires c κs = search needs
 
-count-requires : tie.Need-count-requires Inv-loop μ-loop
-count-requires c κs = search needs
-
 same-length : tie.Need-same-length Inv-loop μ-loop
-same-length c = ended c .before .loop .inv .0 .ready .lengths .heads ∙ sym (entry (ended c .before) .pre .1 .1 .0 .lengths .heads)
+same-length c = let l = turn (over c) .before in l .loop .inv .0 .ready .lengths .heads ∙ sym (entry l .pre .1 .1 .0 .lengths .heads)
 
 same-length-2 : tie.Need-same-length-2 Inv-loop μ-loop
-same-length-2 c = ended c .before .loop .inv .0 .ready .lengths .parents ∙ sym (entry (ended c .before) .pre .1 .1 .0 .lengths .parents)
+same-length-2 c = let l = turn (over c) .before in l .loop .inv .0 .ready .lengths .parents ∙ sym (entry l .pre .1 .1 .0 .lengths .parents)
 
 same-length-3 : tie.Need-same-length-3 Inv-loop μ-loop
-same-length-3 c = ended c .before .loop .inv .0 .ready .lengths .rows ∙ sym (entry (ended c .before) .pre .1 .1 .0 .lengths .rows)
+same-length-3 c = let l = turn (over c) .before in l .loop .inv .0 .ready .lengths .rows ∙ sym (entry l .pre .1 .1 .0 .lengths .rows)
 
 same-length-4 : tie.Need-same-length-4 Inv-loop μ-loop
-same-length-4 c = ended c .before .loop .inv .0 .ready .lengths .counts ∙ sym (entry (ended c .before) .pre .1 .1 .0 .lengths .counts)
+same-length-4 c = let l = turn (over c) .before in l .loop .inv .0 .ready .lengths .counts ∙ sym (entry l .pre .1 .1 .0 .lengths .counts)
 
 same-length-5 : tie.Need-same-length-5 Inv-loop μ-loop
-same-length-5 c = ended c .before .loop .inv .0 .ready .lengths .next ∙ sym (entry (ended c .before) .pre .1 .1 .0 .lengths .next)
+same-length-5 c = let l = turn (over c) .before in l .loop .inv .0 .ready .lengths .next ∙ sym (entry l .pre .1 .1 .0 .lengths .next)
 
 same-length-6 : tie.Need-same-length-6 Inv-loop μ-loop
-same-length-6 c = ended c .before .loop .inv .0 .ready .lengths .book-heads ∙ sym (entry (ended c .before) .pre .1 .1 .0 .lengths .book-heads)
+same-length-6 c = let l = turn (over c) .before in l .loop .inv .0 .ready .lengths .book-heads ∙ sym (entry l .pre .1 .1 .0 .lengths .book-heads)
 
 same-length-7 : tie.Need-same-length-7 Inv-loop μ-loop
-same-length-7 c = ended c .before .loop .inv .0 .ready .lengths .book-rows ∙ sym (entry (ended c .before) .pre .1 .1 .0 .lengths .book-rows)
+same-length-7 c = let l = turn (over c) .before in l .loop .inv .0 .ready .lengths .book-rows ∙ sym (entry l .pre .1 .1 .0 .lengths .book-rows)
 
 same-length-8 : tie.Need-same-length-8 Inv-loop μ-loop
-same-length-8 c = ended c .before .loop .inv .0 .ready .lengths .book-next ∙ sym (entry (ended c .before) .pre .1 .1 .0 .lengths .book-next)
+same-length-8 c = let l = turn (over c) .before in l .loop .inv .0 .ready .lengths .book-next ∙ sym (entry l .pre .1 .1 .0 .lengths .book-next)
 
 same-length-9 : tie.Need-same-length-9 Inv-loop μ-loop
-same-length-9 c = ended c .before .loop .inv .0 .ready .lengths .work ∙ sym (entry (ended c .before) .pre .1 .1 .0 .lengths .work)
+same-length-9 c = let l = turn (over c) .before in l .loop .inv .0 .ready .lengths .work ∙ sym (entry l .pre .1 .1 .0 .lengths .work)
 
 same-length-10 : tie.Need-same-length-10 Inv-loop μ-loop
-same-length-10 c = ended c .before .loop .inv .0 .ready .lengths .touched ∙ sym (entry (ended c .before) .pre .1 .1 .0 .lengths .touched)
+same-length-10 c = let l = turn (over c) .before in l .loop .inv .0 .ready .lengths .touched ∙ sym (entry l .pre .1 .1 .0 .lengths .touched)
 
 same-length-11 : tie.Need-same-length-11 Inv-loop μ-loop
-same-length-11 c = ended c .before .loop .inv .0 .ready .lengths .labels ∙ sym (entry (ended c .before) .pre .1 .1 .0 .lengths .labels)
+same-length-11 c = let l = turn (over c) .before in l .loop .inv .0 .ready .lengths .labels ∙ sym (entry l .pre .1 .1 .0 .lengths .labels)
 
 same-length-12 : tie.Need-same-length-12 Inv-loop μ-loop
-same-length-12 c = ended c .before .loop .inv .0 .list-long
+same-length-12 c = turn (over c) .before .loop .inv .0 .list-long
 
 same-length-13 : tie.Need-same-length-13 Inv-loop μ-loop
-same-length-13 c = ended c .before .loop .inv .0 .out-long
+same-length-13 c = turn (over c) .before .loop .inv .0 .out-long
 
 same-length-14 : tie.Need-same-length-14 Inv-loop μ-loop
-same-length-14 c = ended c .before .loop .inv .0 .line-long
+same-length-14 c = turn (over c) .before .loop .inv .0 .line-long
 
 same-length-15 : tie.Need-same-length-15 Inv-loop μ-loop
-same-length-15 c = c .before .before .before .before .before .read .kept .1 .0 ∙ ended c .before .loop .inv .1 .0
+same-length-15 c = over c .read .kept .1 .0 ∙ turn (over c) .before .loop .inv .1 .0
 
 returns : tie.Need-returns Inv-loop μ-loop
-returns c = let l = ended c .before .loop in (l .inv .0 .ready, (l .inv .0 .fits, l .inv .1 .1))
+returns c =
+    let r = over c in
+    let i = turn r .before .loop .inv in
+    (i .0 .ready, (i .0 .fits, input-end (i .1 .1) (r .read .ensures) (c .if1 .taken)))
 
 slice-reshare-prefix-answer-piece : tie.Need-slice-reshare-prefix-answer-piece Inv-loop μ-loop
-slice-reshare-prefix-answer-piece c = counted (c .before .before .before .before .before .before .before .before .before .before .before .before .before .before)
+slice-reshare-prefix-answer-piece c = got (c .before .before .before .before .before .before .before .before .before .before .before .before .before .before) .read .ensures .within
 
 slice-aggregate-answer-piece : tie.Need-slice-aggregate-answer-piece Inv-loop μ-loop
 slice-aggregate-answer-piece c =
-    let e = c .before .before .before .before .before .before .before .before .before .before .before .before .before .before .before in
-    sym (length-take-le (e .before .count .result) (e .before .before .before .before .before .read .last .1 .0) (counted e))
+    let r = got (c .before .before .before .before .before .before .before .before .before .before .before .before .before .before .before) in
+    sym (length-take-le (r .read .result .count) (r .read .last .1 .0) (r .read .ensures .within))
 
 answer-piece-requires : tie.Need-answer-piece-requires Inv-loop μ-loop
 answer-piece-requires c κs =
-    let l = read (c .before .before .before .before .before .before .before .before .before .before .before .before .before .before .before) in
-    let s = entry (l .before) in
-    let i = l .before .loop .inv .0 in
+    let l = turn (got (c .before .before .before .before .before .before .before .before .before .before .before .before .before .before .before)) .before in
+    let s = entry l in
+    let i = l .loop .inv .0 in
     (omega (arith, s .pre .0, i .list-long), (omega (arith, s .pre .1 .0, i .out-long), (i .ready, (omega (arith, i .fits, i .line-long), i .line-long ∙ s .pre .1 .1 .1))))
 
 loop-less : tie.Need-loop-less Inv-loop μ-loop
-loop-less c = let l = read (chosen (c .before .before .before .before .before .before .before .before .before .before .before .before .before .before .before .before .before .before .before .before .before .before .before .before .before .before .before .before .before)) in omega (arith, l .loop-test .taken)
+loop-less c = let l = turn (got (chosen (c .before .before .before .before .before .before .before .before .before .before .before .before .before .before .before .before .before .before .before .before .before .before .before .before .before .before .before .before .before .before))) in omega (arith, l .loop-test .taken)
 
 loop-again : tie.Need-loop-again Inv-loop μ-loop
 loop-again c =
-    let x = c .before .before .before .before .before .before .before .before .before .before .before .before .before .before .before .before .before .before .before .before .before .before .before .before .before .before .before .before .before in
-    let e = chosen x in
-    let i = read e .before .loop .inv .0 in (
+    let x = c .before .before .before .before .before .before .before .before .before .before .before .before .before .before .before .before .before .before .before .before .before .before .before .before .before .before .before .before .before .before in
+    let r = got (chosen x) in
+    let l = turn r .before .loop in
+    let i = l .inv .0 in (
       record {
         ready = x .answer-piece .ensures .0;
         list-long = x .answer-piece .kept .1 .1 .1 .1 .1 .1 .1 .1 .1 .1 .1 .1 .0 ∙ i .list-long;
@@ -139,7 +139,7 @@ loop-again c =
         line-long = x .answer-piece .kept .1 .1 .1 .1 .1 .1 .1 .1 .1 .1 .1 .1 .1 .1 .0 ∙ i .line-long;
         fits = omega (arith, x .answer-piece .ensures .1 .0, i .line-long);
       },
-      (e .before .before .before .before .before .read .kept .1 .0 ∙ read e .before .loop .inv .1 .0, some-more (read e .before .loop .inv .1 .1) (x .answer-piece .ensures .1 .1)),
+      (r .read .kept .1 .0 ∙ l .inv .1 .0, input-more (l .inv .1 .1) (r .read .ensures) (x .answer-piece .ensures .1 .1)),
     )
 
 same-length-16 : tie.Need-same-length-16 Inv-loop μ-loop
@@ -199,7 +199,6 @@ answer-pieces-spec =
     loop-holds
     sub-reads
     read-requires
-    count-requires
     same-length
     same-length-2
     same-length-3

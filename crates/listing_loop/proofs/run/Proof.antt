@@ -1,14 +1,18 @@
--- `run` meets its contract: no factor is open at first, and the tables have the listing's lengths. Assumes nothing.
+-- `run` meets its contract: no factor is open and nothing went through at first, and the tables have the listing's lengths. Assumes nothing.
 use mathlib.Core.Logic.{inl}
 use Prim.Native.Nat.{ℕ}
 use native.Mathlib.Omega.{arith}
 use borrow.Author.Needs.{needs}
 use lib.ListN.{length-replicate}
+use Rattle.listing_loop.proofs.Running.{listed}
 use Rattle.listing_loop.proofs.run.Statement.{statement}
 use Rattle.listing_loop.proofs.run.Tie as tie
 
 closed-requires : tie.Need-closed-requires
 closed-requires c κs = search needs
+
+start-requires : tie.Need-start-requires
+start-requires c κs = search needs
 
 slice-aggregate-serve : tie.Need-slice-aggregate-serve
 slice-aggregate-serve c = search needs
@@ -59,7 +63,7 @@ serve-requires : tie.Need-serve-requires
 serve-requires c κs = (
   omega (arith, length-replicate {A = ℕ} 1000 0),
   (
-    omega (arith, length-replicate {A = ℕ} 98304 0),
+    omega (arith, length-replicate {A = ℕ} 131072 0),
     (
       record {
         lengths = record {
@@ -75,21 +79,22 @@ serve-requires c κs = (
           touched = length-replicate {A = ℕ} 64 0;
           labels = length-replicate {A = ℕ} 64 0;
         };
-        usable = inl (c .before .before .before .before .before .before .before .before .before .before .before .before .before .before .before .closed .ensures);
+        usable = inl (c .before .before .before .before .before .before .before .before .before .before .before .before .before .before .before .before .closed .ensures);
       },
-      length-replicate {A = ℕ} 2000 0,
+      (length-replicate {A = ℕ} 2000 0, c .before .before .before .before .before .before .before .before .before .before .before .before .before .before .before .start .ensures),
     ),
   ),
 )
 
 returns : tie.Need-returns
-returns c = search needs
+returns c = listed (c .before .before .before .before .before .before .before .before .before .before .before .before .before .before .before .serve .ensures) (c .before .before .before .before .before .before .before .before .before .before .before .before .before .before .before .before .before .before .before .before .before .before .before .before .before .before .before .before .before .before .before .before .closed .ensures)
 
 pub run-spec : {M : Type 1} → statement M
 run-spec =
     tie.close
     (tie.spec
     closed-requires
+    start-requires
     slice-aggregate-serve
     slice-aggregate-serve-2
     slice-aggregate-serve-3
