@@ -80,7 +80,7 @@ module _ {t : Tables} {f g : ℕ} {w : List ℕ} (can : CanFind (cutWorld t f g)
     module _ {w′ : List ℕ} {z : Bool} {first count entries used : ℕ}
         (p : AddPlanned (storedWhole t f) (bookedIn (cutWorld t f g) .columns) (batchOf is ns rs) w w′ z first count entries used) where
       -- it fits
-      pub add-planned : z ≡ true → {x : Verdict} → verdictNumber x ≡ accepted → x .first ≡ first → x .count ≡ count → x .entries ≡ entries → x .used ≡ used →
+      pub add-planned : z ≡ true → {x : Verdict} → verdictNumber x ≡ accepted → x .plan .first .0 ≡ first → x .plan .count ≡ count → x .plan .entries ≡ entries → x .plan .used ≡ used →
           Judged (cutWorld t f g) (adding is ns rs) w w′ x
       add-planned h {x} e q1 q2 q3 q4 =
           planned-judged (e ∙ sym (number-full ∙ unless-true (leb (sizeSum (factorOf m (R ++ batchOf is ns rs))) (length (t .next))) 16 0 (sym (p .fits-is) ∙ h)))

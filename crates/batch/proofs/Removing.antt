@@ -123,7 +123,7 @@ module _ {t : Tables} {f g : ℕ} {w : List ℕ} (can : CanFind (cutWorld t f g)
 
     pub remove-planned : {h : ℕ} {w′ : List ℕ} {z : Bool} {first count entries used : ℕ} →
         RemovePlanned (storedWhole t h) (without is (bookedIn (cutWorld t f g) .columns)) (columnsOf is (bookedIn (cutWorld t f g) .columns)) w w′ z first count entries used →
-        {x : Verdict} → verdictNumber x ≡ accepted → x .first ≡ first → x .count ≡ count → x .entries ≡ entries → x .used ≡ used →
+        {x : Verdict} → verdictNumber x ≡ accepted → x .plan .first .0 ≡ first → x .plan .count ≡ count → x .plan .entries ≡ entries → x .plan .used ≡ used →
         Judged (cutWorld t f g) (removing is) w w′ x
     remove-planned {h} {w′} {z} {first} {count} {entries} {used} p {x} e q1 q2 q3 q4 =
         planned-judged (e ∙ sym (remove-number ∙ found-whole)) (ap isAccepted e)

@@ -21,19 +21,19 @@ refused-judged e h same =
 
 -- one that accepts has the plan
 pub planned-judged : {u : World} {c : Change} {before after : List ℕ} {x : Verdict} → verdictNumber x ≡ numberFor u c → isAccepted (verdictNumber x) ≡ true →
-    BatchPlan u c before after (x .first) (x .count) (x .entries) (x .used) → Judged u c before after x
+    BatchPlan u c before after (x .plan .first .0) (x .plan .count) (x .plan .entries) (x .plan .used) → Judged u c before after x
 planned-judged e h p =
     record { number-is = e; plan = λ z. p; unchanged = λ z. absurd (true≢false (sym (ap isAccepted (sym e) ∙ h) ∙ z)) }
 
 module _ {u : World} {c : Change} {before after : List ℕ} {x : Verdict} (j : Judged u c before after x) where
-  pub judged-taken : x .number ≡ 0 → isAccepted (numberFor u c) ≡ true
-  judged-taken e = ap isAccepted (sym (j .number-is)) ∙ eq-eqb (x .number) 0 e
+  pub judged-taken : x .refusal .number ≡ 0 → isAccepted (numberFor u c) ≡ true
+  judged-taken e = ap isAccepted (sym (j .number-is)) ∙ eq-eqb (x .refusal .number) 0 e
 
-  pub judged-not : x .number ≢ 0 → isAccepted (numberFor u c) ≡ false
-  judged-not e = ap isAccepted (sym (j .number-is)) ∙ ne-eqb (x .number) 0 e
+  pub judged-not : x .refusal .number ≢ 0 → isAccepted (numberFor u c) ≡ false
+  judged-not e = ap isAccepted (sym (j .number-is)) ∙ ne-eqb (x .refusal .number) 0 e
 
   -- an accepted batch with its plan can be written
-  pub judged-can : {touched labels : List ℕ} → x .number ≡ 0 → CanBatch u before touched labels →
-      CanWriteBatch u c before after touched labels (x .first) (x .used)
+  pub judged-can : {touched labels : List ℕ} → x .refusal .number ≡ 0 → CanBatch u before touched labels →
+      CanWriteBatch u c before after touched labels (x .plan .first .0) (x .plan .used)
   judged-can e can =
-      record { can = can; accepted = judged-taken e; count = x .count; entries = x .entries; plan = j .plan (judged-taken e) }
+      record { can = can; accepted = judged-taken e; count = x .plan .count; entries = x .plan .entries; plan = j .plan (judged-taken e) }

@@ -37,7 +37,7 @@ numberFor u c = effect (bookedIn u) c .refusal (u .state .sizes)
 
 -- the number and position that a search has found
 abbrev pub verdictNumber : Verdict → Refusal
-verdictNumber x = refusal (x .number) (x .position)
+verdictNumber x = refusal (x .refusal .number) (x .refusal .position)
 
 -- the plan of an accepted batch: from the register's factor to the one after the call
 pub record BatchPlan (u : World) (c : Change) (before after : List ℕ) (first count entries used : ℕ) : Type 0 where
@@ -50,7 +50,7 @@ pub record BatchPlan (u : World) (c : Change) (before after : List ℕ) (first c
 -- the number is the change's; accepted, the plan stands in the work table; refused, that is as lent
 pub record Judged (u : World) (c : Change) (before after : List ℕ) (x : Verdict) : Type 0 where
   pub number-is : verdictNumber x ≡ numberFor u c
-  pub plan : isAccepted (numberFor u c) ≡ true → BatchPlan u c before after (x .first) (x .count) (x .entries) (x .used)
+  pub plan : isAccepted (numberFor u c) ≡ true → BatchPlan u c before after (x .plan .first .0) (x .plan .count) (x .plan .entries) (x .plan .used)
   pub unchanged : isAccepted (numberFor u c) ≡ false → after ≡ before
 
 -- what an addition's search asks: the book's rows are not read, any that suit will do

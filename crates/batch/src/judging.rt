@@ -7,35 +7,34 @@ ghost use Rattle.calls.specs.Calls.Change.{adding, removing};
 ghost use Rattle.batch.specs.Outcome.{cutWorld, CanFind};
 ghost use Rattle.batch.specs.Parts.{Judged, SomeRows, SomeFree};
 use crate::Verdict;
+use book::Row;
 use pool::Rec;
+use refusals::Refusal;
 use updown::Plan;
 
-// A verdict that refuses.
-fn refused(number: u32, position: u32) -> Verdict
-    ensures { λ x. ⌜ x ≡ record { number = number; position = position; first = 0; count = 0; entries = 0; used = 0 } ⌝ }
+// A verdict that refuses: no plan.
+fn refused(refusal: Refusal) -> Verdict
+    ensures { λ x. ⌜ x ≡ record { refusal = refusal; plan = record { fits = false; first = record { 0 = 0 }; count = 0; entries = 0; used = 0 } } ⌝ }
 {
-    Verdict {
-        number,
-        position,
-        first: 0,
+    let plan = Plan {
+        fits: false,
+        first: Row(0),
         count: 0,
         entries: 0,
         used: 0,
-    }
+    };
+    Verdict { refusal, plan }
 }
 
 // A verdict that accepts, with the plan.
 fn planned(plan: Plan) -> Verdict
-    ensures { λ x. ⌜ x ≡ record { number = 0; position = 0; first = plan .first .0; count = plan .count; entries = plan .entries; used = plan .used } ⌝ }
+    ensures { λ x. ⌜ x ≡ record { refusal = record { number = 0; position = 0 }; plan = plan } ⌝ }
 {
-    Verdict {
+    let refusal = Refusal {
         number: 0,
         position: 0,
-        first: plan.first.0,
-        count: plan.count,
-        entries: plan.entries,
-        used: plan.used,
-    }
+    };
+    Verdict { refusal, plan }
 }
 
 // An addition's number, and its plan in the work table where that is 0: 7 to 15, then 16, for which the plan is made.
@@ -67,7 +66,7 @@ pub fn judge_add(
         heads.len() as u32,
     );
     if found.number != 0 {
-        return refused(found.number, found.position);
+        return refused(found);
     }
     let plan = updown::plan_add(
         heads,
@@ -83,7 +82,10 @@ pub fn judge_add(
     if plan.fits {
         return planned(plan);
     }
-    refused(16, 0)
+    refused(Refusal {
+        number: 16,
+        position: 0,
+    })
 }
 
 // A removal's number, and its plan in the work table where that is 0.
@@ -104,7 +106,7 @@ pub fn judge_remove(
 {
     let found = refusals::find_remove(book_heads, ids);
     if found.number != 0 {
-        return refused(found.number, found.position);
+        return refused(found);
     }
     planned(updown::plan_remove(
         heads,

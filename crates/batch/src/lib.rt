@@ -11,6 +11,8 @@ mod judging;
 mod writing;
 
 use pool::Rec;
+use refusals::Refusal;
+use updown::Plan;
 
 // What a batch answers, with the free heads after it.
 pub struct Batch {
@@ -19,24 +21,20 @@ pub struct Batch {
     pub touched: u32,
     pub entries: u32,
     pub grade: u32,
-    pub free: u32,
-    pub book_free: u32,
+    pub free: Rec,
+    pub book_free: Rec,
 }
 
-// What is found before anything is written: the number with its position; where that is 0, the plan.
+// What is found before anything is written: the refusal; where its number is 0, the plan.
 pub struct Verdict {
-    pub number: u32,
-    pub position: u32,
-    pub first: u32,
-    pub count: u32,
-    pub entries: u32,
-    pub used: u32,
+    pub refusal: Refusal,
+    pub plan: Plan,
 }
 
 // The free heads after a batch is written.
 pub struct FreeHeads {
-    pub free: u32,
-    pub book_free: u32,
+    pub free: Rec,
+    pub book_free: Rec,
 }
 
 // Grade 1 is for 1 to 255 entries, 2 for 256 to 4,095, 3 for 4,096 to 65,535, 4 for more; 0 for none.
@@ -54,32 +52,34 @@ fn grade_of(entries: u32) -> u32
 
 // The answer of a verdict that refuses: all heads stay.
 fn refusing(verdict: Verdict, free: Rec, book_free: Rec) -> Batch
-    ensures { λ r. ⌜ r ≡ record { number = verdict .number; position = verdict .position; touched = 0; entries = 0; grade = 0; free = free .0; «book_free» = «book_free» .0 } ⌝ }
+    ensures { λ r. ⌜ r ≡ record { number = verdict .refusal .number; position = verdict .refusal .position; touched = 0; entries = 0; grade = 0; free = free; «book_free» = «book_free» } ⌝ }
 {
     Batch {
-        number: verdict.number,
-        position: verdict.position,
+        number: verdict.refusal.number,
+        position: verdict.refusal.position,
         touched: 0,
         entries: 0,
         grade: 0,
-        free: free.0,
-        book_free: book_free.0,
+        free,
+        book_free,
     }
 }
 
 // The answer of a verdict that accepts, with the heads after it.
 fn accepting(verdict: Verdict, after: FreeHeads) -> Batch
-    ensures { λ r. ⌜ r ≡ record { number = 0; position = 0; touched = verdict .count; entries = verdict .entries; grade = gradeOf (verdict .entries); free = after .free; «book_free» = after .«book_free» } ⌝ }
+    ensures { λ r. ⌜ r ≡ record { number = 0; position = 0; touched = verdict .plan .count; entries = verdict .plan .entries; grade = gradeOf (verdict .plan .entries); free = after .free; «book_free» = after .«book_free» } ⌝ }
 {
-    let grade = grade_of(verdict.entries);
+    let grade = grade_of(verdict.plan.entries);
+    let free = after.free;
+    let book_free = after.book_free;
     Batch {
         number: 0,
         position: 0,
-        touched: verdict.count,
-        entries: verdict.entries,
+        touched: verdict.plan.count,
+        entries: verdict.plan.entries,
         grade,
-        free: after.free,
-        book_free: after.book_free,
+        free,
+        book_free,
     }
 }
 
@@ -103,7 +103,7 @@ pub fn add(
     book_free: Rec,
 ) -> Batch
     requires { ⌜ CanBatch (cutWorld (tablesOf (now heads) (now parents) (now rows) (now counts) (now next) (now «book_heads») (now «book_rows») (now «book_next»)) (free .0) («book_free» .0)) (now work) (now touched) (now labels) ⌝ }
-    ensures { λ r. ⌜ BatchStep (cutWorld (tablesOf (now (heads .entry)) (now (parents .entry)) (now (rows .entry)) (now (counts .entry)) (now (next .entry)) (now («book_heads» .entry)) (now («book_rows» .entry)) (now («book_next» .entry))) (free .0) («book_free» .0)) (adding (now (ids .entry)) (now («row_counts» .entry)) (now («row_list» .entry))) (reportLists (now (work .entry)) (now (touched .entry)) (now (labels .entry))) (batchAnswer r) (reportLists (now (work .exit)) (now (touched .exit)) (now (labels .exit))) (cutWorld (tablesOf (now (heads .entry)) (now (parents .exit)) (now (rows .exit)) (now (counts .exit)) (now (next .exit)) (now («book_heads» .exit)) (now («book_rows» .exit)) (now («book_next» .exit))) (r .free) (r .«book_free»)) ⌝ }
+    ensures { λ r. ⌜ BatchStep (cutWorld (tablesOf (now (heads .entry)) (now (parents .entry)) (now (rows .entry)) (now (counts .entry)) (now (next .entry)) (now («book_heads» .entry)) (now («book_rows» .entry)) (now («book_next» .entry))) (free .0) («book_free» .0)) (adding (now (ids .entry)) (now («row_counts» .entry)) (now («row_list» .entry))) (reportLists (now (work .entry)) (now (touched .entry)) (now (labels .entry))) (batchAnswer r) (reportLists (now (work .exit)) (now (touched .exit)) (now (labels .exit))) (cutWorld (tablesOf (now (heads .entry)) (now (parents .exit)) (now (rows .exit)) (now (counts .exit)) (now (next .exit)) (now («book_heads» .exit)) (now («book_rows» .exit)) (now («book_next» .exit))) (r .free .0) (r .«book_free» .0)) ⌝ }
 {
     let verdict = judging::judge_add(
         heads,
@@ -120,9 +120,10 @@ pub fn add(
         free,
         book_free,
     );
-    if verdict.number != 0 {
+    if verdict.refusal.number != 0 {
         return refusing(verdict, free, book_free);
     }
+    let first = verdict.plan.first;
     let after = writing::write_add(
         heads,
         parents,
@@ -138,8 +139,8 @@ pub fn add(
         ids,
         row_counts,
         row_list,
-        verdict.first,
-        verdict.used,
+        first,
+        verdict.plan.used,
         free,
         book_free,
     );
@@ -164,7 +165,7 @@ pub fn remove(
     book_free: Rec,
 ) -> Batch
     requires { ⌜ CanBatch (cutWorld (tablesOf (now heads) (now parents) (now rows) (now counts) (now next) (now «book_heads») (now «book_rows») (now «book_next»)) (free .0) («book_free» .0)) (now work) (now touched) (now labels) ⌝ }
-    ensures { λ r. ⌜ BatchStep (cutWorld (tablesOf (now (heads .entry)) (now (parents .entry)) (now (rows .entry)) (now (counts .entry)) (now (next .entry)) (now («book_heads» .entry)) (now («book_rows» .entry)) (now («book_next» .entry))) (free .0) («book_free» .0)) (removing (now (ids .entry))) (reportLists (now (work .entry)) (now (touched .entry)) (now (labels .entry))) (batchAnswer r) (reportLists (now (work .exit)) (now (touched .exit)) (now (labels .exit))) (cutWorld (tablesOf (now (heads .entry)) (now (parents .exit)) (now (rows .exit)) (now (counts .exit)) (now (next .exit)) (now («book_heads» .exit)) (now («book_rows» .exit)) (now («book_next» .exit))) (r .free) (r .«book_free»)) ⌝ }
+    ensures { λ r. ⌜ BatchStep (cutWorld (tablesOf (now (heads .entry)) (now (parents .entry)) (now (rows .entry)) (now (counts .entry)) (now (next .entry)) (now («book_heads» .entry)) (now («book_rows» .entry)) (now («book_next» .entry))) (free .0) («book_free» .0)) (removing (now (ids .entry))) (reportLists (now (work .entry)) (now (touched .entry)) (now (labels .entry))) (batchAnswer r) (reportLists (now (work .exit)) (now (touched .exit)) (now (labels .exit))) (cutWorld (tablesOf (now (heads .entry)) (now (parents .exit)) (now (rows .exit)) (now (counts .exit)) (now (next .exit)) (now («book_heads» .exit)) (now («book_rows» .exit)) (now («book_next» .exit))) (r .free .0) (r .«book_free» .0)) ⌝ }
 {
     let verdict = judging::judge_remove(
         heads,
@@ -178,9 +179,10 @@ pub fn remove(
         work,
         ids,
     );
-    if verdict.number != 0 {
+    if verdict.refusal.number != 0 {
         return refusing(verdict, free, book_free);
     }
+    let first = verdict.plan.first;
     let after = writing::write_remove(
         heads,
         parents,
@@ -194,8 +196,8 @@ pub fn remove(
         touched,
         labels,
         ids,
-        verdict.first,
-        verdict.used,
+        first,
+        verdict.plan.used,
         free,
         book_free,
     );

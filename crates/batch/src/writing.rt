@@ -25,13 +25,13 @@ pub fn write_add(
     ids: &[u32],
     row_counts: &[u32],
     row_list: &[u32],
-    first: u32,
+    first: Row,
     used: u32,
     free: Rec,
     book_free: Rec,
 ) -> FreeHeads
-    requires { ⌜ SomePlan (cutWorld (tablesOf (now heads) (now parents) (now rows) (now counts) (now next) (now «book_heads») (now «book_rows») (now «book_next»)) (free .0) («book_free» .0)) (adding (now ids) (now «row_counts») (now «row_list»)) (now work) (now touched) (now labels) first used ⌝ }
-    ensures { λ r. ⌜ ((w : List ℕ) → CanWriteBatch (cutWorld (tablesOf (now (heads .entry)) (now (parents .entry)) (now (rows .entry)) (now (counts .entry)) (now (next .entry)) (now («book_heads» .entry)) (now («book_rows» .entry)) (now («book_next» .entry))) (free .0) («book_free» .0)) (adding (now (ids .entry)) (now («row_counts» .entry)) (now («row_list» .entry))) w (now (work .entry)) (now (touched .entry)) (now (labels .entry)) first used → BatchWritten (cutWorld (tablesOf (now (heads .entry)) (now (parents .entry)) (now (rows .entry)) (now (counts .entry)) (now (next .entry)) (now («book_heads» .entry)) (now («book_rows» .entry)) (now («book_next» .entry))) (free .0) («book_free» .0)) (adding (now (ids .entry)) (now («row_counts» .entry)) (now («row_list» .entry))) w (now (touched .entry)) (now (labels .entry)) (cutWorld (tablesOf (now (heads .entry)) (now (parents .exit)) (now (rows .exit)) (now (counts .exit)) (now (next .exit)) (now («book_heads» .exit)) (now («book_rows» .exit)) (now («book_next» .exit))) (r .free) (r .«book_free»)) (now (work .exit)) (now (touched .exit)) (now (labels .exit))) ⌝ }
+    requires { ⌜ SomePlan (cutWorld (tablesOf (now heads) (now parents) (now rows) (now counts) (now next) (now «book_heads») (now «book_rows») (now «book_next»)) (free .0) («book_free» .0)) (adding (now ids) (now «row_counts») (now «row_list»)) (now work) (now touched) (now labels) (first .0) used ⌝ }
+    ensures { λ r. ⌜ ((w : List ℕ) → CanWriteBatch (cutWorld (tablesOf (now (heads .entry)) (now (parents .entry)) (now (rows .entry)) (now (counts .entry)) (now (next .entry)) (now («book_heads» .entry)) (now («book_rows» .entry)) (now («book_next» .entry))) (free .0) («book_free» .0)) (adding (now (ids .entry)) (now («row_counts» .entry)) (now («row_list» .entry))) w (now (work .entry)) (now (touched .entry)) (now (labels .entry)) (first .0) used → BatchWritten (cutWorld (tablesOf (now (heads .entry)) (now (parents .entry)) (now (rows .entry)) (now (counts .entry)) (now (next .entry)) (now («book_heads» .entry)) (now («book_rows» .entry)) (now («book_next» .entry))) (free .0) («book_free» .0)) (adding (now (ids .entry)) (now («row_counts» .entry)) (now («row_list» .entry))) w (now (touched .entry)) (now (labels .entry)) (cutWorld (tablesOf (now (heads .entry)) (now (parents .exit)) (now (rows .exit)) (now (counts .exit)) (now (next .exit)) (now («book_heads» .exit)) (now («book_rows» .exit)) (now («book_next» .exit))) (r .free .0) (r .«book_free» .0)) (now (work .exit)) (now (touched .exit)) (now (labels .exit))) ⌝ }
 {
     let z = commit::write_plan(
         heads,
@@ -42,7 +42,7 @@ pub fn write_add(
         work,
         touched,
         labels,
-        Row(first),
+        first,
         used,
         free,
     );
@@ -56,8 +56,8 @@ pub fn write_add(
         book_free,
     );
     FreeHeads {
-        free: z.0,
-        book_free: y.0,
+        free: z,
+        book_free: y,
     }
 }
 
@@ -75,13 +75,13 @@ pub fn write_remove(
     touched: &mut [u16],
     labels: &mut [u16],
     ids: &[u32],
-    first: u32,
+    first: Row,
     used: u32,
     free: Rec,
     book_free: Rec,
 ) -> FreeHeads
-    requires { ⌜ SomePlan (cutWorld (tablesOf (now heads) (now parents) (now rows) (now counts) (now next) (now «book_heads») (now «book_rows») (now «book_next»)) (free .0) («book_free» .0)) (removing (now ids)) (now work) (now touched) (now labels) first used ⌝ }
-    ensures { λ r. ⌜ ((w : List ℕ) → CanWriteBatch (cutWorld (tablesOf (now (heads .entry)) (now (parents .entry)) (now (rows .entry)) (now (counts .entry)) (now (next .entry)) (now («book_heads» .entry)) (now («book_rows» .entry)) (now («book_next» .entry))) (free .0) («book_free» .0)) (removing (now (ids .entry))) w (now (work .entry)) (now (touched .entry)) (now (labels .entry)) first used → BatchWritten (cutWorld (tablesOf (now (heads .entry)) (now (parents .entry)) (now (rows .entry)) (now (counts .entry)) (now (next .entry)) (now («book_heads» .entry)) (now («book_rows» .entry)) (now («book_next» .entry))) (free .0) («book_free» .0)) (removing (now (ids .entry))) w (now (touched .entry)) (now (labels .entry)) (cutWorld (tablesOf (now (heads .entry)) (now (parents .exit)) (now (rows .exit)) (now (counts .exit)) (now (next .exit)) (now («book_heads» .exit)) (now («book_rows» .exit)) (now («book_next» .exit))) (r .free) (r .«book_free»)) (now (work .exit)) (now (touched .exit)) (now (labels .exit))) ⌝ }
+    requires { ⌜ SomePlan (cutWorld (tablesOf (now heads) (now parents) (now rows) (now counts) (now next) (now «book_heads») (now «book_rows») (now «book_next»)) (free .0) («book_free» .0)) (removing (now ids)) (now work) (now touched) (now labels) (first .0) used ⌝ }
+    ensures { λ r. ⌜ ((w : List ℕ) → CanWriteBatch (cutWorld (tablesOf (now (heads .entry)) (now (parents .entry)) (now (rows .entry)) (now (counts .entry)) (now (next .entry)) (now («book_heads» .entry)) (now («book_rows» .entry)) (now («book_next» .entry))) (free .0) («book_free» .0)) (removing (now (ids .entry))) w (now (work .entry)) (now (touched .entry)) (now (labels .entry)) (first .0) used → BatchWritten (cutWorld (tablesOf (now (heads .entry)) (now (parents .entry)) (now (rows .entry)) (now (counts .entry)) (now (next .entry)) (now («book_heads» .entry)) (now («book_rows» .entry)) (now («book_next» .entry))) (free .0) («book_free» .0)) (removing (now (ids .entry))) w (now (touched .entry)) (now (labels .entry)) (cutWorld (tablesOf (now (heads .entry)) (now (parents .exit)) (now (rows .exit)) (now (counts .exit)) (now (next .exit)) (now («book_heads» .exit)) (now («book_rows» .exit)) (now («book_next» .exit))) (r .free .0) (r .«book_free» .0)) (now (work .exit)) (now (touched .exit)) (now (labels .exit))) ⌝ }
 {
     let z = commit::write_plan(
         heads,
@@ -92,13 +92,13 @@ pub fn write_remove(
         work,
         touched,
         labels,
-        Row(first),
+        first,
         used,
         free,
     );
     let y = entering::leave_columns(book_heads, book_rows, book_next, ids, book_free);
     FreeHeads {
-        free: z.0,
-        book_free: y.0,
+        free: z,
+        book_free: y,
     }
 }

@@ -19,15 +19,15 @@ use questions::Reply;
 
 // The answer of a batch, with the record that has its free heads.
 fn changed(factor: Factor, x: Batch) -> Changed
-    ensures { λ r. ⌜ r ≡ record { number = x .number; position = x .position; touched = x .touched; entries = x .entries; grade = x .grade; factor = record { m = factor .m; n = factor .n; f = factor .f; c = factor .c; free = x .free; «book_free» = x .«book_free» } } ⌝ }
+    ensures { λ r. ⌜ r ≡ record { number = x .number; position = x .position; touched = x .touched; entries = x .entries; grade = x .grade; factor = record { m = factor .m; n = factor .n; f = factor .f; c = factor .c; free = x .free .0; «book_free» = x .«book_free» .0 } } ⌝ }
 {
     let after = Factor {
         m: factor.m,
         n: factor.n,
         f: factor.f,
         c: factor.c,
-        free: x.free,
-        book_free: x.book_free,
+        free: x.free.0,
+        book_free: x.book_free.0,
     };
     Changed {
         number: x.number,

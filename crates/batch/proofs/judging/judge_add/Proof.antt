@@ -92,7 +92,7 @@ returns-2 c br can =
     let u = bookedIn (cutWorld (tablesAt s br) (s .args .free .0) (s .args .book-free .0)) .columns in
     let e = c .planned .ensures in
     add-planned can ids ns rs ok (p .plan-add .ensures u (batchOf ids ns rs) (add-can can ids ns rs ok)) (c .before .if2 .taken)
-    (ap verdictNumber e) (ap (λ (v : Verdict). v .first) e) (ap (λ (v : Verdict). v .count) e) (ap (λ (v : Verdict). v .entries) e) (ap (λ (v : Verdict). v .used) e)
+    (ap verdictNumber e) (ap (λ (v : Verdict). v .plan .first .0) e) (ap (λ (v : Verdict). v .plan .count) e) (ap (λ (v : Verdict). v .plan .entries) e) (ap (λ (v : Verdict). v .plan .used) e)
 
 refused-requires-2 : tie.Need-refused-requires-2
 refused-requires-2 c κs = search needs

@@ -79,7 +79,7 @@ returns-2 c f g can =
     let cs = bookedIn (cutWorld (tablesAt s) f g) .columns in
     let e = c .planned .ensures in
     remove-planned can ids ok (p .plan-remove .ensures (without ids cs) (columnsOf ids cs) (remove-can can ids ok 0 0))
-    (ap verdictNumber e) (ap (λ (v : Verdict). v .first) e) (ap (λ (v : Verdict). v .count) e) (ap (λ (v : Verdict). v .entries) e) (ap (λ (v : Verdict). v .used) e)
+    (ap verdictNumber e) (ap (λ (v : Verdict). v .plan .first .0) e) (ap (λ (v : Verdict). v .plan .count) e) (ap (λ (v : Verdict). v .plan .entries) e) (ap (λ (v : Verdict). v .plan .used) e)
 
 pub judge-remove-spec : {M : Type 1} → statement M
 judge-remove-spec =
