@@ -4,10 +4,10 @@
 use mathlib.Core.Path.{_≡_, refl, sym, ap, _∙_, subst}
 use mathlib.Core.Logic.{inl, inr}
 use mathlib.Core.Bool.{Bool, true, false, true≢false}
-use mathlib.Core.List.{List, _++_}
+use mathlib.Core.List.{List, _++_, append-nil}
 use Prim.Native.Nat.{ℕ, _≤_}
 use lib.ListN.{length}
-use Rattle.lists.specs.Lists.{all, among, noRepeats, rises}
+use Rattle.lists.specs.Lists.{all, among, noRepeats, sumOf, rises}
 use Rattle.lists.proofs.Tests.{refute}
 use Rattle.lists.proofs.Member.{mem-left, mem-right, mem-either, all-at, all-make}
 use Rattle.symbolic.specs.Columns.{Column, Register, live}
@@ -22,7 +22,7 @@ use Rattle.book.specs.Book.{columnFits}
 use Rattle.tables.specs.Tables.{Sizes}
 use Rattle.calls.specs.Refusals.{isAccepted, batchOf}
 use Rattle.calls.specs.Calls.{Change, adding, removing}
-use Rattle.calls.specs.Changes.{Effect, effect, touchedBy}
+use Rattle.calls.specs.Changes.{Effect, effect, IsExchange, touchedBy}
 use Rattle.calls.proofs.Refusals.{add-facts, RemoveFits, remove-facts}
 
 -- ---- what a change touches
@@ -74,6 +74,17 @@ removal-fits f l r is u g h =
     append-all f R W (all-make f (R ++ W) (λ c m. all-at f (bag-mem (r .columns) (R ++ W) (removal-bag l r is u g) m) h))
 
 -- ---- an accepted change
+
+-- it is an exchange
+pub effect-exchanges : (l : Sizes) (r : Register) → noRepeats (idsOf (r .columns)) ≡ true → (c : Change) → isAccepted (effect r c .refusal l) ≡ true →
+    IsExchange r (effect r c)
+effect-exchanges l r u (adding is ns rs) h =
+    record { before = λ f. ap (λ (cs : List Column). sumOf f cs) (sym (append-nil (r .columns))); after = λ f. refl }
+effect-exchanges l r u (removing is) h =
+    record {
+      before = removal-bag l r is u (remove-facts l r is h);
+      after = λ f. ap (λ (cs : List Column). sumOf f cs) (sym (append-nil (without is (r .columns))));
+    }
 
 -- a column that the report leaves out is on no path
 untouched : (m : ℕ) (cs batch : List Column) (j : ℕ) → 1 ≤ j → j ≤ m → among j (touched (factorOf m cs) batch) ≡ false → isTouched (factorOf m cs) batch j ≡ false

@@ -2,12 +2,12 @@
 -- may alter, and the register after it. All that it reports follows: the touched columns, their labels, the entries and the grade.
 -- Every change is an exchange: of the live columns some leave and others enter; an addition lets none leave, a removal lets none enter.
 -- Assumes nothing: these are definitions.
-use mathlib.Core.List.{List, [], _∷_}
+use mathlib.Core.List.{List, [], _∷_, _++_}
 use Prim.Native.Nat.{ℕ}
 use Rattle.symbolic.specs.Columns.{Column, Register, liveOf, live}
 use Rattle.symbolic.specs.Factor.{factorFor}
 use Rattle.symbolic.specs.Batch.{exchanged, labelOf, entriesOf, gradeOf}
-use Rattle.symbolic.specs.Change.{columnsOf, added, removed}
+use Rattle.symbolic.specs.Change.{columnsOf, added, removed, Bag}
 use Rattle.tables.specs.Tables.{Sizes}
 use Rattle.calls.specs.Refusals.{Refusal, batchOf, addRefusal, removeRefusal}
 use Rattle.calls.specs.Calls.{Change, adding, removing, Entry, opening, changing, checking, asking}
@@ -16,7 +16,7 @@ use Rattle.calls.specs.Calls.{Change, adding, removing, Entry, opening, 
 pub record Effect : Type 0 where
   -- 7 to 16, by the sizes
   pub refusal : Sizes → Refusal
-  -- the columns that count and leave, enter, stay: live before are those that leave or stay, live after those that enter or stay
+  -- the columns that count and leave, enter, stay
   pub leave : List Column
   pub enter : List Column
   pub stay : List Column
@@ -50,6 +50,11 @@ effect r (removing is) =
       ids = is;
       register = removed r is;
     }
+
+-- an exchange: the live columns before it are those that stay and those that leave, after it those that stay and those that enter, but for their order
+pub record IsExchange (r : Register) (x : Effect) : Type 0 where
+  pub before : Bag (live r) (x .stay ++ x .leave)
+  pub after : Bag (live (x .register)) (x .stay ++ x .enter)
 
 -- ---- what it reports
 

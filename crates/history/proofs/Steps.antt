@@ -25,7 +25,7 @@ use Rattle.calls.proofs.Choices.{or-both, or-first, or-second}
 use Rattle.calls.proofs.Numbers.{early-facts, early-number, early-low, call-number, sound-number}
 use Rattle.calls.proofs.Order.{bag-after, bag-number, bag-ids, bag-touched, bag-answer, bag-lists, once-after}
 use Rattle.calls.proofs.Steps.{Accepted, Refused, step-cases, taken-zero, refused-some, quiet-world, change-world}
-use Rattle.calls.proofs.Changes.{rows-stay, touched-rise}
+use Rattle.calls.proofs.Changes.{rows-stay, touched-rise, effect-exchanges}
 use Rattle.calls.proofs.Exchanges.{exchanged-keeps}
 use Rattle.history.specs.Runs.{Event, Run, Plain, plainNext, plainAfter}
 use Rattle.history.specs.Statements.{plainRefusal, OnPathOf, reported, ReportsJust, AltersJust, Justified}
@@ -100,9 +100,11 @@ module _ {p : Plain} {u : World} (i : Inv p u) where
             (reports-exactly (p .register) c M N P Q f g j b d);
       }
 
-  change-alters : {v : World} (e : Event) (c : Change) → reported e ≡ touchedBy (p .register) c → Exchanged u c v → AltersJust p u e c v
-  change-alters {v} e c r x =
+  change-alters : {v : World} (e : Event) (c : Change) → reported e ≡ touchedBy (p .register) c → isAccepted (effect (p .register) c .refusal (p .sizes)) ≡ true →
+      Exchanged u c v → AltersJust p u e c v
+  change-alters {v} e c r z x =
       record {
+        exchange = effect-exchanges (p .sizes) (p .register) (i .once) c z;
         others = λ j a b t. x .others j a (subst (λ (l : Sizes). j ≤ l .m) (sym (i .sizes)) b)
             (refute (among j (touchedBy (bookedIn u) c)) (λ h. t (subst (λ (js : List ℕ). Mem j js) (sym r)
             (subst (λ (js : List ℕ). Mem j js) (bag-touched (bookedIn u) (p .register) (inv-rows i) (i .bag) (book-once u) c) (among-mem j (touchedBy (bookedIn u) c) h)))));
@@ -118,6 +120,9 @@ module _ {p : Plain} {u : World} (i : Inv p u) where
         let k : Call = e .call in
         let z : isAccepted (plainRefusal p (u .tables) k) ≡ true = ap isAccepted (sym (number-plain k)) ∙ s .number in
         let n : e .answer .number ≡ 0 = taken-zero s in
+        let own : (c : Change) → k .entry ≡ changing c → isAccepted (effect (p .register) c .refusal (p .sizes)) ≡ true =
+        λ c h. subst (λ (j : Entry). isAccepted (callRefusal (p .sizes) (p .register) (callOf j (k .lent))) ≡ true) h
+        (or-both (callEarly (p .sizes) (u .tables) k) (callRefusal (p .sizes) (p .register) k) z .1) in
         record {
           answer = rw z (s .answer ∙ bag-answer (bookedIn u) (p .register) (inv-rows i) (i .bag) (book-once u) (k .entry));
           never-unsound = λ h. omega arith;
@@ -126,7 +131,7 @@ module _ {p : Plain} {u : World} (i : Inv p u) where
               ap (λ (w : List ℕ). listsAfter (p .register) k w) (work-plain k));
           unchanged = λ h. elim h [ inl q ↦ absurd (q n) | inr q ↦ quiet-world u (k .entry) v q (s .world) ];
           reports = λ q c h. change-reports e c h (s .answer) (s .lists);
-          alters = λ q c h. change-alters e c (report-is e c h (s .answer) (s .lists)) (change-world h (s .world));
+          alters = λ q c h. change-alters e c (report-is e c h (s .answer) (s .lists)) (own c h) (change-world h (s .world));
         }
 
     refused-justified : Refused u (e .call) (e .answer) (e .left) v → Justified p u e v

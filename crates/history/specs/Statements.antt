@@ -20,7 +20,7 @@ use Rattle.tables.specs.Tables.{Tables, Sizes, longEnough, storedIn, bookIn, is
 use Rattle.tables.specs.Stays.{ColumnStays, EntriesKeep, TailsStay}
 use Rattle.calls.specs.Refusals.{Refusal, accepted, isAccepted, orElse, bounds, sizesRefusal}
 use Rattle.calls.specs.Calls.{Change, opening, changing, Lent, withWork, Call, callOf, isOpening, isChange}
-use Rattle.calls.specs.Changes.{effect}
+use Rattle.calls.specs.Changes.{effect, IsExchange}
 use Rattle.calls.specs.Numbers.{callEarly, callRefusal}
 use Rattle.calls.specs.Steps.{Answer, refusedBy, acceptedBy, listsAfter, workAfter, World, bookedIn, Transition}
 use Rattle.history.specs.Runs.{Event, Run, Plain, plainAfter, Begun}
@@ -98,6 +98,8 @@ pub record ReportsJust (p : Plain) (e : Event) (c : Change) : Type 0 where
 
 -- what an accepted change may alter of record and tables, from world u to world v
 pub record AltersJust (p : Plain) (u : World) (e : Event) (c : Change) (v : World) : Type 0 where
+  -- of the live columns some leave, some stay and others enter
+  pub exchange : IsExchange (p .register) (effect (p .register) c)
   -- demand 3: each accepted batch alters no column off its paths, which are just the reported ones
   pub others : (j : ℕ) → 1 ≤ j → j ≤ p .sizes .m → (Mem j (reported e) → ⊥) →
       ColumnStays (storedIn (u .state) (u .tables)) (storedIn (v .state) (v .tables)) j
