@@ -1,6 +1,6 @@
 -- A call: which entry, with its numbers and read lists, and the lists that are lent to be written. Document 01's "Calls", by kind: a change of the columns, a
--- question, an opening, a check. What a change does is `effect` (Changes.antt), what a question answers is `response` (Questions.antt), each one function, so that
--- a new one enters at these two places. Assumes nothing: these are definitions.
+-- question, an opening, a check. What a change does is `effect` (Changes.antt), what a question answers is `response` (Questions.antt), each one function: a
+-- new one is a constructor here and a clause there. Assumes nothing: these are definitions.
 use mathlib.Core.Bool.{Bool, true, false}
 use mathlib.Core.List.{List, []}
 use Prim.Native.Nat.{ℕ, _*_}
