@@ -1,5 +1,4 @@
 pub mod Plans
-pub mod PlanRows
 pub mod Left
 pub mod Walking
 pub mod Clearing

@@ -6,7 +6,7 @@ ghost use Prim.Native.Nat.{_+_, _*_, _≤_, _<_};
 ghost use lib.ListN.{length, set};
 ghost use Rattle.lists.specs.Lists.{at};
 ghost use Rattle.emission.specs.Plans.{kindFor};
-ghost use Rattle.emission.specs.Walks.{firstOver, stays, longer, taking, full, CanPass, Passed, storedAt, counting, advanced, CanPlan, Planned};
+ghost use Rattle.emission.specs.Walks.{firstOver, stays, longer, taking, CanPass, Passed, storedAt, counting, advanced, CanPlan, Planned};
 ghost use Rattle.emission.specs.Emit.{Ready, Emits};
 use book::Row;
 use differences::BASE;

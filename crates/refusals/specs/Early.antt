@@ -8,7 +8,6 @@ use Prim.Native.Nat.{ℕ, _*_}
 use lib.Dec.{leb, eqb}
 use lib.ListN.{length}
 use Rattle.lists.specs.Lists.{pick}
-use Rattle.tables.specs.Tables.{Tables, Limits}
 use Rattle.calls.specs.Refusals.{Bounds, isAccepted, roomFor}
 
 -- the four largest sizes as one record

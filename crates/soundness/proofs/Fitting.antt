@@ -32,11 +32,6 @@ pub struck-more : (ns xs : List ℕ) (x : ℕ) → struck ns (xs ++ (x ∷ [])) 
 unfolding struck
 struck-more ns xs x = struck-append ns xs (x ∷ [])
 
-pub struck-length : (ns xs : List ℕ) → length (struck ns xs) ≡ length ns
-unfolding struck
-struck-length ns [] = refl
-struck-length ns (x ∷ xs) = struck-length (put ns x 0) xs ∙ put-length ns x 0
-
 pub passes-append : (rs vs : List ℕ) (m : ℕ) (ns : List ℕ) (z : ℕ) (ds es : List ℕ) →
     passes rs vs m ns z (ds ++ es) ≡ (passes rs vs m ns z ds && passes rs vs m (struck ns (valuesAt rs ds)) (lastOf z (valuesAt rs ds)) es)
 unfolding passes struck valuesAt lastOf

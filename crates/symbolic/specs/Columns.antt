@@ -34,6 +34,6 @@ pub record Register : Type 0 where
   pub columns : List Column
 
 -- the "live" columns of document 01: the definitions of the factor take what this gives, so what a later rule leaves out or shortens is left out or
--- shortened here; check 6 reads the book's own columns, in soundness/specs
+-- shortened here; check 6 takes them too, and counts by the book's own columns (soundness/proofs/Local.antt `live-booked`)
 abbrev pub live : Register → List Column
 live r = r .columns

@@ -41,7 +41,7 @@ pub fn mark_booked(
 {
     let mut k: usize = 0;
     while k < ids.len() {
-        let row = book::lowest_row(book_heads, book_rows, Id(ids[k]));
+        let row = book::smallest_row(book_heads, book_rows, Id(ids[k]));
         marks::mark_start(work, m, flags, row.0, (k + 1) as u32);
         k += 1;
     }
@@ -87,7 +87,7 @@ fn count_booked(
     let mut k: usize = 0;
     while k < ids.len() {
         let id = ids[k];
-        let row = book::lowest_row(book_heads, book_rows, Id(id));
+        let row = book::smallest_row(book_heads, book_rows, Id(id));
         if row.0 == j {
             let a = 2 * m;
             let e = 3 * m;

@@ -3,7 +3,6 @@
 use Prim.Native.Nat.{_-_, _*_, _^_, _≤_, _<_}
 use native.Mathlib.Omega.{arith}
 use lib.ListN.{length}
-use Rattle.lists.specs.Lists.{at}
 use Rattle.pool.specs.Chains.{chain}
 use Rattle.differences.proofs.Chain.{onward-less}
 use Rattle.emission.proofs.Walking.{Walking, walking-start, walking-onward, walking-small, walking-next, passed-stop, passed-end}

@@ -14,7 +14,6 @@ use Rattle.updown.proofs.starts.count_booked.Tie as tie
 use Rattle.updown.proofs.starts.count_booked.Reads as reads
 use Rattle.updown.proofs.starts.count_booked.Lts as lts
 use Rattle.book.proofs.copy_rows.Reads as copy-rows-reads
-use Rattle.book.proofs.lowest_row.Reads as lowest-row-reads
 use Rattle.differences.proofs.count_rows.Reads as count-rows-reads
 
 abbrev Inv-loop : tie.InvT-loop
@@ -40,8 +39,8 @@ mul-id c = omega arith
 shared-slice-read-id : tie.Need-shared-slice-read-id Inv-loop μ-loop
 shared-slice-read-id c = omega arith
 
-lowest-row-requires : tie.Need-lowest-row-requires Inv-loop μ-loop
-lowest-row-requires c κs = let f = booked-first (start (c .before .before) .pre .holds) (c .before .before .loop .k) (c .before .loop-test .taken) in (f .0, f .1, f .2, f .3)
+smallest-row-requires : tie.Need-smallest-row-requires Inv-loop μ-loop
+smallest-row-requires c κs = let f = booked-first (start (c .before .before) .pre .holds) (c .before .before .loop .k) (c .before .loop-test .taken) in f
 
 mul-a : tie.Need-mul-a Inv-loop μ-loop
 mul-a c = omega (arith, (start (c .before .before .before .before .before) .pre .can) .narrow, booked-steady (start (c .before .before .before .before .before) .pre .can) (start (c .before .before .before .before .before) .pre .holds) (hand (c .before .before .before .before .before)) (c .before .before .before .before .loop-test .taken) .tally .touched .long)
@@ -77,7 +76,7 @@ loop-less : tie.Need-loop-less Inv-loop μ-loop
 loop-less c = omega arith
 
 loop-again : tie.Need-loop-again Inv-loop μ-loop
-loop-again c = (omega arith, λ R W place h can. booked-here can h (c .before .before .before .before .before .before .before .before .before .before .before .before .before .loop .inv .1 R W place h can) (c .before .before .before .before .before .before .before .before .before .before .before .before .loop-test .taken) (c .before .before .before .before .before .before .before .before .before .before .lowest-row .ensures) (c .before .before .before .before .before .before .before .before .if1 .taken) (booked-gathered can h (c .before .before .before .before .before .before .before .before .before .before .before .before .before .loop .inv .1 R W place h can) (c .before .before .before .before .before .before .before .before .before .before .before .before .loop-test .taken) _ _ (c .before .before .before .before .before .before .copy-rows .ensures .0) (c .before .before .before .before .before .before .copy-rows .ensures .1)) (c .before .before .count-rows .ensures))
+loop-again c = (omega arith, λ R W place h can. booked-here can h (c .before .before .before .before .before .before .before .before .before .before .before .before .before .loop .inv .1 R W place h can) (c .before .before .before .before .before .before .before .before .before .before .before .before .loop-test .taken) (c .before .before .before .before .before .before .before .before .before .before .smallest-row .ensures) (c .before .before .before .before .before .before .before .before .if1 .taken) (booked-gathered can h (c .before .before .before .before .before .before .before .before .before .before .before .before .before .loop .inv .1 R W place h can) (c .before .before .before .before .before .before .before .before .before .before .before .before .loop-test .taken) _ _ (c .before .before .before .before .before .before .copy-rows .ensures .0) (c .before .before .before .before .before .before .copy-rows .ensures .1)) (c .before .before .count-rows .ensures))
 
 add-k-2 : tie.Need-add-k-2 Inv-loop μ-loop
 add-k-2 c = omega arith
@@ -86,7 +85,7 @@ loop-less-2 : tie.Need-loop-less-2 Inv-loop μ-loop
 loop-less-2 c = omega arith
 
 loop-again-2 : tie.Need-loop-again-2 Inv-loop μ-loop
-loop-again-2 c = (omega arith, λ R W place h can. booked-past can h (c .before .before .before .before .before .loop .inv .1 R W place h can) (c .before .before .before .before .loop-test .taken) (c .before .before .lowest-row .ensures) (c .if1 .left))
+loop-again-2 c = (omega arith, λ R W place h can. booked-past can h (c .before .before .before .before .before .loop .inv .1 R W place h can) (c .before .before .before .before .loop-test .taken) (c .before .before .smallest-row .ensures) (c .if1 .left))
 
 same-length : tie.Need-same-length Inv-loop μ-loop
 same-length c = (hand (c .before)) .only .same-length
@@ -103,7 +102,7 @@ count-booked-spec =
     loop-holds
     mul-id
     shared-slice-read-id
-    lowest-row-requires
+    smallest-row-requires
     mul-a
     mul-e
     mul-copy-rows
