@@ -18,9 +18,9 @@ use Rattle.tables.specs.Stays.{EntriesKeep}
 use Rattle.columns.specs.Search.{countOf}
 use Rattle.columns.specs.Plan.{planned, ofKind}
 use Rattle.columns.specs.Commit.{HoldsFrom, Holds, ZeroAt, CanCommitChain, CommitReady, CommittedChain, Ready, CanCommit, ChainStays, Committed}
-use Rattle.columns.proofs.Searching.{Here, here, chain-none}
+use Rattle.columns.proofs.Search.{Here, here, chain-none}
 use Rattle.columns.proofs.Holding.{First, holds-first, holds-count}
-use Rattle.columns.proofs.Plans.{at-cut}
+use Rattle.columns.proofs.Plan.{at-cut}
 use Rattle.columns.proofs.Stored.{free-zero, zero-free, held-count, stays-self, stays-trans, stays-holds, keep-stays, stays-keep}
 
 -- ---- one column: what is asked

@@ -20,7 +20,7 @@ use Rattle.symbolic.proofs.Patterns.{pattern-append, counts-append, pattern-ris
 use Rattle.pool.specs.Chains.{lastOf}
 use Rattle.columns.specs.Search.{lastBelow, countOf, entriesAt, pairs}
 use Rattle.columns.specs.Commit.{HoldsFrom}
-use Rattle.columns.proofs.Searching.{above-none}
+use Rattle.columns.proofs.Search.{above-none}
 
 -- the first of rows a on: without a multiplicity, or the first record's
 pub data Next (xs cs : List ℕ) (a n : ℕ) (ns rs : List ℕ) : Type 0 where

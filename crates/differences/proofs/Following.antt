@@ -11,7 +11,7 @@ use Rattle.lists.specs.Lists.{among, at, valuesAt}
 use Rattle.pool.specs.Chains.{chain, Linked}
 use Rattle.differences.specs.Gather.{CanGather, ChainRises, Gathered, Gathering}
 use Rattle.differences.proofs.Chain.{Onward, chain-onward, chain-over}
-use Rattle.differences.proofs.Gathering.{gathering-start, gathering-push, gathering-done, list-room}
+use Rattle.differences.proofs.Gather.{gathering-start, gathering-push, gathering-done, list-room}
 
 pub values-front : (xs : List ℕ) (q : ℕ) (qs : List ℕ) → valuesAt xs (q ∷ qs) ≡ at xs q ∷ valuesAt xs qs
 unfolding valuesAt

@@ -17,7 +17,7 @@ use Rattle.workspace.proofs.Regions.{only-refl, region-length}
 use Rattle.differences.specs.Gather.{rowsIn, rowsOfKind, planPart, Gathering, Passed, CanReach, Reached}
 use Rattle.differences.proofs.Rows.{only-member}
 use Rattle.differences.proofs.Parts.{part-none, part-next, part-join, part-front, rows-append, rows-one, kind-append, kind-cons, kind-skip, kind-nil}
-use Rattle.differences.proofs.Gathering.{gathering-push, gathering-cell}
+use Rattle.differences.proofs.Gather.{gathering-push, gathering-cell}
 
 -- the entries before place a are passed
 pub record Passing (m : ℕ) (w : List ℕ) (from to bound a : ℕ) : Type 0 where

@@ -50,6 +50,11 @@ pub record Walked (next marks₀ marks : List ℕ) (met head : ℕ) (a : Walk) :
   pub answer : a ≡ walkAnswer (walks next marks₀ met head) (met + length (chain next head))
   pub marked : walks next marks₀ met head ≡ true → marks ≡ markAll marks₀ (chain next head)
 
+-- after the walk of a chain with a test besides: that it walks and passes
+pub record WalkedWith (test : Bool) (next marks₀ marks : List ℕ) (met head : ℕ) (a : Walk) : Type 0 where
+  pub answer : a ≡ walkAnswer (walks next marks₀ met head && test) (met + length (chain next head))
+  pub marked : walks next marks₀ met head && test ≡ true → marks ≡ markAll marks₀ (chain next head)
+
 -- marks for every record, all zero
 pub record NoMarks (next marks : List ℕ) : Type 0 where
   pub long : length next ≤ length marks

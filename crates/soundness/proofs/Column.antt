@@ -32,7 +32,7 @@ use Rattle.counting.specs.Given.{Counted, givenIn}
 use Rattle.soundness.specs.Checking.{marksIn, chainFits, Checked}
 use Rattle.soundness.specs.State.{liveIn, walked, Walked, State}
 use Rattle.soundness.proofs.Fitting.{fits-same}
-use Rattle.counting.proofs.Giving.{keep-region}
+use Rattle.counting.proofs.Given.{keep-region}
 use Rattle.soundness.proofs.Ready.{ready-counters}
 
 -- ---- what soundness says

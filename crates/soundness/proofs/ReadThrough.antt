@@ -25,8 +25,8 @@ use Rattle.pool.specs.Walks as pool-walks
 use Rattle.pool.proofs.Walking.{walked-cut}
 use Rattle.pool.proofs.Reading.{Reading, reading-one, reading-end, reading-free-cut}
 use Rattle.book.specs.Book as book
-use Rattle.book.specs.Walks.{WalkedWith}
-use Rattle.book.proofs.Testing.{ended-walked, cut-unwalked}
+use Rattle.pool.specs.Walks.{WalkedWith}
+use Rattle.pool.proofs.Testing.{ended-walked, cut-unwalked}
 use Rattle.tables.specs.Stored.{Stored, freeZero, holdsFrom, isSoundFor}
 use Rattle.soundness.specs.Checking.{CanCheckFree, zeroChain, marksIn}
 use Rattle.soundness.specs.State.{liveIn, walked, Walked, State, WithinWork, CanReadColumn, ColumnsRead, Prepared, FactorRead}

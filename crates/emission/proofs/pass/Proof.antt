@@ -5,7 +5,7 @@ use native.Mathlib.Omega.{arith}
 use lib.ListN.{length}
 use Rattle.pool.specs.Chains.{chain}
 use Rattle.differences.proofs.Chain.{onward-less}
-use Rattle.emission.proofs.Walking.{Walking, walking-start, walking-onward, walking-small, walking-next, passed-stop, passed-end}
+use Rattle.emission.proofs.Walks.{Walking, walking-start, walking-onward, walking-small, walking-next, passed-stop, passed-end}
 use Rattle.emission.proofs.pass.Statement.{statement}
 use Rattle.emission.proofs.pass.Tie as tie
 
