@@ -2,7 +2,7 @@
 #include <inttypes.h>
 #include <stdio.h>
 
-#include "../include/nigvalds.h"
+#include "nigvalds.h"
 
 enum { M = 5, N = 8, F = 9, C = 16 };
 
@@ -23,7 +23,7 @@ static void show(nigvalds_factor factor) {
 /* What a batch answers: its numbers and the touched columns with their labels, or the refusal. */
 static void report(const char *what, nigvalds_changed a) {
     if (a.number != NIGVALDS_ACCEPTED) {
-        printf("%s: no %" PRIu32 " %" PRIu32 "\n", what, a.number, a.position);
+        printf("%s: no %" PRIu32 " %" PRIu32 ", %s\n", what, a.number, a.position, nigvalds_refusal_text(a.number));
         return;
     }
     printf("%s: ok %" PRIu32 " %" PRIu32 " %" PRIu32 ", touched", what, a.touched, a.entries, a.grade);
@@ -52,16 +52,16 @@ static void ask(nigvalds_factor factor) {
     r = nigvalds_parent_in(&tables, factor, 2);
     printf("parent of 2: %" PRIu32 "\n", r.value);
     r = nigvalds_parent_in(&tables, factor, 6);
-    printf("parent of 6: no %" PRIu32 "\n", r.number);
+    printf("parent of 6: no %" PRIu32 ", %s\n", r.number, nigvalds_refusal_text(r.number));
     r = nigvalds_column_in(&tables, factor, list, 4, 1, 0);
-    printf("column 1 in a list of 4: no %" PRIu32 "\n", r.number);
+    printf("column 1 in a list of 4: no %" PRIu32 ", %s\n", r.number, nigvalds_refusal_text(r.number));
     r = nigvalds_column_in(&tables, factor, list, 4, 2, 0);
     printf("column 2: %" PRIu32 " entries, %" PRIu32 ":%" PRIu32 " %" PRIu32 ":%" PRIu32 "\n", r.value, list[0], list[1], list[2], list[3]);
 }
 
 int main(void) {
     nigvalds_opened o = nigvalds_open_in(&tables, M, N, F + 1, C);
-    printf("open with a larger F: no %" PRIu32 "\n", o.number);
+    printf("open with a larger F: no %" PRIu32 ", %s\n", o.number, nigvalds_refusal_text(o.number));
     o = nigvalds_open_in(&tables, M, N, F, C);
     if (o.number != NIGVALDS_ACCEPTED) {
         return 1;
@@ -86,6 +86,7 @@ int main(void) {
 
     printf("check: %" PRIu32 "\n", nigvalds_check_in(&tables, factor).number);
     tables.parents[0] = 2;
-    printf("check of a damaged parent: %" PRIu32 "\n", nigvalds_check_in(&tables, factor).number);
+    const uint32_t number = nigvalds_check_in(&tables, factor).number;
+    printf("check of a damaged parent: %" PRIu32 ", %s\n", number, nigvalds_refusal_text(number));
     return 0;
 }

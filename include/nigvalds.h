@@ -1,18 +1,7 @@
 /* Nigvalds: the pattern of the sparse Cholesky factor of I + AA^T, kept while columns of A enter and leave.
  *
- * Link with libhost.a (`rt staticlib host` writes target/staticlib/libhost.a; x86-64, System V calling convention; it needs memset alone). C99; usable from C++.
- * Every function is proved to meet its contract (crates/host), asks nothing of the contents or lengths of what is lent, always returns and
- * keeps no pointer. Unusable input is refused by number.
- *
- * WHAT IS ASSUMED OF A CALLER. Nothing checks this header against the library, and no proof covers the caller:
- *   - each pointer is valid for its length, aligned for its type and not NULL, also where the length is 0;
- *   - a length counts places of the pointer's type, not bytes, and the places take less than 2^63 bytes;
- *   - what a call may write (a pointer without const) overlaps nothing else that is lent to the same call, and nobody else uses it meanwhile.
- *
- * TABLES. Rows are 1 to m, ids 1 to n, factor records 1 to F, book records 1 to C; what belongs to number k stands at place k - 1. A factor column is a
- * chain of records from its head, rows rising; next 0 ends it. The book keeps the rows of each live column likewise. Tables may be longer than the sizes ask:
- * places beyond keep their content. The host may read all tables at any time, store them and lend them again with their record; every call but an opening
- * reads them through and answers 6 if they are not sound.
+ * README.md says what it is for and has the table of sizes and refusals; examples/host.c is a whole program. C99 and later, C++11 and later.
+ * Link with libnigvalds.a (`make install PREFIX=..` puts it with this header and a pkg-config file; x86-64, System V calling convention). It needs memset alone.
  *
  * EXAMPLE. A factor of 5 rows, two columns added as one batch, one question.
  *
@@ -20,10 +9,30 @@
  *     nigvalds_opened o = nigvalds_open_in(&t, 5, 8, 80, 16);              // o.number is 0
  *     uint32_t ids[] = {1, 2}, counts[] = {2, 2}, rows[] = {1, 3, 1, 4};   // column 1 is {1, 3}, column 2 is {1, 4}
  *     nigvalds_changed a = nigvalds_add_in(&t, o.factor, ids, 2, counts, 2, rows, 4);
- *     if (a.number) { ... }                                                // refused: a.position is the column's, or 0; tables and record are as before
+ *     if (a.number) puts(nigvalds_refusal_text(a.number));                 // refused: a.position is the column's, or 0; tables and record are as before
  *     nigvalds_reply p = nigvalds_parent_in(&t, a.factor, 1);              // p.value is 3; a.factor is the record from here on
  *
- * examples/host.c is a whole program.
+ * TABLES. The host owns all memory. Rows are 1 to m, ids 1 to n, factor records 1 to F, book records 1 to C; what belongs to number k stands at place k - 1.
+ * A factor column is a chain of records from its head, rows rising; next 0 ends it. The book keeps the rows of each live column likewise. Tables may be longer
+ * than the sizes ask: places beyond keep their content. Rows, parents, multiplicities and the lists of touched columns and labels have 16-bit places; heads,
+ * nexts, the work table, the lists of a batch and the answers of path and column 32-bit ones. The host may read all tables at any time, store them and lend
+ * them again with their record.
+ *
+ * WHAT IS PROMISED. Every function is proved to meet its contract (crates/nigvalds), asks nothing of the contents or lengths of what is lent, always returns,
+ * allocates nothing and keeps no pointer. There is no global state: calls on different tables, each with its own work table and lists, may run in parallel. A
+ * call needs about 1 KB of stack.
+ *
+ * WHAT IS ASSUMED OF A CALLER. A test holds this header against the library's source (tools/check-header), but no proof covers the caller:
+ *   - each pointer is valid for its length, aligned for its type and not NULL, also where the length is 0;
+ *   - a length counts places of the pointer's type, not bytes, and the places take less than 2^63 bytes;
+ *   - what a call may write (a pointer without const) overlaps nothing else that is lent to the same call, and nobody else uses it meanwhile.
+ *
+ * COST. Each function says its class:
+ *   - whole: in proportion to m + n + F + C. Every call but a reading reads all tables through, or writes them all; a batch also pays for what it touches;
+ *   - constant: a few loads.
+ *
+ * AFTER NUMBER 6 the tables are as they were lent: something else has written them, or the record is not theirs. No call mends them. Go back to the last good
+ * copy of tables and record (one taken after an accepted call), or open anew and add the columns again; nigvalds_check says whether a copy is sound.
  */
 #ifndef NIGVALDS_H
 #define NIGVALDS_H
@@ -34,6 +43,8 @@
 #ifdef __cplusplus
 extern "C" {
 #endif
+
+#define NIGVALDS_VERSION "0.1.0"
 
 /* ---- sizes */
 
@@ -51,30 +62,57 @@ extern "C" {
 #define NIGVALDS_WORK_PLACES(m, n, f, c) (8u * (size_t)(m) + 4u * (size_t)(f) + (size_t)(c) + (size_t)(n) + 1024u)
 
 /* ---- numbers. The first that applies is given. A refusal's other numbers are 0, and nothing lent changes except that from 6 on the first W work places are
-   zero; they are zero after an accepted call too. */
+   zero; they are zero after an accepted call too. Numbers 8 to 14 come with the position of the column in the batch, from 1; 12 for rows left over with 0. */
 
 enum {
     NIGVALDS_ACCEPTED = 0,
-    NIGVALDS_ROWS = 1,          /* m outside its range */
-    NIGVALDS_IDS = 2,           /* n outside its range */
-    NIGVALDS_RECORDS = 3,       /* F outside its range */
-    NIGVALDS_BOOKED = 4,        /* C outside its range */
-    NIGVALDS_SHORT = 5,         /* some table or list needed is too short */
-    NIGVALDS_UNSOUND = 6,       /* the tables are not sound; in check, the answer no */
-    NIGVALDS_SHAPE = 7,         /* not 1 to 64 ids, or not as many counts as ids */
-    NIGVALDS_ID_OUTSIDE = 8,    /* at position: id outside 1 to n */
-    NIGVALDS_ID_REPEATED = 9,   /* at position: id earlier in this batch */
-    NIGVALDS_ID_LIVE = 10,      /* at position: id to add is live */
-    NIGVALDS_ID_NOT_LIVE = 11,  /* at position: id to remove is not live */
-    NIGVALDS_COUNT = 12,        /* at position: count outside 1 to 256, or fewer rows remain; at 0: rows left over */
-    NIGVALDS_ROW_OUTSIDE = 13,  /* at position: row outside 1 to m */
-    NIGVALDS_ROW_ORDER = 14,    /* at position: row not above the row before */
-    NIGVALDS_BOOK_FULL = 15,    /* book rows would exceed C */
-    NIGVALDS_FACTOR_FULL = 16,  /* the sum of all pattern sizes would exceed F */
-    NIGVALDS_ASKED_OUTSIDE = 17, /* question: row or column outside 1 to m */
-    NIGVALDS_LIST_ENDS = 18,    /* question: the list ends before the answer does */
-    NIGVALDS_NO_COMMAND = 19    /* the listing program alone: a line that is no command */
+    NIGVALDS_ROWS = 1,
+    NIGVALDS_IDS = 2,
+    NIGVALDS_RECORDS = 3,
+    NIGVALDS_BOOKED = 4,
+    NIGVALDS_SHORT = 5,
+    NIGVALDS_UNSOUND = 6, /* in check, the answer no */
+    NIGVALDS_SHAPE = 7,
+    NIGVALDS_ID_OUTSIDE = 8,
+    NIGVALDS_ID_REPEATED = 9,
+    NIGVALDS_ID_LIVE = 10,
+    NIGVALDS_ID_NOT_LIVE = 11,
+    NIGVALDS_COUNT = 12,
+    NIGVALDS_ROW_OUTSIDE = 13,
+    NIGVALDS_ROW_ORDER = 14,
+    NIGVALDS_BOOK_FULL = 15,
+    NIGVALDS_FACTOR_FULL = 16,
+    NIGVALDS_ASKED_OUTSIDE = 17,
+    NIGVALDS_LIST_ENDS = 18,
+    NIGVALDS_NO_COMMAND = 19 /* the listing program alone */
 };
+
+/* What a number says, in plain words. */
+static inline const char *nigvalds_refusal_text(uint32_t number) {
+    switch (number) {
+    case NIGVALDS_ACCEPTED: return "accepted";
+    case NIGVALDS_ROWS: return "m is outside 1 to 4,096";
+    case NIGVALDS_IDS: return "n is outside 1 to 16,384";
+    case NIGVALDS_RECORDS: return "F is outside m to 1,048,576";
+    case NIGVALDS_BOOKED: return "C is outside 1 to 262,144";
+    case NIGVALDS_SHORT: return "a table or list that is needed is too short";
+    case NIGVALDS_UNSOUND: return "the tables are not sound";
+    case NIGVALDS_SHAPE: return "not 1 to 64 columns, or not as many counts as ids";
+    case NIGVALDS_ID_OUTSIDE: return "an id is outside 1 to n";
+    case NIGVALDS_ID_REPEATED: return "an id stands earlier in the batch";
+    case NIGVALDS_ID_LIVE: return "an id to add is live";
+    case NIGVALDS_ID_NOT_LIVE: return "an id to remove is not live";
+    case NIGVALDS_COUNT: return "a count is outside 1 to 256, or there are fewer or more rows than the counts say";
+    case NIGVALDS_ROW_OUTSIDE: return "a row is outside 1 to m";
+    case NIGVALDS_ROW_ORDER: return "a row is not above the row before";
+    case NIGVALDS_BOOK_FULL: return "the rows of the live columns would exceed C";
+    case NIGVALDS_FACTOR_FULL: return "the sum of all pattern sizes would exceed F";
+    case NIGVALDS_ASKED_OUTSIDE: return "a row or column asked about is outside 1 to m";
+    case NIGVALDS_LIST_ENDS: return "the list ends before the answer does";
+    case NIGVALDS_NO_COMMAND: return "a line is no command";
+    default: return "no number of this library";
+    }
+}
 
 /* ---- records and answers, by value */
 
@@ -84,7 +122,8 @@ typedef struct nigvalds_factor {
     uint32_t free, book_free;
 } nigvalds_factor;
 
-/* An opening: accepted, number 0 and the record; refused, the number and a record of zeros (the record from before serves on). */
+/* An opening: accepted, number 0 and the record; refused, the number and a record of zeros. A refused opening's record must not replace the host's: tables and
+   record from before serve on. */
 typedef struct nigvalds_opened {
     uint32_t number;
     nigvalds_factor factor;
@@ -103,7 +142,7 @@ typedef struct nigvalds_reply {
     uint32_t number, value;
 } nigvalds_reply;
 
-/* An entry of a column, and the record after it (0: none). Row 0 is the end. */
+/* An entry of a column, and the record after it (0: none). Row 0 is the end; multiplicity and next are 0 there. */
 typedef struct nigvalds_entry {
     uint32_t row, multiplicity, next;
 } nigvalds_entry;
@@ -124,36 +163,38 @@ typedef struct nigvalds_entry {
         size_t book_heads_length, const uint16_t *book_rows, size_t book_rows_length, const uint32_t *book_next, size_t book_next_length,           \
         uint32_t *work, size_t work_length
 
-/* Opens a fresh factor: writes all tables. f = 0 means 16 x m. Refusals 1 to 5. */
+/* Opens a fresh factor: writes all tables. f = 0 means 16 x m. Refusals 1 to 5. Cost: whole. */
 nigvalds_opened nigvalds_open(uint32_t m, uint32_t n, uint32_t f, uint32_t c, NIGVALDS_WRITTEN_TABLES);
 
 /* Adds a batch: by position, each id enters with as many of the rows not yet used as its count says. touched receives the touched columns, rising, and labels
-   the largest position whose path passes through each; both need m places. Refusals 1 to 10 and 12 to 16. */
+   the largest position whose path passes through each; both need m places of 16 bits. Refusals 1 to 10 and 12 to 16. Cost: whole, and the records on its
+   paths. */
 nigvalds_changed nigvalds_add(nigvalds_factor factor, NIGVALDS_CHANGED_TABLES, uint16_t *touched, size_t touched_length, uint16_t *labels,
                               size_t labels_length, const uint32_t *ids, size_t ids_length, const uint32_t *row_counts, size_t row_counts_length,
                               const uint32_t *row_list, size_t row_list_length);
 
-/* Removes the columns of a batch of ids. Refusals 1 to 9 and 11. */
+/* Removes the columns of a batch of ids, and reports likewise. Refusals 1 to 9 and 11. Cost: whole, and the records on its paths. */
 nigvalds_changed nigvalds_remove(nigvalds_factor factor, NIGVALDS_CHANGED_TABLES, uint16_t *touched, size_t touched_length, uint16_t *labels,
                                  size_t labels_length, const uint32_t *ids, size_t ids_length);
 
-/* Whether the tables are sound: number 0, 6 for no, or 1 to 5 where sizes or tables cannot be used. */
+/* Whether the tables are sound: number 0, 6 for no, or 1 to 5 where sizes or tables cannot be used; value 0. Cost: whole. */
 nigvalds_reply nigvalds_check(nigvalds_factor factor, NIGVALDS_READ_TABLES);
 
-/* The multiplicity of row i in column j, 0 when absent. Refusals 1 to 6 and 17, as of parent. */
+/* The multiplicity of row i in column j, 0 when absent. Refusals 1 to 6 and 17. Cost: whole. */
 nigvalds_reply nigvalds_multiplicity(nigvalds_factor factor, NIGVALDS_READ_TABLES, uint32_t i, uint32_t j);
 
-/* The parent of j, 0 for a root. */
+/* The parent of j, 0 for a root. Refusals 1 to 6 and 17. Cost: whole; the host may read parents[j - 1] itself. */
 nigvalds_reply nigvalds_parent(nigvalds_factor factor, NIGVALDS_READ_TABLES, uint32_t j);
 
-/* The path of j, a row to a place from the given place of the list on (places from 0), and its number of rows. Refusals 1 to 6, 17, 18. */
+/* The path of j, a row to a place from the given place of the list on (places from 0, of 32 bits), and its number of rows. Refusals 1 to 6, 17, 18.
+   Cost: whole. */
 nigvalds_reply nigvalds_path(nigvalds_factor factor, NIGVALDS_READ_TABLES, uint32_t *list, size_t list_length, uint32_t j, size_t place);
 
-/* Column j likewise, row then multiplicity, two places an entry, and its number of entries. */
+/* Column j likewise, row then multiplicity, two places an entry, and its number of entries. Refusals 1 to 6, 17, 18. Cost: whole. */
 nigvalds_reply nigvalds_column(nigvalds_factor factor, NIGVALDS_READ_TABLES, uint32_t *list, size_t list_length, uint32_t j, size_t place);
 
 /* The entry at a record: start at heads[j - 1], go on at the entry's next. Reads nothing else and checks nothing; a record that is 0, past a table or free
-   gives the end. */
+   gives the end. On sound tables a column ends after at most m entries; on others a chain may run in a circle, so count. Cost: constant. */
 nigvalds_entry nigvalds_read(const uint16_t *rows, size_t rows_length, const uint16_t *counts, size_t counts_length, const uint32_t *next,
                              size_t next_length, uint32_t record);
 

@@ -5,7 +5,9 @@ use std::fmt;
 /// An entry of a factor column: a row and its multiplicity.
 #[derive(Clone, Copy, Debug, PartialEq, Eq)]
 pub struct Entry {
+    /// The row, at least the column's number.
     pub row: u32,
+    /// How many children and live columns hold it, and 1 on the diagonal.
     pub multiplicity: u32,
 }
 

@@ -1,15 +1,21 @@
-//! The library's functions as `include/nigvalds.h` declares them. Nothing checks these lines against the library: crates/host/src has the signatures.
+//! The library's functions as `include/nigvalds.h` declares them; `tools/check-header` compares both with crates/nigvalds/src.
 //! A slice crosses as a pointer and a length in places; structs cross by value.
 
 /// The record of sizes and free heads. It goes with the tables.
 #[repr(C)]
 #[derive(Clone, Copy, Debug, Default, PartialEq, Eq)]
 pub struct Record {
+    /// Rows.
     pub m: u32,
+    /// Ids.
     pub n: u32,
+    /// Factor records.
     pub f: u32,
+    /// Book records.
     pub c: u32,
+    /// The first free factor record, 0 for none.
     pub free: u32,
+    /// The first free book record, 0 for none.
     pub book_free: u32,
 }
 
@@ -17,7 +23,9 @@ pub struct Record {
 #[repr(C)]
 #[derive(Clone, Copy, Debug, PartialEq, Eq)]
 pub struct Opened {
+    /// 0, or why not.
     pub number: u32,
+    /// The record of the fresh factor; zeros where it is refused, and then the record from before serves on.
     pub record: Record,
 }
 
@@ -25,11 +33,17 @@ pub struct Opened {
 #[repr(C)]
 #[derive(Clone, Copy, Debug, PartialEq, Eq)]
 pub struct Changed {
+    /// 0, or why not.
     pub number: u32,
+    /// The position that goes with the number, or 0.
     pub position: u32,
+    /// How many columns the lists report.
     pub touched: u32,
+    /// The sum of their sizes after the call.
     pub entries: u32,
+    /// 1 to 4, by the entries; 0 where it is refused.
     pub grade: u32,
+    /// The record after the call; where it is refused, the one that was given.
     pub record: Record,
 }
 
@@ -37,7 +51,9 @@ pub struct Changed {
 #[repr(C)]
 #[derive(Clone, Copy, Debug, PartialEq, Eq)]
 pub struct Reply {
+    /// 0, or why not.
     pub number: u32,
+    /// The value if the number is 0.
     pub value: u32,
 }
 
@@ -45,8 +61,11 @@ pub struct Reply {
 #[repr(C)]
 #[derive(Clone, Copy, Debug, PartialEq, Eq)]
 pub struct Read {
+    /// The row, 0 at the end.
     pub row: u32,
+    /// Its multiplicity, 0 at the end.
     pub multiplicity: u32,
+    /// The record after it, 0 for none.
     pub next: u32,
 }
 

@@ -11,13 +11,21 @@ pub fn work_places(m: u32, n: u32, f: u32, c: u32) -> usize {
 /// The eight tables; what belongs to number k stands at place k - 1.
 #[derive(Clone, Debug, Default, PartialEq, Eq)]
 pub struct Tables {
+    /// The first record of each factor column.
     pub heads: Vec<u32>,
+    /// The parent of each column, 0 for a root.
     pub parents: Vec<u16>,
+    /// The row of each factor record, 0 where it is free.
     pub rows: Vec<u16>,
+    /// Its multiplicity.
     pub counts: Vec<u16>,
+    /// The record after it, 0 at the end of a chain.
     pub next: Vec<u32>,
+    /// The first book record of each id, 0 where it is not live.
     pub book_heads: Vec<u32>,
+    /// The row of each book record, 0 where it is free.
     pub book_rows: Vec<u16>,
+    /// The book record after it, 0 at the end of a chain.
     pub book_next: Vec<u32>,
 }
 
@@ -83,7 +91,7 @@ impl Tables {
             nigvalds_remove(record) ids.as_ptr(), ids.len())
     }
 
-    /// Whether the tables are sound: number 0, or 6 for no.
+    /// Whether the tables are sound: number 0, or 6 for no; 1 to 5 where the sizes or tables cannot be used.
     pub fn check(&self, record: Record, work: &mut [u32]) -> Reply {
         read!(self, work; nigvalds_check(record))
     }

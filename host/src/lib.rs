@@ -11,6 +11,10 @@
 //! assert_eq!(factor.remove(&[3, 3]).unwrap_err(), nigvalds::Refusal::IdRepeated { position: 2 });
 //! # Ok::<(), nigvalds::Refusal>(())
 //! ```
+//!
+//! `cargo run --example planner` runs an active-set loop over it, values and all.
+#![warn(missing_docs)]
+
 mod columns;
 mod ffi;
 pub mod lent;
@@ -24,6 +28,14 @@ use std::cell::RefCell;
 use std::fmt;
 
 /// A factor of m rows for columns with ids 1 to n, in F factor records and C book records.
+///
+/// It is `Send`: it owns all that the library works on, and the library has no global state, so a factor may move to another thread and different factors may
+/// be used in parallel. It is not `Sync`: a question needs the work table, which every call fills and clears, so two questions at once would write the same places.
+///
+/// ```compile_fail,E0277
+/// fn shared<T: Sync>() {}
+/// shared::<nigvalds::Factor>();
+/// ```
 pub struct Factor {
     record: Record,
     tables: Tables,
@@ -165,8 +177,10 @@ impl fmt::Debug for Factor {
 
 // Accepted, or the refusal of an answer.
 fn answered(number: u32, position: u32) -> Result<(), Refusal> {
-    match number {
-        0 => Ok(()),
-        _ => Err(Refusal::of(number, position).expect("the library gives numbers 0 to 18")),
-    }
+    Refusal::of(number, position).map_or(Ok(()), Err)
 }
+
+// README's Rust program is run with the tests of the documentation.
+#[cfg(doctest)]
+#[doc = include_str!("../../README.md")]
+struct Readme;

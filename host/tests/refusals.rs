@@ -168,8 +168,18 @@ fn numbers_of_the_type() {
         words.insert(refusal.to_string());
     }
     assert_eq!(words.len(), 19);
-    assert_eq!((Refusal::of(0, 0), Refusal::of(20, 0)), (None, None));
+    assert_eq!(Refusal::of(0, 0), None);
     assert_eq!(Refusal::RowOrder { position: 2 }.to_string(), "refused by 14 at position 2: a row is not above the row before");
+}
+
+// A number that this package does not know is an error like any other.
+#[test]
+fn unknown_numbers() {
+    for number in [20, u32::MAX] {
+        let refusal = Refusal::of(number, 7).unwrap();
+        assert_eq!((refusal.number(), refusal.position()), (number, 7));
+        assert_eq!(refusal.to_string(), format!("refused by {number} at position 7: no number of this library"));
+    }
 }
 
 // A column of 256 rows is accepted, and the 257th row is not.

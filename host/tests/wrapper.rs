@@ -52,3 +52,16 @@ fn reopening() {
     assert_eq!(factor.reopen(3, 8, 9, 16), Ok(()));
     assert_eq!(format!("{factor:?}"), "1 0 1:1\n2 0 2:1\n3 0 3:1\n");
 }
+
+// A factor may move to another thread, and factors on two threads do not meet.
+#[test]
+fn threads() {
+    let mut factor = Factor::open(5, 8, 9, 16).unwrap();
+    let moved = std::thread::spawn(move || {
+        factor.add(&[(1, &[1, 3]), (2, &[1, 4]), (3, &[2, 3])]).unwrap();
+        factor
+    });
+    let mut other = Factor::open(1, 1, 1, 1).unwrap();
+    other.add(&[(1, &[1])]).unwrap();
+    assert_eq!((format!("{:?}", moved.join().unwrap()), format!("{other:?}")), (LISTING.into(), "1 0 1:2\n".into()));
+}

@@ -13,18 +13,20 @@ use Rattle.pool.specs.Chains.{chain}
 use Rattle.book.specs.Book as book
 use Rattle.tables.specs.Tables.{Tables}
 use Rattle.calls.specs.Refusals.{Refusal, isAccepted, orElse, unless, batchOf}
-use Rattle.calls.specs.Calls.{adding, removing, registerAfter}
+use Rattle.calls.specs.Calls.{adding, removing}
+use Rattle.calls.specs.Changes.{effect}
+use Rattle.calls.specs.Steps.{bookedIn}
 use Rattle.calls.proofs.Choices.{or-both}
 use Rattle.refusals.specs.Offsets.{offsetOf}
 use Rattle.refusals.specs.Found.{addFound, removeFound}
 use Rattle.refusals.proofs.Accepted.{AddReady, add-ready, ready-room, RemoveReady, remove-ready}
 use Rattle.entering.specs.Entering.{total, CanEnter, Entered, CanLeave, Left}
 use Rattle.batch.specs.Outcome.{cutWorld, CanFind}
-use Rattle.batch.specs.Parts.{bookWhole, registerIn, numberFor}
+use Rattle.batch.specs.Parts.{bookWhole, numberFor}
 use Rattle.batch.proofs.Cut.{sizes-are, columns-cut, book-sound}
 use Rattle.batch.proofs.Adding.{add-number, add-rest}
 use Rattle.batch.proofs.Removing.{remove-number}
-use Rattle.batch.proofs.Amending.{BookAfter}
+use Rattle.batch.proofs.Exchanging.{BookAfter}
 
 -- the counts together are the rows before the end
 total-is : (ns : List ℕ) → total ns ≡ offsetOf ns (length ns)
@@ -34,14 +36,14 @@ total-is (n ∷ ns) = ap (λ (k : ℕ). n + k) (total-is ns)
 
 -- ---- an addition
 
-module _ {t : Tables} {f g : ℕ} {w : List ℕ} (can : CanFind (cutWorld t f g) w) (is ns rs a b : List ℕ)
-    (taken : isAccepted (numberFor (cutWorld t f g) (adding is ns rs w a b)) ≡ true) where
+module _ {t : Tables} {f g : ℕ} {w : List ℕ} (can : CanFind (cutWorld t f g) w) (is ns rs : List ℕ)
+    (taken : isAccepted (numberFor (cutWorld t f g) (adding is ns rs)) ≡ true) where
   pub enter-can : CanEnter (length (t .heads)) (bookWhole t g) is ns rs
   enter-can =
       let m : ℕ = length (t .heads) in
       let d : book.Book = bookWhole t g in
       let x : AddReady m d is ns rs =
-      add-ready m d is ns rs (or-both (addFound m d is ns rs) (add-rest can is ns rs a b) (ap isAccepted (sym (add-number can is ns rs a b)) ∙ taken) .0) in
+      add-ready m d is ns rs (or-both (addFound m d is ns rs) (add-rest can is ns rs) (ap isAccepted (sym (add-number can is ns rs)) ∙ taken) .0) in
       let e : total ns ≡ length rs = total-is ns ∙ ap (λ (n : ℕ). offsetOf ns n) (x .counted) ∙ x .used in
       record {
         sized = can .book-rows;
@@ -57,7 +59,7 @@ module _ {t : Tables} {f g : ℕ} {w : List ℕ} (can : CanFind (cutWorld t f g)
       }
 
   pub entered-after : {after : book.Book} → Entered (length (t .heads)) (bookWhole t g) is ns rs after →
-      BookAfter (length (t .heads)) (bookWhole t g) (registerAfter (registerIn (cutWorld t f g)) (adding is ns rs w a b) .columns) is after
+      BookAfter (length (t .heads)) (bookWhole t g) (effect (bookedIn (cutWorld t f g)) (adding is ns rs) .register .columns) is after
   entered-after {after} e =
       record {
         sized = e .sized;
@@ -70,17 +72,17 @@ module _ {t : Tables} {f g : ℕ} {w : List ℕ} (can : CanFind (cutWorld t f g)
 
 -- ---- a removal
 
-module _ {t : Tables} {f g : ℕ} {w : List ℕ} (can : CanFind (cutWorld t f g) w) (is a b : List ℕ)
-    (taken : isAccepted (numberFor (cutWorld t f g) (removing is w a b)) ≡ true) where
+module _ {t : Tables} {f g : ℕ} {w : List ℕ} (can : CanFind (cutWorld t f g) w) (is : List ℕ)
+    (taken : isAccepted (numberFor (cutWorld t f g) (removing is)) ≡ true) where
   pub leave-can : CanLeave (length (t .heads)) (bookWhole t g) is
   leave-can =
       let m : ℕ = length (t .heads) in
       let d : book.Book = bookWhole t g in
-      let x : RemoveReady d is = remove-ready m d is (ap isAccepted (sym (remove-number can is a b)) ∙ taken) in
+      let x : RemoveReady d is = remove-ready m d is (ap isAccepted (sym (remove-number can is)) ∙ taken) in
       record { sized = can .book-rows; sound = book-sound can; distinct = x .distinct; named = x .named; booked = x .booked }
 
   pub left-after : {after : book.Book} → Left (length (t .heads)) (bookWhole t g) is after →
-      BookAfter (length (t .heads)) (bookWhole t g) (registerAfter (registerIn (cutWorld t f g)) (removing is w a b) .columns) is after
+      BookAfter (length (t .heads)) (bookWhole t g) (effect (bookedIn (cutWorld t f g)) (removing is) .register .columns) is after
   left-after {after} e =
       record {
         sized = e .sized;

@@ -17,10 +17,11 @@ use Rattle.tables.specs.Stored.{Stored, Sized, isSoundFor}
 use Rattle.tables.specs.Tables.{Tables, bookIn, storedIn}
 use Rattle.tables.proofs.Tables.{sound-book, sound-stored, sound-fits, sound-rows}
 use Rattle.calls.specs.Refusals.{isAccepted, bounds, sizesRefusal}
+use Rattle.calls.specs.Steps.{bookedIn}
 use Rattle.calls.proofs.Refusals.{InRange, sizes-facts}
 use Rattle.updown.specs.Entries.{planNeed, CanPlan}
 use Rattle.batch.specs.Outcome.{cutLimits, cutWorld, CanFind}
-use Rattle.batch.specs.Parts.{storedWhole, bookWhole, registerIn}
+use Rattle.batch.specs.Parts.{storedWhole, bookWhole}
 
 -- ---- read whole
 
@@ -57,30 +58,30 @@ module _ {t : Tables} {f g : ℕ} {w : List ℕ} (can : CanFind (cutWorld t f g)
   pub book-cut : bookIn (cutWorld t f g .state) t ≡ bookWhole t g
   book-cut = book-whole t f g (can .book-rows)
 
-  pub columns-cut : registerIn (cutWorld t f g) .columns ≡ book.columnsIn (bookWhole t g)
+  pub columns-cut : bookedIn (cutWorld t f g) .columns ≡ book.columnsIn (bookWhole t g)
   columns-cut = ap book.columnsIn book-cut
 
   -- ---- sound
 
-  pub stored-sound : isSoundFor (registerIn (cutWorld t f g) .columns) (storedWhole t f) ≡ true
+  pub stored-sound : isSoundFor (bookedIn (cutWorld t f g) .columns) (storedWhole t f) ≡ true
   stored-sound =
-      subst (λ (s : Stored). isSoundFor (registerIn (cutWorld t f g) .columns) s ≡ true) stored-cut (sound-stored (cutWorld t f g .state) t (can .sound))
+      subst (λ (s : Stored). isSoundFor (bookedIn (cutWorld t f g) .columns) s ≡ true) stored-cut (sound-stored (cutWorld t f g .state) t (can .sound))
 
   pub book-sound : book.isSound (length (t .heads)) (bookWhole t g) ≡ true
   book-sound = subst (λ (b : book.Book). book.isSound (length (t .heads)) b ≡ true) book-cut (sound-book (cutWorld t f g .state) t (can .sound))
 
   -- ---- the register: its columns fit, have distinct ids, and are at most n
 
-  pub columns-fit : all (book.columnFits (length (t .heads))) (registerIn (cutWorld t f g) .columns) ≡ true
+  pub columns-fit : all (book.columnFits (length (t .heads))) (bookedIn (cutWorld t f g) .columns) ≡ true
   columns-fit = sound-fits (cutWorld t f g .state) t (can .sound)
 
-  pub columns-rise : all (fitsRows (length (t .heads))) (registerIn (cutWorld t f g) .columns) ≡ true
+  pub columns-rise : all (fitsRows (length (t .heads))) (bookedIn (cutWorld t f g) .columns) ≡ true
   columns-rise = sound-rows (cutWorld t f g .state) t (can .sound)
 
-  pub columns-distinct : noRepeats (idsOf (registerIn (cutWorld t f g) .columns)) ≡ true
+  pub columns-distinct : noRepeats (idsOf (bookedIn (cutWorld t f g) .columns)) ≡ true
   columns-distinct = ids-distinct (bookIn (cutWorld t f g .state) t)
 
-  pub columns-few : length (registerIn (cutWorld t f g) .columns) ≤ 16384
+  pub columns-few : length (bookedIn (cutWorld t f g) .columns) ≤ 16384
   columns-few = omega (arith, ap length columns-cut, columns-count (bookWhole t g), sizes-are .n-high)
 
   -- ---- the work table
@@ -94,7 +95,7 @@ module _ {t : Tables} {f g : ℕ} {w : List ℕ} (can : CanFind (cutWorld t f g)
   -- ---- a batch of 1 to 64 columns that fit can be planned
 
   pub plan-can : (W : List Column) → all (book.columnFits (length (t .heads))) W ≡ true → 1 ≤ length W → length W ≤ 64 →
-      CanPlan (storedWhole t f) (registerIn (cutWorld t f g) .columns) W w
+      CanPlan (storedWhole t f) (bookedIn (cutWorld t f g) .columns) W w
   plan-can W fits some few =
       record {
         sized = stored-sized;

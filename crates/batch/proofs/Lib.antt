@@ -2,7 +2,7 @@ pub mod Cut
 pub mod Verdicts
 pub mod Adding
 pub mod Removing
-pub mod Amending
+pub mod Exchanging
 pub mod Booking
 pub mod Stepping
 pub mod Lifting

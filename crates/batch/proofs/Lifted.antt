@@ -1,34 +1,32 @@
 -- The outcome of a batch on cut tables, lifted: its number, answer and lists are those of the whole tables' register, an accepted world with the prefixes
--- written back is the whole one's (`amended-lifts`), a refused one is unchanged; so the step on the whole tables is whole (`step-lifts`).
+-- written back is the whole one's (`exchanged-lifts`), a refused one is unchanged; so the step on the whole tables is whole (`step-lifts`).
 -- Assumes nothing.
 use mathlib.Core.Path.{_≡_, refl, sym, ap, _∙_, subst}
-use mathlib.Core.Bool.{Bool, true, false, _&&_, false≢true}
+use mathlib.Core.Bool.{Bool, true, false, _&&_}
 use mathlib.Core.List.{List}
 use Prim.Native.Nat.{ℕ, _≤_}
 use lib.ListN.{length}
-use Rattle.lists.specs.Lists.{among}
+use Rattle.lists.specs.Lists.{among, at}
 use Rattle.symbolic.specs.Columns.{Register}
+use Rattle.symbolic.specs.Factor.{factorOf, inPattern}
 use Rattle.symbolic.specs.Change.{Bag}
 use Rattle.book.specs.Book as book
 use Rattle.tables.specs.Stored.{Stored, isSoundFor}
-use Rattle.tables.specs.Stays.{ColumnStays, EntriesKeep, TailsStay}
+use Rattle.tables.specs.Stays.{ColumnStays, EntriesStay, TailsStay}
 use Rattle.tables.specs.Tables.{Tables, Limits, storedIn, bookIn, registerOf, isSound}
 use Rattle.tables.proofs.Tables.{Long}
 use Rattle.calls.specs.Refusals.{Refusal, isAccepted}
-use Rattle.calls.specs.Calls.{Call, isBatch, registerAfter, idsBy}
-use Rattle.calls.specs.Report.{touchedBy}
-use Rattle.calls.specs.Numbers.{callRefusal}
-use Rattle.calls.specs.Steps.{Answer, Lent, lentTo, listsAfter, acceptedBy, refusedBy, World, Amended, AcceptedWorld}
-use Rattle.calls.proofs.Steps.{batch-world}
+use Rattle.calls.specs.Calls.{Change, changing, Lent, callOf}
+use Rattle.calls.specs.Changes.{effect, touchedBy}
+use Rattle.calls.specs.Steps.{Answer, refusedBy, acceptedBy, listsAfter, World, bookedIn, Exchanged}
 use Rattle.batch.specs.Outcome.{cutLimits, cutWorld, BatchOutcome, BatchStep}
-use Rattle.batch.proofs.Stepping.{accepted-world}
 use Rattle.batch.proofs.Lifting.{cutTables, joinTables, worldFor, join-cut, Fits, cut-fits, limits-are, stored-fits, book-fits, stored-joins, book-joins, tails-join, stored-lifts, book-lifts, register-lifts}
 
 -- a fact of two things, moved along equations of both
 moved : {A : Type 0} (P : A → A → Type 0) {a a′ b b′ : A} → a ≡ b → a′ ≡ b′ → P a a′ → P b b′
 moved P {a} {a′} {b} {b′} e e′ h = subst (λ x. P x b′) e (subst (λ x. P a x) e′ h)
 
-module _ {l : Limits} {t : Tables} (long : Long l t) (f g : ℕ) (y : Tables) (f′ g′ : ℕ) (k : Call) where
+module _ {l : Limits} {t : Tables} (long : Long l t) (f g : ℕ) (y : Tables) (f′ g′ : ℕ) (k : Change) where
   abbrev u : World
   u = cutWorld (cutTables l t) f g
 
@@ -39,8 +37,8 @@ module _ {l : Limits} {t : Tables} (long : Long l t) (f g : ℕ) (y : Tables) (f
   after = worldFor l f′ g′ (joinTables l y t)
 
   -- lengths stay, so the tables after it fit
-  amended-fits : TailsStay (cutLimits (cutTables l t)) (cutTables l t) y → Fits l y
-  amended-fits h =
+  exchanged-fits : TailsStay (cutLimits (cutTables l t)) (cutTables l t) y → Fits l y
+  exchanged-fits h =
       let z : Fits l (cutTables l t) = cut-fits l t long in
       record {
         heads = h .heads .same-length ∙ z .heads;
@@ -53,50 +51,59 @@ module _ {l : Limits} {t : Tables} (long : Long l t) (f g : ℕ) (y : Tables) (f
         book-next = h .bookNext .same-length ∙ z .book-next;
       }
 
-  pub amended-lifts : Amended (cutWorld (cutTables l t) f g) k (cutWorld y f′ g′) → Amended (worldFor l f g t) k (worldFor l f′ g′ (joinTables l y t))
-  amended-lifts x =
+  pub exchanged-lifts : Exchanged (cutWorld (cutTables l t) f g) k (cutWorld y f′ g′) → Exchanged (worldFor l f g t) k (worldFor l f′ g′ (joinTables l y t))
+  exchanged-lifts x =
       let c : Fits l (cutTables l t) = cut-fits l t long in
-      let z : Fits l y = amended-fits (x .tails) in
+      let z : Fits l y = exchanged-fits (x .tails) in
       let s : storedIn (u .state) (u .tables) ≡ storedIn (worldFor l f g t .state) t = stored-lifts long f g in
       let b : bookIn (u .state) (u .tables) ≡ bookIn (worldFor l f g t .state) t = book-lifts long f g in
       let r : registerOf (u .state) (u .tables) ≡ registerOf (worldFor l f g t .state) t = register-lifts long f g in
       let s′ : storedIn (v .state) y ≡ storedIn (after .state) (after .tables) = stored-fits z f′ g′ ∙ sym (stored-joins z f′ g′ t) in
       let b′ : bookIn (v .state) y ≡ bookIn (after .state) (after .tables) = book-fits z f′ g′ ∙ sym (book-joins z f′ g′ t) in
+      let l′ : ℕ = l .m in
+      let stays : (i j : ℕ) → inPattern (factorOf (l .m) (effect (registerOf (worldFor l f g t .state) t) k .stay)) i j ≡ true →
+      inPattern (factorOf (cutLimits (cutTables l t) .m) (effect (registerOf (u .state) (u .tables)) k .stay)) i j ≡ true =
+      λ i j n. subst (λ (m : ℕ). inPattern (factorOf m (effect (registerOf (u .state) (u .tables)) k .stay)) i j ≡ true) (sym (c .heads))
+      (subst (λ (o : Register). inPattern (factorOf (l .m) (effect o k .stay)) i j ≡ true) (sym r) n) in
       let sound : isSound (v .state) y ≡ isSound (after .state) (after .tables) =
       λ i. book.isSound (z .heads i) (b′ i) && isSoundFor (book.columnsIn (b′ i)) (s′ i) in
       record {
         limits = refl;
         sound = sym sound ∙ x .sound;
-        columns = subst (λ (q : Register). Bag (registerOf (after .state) (after .tables) .columns) (registerAfter q k .columns)) r
-            (subst (λ (d : book.Book). Bag (book.columnsIn d) (registerAfter (registerOf (u .state) (u .tables)) k .columns)) b′ (x .columns));
+        columns = subst (λ (q : Register). Bag (registerOf (after .state) (after .tables) .columns) (effect q k .register .columns)) r
+            (subst (λ (d : book.Book). Bag (book.columnsIn d) (effect (registerOf (u .state) (u .tables)) k .register .columns)) b′ (x .columns));
         others = λ j p q h. moved (λ (m n : Stored). ColumnStays m n j) s s′
             (x .others j p (subst (λ (n : ℕ). j ≤ n) (sym (c .heads)) q) (ap (λ (o : Register). among j (touchedBy o k)) r ∙ h));
-        entries = λ j p q. moved (λ (m n : Stored). EntriesKeep m n j) s s′ (x .entries j p (subst (λ (n : ℕ). j ≤ n) (sym (c .heads)) q));
-        book = λ i p q h. moved (λ (m n : book.Book). book.ColumnStays m n i) b b′ (x .book i p (subst (λ (n : ℕ). i ≤ n) (sym (c .book-heads)) q) h);
+        entries = λ j p q. moved (λ (m n : Stored). EntriesStay (factorOf l′ (effect (registerOf (worldFor l f g t .state) t) k .stay)) m n j) s s′
+            (λ i o d e h n. x .entries j p (subst (λ (n : ℕ). j ≤ n) (sym (c .heads)) q) i o d e h (stays (at (storedIn (u .state) (u .tables) .rows) i) j n));
+        book = λ i p q h. moved (λ (m n : book.Book). book.ColumnStays m n i) b b′
+            (x .book i p (subst (λ (n : ℕ). i ≤ n) (sym (c .book-heads)) q) (ap (λ (o : Register). among i (effect o k .ids)) r ∙ h));
         tails = tails-join z f′ g′ t long;
       }
 
   -- ---- the whole step
 
-  module _ (a : Answer) (x : Lent) (batch : isBatch k ≡ true) where
-    by-number : (z : Bool) → isAccepted (callRefusal (cutLimits (cutTables l t)) (registerOf (u .state) (u .tables)) k) ≡ z → BatchOutcome z u k a x v →
-        callRefusal (cutLimits (cutTables l t)) (registerOf (u .state) (u .tables)) k ≡ callRefusal l (registerOf (worldFor l f g t .state) t) k →
-        BatchStep (worldFor l f g t) k a x after
+  module _ (a : Answer) (x y′ : Lent) where
+    abbrev refusalIn : World → Refusal
+    refusalIn w = effect (bookedIn w) k .refusal (w .state .limits)
+
+    by-number : (q : Bool) → isAccepted (refusalIn u) ≡ q → BatchOutcome q u k x a y′ v → refusalIn u ≡ refusalIn (worldFor l f g t) →
+        BatchStep (worldFor l f g t) k x a y′ after
     by-number true e o n =
-        subst (λ (z : Bool). BatchOutcome z (worldFor l f g t) k a x after) (sym (ap isAccepted (sym n) ∙ e)) (
-          o .0 ∙ ap (λ (q : Register). acceptedBy q k) (register-lifts long f g),
-          o .1 ∙ ap (λ (q : Register). listsAfter q k (lentTo k .work)) (register-lifts long f g),
-          accepted-world k batch (amended-lifts (batch-world u k v batch (o .2))),
+        subst (λ (q : Bool). BatchOutcome q (worldFor l f g t) k x a y′ after) (sym (ap isAccepted (sym n) ∙ e)) (
+          o .0 ∙ ap (λ (r : Register). acceptedBy r (changing k)) (register-lifts long f g),
+          o .1 ∙ ap (λ (r : Register). listsAfter r (callOf (changing k) x) (x .work)) (register-lifts long f g),
+          exchanged-lifts (o .2),
         )
     by-number false e o n =
         let w : joinTables l y t ≡ t = ap (λ (q : World). joinTables l (q .tables) t) (o .2) ∙ join-cut l t in
-        subst (λ (z : Bool). BatchOutcome z (worldFor l f g t) k a x after) (sym (ap isAccepted (sym n) ∙ e)) (
+        subst (λ (q : Bool). BatchOutcome q (worldFor l f g t) k x a y′ after) (sym (ap isAccepted (sym n) ∙ e)) (
           o .0 ∙ ap refusedBy n,
           o .1,
           λ i. worldFor l (o .2 i .state .free) (o .2 i .state .bookFree) (w i),
         )
 
-    pub step-lifts : BatchStep (cutWorld (cutTables l t) f g) k a x (cutWorld y f′ g′) → BatchStep (worldFor l f g t) k a x (worldFor l f′ g′ (joinTables l y t))
+    pub step-lifts : BatchStep (cutWorld (cutTables l t) f g) k x a y′ (cutWorld y f′ g′) → BatchStep (worldFor l f g t) k x a y′ (worldFor l f′ g′ (joinTables l y t))
     step-lifts step =
-        by-number (isAccepted (callRefusal (cutLimits (cutTables l t)) (registerOf (u .state) (u .tables)) k)) refl step
-        (λ i. callRefusal (limits-are (cut-fits l t long) f g i) (register-lifts long f g i) k)
+        by-number (isAccepted (refusalIn u)) refl step
+        (λ i. effect (register-lifts long f g i) k .refusal (limits-are (cut-fits l t long) f g i))

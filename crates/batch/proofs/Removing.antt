@@ -15,18 +15,19 @@ use Rattle.symbolic.specs.Change.{without, columnsOf}
 use Rattle.book.specs.Book as book
 use Rattle.book.proofs.Columns.{column-found}
 use Rattle.tables.specs.Tables.{Tables}
-use Rattle.calls.specs.Refusals.{Refusal, accepted, isAccepted, orElse, unless, isLive, idsRefusal, removeRefusal}
+use Rattle.calls.specs.Refusals.{Refusal, accepted, isAccepted, orElse, unless, inRegister, idsRefusal, removeRefusal}
 use Rattle.calls.specs.Calls.{removing}
+use Rattle.calls.specs.Steps.{bookedIn}
 use Rattle.calls.proofs.Choices.{Whole, or-whole}
 use Rattle.calls.proofs.Refusals.{RemoveFits, remove-facts}
-use Rattle.calls.proofs.Batches.{removal-bag, removal-fits, removal-factor}
+use Rattle.calls.proofs.Changes.{touched-removing, removal-bag, removal-fits, removal-factor}
 use Rattle.refusals.specs.Found as refusals
 use Rattle.refusals.specs.Found.{removeFound}
 use Rattle.refusals.proofs.Accepted.{RemoveReady, remove-ready, remove-refusal}
 use Rattle.updown.specs.Plans.{PlanIs}
 use Rattle.updown.specs.Entries.{Booked, CanRemove, RemovePlanned}
 use Rattle.batch.specs.Outcome.{cutLimits, cutWorld, CanFind}
-use Rattle.batch.specs.Parts.{storedWhole, bookWhole, registerIn, numberFor, verdictNumber, Judged}
+use Rattle.batch.specs.Parts.{storedWhole, bookWhole, numberFor, verdictNumber, Judged}
 use Rattle.batch.specs.declared.Verdict.{Verdict}
 use Rattle.batch.proofs.Cut.{columns-cut, columns-fit, columns-distinct, book-sound, plan-can}
 use Rattle.batch.proofs.Verdicts.{refused-judged, planned-judged}
@@ -67,24 +68,24 @@ ids-whole r n p bs [] h = refl
 ids-whole r n p bs (i ∷ is) h =
     let x : Refusal = unless (isIn 1 n i) 8 p in
     let y : Refusal = unless (not (among i bs)) 9 p in
-    let z : Refusal = unless (isLive r i) 11 p in
+    let z : Refusal = unless (inRegister r i) 11 p in
     let q : Refusal = idsRefusal r n (suc p) (i ∷ bs) is in
     or-whole x (orElse y (orElse z q)) (or-whole y (orElse z q) (or-whole z q (ids-whole r n (suc p) (i ∷ bs) is))) h
 
-module _ {t : Tables} {f g : ℕ} {w : List ℕ} (can : CanFind (cutWorld t f g) w) (is a b : List ℕ) where
+module _ {t : Tables} {f g : ℕ} {w : List ℕ} (can : CanFind (cutWorld t f g) w) (is : List ℕ) where
   abbrev r : Register
-  r = registerIn (cutWorld t f g)
+  r = bookedIn (cutWorld t f g)
 
   abbrev m : ℕ
   m = length (t .heads)
 
-  pub remove-number : numberFor (cutWorld t f g) (removing is w a b) ≡ removeFound m (bookWhole t g) is
+  pub remove-number : numberFor (cutWorld t f g) (removing is) ≡ removeFound m (bookWhole t g) is
   remove-number =
       ap (λ (cs : List Column). removeRefusal (cutLimits t) (record { m = m; columns = cs }) is) (columns-cut can) ∙
       remove-refusal (cutLimits t) m (bookWhole t g) is refl
 
   pub remove-refused : {x : Verdict} → verdictNumber x ≡ removeFound (length (t .heads)) (bookWhole t g) is → isAccepted (verdictNumber x) ≡ false →
-      Judged (cutWorld t f g) (removing is w a b) w w x
+      Judged (cutWorld t f g) (removing is) w w x
   remove-refused e h = refused-judged (e ∙ sym remove-number) h refl
 
   -- ---- not refused
@@ -96,7 +97,7 @@ module _ {t : Tables} {f g : ℕ} {w : List ℕ} (can : CanFind (cutWorld t f g)
     abbrev W : List Column
     W = columnsOf is (r .columns)
 
-    facts : RemoveFits (cutLimits t) (registerIn (cutWorld t f g)) is
+    facts : RemoveFits (cutLimits t) (bookedIn (cutWorld t f g)) is
     facts = remove-facts (cutLimits t) r is (ap isAccepted remove-number ∙ found)
 
     found-whole : removeFound (length (t .heads)) (bookWhole t g) is ≡ accepted
@@ -104,7 +105,7 @@ module _ {t : Tables} {f g : ℕ} {w : List ℕ} (can : CanFind (cutWorld t f g)
         let y : Refusal = idsRefusal (refusals.registerIn m (bookWhole t g)) (length (t .bookHeads)) 1 [] is in
         or-whole (unless (isIn 1 64 (length is)) 7 0) y (ids-whole (refusals.registerIn m (bookWhole t g)) (length (t .bookHeads)) 1 [] is) found
 
-    pub remove-can : (h i : ℕ) → CanRemove (storedWhole t h) (bookWhole t i) is w (without is (registerIn (cutWorld t f g) .columns)) (columnsOf is (registerIn (cutWorld t f g) .columns))
+    pub remove-can : (h i : ℕ) → CanRemove (storedWhole t h) (bookWhole t i) is w (without is (bookedIn (cutWorld t f g) .columns)) (columnsOf is (bookedIn (cutWorld t f g) .columns))
     remove-can h i =
         let x : RemoveReady (bookWhole t g) is = remove-ready m (bookWhole t g) is found in
         record {
@@ -121,15 +122,15 @@ module _ {t : Tables} {f g : ℕ} {w : List ℕ} (can : CanFind (cutWorld t f g)
         }
 
     pub remove-planned : {h : ℕ} {w′ : List ℕ} {z : Bool} {first count entries used : ℕ} →
-        RemovePlanned (storedWhole t h) (without is (registerIn (cutWorld t f g) .columns)) (columnsOf is (registerIn (cutWorld t f g) .columns)) w w′ z first count entries used →
+        RemovePlanned (storedWhole t h) (without is (bookedIn (cutWorld t f g) .columns)) (columnsOf is (bookedIn (cutWorld t f g) .columns)) w w′ z first count entries used →
         {x : Verdict} → verdictNumber x ≡ accepted → x .first ≡ first → x .count ≡ count → x .entries ≡ entries → x .used ≡ used →
-        Judged (cutWorld t f g) (removing is w a b) w w′ x
+        Judged (cutWorld t f g) (removing is) w w′ x
     remove-planned {h} {w′} {z} {first} {count} {entries} {used} p {x} e q1 q2 q3 q4 =
         planned-judged (e ∙ sym (remove-number ∙ found-whole)) (ap isAccepted e)
         (record {
           room = 0;
           room-fits = omega arith;
-          plan = rw (q1, q2, q3, q4)
+          plan = rw (q1, q2, q3, q4, touched-removing r is)
               (subst (λ (F : List FactorColumn). PlanIs m (length (t .next)) 0 F (factorOf m R) (labelOf F W) (touched F W) w w′ first count entries used)
               (sym (removal-factor (cutLimits t) r is (columns-distinct can) facts)) (p .plan));
         })

@@ -7,33 +7,33 @@ use mathlib.Core.List.{List}
 use Prim.Native.Nat.{ℕ}
 use borrow.Author.Tests.{eq-eqb, ne-eqb}
 use Rattle.calls.specs.Refusals.{isAccepted}
-use Rattle.calls.specs.Calls.{Call}
+use Rattle.calls.specs.Calls.{Change}
 use Rattle.calls.specs.Steps.{World}
 use Rattle.batch.specs.Outcome.{CanBatch}
 use Rattle.batch.specs.Parts.{numberFor, verdictNumber, BatchPlan, Judged, CanWriteBatch}
 use Rattle.batch.specs.declared.Verdict.{Verdict}
 
--- a verdict that refuses leaves the work table; whatever the call
-pub refused-judged : {u : World} {k : Call} {before after : List ℕ} {x : Verdict} → verdictNumber x ≡ numberFor u k → isAccepted (verdictNumber x) ≡ false →
-    after ≡ before → Judged u k before after x
+-- a verdict that refuses leaves the work table; whatever the change
+pub refused-judged : {u : World} {c : Change} {before after : List ℕ} {x : Verdict} → verdictNumber x ≡ numberFor u c → isAccepted (verdictNumber x) ≡ false →
+    after ≡ before → Judged u c before after x
 refused-judged e h same =
     record { number-is = e; plan = λ z. absurd (true≢false (sym z ∙ ap isAccepted (sym e) ∙ h)); unchanged = λ z. same }
 
 -- one that accepts has the plan
-pub planned-judged : {u : World} {k : Call} {before after : List ℕ} {x : Verdict} → verdictNumber x ≡ numberFor u k → isAccepted (verdictNumber x) ≡ true →
-    BatchPlan u k before after (x .first) (x .count) (x .entries) (x .used) → Judged u k before after x
+pub planned-judged : {u : World} {c : Change} {before after : List ℕ} {x : Verdict} → verdictNumber x ≡ numberFor u c → isAccepted (verdictNumber x) ≡ true →
+    BatchPlan u c before after (x .first) (x .count) (x .entries) (x .used) → Judged u c before after x
 planned-judged e h p =
     record { number-is = e; plan = λ z. p; unchanged = λ z. absurd (true≢false (sym (ap isAccepted (sym e) ∙ h) ∙ z)) }
 
-module _ {u : World} {k : Call} {before after : List ℕ} {x : Verdict} (j : Judged u k before after x) where
-  pub judged-taken : x .number ≡ 0 → isAccepted (numberFor u k) ≡ true
+module _ {u : World} {c : Change} {before after : List ℕ} {x : Verdict} (j : Judged u c before after x) where
+  pub judged-taken : x .number ≡ 0 → isAccepted (numberFor u c) ≡ true
   judged-taken e = ap isAccepted (sym (j .number-is)) ∙ eq-eqb (x .number) 0 e
 
-  pub judged-not : x .number ≢ 0 → isAccepted (numberFor u k) ≡ false
+  pub judged-not : x .number ≢ 0 → isAccepted (numberFor u c) ≡ false
   judged-not e = ap isAccepted (sym (j .number-is)) ∙ ne-eqb (x .number) 0 e
 
   -- an accepted batch with its plan can be written
   pub judged-can : {touched labels : List ℕ} → x .number ≡ 0 → CanBatch u before touched labels →
-      CanWriteBatch u k before after touched labels (x .first) (x .used)
+      CanWriteBatch u c before after touched labels (x .first) (x .used)
   judged-can e can =
       record { can = can; accepted = judged-taken e; count = x .count; entries = x .entries; plan = j .plan (judged-taken e) }

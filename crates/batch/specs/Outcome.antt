@@ -2,15 +2,15 @@
 -- after it. Numbers 7 to 16 are still answered. Assumes nothing: these are definitions.
 use mathlib.Core.Path.{_≡_}
 use mathlib.Core.Bool.{Bool, true, false}
-use mathlib.Core.List.{List, [], _∷_}
+use mathlib.Core.List.{List}
 use Prim.Native.Nat.{ℕ, _≤_}
 use lib.ListN.{length}
 use Rattle.workspace.specs.Regions.{IsZero}
-use Rattle.tables.specs.Tables.{Tables, Limits, State, registerOf, isSound}
+use Rattle.tables.specs.Tables.{Tables, Limits, isSound}
 use Rattle.calls.specs.Refusals.{accepted, isAccepted, bounds, sizesRefusal, workFor}
-use Rattle.calls.specs.Calls.{Call}
-use Rattle.calls.specs.Numbers.{callRefusal}
-use Rattle.calls.specs.Steps.{Answer, refusedBy, acceptedBy, Lent, lentTo, listsAfter, World, AcceptedWorld}
+use Rattle.calls.specs.Calls.{Change, changing, Lent, callOf}
+use Rattle.calls.specs.Changes.{effect}
+use Rattle.calls.specs.Steps.{Answer, refusedBy, acceptedBy, listsAfter, World, bookedIn, Exchanged}
 use Rattle.batch.specs.declared.Batch.{Batch}
 
 -- ---- tables that are cut to their sizes: a size is a length
@@ -52,19 +52,12 @@ pub record CanBatch (u : World) (work touched labels : List ℕ) : Type 0 where
 abbrev pub batchAnswer : Batch → Answer
 batchAnswer x = record { number = x .number; position = x .position; touched = x .touched; entries = x .entries; grade = x .grade; value = 0 }
 
--- the lists lent to a batch
-abbrev pub batchLists : (work touched labels : List ℕ) → Lent
-batchLists w a b = record { work = w; touched = a; labels = b; list = [] }
-
 -- answer, lists (the work table as it was) and world, by the number that the register gives
-abbrev pub BatchOutcome : (isTaken : Bool) → World → Call → Answer → Lent → World → Type 0
-BatchOutcome true u k a x v =
-    (a ≡ acceptedBy (registerOf (u .state) (u .tables)) k) ×
-    (x ≡ listsAfter (registerOf (u .state) (u .tables)) k (lentTo k .work)) × AcceptedWorld u k v
-BatchOutcome false u k a x v =
-    (a ≡ refusedBy (callRefusal (u .state .limits) (registerOf (u .state) (u .tables)) k)) × (x ≡ lentTo k) × (v ≡ u)
+abbrev pub BatchOutcome : (isTaken : Bool) → World → Change → Lent → Answer → Lent → World → Type 0
+BatchOutcome true u c x a y v =
+    (a ≡ acceptedBy (bookedIn u) (changing c)) × (y ≡ listsAfter (bookedIn u) (callOf (changing c) x) (x .work)) × Exchanged u c v
+BatchOutcome false u c x a y v = (a ≡ refusedBy (effect (bookedIn u) c .refusal (u .state .limits))) × (y ≡ x) × (v ≡ u)
 
--- what an unchecked batch promises: accepted exactly if none of 7 to 16 applies
-abbrev pub BatchStep : World → Call → Answer → Lent → World → Type 0
-BatchStep u k a x v =
-    BatchOutcome (isAccepted (callRefusal (u .state .limits) (registerOf (u .state) (u .tables)) k)) u k a x v
+-- what an unchecked batch promises of the lists x lent to it: accepted exactly if none of 7 to 16 applies
+abbrev pub BatchStep : World → Change → (x : Lent) → Answer → Lent → World → Type 0
+BatchStep u c x a y v = BatchOutcome (isAccepted (effect (bookedIn u) c .refusal (u .state .limits))) u c x a y v

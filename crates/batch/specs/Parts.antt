@@ -1,23 +1,20 @@
 -- The two parts of a batch. First its number is found and, where that is 0, its plan made in the work table: a `Verdict`. Then plan and book are written.
--- Each part is stated over the call, for adding and removing alike. Assumes nothing: these are definitions.
+-- Each part is stated over the change, for adding and removing alike. Assumes nothing: these are definitions.
 use mathlib.Core.Path.{_≡_}
 use mathlib.Core.Bool.{true, false}
 use mathlib.Core.List.{List}
 use Prim.Native.Nat.{ℕ, _≤_}
 use lib.ListN.{length}
 use Rattle.lists.specs.Lists.{over}
-use Rattle.symbolic.specs.Columns.{Register}
 use Rattle.symbolic.specs.Factor.{factorFor}
-use Rattle.symbolic.specs.Batch.{labelOf}
 use Rattle.pool.specs.Chains.{chain}
 use Rattle.book.specs.Book as book
 use Rattle.tables.specs.Stored.{Stored, storedOf}
-use Rattle.tables.specs.Tables.{Tables, registerOf, tablesOf}
+use Rattle.tables.specs.Tables.{Tables, tablesOf}
 use Rattle.calls.specs.Refusals.{Refusal, refusal, isAccepted}
-use Rattle.calls.specs.Calls.{Call, registerAfter, batchColumns}
-use Rattle.calls.specs.Report.{treeFor, touchedBy, labelsBy, entriesBy}
-use Rattle.calls.specs.Numbers.{callRefusal}
-use Rattle.calls.specs.Steps.{World, Amended}
+use Rattle.calls.specs.Calls.{Change}
+use Rattle.calls.specs.Changes.{effect, touchedBy, labelsBy}
+use Rattle.calls.specs.Steps.{World, bookedIn, Exchanged}
 use Rattle.updown.specs.Plans.{PlanIs}
 use Rattle.batch.specs.Outcome.{cutWorld, CanFind, CanBatch}
 use Rattle.batch.specs.declared.Verdict.{Verdict}
@@ -32,33 +29,29 @@ storedWhole t f = storedOf (t .heads) (t .parents) (t .rows) (t .counts) (t .nex
 abbrev pub bookWhole : Tables → (bookFree : ℕ) → book.Book
 bookWhole t g = book.bookOf (t .bookHeads) (t .bookRows) (t .bookNext) g
 
--- the register that the book of some tables holds
-abbrev pub registerIn : World → Register
-registerIn u = registerOf (u .state) (u .tables)
-
 -- ---- found and planned
 
--- the number and position of a call
-abbrev pub numberFor : World → Call → Refusal
-numberFor u k = callRefusal (u .state .limits) (registerIn u) k
+-- the number and position of a change
+abbrev pub numberFor : World → Change → Refusal
+numberFor u c = effect (bookedIn u) c .refusal (u .state .limits)
 
 -- the number and position that a search has found
 abbrev pub verdictNumber : Verdict → Refusal
 verdictNumber x = refusal (x .number) (x .position)
 
 -- the plan of an accepted batch: from the register's factor to the one after the call
-pub record BatchPlan (u : World) (k : Call) (before after : List ℕ) (first count entries used : ℕ) : Type 0 where
+pub record BatchPlan (u : World) (c : Change) (before after : List ℕ) (first count entries used : ℕ) : Type 0 where
   pub room : ℕ
   pub room-fits : room ≤ length (chain (u .tables .next) (u .state .free))
   pub plan :
-      PlanIs (u .state .limits .m) (u .state .limits .f) room (factorFor (registerIn u)) (factorFor (registerAfter (registerIn u) k))
-      (labelOf (treeFor (registerIn u) k) (batchColumns (registerIn u) k)) (touchedBy (registerIn u) k) before after first count entries used
+      PlanIs (u .state .limits .m) (u .state .limits .f) room (factorFor (bookedIn u)) (factorFor (effect (bookedIn u) c .register))
+      (effect (bookedIn u) c .label) (touchedBy (bookedIn u) c) before after first count entries used
 
--- the number is the call's; accepted, the plan stands in the work table; refused, that is as lent
-pub record Judged (u : World) (k : Call) (before after : List ℕ) (x : Verdict) : Type 0 where
-  pub number-is : verdictNumber x ≡ numberFor u k
-  pub plan : isAccepted (numberFor u k) ≡ true → BatchPlan u k before after (x .first) (x .count) (x .entries) (x .used)
-  pub unchanged : isAccepted (numberFor u k) ≡ false → after ≡ before
+-- the number is the change's; accepted, the plan stands in the work table; refused, that is as lent
+pub record Judged (u : World) (c : Change) (before after : List ℕ) (x : Verdict) : Type 0 where
+  pub number-is : verdictNumber x ≡ numberFor u c
+  pub plan : isAccepted (numberFor u c) ≡ true → BatchPlan u c before after (x .first) (x .count) (x .entries) (x .used)
+  pub unchanged : isAccepted (numberFor u c) ≡ false → after ≡ before
 
 -- what an addition's search asks: the book's rows are not read, any that suit will do
 pub record SomeRows (heads parents rows counts next bookHeads bookNext : List ℕ) (free bookFree : ℕ) (work : List ℕ) : Type 0 where
@@ -74,21 +67,21 @@ pub record SomeFree (t : Tables) (work : List ℕ) : Type 0 where
 -- ---- written
 
 -- an accepted batch with its plan in the work table
-pub record CanWriteBatch (u : World) (k : Call) (before work touched labels : List ℕ) (first used : ℕ) : Type 0 where
+pub record CanWriteBatch (u : World) (c : Change) (before work touched labels : List ℕ) (first used : ℕ) : Type 0 where
   pub can : CanBatch u before touched labels
-  pub accepted : isAccepted (numberFor u k) ≡ true
+  pub accepted : isAccepted (numberFor u c) ≡ true
   pub count : ℕ
   pub entries : ℕ
-  pub plan : BatchPlan u k before work first count entries used
+  pub plan : BatchPlan u c before work first count entries used
 
 -- what a caller shows: such a batch, for some work table before the plan
-pub record SomePlan (u : World) (call : List ℕ → Call) (work touched labels : List ℕ) (first used : ℕ) : Type 0 where
+pub record SomePlan (u : World) (c : Change) (work touched labels : List ℕ) (first used : ℕ) : Type 0 where
   pub before : List ℕ
-  pub can : CanWriteBatch u (call before) before work touched labels first used
+  pub can : CanWriteBatch u c before work touched labels first used
 
--- tables and report are the call's, and the work table is as before the plan
-pub record BatchWritten (u : World) (k : Call) (before touched labels : List ℕ) (v : World) (work touched′ labels′ : List ℕ) : Type 0 where
-  pub amended : Amended u k v
+-- tables and report are the change's, and the work table is as before the plan
+pub record BatchWritten (u : World) (c : Change) (before touched labels : List ℕ) (v : World) (work touched′ labels′ : List ℕ) : Type 0 where
+  pub exchanged : Exchanged u c v
   pub work-is : work ≡ before
-  pub touched-is : touched′ ≡ over (touchedBy (registerIn u) k) touched
-  pub labels-is : labels′ ≡ over (labelsBy (registerIn u) k) labels
+  pub touched-is : touched′ ≡ over (touchedBy (bookedIn u) c) touched
+  pub labels-is : labels′ ≡ over (labelsBy (bookedIn u) c) labels

@@ -3,8 +3,9 @@
 ghost use mathlib.Core.Path.{_≡_};
 ghost use Rattle.tables.specs.Tables.{tablesOf};
 ghost use Rattle.symbolic.specs.Batch.{gradeOf};
-ghost use Rattle.calls.specs.Calls.Call.{adding, removing};
-ghost use Rattle.batch.specs.Outcome.{cutWorld, CanBatch, batchAnswer, batchLists, BatchStep};
+ghost use Rattle.calls.specs.Calls.{reportLists};
+ghost use Rattle.calls.specs.Calls.Change.{adding, removing};
+ghost use Rattle.batch.specs.Outcome.{cutWorld, CanBatch, batchAnswer, BatchStep};
 
 mod judging;
 mod writing;
@@ -102,7 +103,7 @@ pub fn add(
     book_free: Rec,
 ) -> Batch
     requires { ⌜ CanBatch (cutWorld (tablesOf (now heads) (now parents) (now rows) (now counts) (now next) (now «book_heads») (now «book_rows») (now «book_next»)) (free .0) («book_free» .0)) (now work) (now touched) (now labels) ⌝ }
-    ensures { λ r. ⌜ BatchStep (cutWorld (tablesOf (now (heads .entry)) (now (parents .entry)) (now (rows .entry)) (now (counts .entry)) (now (next .entry)) (now («book_heads» .entry)) (now («book_rows» .entry)) (now («book_next» .entry))) (free .0) («book_free» .0)) (adding (now (ids .entry)) (now («row_counts» .entry)) (now («row_list» .entry)) (now (work .entry)) (now (touched .entry)) (now (labels .entry))) (batchAnswer r) (batchLists (now (work .exit)) (now (touched .exit)) (now (labels .exit))) (cutWorld (tablesOf (now (heads .entry)) (now (parents .exit)) (now (rows .exit)) (now (counts .exit)) (now (next .exit)) (now («book_heads» .exit)) (now («book_rows» .exit)) (now («book_next» .exit))) (r .free) (r .«book_free»)) ⌝ }
+    ensures { λ r. ⌜ BatchStep (cutWorld (tablesOf (now (heads .entry)) (now (parents .entry)) (now (rows .entry)) (now (counts .entry)) (now (next .entry)) (now («book_heads» .entry)) (now («book_rows» .entry)) (now («book_next» .entry))) (free .0) («book_free» .0)) (adding (now (ids .entry)) (now («row_counts» .entry)) (now («row_list» .entry))) (reportLists (now (work .entry)) (now (touched .entry)) (now (labels .entry))) (batchAnswer r) (reportLists (now (work .exit)) (now (touched .exit)) (now (labels .exit))) (cutWorld (tablesOf (now (heads .entry)) (now (parents .exit)) (now (rows .exit)) (now (counts .exit)) (now (next .exit)) (now («book_heads» .exit)) (now («book_rows» .exit)) (now («book_next» .exit))) (r .free) (r .«book_free»)) ⌝ }
 {
     let verdict = judging::judge_add(
         heads,
@@ -163,7 +164,7 @@ pub fn remove(
     book_free: Rec,
 ) -> Batch
     requires { ⌜ CanBatch (cutWorld (tablesOf (now heads) (now parents) (now rows) (now counts) (now next) (now «book_heads») (now «book_rows») (now «book_next»)) (free .0) («book_free» .0)) (now work) (now touched) (now labels) ⌝ }
-    ensures { λ r. ⌜ BatchStep (cutWorld (tablesOf (now (heads .entry)) (now (parents .entry)) (now (rows .entry)) (now (counts .entry)) (now (next .entry)) (now («book_heads» .entry)) (now («book_rows» .entry)) (now («book_next» .entry))) (free .0) («book_free» .0)) (removing (now (ids .entry)) (now (work .entry)) (now (touched .entry)) (now (labels .entry))) (batchAnswer r) (batchLists (now (work .exit)) (now (touched .exit)) (now (labels .exit))) (cutWorld (tablesOf (now (heads .entry)) (now (parents .exit)) (now (rows .exit)) (now (counts .exit)) (now (next .exit)) (now («book_heads» .exit)) (now («book_rows» .exit)) (now («book_next» .exit))) (r .free) (r .«book_free»)) ⌝ }
+    ensures { λ r. ⌜ BatchStep (cutWorld (tablesOf (now (heads .entry)) (now (parents .entry)) (now (rows .entry)) (now (counts .entry)) (now (next .entry)) (now («book_heads» .entry)) (now («book_rows» .entry)) (now («book_next» .entry))) (free .0) («book_free» .0)) (removing (now (ids .entry))) (reportLists (now (work .entry)) (now (touched .entry)) (now (labels .entry))) (batchAnswer r) (reportLists (now (work .exit)) (now (touched .exit)) (now (labels .exit))) (cutWorld (tablesOf (now (heads .entry)) (now (parents .exit)) (now (rows .exit)) (now (counts .exit)) (now (next .exit)) (now («book_heads» .exit)) (now («book_rows» .exit)) (now («book_next» .exit))) (r .free) (r .«book_free»)) ⌝ }
 {
     let verdict = judging::judge_remove(
         heads,

@@ -13,15 +13,13 @@ use Rattle.lists.proofs.Tests.{and-both}
 use Rattle.workspace.specs.Regions.{IsZero, cleared, zeroFirst}
 use Rattle.workspace.proofs.Regions.{cleared-length, cleared-zero, first-cleared}
 use Rattle.tables.specs.Tables.{Tables, Limits, State, isSound, registerOf}
-use Rattle.calls.specs.Refusals.{Refusal, isAccepted, orElse, unless, workFor}
-use Rattle.calls.specs.Calls.{Call, checking}
-use Rattle.calls.specs.Numbers.{earlyRefusal, soundRefusal, callRefusal}
-use Rattle.calls.specs.Steps.{Answer, Lent, World, Transition}
+use Rattle.calls.specs.Refusals.{Refusal, isAccepted, orElse, unless, workFor, listsLong}
+use Rattle.calls.specs.Calls.{checking, Lent, workOnly, Call, callOf}
+use Rattle.calls.specs.Numbers.{callEarly, soundRefusal, callRefusal}
+use Rattle.calls.specs.Steps.{Answer, World, Transition}
 use Rattle.calls.proofs.Choices.{or-both, unless-holds}
 use Rattle.calls.proofs.Numbers.{Ready, early-facts}
 use Rattle.calls.proofs.Steps.{Accepted, step-taken}
-use Rattle.refusals.specs.Early.{listsLong}
-use Rattle.factor.specs.Entries.{workOnly}
 use Rattle.factor.specs.Batches.{CanChange}
 
 pub lists-fit : (m : ℕ) (a b : List ℕ) {y : Bool} → y ≡ not (listsLong m a b) → y ≡ false → (m ≤ length a) × (m ≤ length b)
@@ -34,15 +32,15 @@ module _ (s : State) (t : Tables) (w : List ℕ) where
   here = record { state = s; tables = t }
 
   abbrev call : Call
-  call = checking w
+  call = callOf checking (workOnly w)
 
   pub checked-can : (z : Answer) (w′ : List ℕ) → Transition here call z (workOnly w′) here → z .number ≡ 0 →
       (a b : List ℕ) → s .limits .m ≤ length a → s .limits .m ≤ length b → CanChange s t w′ a b
   checked-can z w′ o d a b x y =
       let l : Limits = s .limits in
       let g : Accepted here call z (workOnly w′) here = step-taken here call z (workOnly w′) here o d in
-      let e : Refusal = earlyRefusal l t call in
-      let q : Refusal = orElse (soundRefusal s t call) (callRefusal l (registerOf s t) call) in
+      let e : Refusal = callEarly l t call in
+      let q : Refusal = orElse (soundRefusal s t (call .entry)) (callRefusal l (registerOf s t) call) in
       let early : isAccepted e ≡ true = or-both e q (g .number) .0 in
       let sound : isAccepted (unless (isSound s t) 6 0) ≡ true = or-both (unless (isSound s t) 6 0) (callRefusal l (registerOf s t) call) (or-both e q (g .number) .1) .0 in
       let r : Ready l t call = early-facts l t call early in

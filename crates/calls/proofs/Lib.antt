@@ -1,8 +1,7 @@
 pub mod Choices
 pub mod Refusals
 pub mod Numbers
+pub mod Changes
 pub mod Order
 pub mod Steps
-pub mod Batches
-pub mod Amends
-pub mod Room
+pub mod Exchanges

@@ -1,5 +1,5 @@
 -- What reads a register only up to the order of its columns, given distinct ids: the columns of some ids, every number, every report, every answer and
--- list, and the register after a call (`bag-after`); an accepted call keeps ids distinct (`once-after`). The book lists its columns by rising id and a
+-- list, and the register after a change (`bag-after`); an accepted change keeps ids distinct (`once-after`). The book lists its columns by rising id and a
 -- register by time, so every theorem about the two passes here. Assumes nothing.
 use mathlib.Core.Path.{_≡_, refl, sym, ap, _∙_, subst}
 use mathlib.Core.Logic.{inl, inr, _≢_}
@@ -9,23 +9,27 @@ use Prim.Native.Nat.{ℕ, suc, _+_, _≤_}
 use native.Mathlib.Omega.{arith}
 use lib.ListN.{length, drop}
 use borrow.Author.Tests.{eq-eqb, ne-eqb}
-use Rattle.lists.specs.Lists.{one, Mem, first, later, among, noRepeats, times}
+use Rattle.lists.specs.Lists.{one, Mem, first, later, among, noRepeats, times, over}
 use Rattle.lists.proofs.Tests.{cases, eq-or-ne, zero-or-pos, both-ways, or-right}
 use Rattle.lists.proofs.Member.{among-mem}
 use Rattle.lists.proofs.Sum.{sum-append}
 use Rattle.lists.proofs.Times.{among-some, mem-times, once-of, of-once}
 use Rattle.symbolic.specs.Columns.{Column, Register, live}
-use Rattle.symbolic.specs.Factor.{factorOf, factorFor}
+use Rattle.symbolic.specs.Factor.{FactorColumn, factorOf, factorFor}
+use Rattle.symbolic.specs.Batch.{exchanged, labelOf, entriesOf, gradeOf}
 use Rattle.symbolic.specs.Change.{idsOf, without, columnOf, columnsOf, added, Bag}
-use Rattle.symbolic.proofs.Bags.{bag-append, bag-mem, bag-without, without-le, bag-ids, ids-times, hasId, column-of}
+use Rattle.symbolic.proofs.Bags.{bag-append, bag-mem, bag-without, without-le, ids-times, hasId, column-of}
+use Rattle.symbolic.proofs.Bags as bags
 use Rattle.symbolic.proofs.Theorems.{order-free}
 use Rattle.tables.specs.Tables.{Limits}
-use Rattle.calls.specs.Refusals.{isAccepted, batchOf, isLive, columnsRefusal, roomRefusal, idsRefusal}
-use Rattle.calls.specs.Calls.{Call, opening, adding, removing, checking, askMultiplicity, askParent, askPath, askColumn, registerAfter, batchColumns}
-use Rattle.calls.specs.Report.{treeFor, touchedBy, labelsBy, entriesBy}
-use Rattle.calls.specs.Numbers.{callRefusal}
-use Rattle.calls.specs.Steps.{acceptedBy, listsAfter}
+use Rattle.calls.specs.Refusals.{isAccepted, orElse, batchOf, inRegister, columnsRefusal, roomRefusal, idsRefusal, roomFor}
+use Rattle.calls.specs.Calls.{Change, adding, removing, Question, askMultiplicity, askParent, askPath, askColumn, Entry, opening, changing, checking, asking, Call}
+use Rattle.calls.specs.Changes.{Effect, effect, touchedBy, labelled, labelsBy, entriesBy}
+use Rattle.calls.specs.Questions.{Response, response}
+use Rattle.calls.specs.Numbers.{ownRefusal, callRefusal}
+use Rattle.calls.specs.Steps.{Result, resultOf, acceptedBy, writtenAt, listsAfter}
 use Rattle.calls.proofs.Refusals.{ColumnsFit, add-facts}
+use Rattle.calls.proofs.Changes.{rows-stay}
 
 -- ---- the column of an id
 
@@ -53,11 +57,11 @@ module _ (cs ds : List Column) (b : Bag cs ds) where
   pub bag-among : (i : ℕ) → among i (idsOf cs) ≡ among i (idsOf ds)
   bag-among i =
       both-ways (among i (idsOf cs)) (among i (idsOf ds))
-      (λ h. among-some i (idsOf ds) (omega (arith, bag-ids cs ds b i, mem-times (among-mem i (idsOf cs) h))))
-      (λ h. among-some i (idsOf cs) (omega (arith, bag-ids cs ds b i, mem-times (among-mem i (idsOf ds) h))))
+      (λ h. among-some i (idsOf ds) (omega (arith, bags.bag-ids cs ds b i, mem-times (among-mem i (idsOf cs) h))))
+      (λ h. among-some i (idsOf cs) (omega (arith, bags.bag-ids cs ds b i, mem-times (among-mem i (idsOf ds) h))))
 
   pub bag-once : noRepeats (idsOf cs) ≡ true → noRepeats (idsOf ds) ≡ true
-  bag-once u = of-once (idsOf ds) (λ i. omega (arith, once-of (idsOf cs) u i, bag-ids cs ds b i))
+  bag-once u = of-once (idsOf ds) (λ i. omega (arith, once-of (idsOf cs) u i, bags.bag-ids cs ds b i))
 
   pub bag-column : noRepeats (idsOf cs) ≡ true → (i : ℕ) → columnOf i cs ≡ columnOf i ds
   bag-column u i =
@@ -78,33 +82,25 @@ module _ (cs ds : List Column) (b : Bag cs ds) where
 -- ---- two registers with the same columns
 
 module _ (r s : Register) (e : r .m ≡ s .m) (b : Bag (r .columns) (s .columns)) where
-  pub bag-live : (i : ℕ) → isLive r i ≡ isLive s i
-  bag-live i = bag-among (r .columns) (s .columns) b i
+  pub bag-booked : (i : ℕ) → inRegister r i ≡ inRegister s i
+  bag-booked i = bag-among (r .columns) (s .columns) b i
 
   pub bag-factor : factorFor r ≡ factorFor s
   bag-factor = ap (λ (m : ℕ). factorOf m (live r)) e ∙ order-free (s .m) (live r) (live s) b
 
-  -- ---- the register after a call
+  -- ---- the register after a change
 
-  pub bag-rows : (k : Call) → registerAfter r k .m ≡ registerAfter s k .m
-  bag-rows (opening l w) = refl
-  bag-rows (adding is ns rs w x y) = e
-  bag-rows (removing is w x y) = e
-  bag-rows (checking w) = e
-  bag-rows (askMultiplicity i j w) = e
-  bag-rows (askParent j w) = e
-  bag-rows (askPath j p w xs) = e
-  bag-rows (askColumn j p w xs) = e
+  pub bag-rows : (c : Change) → effect r c .register .m ≡ effect s c .register .m
+  bag-rows c = rows-stay r c ∙ e ∙ sym (rows-stay s c)
 
-  pub bag-after : (k : Call) → Bag (registerAfter r k .columns) (registerAfter s k .columns)
-  bag-after (opening l w) f = refl
-  bag-after (adding is ns rs w x y) f = bag-append (r .columns) (s .columns) (batchOf is ns rs) b f
-  bag-after (removing is w x y) f = bag-without is (r .columns) (s .columns) b f
-  bag-after (checking w) f = b f
-  bag-after (askMultiplicity i j w) f = b f
-  bag-after (askParent j w) f = b f
-  bag-after (askPath j p w xs) f = b f
-  bag-after (askColumn j p w xs) f = b f
+  pub bag-after : (c : Change) → Bag (effect r c .register .columns) (effect s c .register .columns)
+  bag-after (adding is ns rs) f = bag-append (r .columns) (s .columns) (batchOf is ns rs) b f
+  bag-after (removing is) f = bag-without is (r .columns) (s .columns) b f
+
+  pub bag-factor-after : (c : Change) → factorFor (effect r c .register) ≡ factorFor (effect s c .register)
+  bag-factor-after c =
+      ap (λ (m : ℕ). factorOf m (live (effect r c .register))) (bag-rows c) ∙
+      order-free (effect s c .register .m) (live (effect r c .register)) (live (effect s c .register)) (bag-after c)
 
   -- ---- numbers
 
@@ -112,100 +108,119 @@ module _ (r s : Register) (e : r .m ≡ s .m) (b : Bag (r .columns) (s .columns)
   unfolding columnsRefusal
   columns-number n p bs [] ns rs = refl
   columns-number n p bs (i ∷ is) [] rs = refl
-  columns-number n p bs (i ∷ is) (k ∷ ns) rs = rw (columns-number n (suc p) (i ∷ bs) is ns (drop k rs), bag-live i, e)
+  columns-number n p bs (i ∷ is) (k ∷ ns) rs = rw (columns-number n (suc p) (i ∷ bs) is ns (drop k rs), bag-booked i, e)
 
   ids-number : (n p : ℕ) (bs is : List ℕ) → idsRefusal r n p bs is ≡ idsRefusal s n p bs is
   unfolding idsRefusal
   ids-number n p bs [] = refl
-  ids-number n p bs (i ∷ is) = rw (ids-number n (suc p) (i ∷ bs) is, bag-live i)
+  ids-number n p bs (i ∷ is) = rw (ids-number n (suc p) (i ∷ bs) is, bag-booked i)
 
 -- 15 and 16
 pub bag-room : (l : Limits) (r s : Register) → r .m ≡ s .m → Bag (r .columns) (s .columns) → roomRefusal l r ≡ roomRefusal l s
 bag-room l r s e b = rw (b (λ c. length (c .rows)), bag-factor r s e b)
 
 module _ (r s : Register) (e : r .m ≡ s .m) (b : Bag (r .columns) (s .columns)) where
-  -- 7 to 18
-  pub bag-number : (l : Limits) (k : Call) → callRefusal l r k ≡ callRefusal l s k
-  bag-number l (opening k w) = refl
-  bag-number l (adding is ns rs w x y) =
+  -- 7 to 16
+  change-refusal : (l : Limits) (c : Change) → effect r c .refusal l ≡ effect s c .refusal l
+  change-refusal l (adding is ns rs) =
       rw (
         columns-number r s e b (l .n) 1 [] is ns rs,
         bag-room l (added r (batchOf is ns rs)) (added s (batchOf is ns rs)) e (bag-append (r .columns) (s .columns) (batchOf is ns rs) b),
       )
-  bag-number l (removing is w x y) = rw (ids-number r s e b (l .n) 1 [] is)
-  bag-number l (checking w) = refl
-  bag-number l (askMultiplicity i j w) = rw e
-  bag-number l (askParent j w) = rw e
-  bag-number l (askPath j p w xs) = rw (bag-factor r s e b, e)
-  bag-number l (askColumn j p w xs) = rw (bag-factor r s e b, e)
+  change-refusal l (removing is) = rw (ids-number r s e b (l .n) 1 [] is)
+
+  -- a question's whole response
+  pub bag-response : (q : Question) → response r q ≡ response s q
+  bag-response (askMultiplicity i j) = rw (bag-factor r s e b, e)
+  bag-response (askParent j) = rw (bag-factor r s e b, e)
+  bag-response (askPath j) = rw (bag-factor r s e b, e)
+  bag-response (askColumn j) = rw (bag-factor r s e b, e)
+
+  -- 7 to 18
+  pub bag-number : (l : Limits) (k : Call) → callRefusal l r k ≡ callRefusal l s k
+  bag-number l k = own (k .entry) (k .lent .list)
+    where
+      own : (i : Entry) (xs : List ℕ) → ownRefusal l r i xs ≡ ownRefusal l s i xs
+      own (opening j) xs = refl
+      own (changing c) xs = change-refusal l c
+      own checking xs = refl
+      own (asking q p) xs = ap (λ (x : Response). orElse (x .refusal) (roomFor xs p (length (x .list)))) (bag-response q)
 
   -- ---- reports, of registers with distinct ids
 
   module _ (u : noRepeats (idsOf (r .columns)) ≡ true) where
-    pub bag-batch : (k : Call) → batchColumns r k ≡ batchColumns s k
-    bag-batch (opening l w) = refl
-    bag-batch (adding is ns rs w x y) = refl
-    bag-batch (removing is w x y) = bag-columns (r .columns) (s .columns) b u is
-    bag-batch (checking w) = refl
-    bag-batch (askMultiplicity i j w) = refl
-    bag-batch (askParent j w) = refl
-    bag-batch (askPath j p w xs) = refl
-    bag-batch (askColumn j p w xs) = refl
+    -- which columns leave and enter, under which labels and ids
+    record SameEffect (x y : Effect) : Type 0 where
+      leave : x .leave ≡ y .leave
+      enter : x .enter ≡ y .enter
+      label : x .label ≡ y .label
+      ids : x .ids ≡ y .ids
 
-    pub bag-tree : (k : Call) → treeFor r k ≡ treeFor s k
-    bag-tree (opening l w) = refl
-    bag-tree (adding is ns rs w x y) =
-        bag-factor (added r (batchOf is ns rs)) (added s (batchOf is ns rs)) e (bag-append (r .columns) (s .columns) (batchOf is ns rs) b)
-    bag-tree (removing is w x y) = bag-factor r s e b
-    bag-tree (checking w) = refl
-    bag-tree (askMultiplicity i j w) = refl
-    bag-tree (askParent j w) = refl
-    bag-tree (askPath j p w xs) = refl
-    bag-tree (askColumn j p w xs) = refl
+    bag-effect : (c : Change) → SameEffect (effect r c) (effect s c)
+    bag-effect (adding is ns rs) =
+        record {
+          leave = refl;
+          enter = refl;
+          label = ap (λ (fs : List FactorColumn). labelOf fs (batchOf is ns rs)) (bag-factor-after r s e b (adding is ns rs));
+          ids = refl;
+        }
+    bag-effect (removing is) =
+        let q : columnsOf is (r .columns) ≡ columnsOf is (s .columns) = bag-columns (r .columns) (s .columns) b u is in
+        record {
+          leave = q;
+          enter = refl;
+          label = ap (λ (fs : List FactorColumn). labelOf fs (columnsOf is (r .columns))) (bag-factor r s e b) ∙ ap (λ (cs : List Column). labelOf (factorFor s) cs) q;
+          ids = refl;
+        }
 
-    pub bag-touched : (k : Call) → touchedBy r k ≡ touchedBy s k
-    bag-touched k = rw (bag-tree k, bag-batch k)
+    pub bag-ids : (c : Change) → effect r c .ids ≡ effect s c .ids
+    bag-ids c = bag-effect c .ids
 
-    pub bag-labels : (k : Call) → labelsBy r k ≡ labelsBy s k
-    bag-labels k = rw (bag-tree k, bag-batch k)
+    pub bag-touched : (c : Change) → touchedBy r c ≡ touchedBy s c
+    bag-touched c =
+        ap (λ (fs : List FactorColumn). exchanged fs (factorFor (effect r c .register)) (effect r c .leave) (effect r c .enter)) (bag-factor r s e b) ∙
+        ap (λ (fs : List FactorColumn). exchanged (factorFor s) fs (effect r c .leave) (effect r c .enter)) (bag-factor-after r s e b c) ∙
+        ap (λ (cs : List Column). exchanged (factorFor s) (factorFor (effect s c .register)) cs (effect r c .enter)) (bag-effect c .leave) ∙
+        ap (λ (cs : List Column). exchanged (factorFor s) (factorFor (effect s c .register)) (effect s c .leave) cs) (bag-effect c .enter)
 
-    pub bag-entries : (k : Call) → entriesBy r k ≡ entriesBy s k
-    bag-entries k = rw (bag-touched k, bag-factor (registerAfter r k) (registerAfter s k) (bag-rows r s e b k) (bag-after r s e b k))
+    pub bag-labels : (c : Change) → labelsBy r c ≡ labelsBy s c
+    bag-labels c = ap (λ (f : ℕ → ℕ). labelled f (touchedBy r c)) (bag-effect c .label) ∙ ap (λ (js : List ℕ). labelled (effect s c .label) js) (bag-touched c)
+
+    pub bag-entries : (c : Change) → entriesBy r c ≡ entriesBy s c
+    bag-entries c =
+        ap (λ (fs : List FactorColumn). entriesOf fs (touchedBy r c)) (bag-factor-after r s e b c) ∙
+        ap (λ (js : List ℕ). entriesOf (factorFor (effect s c .register)) js) (bag-touched c)
 
     -- ---- answers and lists
 
-    pub bag-answer : (k : Call) → acceptedBy r k ≡ acceptedBy s k
-    bag-answer (opening l w) = refl
-    bag-answer (adding is ns rs w x y) = rw (bag-entries (adding is ns rs w x y), bag-touched (adding is ns rs w x y))
-    bag-answer (removing is w x y) = rw (bag-entries (removing is w x y), bag-touched (removing is w x y))
-    bag-answer (checking w) = refl
-    bag-answer (askMultiplicity i j w) = rw (bag-factor r s e b)
-    bag-answer (askParent j w) = rw (bag-factor r s e b)
-    bag-answer (askPath j p w xs) = rw (bag-factor r s e b)
-    bag-answer (askColumn j p w xs) = rw (bag-factor r s e b)
+    pub bag-result : (i : Entry) → resultOf r i ≡ resultOf s i
+    bag-result (opening l) = refl
+    bag-result (changing c) =
+        λ i. record { touched = bag-touched c i; labels = bag-labels c i; entries = bag-entries c i; grade = gradeOf (bag-entries c i); value = 0; list = []; place = 0 }
+    bag-result checking = refl
+    bag-result (asking q p) =
+        ap (λ (x : Response). record { touched = []; labels = []; entries = 0; grade = 0; value = x .value; list = x .list; place = p }) (bag-response q)
+
+    pub bag-answer : (i : Entry) → acceptedBy r i ≡ acceptedBy s i
+    bag-answer i =
+        ap (λ (x : Result). record { number = 0; position = 0; touched = length (x .touched); entries = x .entries; grade = x .grade; value = x .value }) (bag-result i)
 
     pub bag-lists : (k : Call) (v : List ℕ) → listsAfter r k v ≡ listsAfter s k v
-    bag-lists (opening l w) v = refl
-    bag-lists (adding is ns rs w x y) v = rw (bag-labels (adding is ns rs w x y), bag-touched (adding is ns rs w x y))
-    bag-lists (removing is w x y) v = rw (bag-labels (removing is w x y), bag-touched (removing is w x y))
-    bag-lists (checking w) v = refl
-    bag-lists (askMultiplicity i j w) v = refl
-    bag-lists (askParent j w) v = refl
-    bag-lists (askPath j p w xs) v = rw (bag-factor r s e b)
-    bag-lists (askColumn j p w xs) v = rw (bag-factor r s e b)
+    bag-lists k v =
+        ap (λ (x : Result). record { work = v; touched = over (x .touched) (k .lent .touched); labels = over (x .labels) (k .lent .labels); list = writtenAt (x .place) (x .list) (k .lent .list) })
+        (bag-result (k .entry))
 
 -- ---- ids stay distinct
 
-pub once-after : (l : Limits) (r : Register) (k : Call) → noRepeats (idsOf (r .columns)) ≡ true → isAccepted (callRefusal l r k) ≡ true →
-    noRepeats (idsOf (registerAfter r k .columns)) ≡ true
+pub once-after : (l : Limits) (r : Register) (c : Change) → noRepeats (idsOf (r .columns)) ≡ true → isAccepted (effect r c .refusal l) ≡ true →
+    noRepeats (idsOf (effect r c .register .columns)) ≡ true
 unfolding idsOf noRepeats
-once-after l r (opening k w) u h = refl
-once-after l r (adding is ns rs w x y) u h =
+once-after l r (adding is ns rs) u h =
     let f : ColumnsFit r (l .n) [] is ns rs = add-facts l r is ns rs h .columns in
     let B : List Column = batchOf is ns rs in
     of-once (idsOf (r .columns ++ B)) (λ i. fewer r is B i (f .ids) (f .apart i) (once-of (idsOf (r .columns)) u i))
   where
-    fewer : (r : Register) (is : List ℕ) (B : List Column) (i : ℕ) → idsOf B ≡ is → times i is + one (among i [] || isLive r i) ≤ 1 → times i (idsOf (r .columns)) ≤ 1 →
+    fewer : (r : Register) (is : List ℕ) (B : List Column) (i : ℕ) → idsOf B ≡ is → times i is + one (among i [] || inRegister r i) ≤ 1 → times i (idsOf (r .columns)) ≤ 1 →
         times i (idsOf (r .columns ++ B)) ≤ 1
     fewer r is B i q h k =
         let sum : times i (idsOf (r .columns ++ B)) ≡ times i (idsOf (r .columns)) + times i (idsOf B) =
@@ -214,14 +229,9 @@ once-after l r (adding is ns rs w x y) u h =
         elim (zero-or-pos (times i (idsOf (r .columns)))) [
           | inl z ↦ omega arith
           | inr p ↦
-              let t : one (among i [] || isLive r i) ≡ 1 = ap one (or-right (among i []) (isLive r i) (among-some i (idsOf (r .columns)) p)) in
+              let t : one (among i [] || inRegister r i) ≡ 1 = ap one (or-right (among i []) (inRegister r i) (among-some i (idsOf (r .columns)) p)) in
               omega arith
         ]
-once-after l r (removing is w x y) u h =
+once-after l r (removing is) u h =
     of-once (idsOf (without is (r .columns))) (λ i.
     omega (arith, once-of (idsOf (r .columns)) u i, ids-times i (without is (r .columns)), ids-times i (r .columns), without-le is (r .columns) (λ c. one (hasId i c))))
-once-after l r (checking w) u h = u
-once-after l r (askMultiplicity i j w) u h = u
-once-after l r (askParent j w) u h = u
-once-after l r (askPath j p w xs) u h = u
-once-after l r (askColumn j p w xs) u h = u

@@ -19,7 +19,7 @@ use Rattle.symbolic.specs.Factor.{factorFor, sizeSum}
 use Rattle.symbolic.specs.Change.{idsOf, added}
 use Rattle.book.specs.Book.{columnFits}
 use Rattle.tables.specs.Tables.{Tables, Limits, longEnough}
-use Rattle.calls.specs.Refusals.{Refusal, accepted, isAccepted, orElse, unless, bounds, sizesRefusal, workFor, shortRefusal, shortBatch, batchOf, isLive, rowsRefusal, columnsRefusal, rowSum, roomRefusal, addRefusal, idsRefusal, removeRefusal, rowRefusal, roomFor}
+use Rattle.calls.specs.Refusals.{Refusal, accepted, isAccepted, orElse, unless, bounds, sizesRefusal, workFor, shortRefusal, listsLong, earlyRefusal, batchOf, inRegister, rowsRefusal, columnsRefusal, rowSum, roomRefusal, addRefusal, idsRefusal, removeRefusal, rowRefusal, roomFor}
 use Rattle.calls.proofs.Choices.{or-both, unless-holds, Whole, unless-whole, or-whole}
 
 -- ---- 1 to 4: sizes
@@ -79,25 +79,19 @@ short-facts l t w h =
     and-both (longEnough l t) (leb (workFor l) (length w)) (unless-holds (longEnough l t && leb (workFor l) (length w)) 5 0 refl h) in
     record { tables = u .0; work = leb-true (workFor l) (length w) (u .1) }
 
-pub record HasLists (l : Limits) (t : Tables) (w a b : List ℕ) : Type 0 where
-  pub room : HasRoom l t w
-  pub touched : l .m ≤ length a
-  pub labels : l .m ≤ length b
+pub lists-facts : (m : ℕ) (a b : List ℕ) → listsLong m a b ≡ true → (m ≤ length a) × (m ≤ length b)
+lists-facts m a b h =
+    let u : (leb m (length a) ≡ true) × (leb m (length b) ≡ true) = and-both (leb m (length a)) (leb m (length b)) h in
+    (leb-true m (length a) (u .0), leb-true m (length b) (u .1))
 
-pub batch-facts : (l : Limits) (t : Tables) (w a b : List ℕ) → isAccepted (shortBatch l t w a b) ≡ true → HasLists l t w a b
-batch-facts l t w a b h =
-    let x : Bool = longEnough l t in
-    let y : Bool = leb (workFor l) (length w) in
-    let p : Bool = leb (l .m) (length a) in
-    let q : Bool = leb (l .m) (length b) in
-    let u : ((x && y && p) ≡ true) × (q ≡ true) = and-both (x && y && p) q (unless-holds (x && y && p && q) 5 0 refl h) in
-    let v : ((x && y) ≡ true) × (p ≡ true) = and-both (x && y) p (u .0) in
-    let z : (x ≡ true) × (y ≡ true) = and-both x y (v .0) in
-    record {
-      room = record { tables = z .0; work = leb-true (workFor l) (length w) (z .1) };
-      touched = leb-true (l .m) (length a) (v .1);
-      labels = leb-true (l .m) (length b) (u .1);
-    }
+-- 1 to 5 are passed
+pub early-passed : (l : Limits) (t : Tables) (w : List ℕ) (z : Bool) → isAccepted (earlyRefusal l t w z) ≡ true →
+    (sizesRefusal bounds l ≡ accepted) × HasRoom l t w × (z ≡ true)
+early-passed l t w z h =
+    let u : (isAccepted (sizesRefusal bounds l) ≡ true) × (isAccepted (orElse (shortRefusal l t w) (unless z 5 0)) ≡ true) =
+    or-both (sizesRefusal bounds l) (orElse (shortRefusal l t w) (unless z 5 0)) h in
+    let v : (isAccepted (shortRefusal l t w) ≡ true) × (isAccepted (unless z 5 0) ≡ true) = or-both (shortRefusal l t w) (unless z 5 0) (u .1) in
+    (sizes-whole l (u .0), short-facts l t w (v .0), unless-holds z 5 0 refl (v .1))
 
 -- ---- 7 to 16: an addition
 
@@ -116,7 +110,7 @@ rows-rise m p a (i ∷ is) h =
 -- the columns of an accepted batch, where the ids before are bs
 pub record ColumnsFit (r : Register) (n : ℕ) (bs is ns rs : List ℕ) : Type 0 where
   pub ids : idsOf (batchOf is ns rs) ≡ is
-  pub apart : (x : ℕ) → times x is + one (among x bs || isLive r x) ≤ 1
+  pub apart : (x : ℕ) → times x is + one (among x bs || inRegister r x) ≤ 1
   pub named : all (isIn 1 n) is ≡ true
   pub fits : all (columnFits (r .m)) (batchOf is ns rs) ≡ true
   pub used : rowSum (batchOf is ns rs) ≡ length rs
@@ -136,7 +130,7 @@ unfolding columnsRefusal batchOf idsOf all sumOf
 columns-facts r n p bs [] ns rs h =
     record {
       ids = refl;
-      apart = λ x. omega (arith, times-nil x, one-le (among x bs || isLive r x));
+      apart = λ x. omega (arith, times-nil x, one-le (among x bs || inRegister r x));
       named = refl;
       fits = refl;
       used = sym (eqb-true (length rs) 0 (unless-holds (eqb (length rs) 0) 12 0 refl h));
@@ -145,7 +139,7 @@ columns-facts r n p bs (i ∷ is) [] rs h = absurd (omega (arith, eqb-true 7 0 h
 columns-facts r n p bs (i ∷ is) (k ∷ ns) rs h =
     let a : Refusal = unless (isIn 1 n i) 8 p in
     let b : Refusal = unless (not (among i bs)) 9 p in
-    let c : Refusal = unless (not (isLive r i)) 10 p in
+    let c : Refusal = unless (not (inRegister r i)) 10 p in
     let d : Refusal = unless (isIn 1 256 k && leb k (length rs)) 12 p in
     let e : Refusal = rowsRefusal (r .m) p 0 (take k rs) in
     let f : Refusal = columnsRefusal r n (suc p) (i ∷ bs) is ns (drop k rs) in
@@ -160,20 +154,24 @@ columns-facts r n p bs (i ∷ is) (k ∷ ns) rs h =
     let l : length (take k rs) ≡ k = length-take-le k rs (leb-true k (length rs) (s .1)) in
     record {
       ids = ap (λ (xs : List ℕ). i ∷ xs) (rest .ids);
-      apart = apart-step bs is (isLive r) i (not-true (among i bs) (unless-holds (not (among i bs)) 9 p refl (u .0)))
-          (not-true (isLive r i) (unless-holds (not (isLive r i)) 10 p refl (v .0))) (rest .apart);
+      apart = apart-step bs is (inRegister r) i (not-true (among i bs) (unless-holds (not (among i bs)) 9 p refl (u .0)))
+          (not-true (inRegister r i) (unless-holds (not (inRegister r i)) 10 p refl (v .0))) (rest .apart);
       named = both-and (unless-holds (isIn 1 n i) 8 p refl (t .0)) (rest .named);
       fits = both-and (both-and (rows-rise (r .m) p 0 (take k rs) (x .0)) (ap (λ (z : ℕ). isIn 1 256 z) l ∙ s .0)) (rest .fits);
       used = omega (arith, l, rest .used, length-drop k rs, leb-true k (length rs) (s .1));
     }
 
--- none of the ids comes twice, and none is live
+-- none of the ids comes twice, and none is booked
 pub columns-once : {r : Register} {n : ℕ} {is ns rs : List ℕ} → ColumnsFit r n [] is ns rs → noRepeats is ≡ true
 columns-once {is = is} f = of-once is (λ x. omega (arith, f .apart x))
 
-pub columns-new : {r : Register} {n : ℕ} {is ns rs : List ℕ} → ColumnsFit r n [] is ns rs → {x : ℕ} → Mem x is → isLive r x ≡ false
+pub columns-new : {r : Register} {n : ℕ} {is ns rs : List ℕ} → ColumnsFit r n [] is ns rs → {x : ℕ} → Mem x is → inRegister r x ≡ false
 columns-new {r} f {x} m =
-    refute (isLive r x) (λ e. absurd (omega (arith, f .apart x, mem-times m, ap one (or-right (among x []) (isLive r x) e))))
+    refute (inRegister r x) (λ e. absurd (omega (arith, f .apart x, mem-times m, ap one (or-right (among x []) (inRegister r x) e))))
+
+-- "no number is given unless its condition holds": just enough room is enough. Nothing cites it but edits that give 15 or 16 one early
+pub room-enough : (l : Limits) (r : Register) → rowSum (r .columns) ≤ l .c → sizeSum (factorFor r) ≤ l .f → roomRefusal l r ≡ accepted
+room-enough l r h k = rw (le-leb (rowSum (r .columns)) (l .c) h, le-leb (sizeSum (factorFor r)) (l .f) k) refl
 
 pub record AddFits (l : Limits) (r : Register) (ids counts rows : List ℕ) : Type 0 where
   pub some : 1 ≤ length ids
@@ -211,7 +209,7 @@ add-facts l r is ns rs h =
 pub record IdsFit (r : Register) (n : ℕ) (bs is : List ℕ) : Type 0 where
   pub apart : (x : ℕ) → times x is + one (among x bs || false) ≤ 1
   pub named : all (isIn 1 n) is ≡ true
-  pub live : all (isLive r) is ≡ true
+  pub live : all (inRegister r) is ≡ true
 
 pub ids-facts : (r : Register) (n p : ℕ) (bs is : List ℕ) → isAccepted (idsRefusal r n p bs is) ≡ true → IdsFit r n bs is
 unfolding idsRefusal all
@@ -219,7 +217,7 @@ ids-facts r n p bs [] h = record { apart = λ x. omega (arith, times-nil x, one-
 ids-facts r n p bs (i ∷ is) h =
     let a : Refusal = unless (isIn 1 n i) 8 p in
     let b : Refusal = unless (not (among i bs)) 9 p in
-    let c : Refusal = unless (isLive r i) 11 p in
+    let c : Refusal = unless (inRegister r i) 11 p in
     let d : Refusal = idsRefusal r n (suc p) (i ∷ bs) is in
     let t : (isAccepted a ≡ true) × (isAccepted (orElse b (orElse c d)) ≡ true) = or-both a (orElse b (orElse c d)) h in
     let u : (isAccepted b ≡ true) × (isAccepted (orElse c d) ≡ true) = or-both b (orElse c d) (t .1) in
@@ -228,7 +226,7 @@ ids-facts r n p bs (i ∷ is) h =
     record {
       apart = apart-step bs is (λ x. false) i (not-true (among i bs) (unless-holds (not (among i bs)) 9 p refl (u .0))) refl (rest .apart);
       named = both-and (unless-holds (isIn 1 n i) 8 p refl (t .0)) (rest .named);
-      live = both-and (unless-holds (isLive r i) 11 p refl (v .0)) (rest .live);
+      live = both-and (unless-holds (inRegister r i) 11 p refl (v .0)) (rest .live);
     }
 
 pub record RemoveFits (l : Limits) (r : Register) (ids : List ℕ) : Type 0 where
@@ -236,7 +234,7 @@ pub record RemoveFits (l : Limits) (r : Register) (ids : List ℕ) : Type 0 wher
   pub few : length ids ≤ 64
   pub once : noRepeats ids ≡ true
   pub named : all (isIn 1 (l .n)) ids ≡ true
-  pub live : all (isLive r) ids ≡ true
+  pub live : all (inRegister r) ids ≡ true
 
 pub remove-facts : (l : Limits) (r : Register) (is : List ℕ) → isAccepted (removeRefusal l r is) ≡ true → RemoveFits l r is
 remove-facts l r is h =

@@ -5,25 +5,23 @@ use mathlib.Core.Path.{_≡_, refl, sym, ap, _∙_, subst}
 use mathlib.Core.Logic.{_⊎_, inl, inr, _≢_}
 use mathlib.Core.Bool.{Bool, true, false, _||_, true≢false, false≢true}
 use borrow.Author.Tests.{eq-eqb}
-use Rattle.symbolic.specs.Columns.{Register}
-use Rattle.tables.specs.Tables.{registerOf}
 use Rattle.calls.specs.Refusals.{isAccepted}
-use Rattle.calls.specs.Calls.{Call, opening, adding, removing, checking, askMultiplicity, askParent, askPath, askColumn, isOpening, isBatch}
+use Rattle.calls.specs.Calls.{Change, Entry, opening, changing, checking, asking, Lent, withWork, Call, isOpening, isChange}
 use Rattle.calls.specs.Numbers.{refusalOf}
-use Rattle.calls.specs.Steps.{Answer, refusedBy, acceptedBy, Lent, lentTo, listsAfter, workAfter, withWork, World, Amended, AcceptedWorld, OutcomeFor, Transition}
+use Rattle.calls.specs.Steps.{Answer, refusedBy, acceptedBy, listsAfter, workAfter, World, bookedIn, Exchanged, AcceptedWorld, OutcomeFor, Transition}
 
 -- an accepted call
 pub record Accepted (u : World) (k : Call) (a : Answer) (x : Lent) (v : World) : Type 0 where
   pub number : isAccepted (refusalOf (u .state) (u .tables) k) ≡ true
-  pub answer : a ≡ acceptedBy (registerOf (u .state) (u .tables)) k
-  pub lists : x ≡ listsAfter (registerOf (u .state) (u .tables)) k (workAfter (u .state .limits) (u .tables) k)
-  pub world : AcceptedWorld u k v
+  pub answer : a ≡ acceptedBy (bookedIn u) (k .entry)
+  pub lists : x ≡ listsAfter (bookedIn u) k (workAfter (u .state .limits) (u .tables) k)
+  pub world : AcceptedWorld u (k .entry) v
 
 -- a refused call: "nothing lent changes except" the work table
 pub record Refused (u : World) (k : Call) (a : Answer) (x : Lent) (v : World) : Type 0 where
   pub number : isAccepted (refusalOf (u .state) (u .tables) k) ≡ false
   pub answer : a ≡ refusedBy (refusalOf (u .state) (u .tables) k)
-  pub lists : x ≡ withWork (lentTo k) (workAfter (u .state .limits) (u .tables) k)
+  pub lists : x ≡ withWork (k .lent) (workAfter (u .state .limits) (u .tables) k)
   pub world : v ≡ u
 
 module _ {u : World} {k : Call} {a : Answer} {x : Lent} {v : World} where
@@ -43,19 +41,9 @@ module _ (u : World) (k : Call) (a : Answer) (x : Lent) (v : World) where
   refused-step s = subst (λ (z : Bool). OutcomeFor z u k a x v) (sym (s .number)) (s .answer, s .lists, s .world)
 
 -- "Accepted is 0"
-pub accepted-number : (r : Register) (k : Call) → acceptedBy r k .number ≡ 0
-accepted-number r (opening l w) = refl
-accepted-number r (adding is ns rs w a b) = refl
-accepted-number r (removing is w a b) = refl
-accepted-number r (checking w) = refl
-accepted-number r (askMultiplicity i j w) = refl
-accepted-number r (askParent j w) = refl
-accepted-number r (askPath j p w xs) = refl
-accepted-number r (askColumn j p w xs) = refl
-
 module _ {u : World} {k : Call} {a : Answer} {x : Lent} {v : World} where
   pub taken-zero : Accepted u k a x v → a .number ≡ 0
-  taken-zero s = ap (λ (y : Answer). y .number) (s .answer) ∙ accepted-number (registerOf (u .state) (u .tables)) k
+  taken-zero s = ap (λ (y : Answer). y .number) (s .answer)
 
   pub refused-some : Refused u k a x v → a .number ≢ 0
   refused-some s e =
@@ -73,32 +61,18 @@ module _ (u : World) (k : Call) (a : Answer) (x : Lent) (v : World) (s : Transit
 -- ---- what an accepted call leaves
 
 -- a check or a question leaves record and tables
-pub quiet-world : (u : World) (k : Call) (v : World) → (isBatch k || isOpening k) ≡ false → AcceptedWorld u k v → v ≡ u
-quiet-world u (opening l w) v q s = absurd (true≢false q)
-quiet-world u (adding is ns rs w a b) v q s = absurd (true≢false q)
-quiet-world u (removing is w a b) v q s = absurd (true≢false q)
-quiet-world u (checking w) v q s = s
-quiet-world u (askMultiplicity i j w) v q s = s
-quiet-world u (askParent j w) v q s = s
-quiet-world u (askPath j p w xs) v q s = s
-quiet-world u (askColumn j p w xs) v q s = s
+pub quiet-world : (u : World) (e : Entry) (v : World) → (isChange e || isOpening e) ≡ false → AcceptedWorld u e v → v ≡ u
+quiet-world u (opening l) v q s = absurd (true≢false q)
+quiet-world u (changing c) v q s = absurd (true≢false q)
+quiet-world u checking v q s = s
+quiet-world u (asking k p) v q s = s
 
-pub batch-apart : (k : Call) → isBatch k ≡ true → isOpening k ≡ false
-batch-apart (opening l w) q = absurd (false≢true q)
-batch-apart (adding is ns rs w a b) q = refl
-batch-apart (removing is w a b) q = refl
-batch-apart (checking w) q = refl
-batch-apart (askMultiplicity i j w) q = refl
-batch-apart (askParent j w) q = refl
-batch-apart (askPath j p w xs) q = refl
-batch-apart (askColumn j p w xs) q = refl
+-- which change it is
+pub change-of : (e : Entry) → isChange e ≡ true → (c : Change) × (e ≡ changing c)
+change-of (opening l) q = absurd (false≢true q)
+change-of (changing c) q = (c, refl)
+change-of checking q = absurd (false≢true q)
+change-of (asking k p) q = absurd (false≢true q)
 
-pub batch-world : (u : World) (k : Call) (v : World) → isBatch k ≡ true → AcceptedWorld u k v → Amended u k v
-batch-world u (opening l w) v q s = absurd (false≢true q)
-batch-world u (adding is ns rs w a b) v q s = s
-batch-world u (removing is w a b) v q s = s
-batch-world u (checking w) v q s = absurd (false≢true q)
-batch-world u (askMultiplicity i j w) v q s = absurd (false≢true q)
-batch-world u (askParent j w) v q s = absurd (false≢true q)
-batch-world u (askPath j p w xs) v q s = absurd (false≢true q)
-batch-world u (askColumn j p w xs) v q s = absurd (false≢true q)
+pub change-world : {u : World} {e : Entry} {v : World} {c : Change} → e ≡ changing c → AcceptedWorld u e v → Exchanged u c v
+change-world {u} {e} {v} q s = subst (λ (i : Entry). AcceptedWorld u i v) q s

@@ -1,93 +1,91 @@
--- A call with everything lent to it, and what the plain register and the limits become: document 01's "Calls" and "What demand 3 is about".
--- A later call, or a later lent list, enters here. What is read of a call is a function by its cases, so none can be forgotten.
--- Assumes nothing: these are definitions.
+-- A call: which entry, with its numbers and read lists, and the lists that are lent to be written. Document 01's "Calls", by kind: a change of the columns, a
+-- question, an opening, a check. What a change does is `effect` (Changes.antt), what a question answers is `response` (Questions.antt), each one function, so that
+-- a new one enters at these two places. Assumes nothing: these are definitions.
 use mathlib.Core.Bool.{Bool, true, false}
 use mathlib.Core.List.{List, []}
 use Prim.Native.Nat.{ℕ, _*_}
 use lib.Dec.{eqb}
 use Rattle.lists.specs.Lists.{pick}
-use Rattle.symbolic.specs.Columns.{Column, Register}
-use Rattle.symbolic.specs.Change.{columnsOf, added, removed}
 use Rattle.tables.specs.Tables.{Limits}
-use Rattle.calls.specs.Refusals.{batchOf}
 
--- the numbers and lists of each call; work: the work table; touched, labels: a batch's lists; list: the list of a path or column
-pub data Call : Type 0 where
-  opening : (asked : Limits) (work : List ℕ) → Call
-  adding : (ids counts rows work touched labels : List ℕ) → Call
-  removing : (ids work touched labels : List ℕ) → Call
-  checking : (work : List ℕ) → Call
-  askMultiplicity : (row column : ℕ) (work : List ℕ) → Call
-  askParent : (column : ℕ) (work : List ℕ) → Call
-  askPath : (column place : ℕ) (work list : List ℕ) → Call
-  askColumn : (column place : ℕ) (work list : List ℕ) → Call
+-- ---- which entry
+
+-- "Add: a list of ids, a list of row counts, and the rows of all columns one after another. Remove: a list of ids."
+pub data Change : Type 0 where
+  adding : (ids rowCounts rows : List ℕ) → Change
+  removing : (ids : List ℕ) → Change
+
+-- "Multiplicity of row i in column j .. Parent of j. Path of j. Column j"
+pub data Question : Type 0 where
+  askMultiplicity : (row column : ℕ) → Question
+  askParent : (column : ℕ) → Question
+  askPath : (column : ℕ) → Question
+  askColumn : (column : ℕ) → Question
+
+-- an entry with its numbers; place: where a question's list is written from on, 0 for a question that has none
+pub data Entry : Type 0 where
+  opening : (asked : Limits) → Entry
+  changing : (change : Change) → Entry
+  checking : Entry
+  asking : (question : Question) (place : ℕ) → Entry
+
+-- ---- what is lent
+
+-- the work table, a change's lists for touched columns and labels, a question's list; a call without such a list has []
+pub record Lent : Type 0 where
+  pub work : List ℕ
+  pub touched : List ℕ
+  pub labels : List ℕ
+  pub list : List ℕ
+
+-- the lists of a call that has a work table alone
+abbrev pub workOnly : (work : List ℕ) → Lent
+workOnly w = record { work = w; touched = []; labels = []; list = [] }
+
+-- the lists of a change
+abbrev pub reportLists : (work touched labels : List ℕ) → Lent
+reportLists w a b = record { work = w; touched = a; labels = b; list = [] }
+
+-- the lists of a question that writes a list
+abbrev pub workAndList : (work list : List ℕ) → Lent
+workAndList w xs = record { work = w; touched = []; labels = []; list = xs }
+
+-- lent lists with another work table, otherwise as they are
+abbrev pub withWork : Lent → (work : List ℕ) → Lent
+withWork x w = record { work = w; touched = x .touched; labels = x .labels; list = x .list }
+
+-- an entry with everything lent to it
+pub record Call : Type 0 where
+  pub entry : Entry
+  pub lent : Lent
+
+-- an entry and what is lent to it, as a call
+abbrev pub callOf : Entry → Lent → Call
+callOf e x = record { entry = e; lent = x }
+
+-- ---- by kind
+
+-- an entry is an opening
+abbrev pub isOpening : Entry → Bool
+isOpening (opening l) = true
+isOpening (changing c) = false
+isOpening checking = false
+isOpening (asking q p) = false
+
+-- an entry is a change
+abbrev pub isChange : Entry → Bool
+isChange (opening l) = false
+isChange (changing c) = true
+isChange checking = false
+isChange (asking q p) = false
 
 -- "F .. at opening 0 means 16 × m"
 abbrev pub withDefault : Limits → Limits
 withDefault l = record { m = l .m; n = l .n; f = pick (eqb (l .f) 0) (16 * l .m) (l .f); c = l .c }
 
--- the register after an accepted call
-abbrev pub registerAfter : Register → Call → Register
-registerAfter r (opening l w) = record { m = l .m; columns = [] }
-registerAfter r (adding is ns rs w a b) = added r (batchOf is ns rs)
-registerAfter r (removing is w a b) = removed r is
-registerAfter r (checking w) = r
-registerAfter r (askMultiplicity i j w) = r
-registerAfter r (askParent j w) = r
-registerAfter r (askPath j p w xs) = r
-registerAfter r (askColumn j p w xs) = r
-
--- the limits after an accepted call
-abbrev pub limitsAfter : Limits → Call → Limits
-limitsAfter l (opening k w) = withDefault k
-limitsAfter l (adding is ns rs w a b) = l
-limitsAfter l (removing is w a b) = l
-limitsAfter l (checking w) = l
-limitsAfter l (askMultiplicity i j w) = l
-limitsAfter l (askParent j w) = l
-limitsAfter l (askPath j p w xs) = l
-limitsAfter l (askColumn j p w xs) = l
-
--- a call is an opening
-abbrev pub isOpening : Call → Bool
-isOpening (opening l w) = true
-isOpening (adding is ns rs w a b) = false
-isOpening (removing is w a b) = false
-isOpening (checking w) = false
-isOpening (askMultiplicity i j w) = false
-isOpening (askParent j w) = false
-isOpening (askPath j p w xs) = false
-isOpening (askColumn j p w xs) = false
-
--- a call is an addition or a removal
-abbrev pub isBatch : Call → Bool
-isBatch (opening l w) = false
-isBatch (adding is ns rs w a b) = true
-isBatch (removing is w a b) = true
-isBatch (checking w) = false
-isBatch (askMultiplicity i j w) = false
-isBatch (askParent j w) = false
-isBatch (askPath j p w xs) = false
-isBatch (askColumn j p w xs) = false
-
--- the columns of a batch, which enter or leave; none for the other calls
-abbrev pub batchColumns : Register → Call → List Column
-batchColumns r (opening l w) = []
-batchColumns r (adding is ns rs w a b) = batchOf is ns rs
-batchColumns r (removing is w a b) = columnsOf is (r .columns)
-batchColumns r (checking w) = []
-batchColumns r (askMultiplicity i j w) = []
-batchColumns r (askParent j w) = []
-batchColumns r (askPath j p w xs) = []
-batchColumns r (askColumn j p w xs) = []
-
--- the ids of a batch; none for the other calls
-abbrev pub idsBy : Call → List ℕ
-idsBy (opening l w) = []
-idsBy (adding is ns rs w a b) = is
-idsBy (removing is w a b) = is
-idsBy (checking w) = []
-idsBy (askMultiplicity i j w) = []
-idsBy (askParent j w) = []
-idsBy (askPath j p w xs) = []
-idsBy (askColumn j p w xs) = []
+-- the limits of a call: an opening brings its own, which stay if it is accepted; the others have the record's
+abbrev pub limitsAfter : Limits → Entry → Limits
+limitsAfter l (opening k) = withDefault k
+limitsAfter l (changing c) = l
+limitsAfter l checking = l
+limitsAfter l (asking q p) = l

@@ -1,5 +1,6 @@
 pub mod Refusals
 pub mod Calls
-pub mod Report
+pub mod Changes
+pub mod Questions
 pub mod Numbers
 pub mod Steps

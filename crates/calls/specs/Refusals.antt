@@ -69,9 +69,13 @@ workFor l = workNeed (l .m) (l .n) (l .f) (l .c)
 abbrev pub shortRefusal : Limits → Tables → (work : List ℕ) → Refusal
 shortRefusal l t w = unless (longEnough l t && leb (workFor l) (length w)) 5 0
 
--- 5 for a batch, which also needs its lists for touched columns and labels
-abbrev pub shortBatch : Limits → Tables → (work touched labels : List ℕ) → Refusal
-shortBatch l t w a b = unless (longEnough l t && leb (workFor l) (length w) && leb (l .m) (length a) && leb (l .m) (length b)) 5 0
+-- "The lists for touched columns and labels .. need m places each"
+abbrev pub listsLong : (m : ℕ) → (touched labels : List ℕ) → Bool
+listsLong m ts ls = leb m (length ts) && leb m (length ls)
+
+-- 1 to 5, in their order; isLong: the call's own lists are long enough
+abbrev pub earlyRefusal : Limits → Tables → (work : List ℕ) → (isLong : Bool) → Refusal
+earlyRefusal l t w z = orElse (sizesRefusal bounds l) (orElse (shortRefusal l t w) (unless z 5 0))
 
 -- ---- 7 to 16, batches
 
@@ -81,9 +85,9 @@ batchOf [] ns rs = []
 batchOf (i ∷ is) [] rs = []
 batchOf (i ∷ is) (n ∷ ns) rs = record { id = i; rows = take n rs } ∷ batchOf is ns (drop n rs)
 
--- an id is live: the register has a column under it
-abbrev pub isLive : Register → (id : ℕ) → Bool
-isLive r i = among i (idsOf (r .columns))
+-- an id is booked: the register has a column under it
+abbrev pub inRegister : Register → (id : ℕ) → Bool
+inRegister r i = among i (idsOf (r .columns))
 
 -- 13 or 14, row by row
 unfoldable pub rowsRefusal : (m position above : ℕ) → (rows : List ℕ) → Refusal
@@ -97,7 +101,7 @@ columnsRefusal r n p bs (i ∷ is) [] rs = refusal 7 0
 columnsRefusal r n p bs (i ∷ is) (k ∷ ns) rs =
     orElse (unless (isIn 1 n i) 8 p)
     (orElse (unless (not (among i bs)) 9 p)
-    (orElse (unless (not (isLive r i)) 10 p)
+    (orElse (unless (not (inRegister r i)) 10 p)
     (orElse (unless (isIn 1 256 k && leb k (length rs)) 12 p)
     (orElse (rowsRefusal (r .m) p 0 (take k rs)) (columnsRefusal r n (suc p) (i ∷ bs) is ns (drop k rs))))))
 
@@ -120,7 +124,7 @@ unfoldable pub idsRefusal : Register → (n position : ℕ) → (before ids : Li
 idsRefusal r n p bs [] = accepted
 idsRefusal r n p bs (i ∷ is) =
     orElse (unless (isIn 1 n i) 8 p)
-    (orElse (unless (not (among i bs)) 9 p) (orElse (unless (isLive r i) 11 p) (idsRefusal r n (suc p) (i ∷ bs) is)))
+    (orElse (unless (not (among i bs)) 9 p) (orElse (unless (inRegister r i) 11 p) (idsRefusal r n (suc p) (i ∷ bs) is)))
 
 -- 7, 8, 9 or 11 of a removal, in document 01's order
 abbrev pub removeRefusal : Limits → Register → (ids : List ℕ) → Refusal

@@ -10,6 +10,7 @@ use Prim.Native.Nat.{ℕ, _+_, _≤_, _<_}
 use lib.ListN.{length}
 use Rattle.lists.specs.Lists.{Mem, at, valuesAt, times}
 use Rattle.symbolic.specs.Factor.{patternFrom, nonZero}
+use Rattle.workspace.specs.Planned.{newKind, goneKind}
 use Rattle.pool.specs.Chains.{chain}
 use Rattle.pool.specs.Whole.{Pool}
 use Rattle.pool.specs.Changes.{Beside, Changed}
@@ -39,7 +40,7 @@ pub record CanCommitChain (rows counts next : List ℕ) (head free : ℕ) (ns pl
   pub some : 1 ≤ head
   pub suits : Suits ns (at rows head) plan
   pub stays : 0 < at (planned ns plan) (at rows head)
-  pub room : ofKind 1 plan ≤ length (chain next free)
+  pub room : ofKind newKind plan ≤ length (chain next free)
 
 -- what a caller shows: that the chain holds some multiplicities, which the plan suits
 pub record CommitReady (rows counts next : List ℕ) (head free : ℕ) (plan : List ℕ) : Type 0 where
@@ -61,7 +62,7 @@ pub record CommittedChain (rows₀ counts₀ next₀ : List ℕ) (head free₀ :
   pub rest : List ℕ
   pub rewritten : Rewritten rows₀ counts₀ next₀ head free₀ rows counts next free records rest
   pub holds : HoldsFrom rows counts 1 (planned ns plan) records
-  pub free-left : length rest + ofKind 1 plan ≡ length (chain next₀ free₀) + ofKind 2 plan
+  pub free-left : length rest + ofKind newKind plan ≡ length (chain next₀ free₀) + ofKind goneKind plan
 
 -- ---- the stored columns
 
@@ -85,7 +86,7 @@ pub record CanCommit (s : Stored) (j : ℕ) (ns plan : List ℕ) : Type 0 where
   pub below : (i : ℕ) → 1 ≤ i → i < j → at ns i ≡ 0
   pub diagonal : (0 < at ns j) × (0 < at (planned ns plan) j)
   pub suits : Suits ns j plan
-  pub room : ofKind 1 plan ≤ length (chain (s .next) (s .free))
+  pub room : ofKind newKind plan ≤ length (chain (s .next) (s .free))
 
 -- the records of column l, with row, multiplicity and next, stay
 pub record ChainStays (before after : Stored) (l : ℕ) : Type 0 where
@@ -102,4 +103,4 @@ pub record Committed (s : Stored) (j : ℕ) (ns plan : List ℕ) (after : Stored
   pub holds : Holds after j (planned ns plan)
   pub others : (l : ℕ) → 1 ≤ l → l ≤ length (s .heads) → l ≢ j → ChainStays s after l
   pub keep : EntriesKeep s after j
-  pub free-left : length (chain (after .next) (after .free)) + ofKind 1 plan ≡ length (chain (s .next) (s .free)) + ofKind 2 plan
+  pub free-left : length (chain (after .next) (after .free)) + ofKind newKind plan ≡ length (chain (s .next) (s .free)) + ofKind goneKind plan

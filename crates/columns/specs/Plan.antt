@@ -7,13 +7,13 @@ use Prim.Native.Nat.{ℕ, suc, _+_, _≤_, _<_}
 use lib.Dec.{eqb}
 use lib.ListN.{length}
 use Rattle.lists.specs.Lists.{one, at, put}
-use Rattle.workspace.specs.Planned.{rowOf, multiplicityOf, kindOf}
+use Rattle.workspace.specs.Planned.{rowOf, multiplicityOf, kindOf, changedKind, newKind, goneKind}
 
--- kinds of a planned entry: 0 changed, 1 new, 2 gone
+-- the kind says what becomes of the row
 pub data KindIs (old new kind : ℕ) : Type 0 where
-  changed : kind ≡ 0 → 0 < old → 0 < new → KindIs old new kind
-  new : kind ≡ 1 → old ≡ 0 → 0 < new → KindIs old new kind
-  gone : kind ≡ 2 → 0 < old → new ≡ 0 → KindIs old new kind
+  changed : kind ≡ changedKind → 0 < old → 0 < new → KindIs old new kind
+  new : kind ≡ newKind → old ≡ 0 → 0 < new → KindIs old new kind
+  gone : kind ≡ goneKind → 0 < old → new ≡ 0 → KindIs old new kind
 
 -- multiplicities of rows 1 to m with a plan's put in
 unfoldable pub planned : (counts plan : List ℕ) → List ℕ

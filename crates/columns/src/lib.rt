@@ -179,7 +179,7 @@ fn apply_entry(
     let count = workspace::multiplicity_of(entry) as u16;
     let kind = workspace::kind_of(entry);
     let before = advance(rows, next, p, Row(row));
-    if kind == 1 {
+    if kind == workspace::NEW {
         let z = free.0;
         let j = (z - 1) as usize;
         rows[j] = row as u16;
@@ -190,7 +190,7 @@ fn apply_entry(
     let b = before.0;
     let q = next[(b - 1) as usize];
     let k = (q - 1) as usize;
-    if kind == 0 {
+    if kind == workspace::CHANGED {
         counts[k] = count;
         return Spot(Rec(q), free);
     }

@@ -14,7 +14,7 @@ use Rattle.tables.specs.Stored.{Stored}
 use Rattle.columns.specs.Plan.{ofKind}
 use Rattle.columns.specs.Commit.{CanCommitChain, CommitReady, CommittedChain, CanCommit}
 use Rattle.columns.proofs.Commits.{can-commit-chain, commit-ready, storedWith, committed, Commits, commits-start, commits-holds, commits-next}
-use Rattle.updown.specs.Plans.{startsAt, nextAt, planAt}
+use Rattle.workspace.specs.Layout.{startsAt, nextAt, planAt}
 use Rattle.commit.specs.Passes.{endOf, CanCommitPlans, PlansCommitted}
 use Rattle.commit.proofs.Standing.{Standing, Ahead, standing-start, standing-next, standing-end}
 

@@ -3,4 +3,3 @@ pub mod Wiped
 pub mod Committing
 pub mod Reporting
 pub mod Written
-pub mod Planned

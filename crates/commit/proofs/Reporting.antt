@@ -12,7 +12,8 @@ use Rattle.lists.proofs.Rising.{rises-in, rises-length}
 use Rattle.lists.proofs.Place.{over-push, over-length}
 use Rattle.symbolic.specs.Factor.{FactorColumn, parentOf}
 use Rattle.workspace.specs.Regions.{cell}
-use Rattle.updown.specs.Plans.{marksAt, startsAt, nextAt, planAt, labelIn, parentIn}
+use Rattle.updown.specs.Plans.{labelIn, parentIn}
+use Rattle.workspace.specs.Layout.{marksAt, startsAt, nextAt, planAt}
 use Rattle.commit.specs.Writes.{labelsFor}
 use Rattle.commit.specs.Passes.{putAll, CanReport, Reported}
 use Rattle.commit.proofs.Standing.{Standing, Ahead, standing-start, standing-next, standing-end}

@@ -17,7 +17,8 @@ use Rattle.lists.proofs.Times.{times-nil, times-other}
 use Rattle.lists.proofs.Rising.{rises-in, rises-length}
 use Rattle.symbolic.specs.Factor.{FactorColumn}
 use Rattle.workspace.specs.Regions.{cell}
-use Rattle.updown.specs.Plans.{nextAt, ColumnPlan, firstOf, PlansFrom}
+use Rattle.updown.specs.Plans.{ColumnPlan, firstOf, PlansFrom}
+use Rattle.workspace.specs.Layout.{nextAt}
 use Rattle.commit.specs.Passes.{endOf}
 
 -- ---- rising lists, cut at a member

@@ -12,7 +12,7 @@ use Rattle.lists.proofs.Tests.{eq-or-ne}
 use Rattle.lists.proofs.Place.{put-length, at-put-same, at-put-other}
 use Rattle.lists.proofs.Times.{times-nil, times-self, times-other, times-cons, mem-times}
 use Rattle.workspace.specs.Regions.{cell}
-use Rattle.updown.specs.Plans.{marksAt, startsAt, nextAt, planAt}
+use Rattle.workspace.specs.Layout.{marksAt, startsAt, nextAt, planAt}
 use Rattle.commit.specs.Writes.{labelsFor}
 use Rattle.commit.specs.Passes.{putAll, wiped}
 

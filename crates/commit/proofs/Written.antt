@@ -24,7 +24,8 @@ use Rattle.tables.proofs.Stored as stored
 use Rattle.tables.proofs.Revised.{revised-sound}
 use Rattle.columns.specs.Commit.{Holds, Ready, ChainStays}
 use Rattle.columns.proofs.Stored.{stays-holds, held-keep}
-use Rattle.updown.specs.Plans.{planAt, PlansFrom}
+use Rattle.updown.specs.Plans.{PlansFrom}
+use Rattle.workspace.specs.Layout.{planAt}
 use Rattle.commit.specs.Writes.{CanWrite, Written}
 use Rattle.commit.specs.Passes.{putAll, wiped, CanCommitPlans, PlansCommitted, CanReport, Reported}
 use Rattle.commit.proofs.Wiped.{PlaceOf, all-length, all-other, all-at, wiped-length, wiped-cases}

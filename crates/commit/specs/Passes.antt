@@ -8,13 +8,15 @@ use lib.Dec.{eqb}
 use lib.ListN.{length, set}
 use Rattle.lists.specs.Lists.{pick, at, put, times, rises, over}
 use Rattle.symbolic.specs.Factor.{FactorColumn, columnAt, parentOf}
+use Rattle.workspace.specs.Planned.{newKind}
 use Rattle.workspace.specs.Regions.{cell, region}
 use Rattle.pool.specs.Chains.{chain}
 use Rattle.tables.specs.Stored.{Stored, storedOf}
 use Rattle.tables.specs.Stays.{EntriesKeep}
 use Rattle.columns.specs.Plan.{ofKind}
 use Rattle.columns.specs.Commit.{Holds, Ready, ChainStays}
-use Rattle.updown.specs.Plans.{marksAt, startsAt, nextAt, planAt, firstOf, PlansFrom}
+use Rattle.updown.specs.Plans.{firstOf, PlansFrom}
+use Rattle.workspace.specs.Layout.{marksAt, startsAt, nextAt, planAt}
 use Rattle.commit.specs.Writes.{labelsFor}
 
 -- ---- the commits
@@ -37,7 +39,7 @@ pub record CanCommitPlans (s : Stored) (L L′ : List FactorColumn) (label : ℕ
   pub first-is : first ≡ firstOf columns
   pub plans : PlansFrom (length (s .heads)) L L′ label work columns 0 used
   pub long : planAt (length (s .heads)) + used ≤ length work
-  pub room : ofKind 1 (region work (planAt (length (s .heads))) used) ≤ length (chain (s .next) (s .free))
+  pub room : ofKind newKind (region work (planAt (length (s .heads))) used) ≤ length (chain (s .next) (s .free))
   pub holds : (j : ℕ) → 1 ≤ j → j ≤ length (s .heads) → Holds s j (columnAt L j .counts)
   -- the diagonal is the first row, and stays
   pub below : (i j : ℕ) → 1 ≤ i → i < j → j ≤ length (s .heads) → at (columnAt L j .counts) i ≡ 0

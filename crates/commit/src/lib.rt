@@ -4,11 +4,17 @@ ghost use mathlib.Core.Path.{_≡_};
 ghost use mathlib.Core.List.{List};
 ghost use Prim.Native.Nat.{ℕ, _+_};
 ghost use Rattle.symbolic.specs.Factor.{FactorColumn};
-ghost use Rattle.updown.specs.Plans.{planAt};
+ghost use Rattle.workspace.specs.Layout.{planAt};
 ghost use Rattle.tables.specs.Stored.{storedOf};
 ghost use Rattle.commit.specs.Writes.{SomeWrite, WrittenAll};
 ghost use Rattle.commit.specs.Passes.{endOf, CanEnd, CanCommitPlans, SomeCommits, PlansCommitted, CanReport, SomeReport, Reported};
 use pool::Rec;
+use updown::LABEL_WEIGHT;
+use updown::PARENT_WEIGHT;
+use workspace::MARKS;
+use workspace::NEXT;
+use workspace::PLAN;
+use workspace::STARTS;
 
 // Where the plan of a column ends in the work table, by the touched column after it (0: none).
 fn plan_end(work: &[u32], m: usize, after: u32, used: u32) -> usize
@@ -16,10 +22,10 @@ fn plan_end(work: &[u32], m: usize, after: u32, used: u32) -> usize
     ensures { λ e. ⌜ e ≡ planAt m + endOf m (now (work .entry)) after used ⌝ }
 {
     if after == 0 {
-        return 8 * m + used as usize;
+        return PLAN * m + used as usize;
     }
     let k = (after - 1) as usize;
-    8 * m + work[4 * m + k] as usize
+    PLAN * m + work[STARTS * m + k] as usize
 }
 
 // Commits the planned columns from the first on, and gives the free head. It ends, since the touched columns rise.
@@ -41,8 +47,8 @@ fn commit_columns(
     let mut z = free;
     while j != 0 {
         let k = (j - 1) as usize;
-        let after = work[5 * m + k];
-        let a = 8 * m + work[4 * m + k] as usize;
+        let after = work[NEXT * m + k];
+        let a = PLAN * m + work[STARTS * m + k] as usize;
         let e = plan_end(work, m, after, used);
         z = columns::commit_column(rows, counts, next, &work[a..e], Rec(heads[k]), z);
         j = after;
@@ -66,14 +72,14 @@ fn report_columns(
     let mut t: usize = 0;
     while j != 0 {
         let k = (j - 1) as usize;
-        let mark = work[3 * m + k];
-        let after = work[5 * m + k];
-        parents[k] = (mark / 262144) as u16;
+        let mark = work[MARKS * m + k];
+        let after = work[NEXT * m + k];
+        parents[k] = (mark / PARENT_WEIGHT) as u16;
         touched[t] = j as u16;
-        labels[t] = (mark / 4 % 65536) as u16;
-        work[3 * m + k] = 0;
-        work[4 * m + k] = 0;
-        work[5 * m + k] = 0;
+        labels[t] = (mark / LABEL_WEIGHT % 65536) as u16;
+        work[MARKS * m + k] = 0;
+        work[STARTS * m + k] = 0;
+        work[NEXT * m + k] = 0;
         j = after;
         t += 1;
     }
@@ -98,6 +104,6 @@ pub fn write_plan(
 {
     let z = commit_columns(heads, rows, counts, next, work, first, used, free);
     report_columns(parents, work, touched, labels, first);
-    workspace::clear(work, 8 * heads.len(), used as usize);
+    workspace::clear(work, PLAN * heads.len(), used as usize);
     z
 }

@@ -1,6 +1,6 @@
 -- What a proved caller of the unchecked batches needs: an accepted opening leaves tables that a batch may change (`opened-can`), a refused one leaves
--- everything (`refused-number`, `refused-tables`, `refused-work`), a batch leaves tables that the next may change (`add-can`, `remove-can`), and its step is that of the whole call
--- (`add-step`, `remove-step`). Assumes nothing.
+-- everything (`refused-number`, `refused-tables`, `refused-work`), a batch leaves tables that the next may change (`change-can`), and its step is that of the whole call
+-- (`change-step`). Assumes nothing.
 use mathlib.Core.Path.{_≡_, refl, sym, ap, _∙_, subst}
 use mathlib.Core.Logic.{_⊎_, inl, inr, _≢_}
 use mathlib.Core.Bool.{Bool, true, false, true≢false}
@@ -18,17 +18,18 @@ use Rattle.tables.specs.Tables.{Tables, Limits, State, longEnough, registerOf, 
 use Rattle.tables.specs.Opening.{openedState, openedTables}
 use Rattle.tables.proofs.Tables.{tails-long, long-facts}
 use Rattle.tables.proofs.Opening.{opened-sound, opened-long}
-use Rattle.calls.specs.Refusals.{Refusal, accepted, isAccepted, orElse, bounds, sizesRefusal, workFor, shortBatch}
-use Rattle.calls.specs.Calls.{Call, opening, adding, removing, withDefault}
-use Rattle.calls.specs.Numbers.{earlyRefusal, callRefusal, refusalOf}
-use Rattle.calls.specs.Steps.{Answer, Lent, World, Amended, Transition}
+use Rattle.calls.specs.Refusals.{Refusal, accepted, isAccepted, orElse, unless, bounds, sizesRefusal, workFor, shortRefusal, listsLong, earlyRefusal}
+use Rattle.calls.specs.Calls.{Change, opening, changing, Lent, workOnly, reportLists, Call, callOf, withDefault}
+use Rattle.calls.specs.Changes.{effect}
+use Rattle.calls.specs.Numbers.{callEarly, refusalOf}
+use Rattle.calls.specs.Steps.{Answer, World, Exchanged, Transition}
 use Rattle.calls.proofs.Choices.{or-both, or-second, both-or}
 use Rattle.calls.proofs.Refusals.{InRange, sizes-facts}
 use Rattle.calls.proofs.Numbers.{Ready, early-facts}
 use Rattle.calls.proofs.Steps.{Accepted, Refused, step-cases, step-taken, refused-some}
-use Rattle.batch.specs.Outcome.{batchLists, BatchOutcome, BatchStep}
-use Rattle.batch.proofs.Whole.{add-whole, remove-whole}
-use Rattle.factor.specs.Entries.{stateOf, workOnly, openingAnswer, stateAfter, OpenStep}
+use Rattle.batch.specs.Outcome.{BatchOutcome, BatchStep}
+use Rattle.batch.proofs.Whole.{change-whole}
+use Rattle.factor.specs.Entries.{stateOf, openingAnswer, stateAfter, OpenStep}
 use Rattle.factor.specs.Admission.{Usable}
 use Rattle.factor.specs.Batches.{CanChange}
 use Rattle.factor.specs.declared.Factor.{Factor}
@@ -42,7 +43,7 @@ zero-one e = omega arith
 
 module _ (l : Limits) (t : Tables) (w : List ℕ) where
   -- the tables and the zeroed work table of the sizes asked
-  fresh-can : (k : Limits) → Ready k t (opening l w) → (a b : List ℕ) → l .m ≤ length a → l .m ≤ length b →
+  fresh-can : (k : Limits) → Ready k t (callOf (opening l) (workOnly w)) → (a b : List ℕ) → l .m ≤ length a → l .m ≤ length b →
       CanChange (openedState (withDefault l)) (openedTables (withDefault l) t) (zeroFirst (workFor (withDefault l)) w) a b
   fresh-can k r a b x y =
       let d : Limits = withDefault l in
@@ -62,10 +63,10 @@ module _ (l : Limits) (t : Tables) (w : List ℕ) where
       let s : State = stateOf x in
       let u : World = record { state = s; tables = t } in
       let v : World = record { state = stateOf x; tables = t′ } in
-      let k : Call = opening l w in
+      let k : Call = callOf (opening l) (workOnly w) in
       let d : Limits = withDefault l in
       let g : Accepted u k (openingAnswer (answers.Opened x)) (workOnly w′) v = step-taken u k (openingAnswer (answers.Opened x)) (workOnly w′) v (o s) refl in
-      let e : isAccepted (earlyRefusal (s .limits) t k) ≡ true = or-both (earlyRefusal (s .limits) t k) accepted (g .number) .0 in
+      let e : isAccepted (callEarly (s .limits) t k) ≡ true = or-both (callEarly (s .limits) t k) accepted (g .number) .0 in
       let m : x .m ≡ l .m = ap (λ (y : State). y .limits .m) (g .world .0) in
       let z : w′ ≡ zeroFirst (workFor d) w =
       ap (λ (y : Lent). y .work) (g .lists) ∙ ap (λ (q : Bool). pick q (zeroFirst (workFor d) w) w) e in
@@ -80,9 +81,9 @@ module _ (l : Limits) (t : Tables) (w : List ℕ) where
       let s : State = stateOf x in
       let u : World = record { state = s; tables = t } in
       let v : World = record { state = stateOf x; tables = t′ } in
-      let k : Call = opening l w in
+      let k : Call = callOf (opening l) (workOnly w) in
       let g : Accepted u k (openingAnswer (answers.Opened x)) (workOnly w′) v = step-taken u k (openingAnswer (answers.Opened x)) (workOnly w′) v (o s) refl in
-      let e : isAccepted (earlyRefusal (s .limits) t k) ≡ true = or-both (earlyRefusal (s .limits) t k) accepted (g .number) .0 in
+      let e : isAccepted (callEarly (s .limits) t k) ≡ true = or-both (callEarly (s .limits) t k) accepted (g .number) .0 in
       let m : x .m ≡ l .m = ap (λ (y : State). y .limits .m) (g .world .0) in
       omega (arith, long-facts (withDefault l) t (early-facts (s .limits) t k e .room .tables) .heads)
 
@@ -91,13 +92,13 @@ module _ (l : Limits) (t : Tables) (w : List ℕ) where
     abbrev any : ℕ → State
     any i = record { limits = l; free = i; bookFree = 0 }
 
-    step : (i : ℕ) → (Accepted (record { state = any i; tables = t }) (opening l w) (openingAnswer (answers.Refused n)) (workOnly w′) (record { state = any i; tables = t′ })) ⊎
-        (Refused (record { state = any i; tables = t }) (opening l w) (openingAnswer (answers.Refused n)) (workOnly w′) (record { state = any i; tables = t′ }))
+    step : (i : ℕ) → (Accepted (record { state = any i; tables = t }) (callOf (opening l) (workOnly w)) (openingAnswer (answers.Refused n)) (workOnly w′) (record { state = any i; tables = t′ })) ⊎
+        (Refused (record { state = any i; tables = t }) (callOf (opening l) (workOnly w)) (openingAnswer (answers.Refused n)) (workOnly w′) (record { state = any i; tables = t′ }))
     step i =
-        step-cases (record { state = any i; tables = t }) (opening l w) (openingAnswer (answers.Refused n)) (workOnly w′) (record { state = any i; tables = t′ }) (o (any i))
+        step-cases (record { state = any i; tables = t }) (callOf (opening l) (workOnly w)) (openingAnswer (answers.Refused n)) (workOnly w′) (record { state = any i; tables = t′ }) (o (any i))
 
     -- accepted, the record after it would be the one before it, whatever that was
-    not-accepted : (i : ℕ) → isAccepted (refusalOf (any i) t (opening l w)) ≡ false
+    not-accepted : (i : ℕ) → isAccepted (refusalOf (any i) t (callOf (opening l) (workOnly w))) ≡ false
     not-accepted i =
         elim (step 0) [
           | inl f ↦ elim (step 1) [
@@ -107,7 +108,7 @@ module _ (l : Limits) (t : Tables) (w : List ℕ) where
           | inr f ↦ f .number
         ]
 
-    refused-as : Refused (record { state = any 0; tables = t }) (opening l w) (openingAnswer (answers.Refused n)) (workOnly w′) (record { state = any 0; tables = t′ })
+    refused-as : Refused (record { state = any 0; tables = t }) (callOf (opening l) (workOnly w)) (openingAnswer (answers.Refused n)) (workOnly w′) (record { state = any 0; tables = t′ })
     refused-as = elim (step 0) [ inl f ↦ absurd (true≢false (sym (f .number) ∙ not-accepted 0)) | inr f ↦ f ]
 
     pub refused-number : n ≢ 0
@@ -118,7 +119,7 @@ module _ (l : Limits) (t : Tables) (w : List ℕ) where
 
     pub refused-work : w′ ≡ w
     refused-work =
-        let x : Refusal = earlyRefusal l t (opening l w) in
+        let x : Refusal = callEarly l t (callOf (opening l) (workOnly w)) in
         elim (cases (isAccepted x)) [
           | inl e ↦ absurd (true≢false (sym (ap isAccepted (or-second x accepted e)) ∙ not-accepted 0))
           | inr e ↦ ap (λ (y : Lent). y .work) (refused-as .lists) ∙ ap (λ (q : Bool). pick q (zeroFirst (workFor (withDefault l)) w) w) e
@@ -128,26 +129,21 @@ module _ (l : Limits) (t : Tables) (w : List ℕ) where
 
 module _ {s : State} {t : Tables} {w a b : List ℕ} (can : CanChange s t w a b) where
   -- 1 to 5 are passed
-  batch-early : isAccepted (orElse (sizesRefusal bounds (s .limits)) (shortBatch (s .limits) t w a b)) ≡ true
+  batch-early : isAccepted (earlyRefusal (s .limits) t w (listsLong (s .limits .m) a b)) ≡ true
   batch-early =
-      both-or (sizesRefusal bounds (s .limits)) (shortBatch (s .limits) t w a b) (ap isAccepted (can .usable .sizes))
-      (rw (can .usable .long, le-leb _ _ (can .room), le-leb _ _ (can .touched-long), le-leb _ _ (can .labels-long)) refl)
+      let l : Limits = s .limits in
+      both-or (sizesRefusal bounds l) (orElse (shortRefusal l t w) (unless (listsLong (l .m) a b) 5 0)) (ap isAccepted (can .usable .sizes))
+      (both-or (shortRefusal l t w) (unless (listsLong (l .m) a b) 5 0) (rw (can .usable .long, le-leb _ _ (can .room)) refl)
+      (rw (le-leb _ _ (can .touched-long), le-leb _ _ (can .labels-long)) refl))
 
   first : w ≡ zeroFirst (workFor (s .limits)) w
   first = sym (first-same (workFor (s .limits)) w (can .room) (can .zero))
 
-  module _ (z : Answer) (x : Lent) (v : World) where
-    pub add-step : (is ns rs : List ℕ) → BatchStep (record { state = s; tables = t }) (adding is ns rs w a b) z x v →
-        Transition (record { state = s; tables = t }) (adding is ns rs w a b) z x v
-    add-step is ns rs o =
-        add-whole (record { state = s; tables = t }) w a b (can .usable .sound) z x v is ns rs batch-early
-        (subst (λ (q : List ℕ). BatchStep (record { state = s; tables = t }) (adding is ns rs q a b) z x v) first o)
-
-    pub remove-step : (is : List ℕ) → BatchStep (record { state = s; tables = t }) (removing is w a b) z x v →
-        Transition (record { state = s; tables = t }) (removing is w a b) z x v
-    remove-step is o =
-        remove-whole (record { state = s; tables = t }) w a b (can .usable .sound) z x v is batch-early
-        (subst (λ (q : List ℕ). BatchStep (record { state = s; tables = t }) (removing is q a b) z x v) first o)
+  pub change-step : (c : Change) (z : Answer) (x : Lent) (v : World) → BatchStep (record { state = s; tables = t }) c (reportLists w a b) z x v →
+      Transition (record { state = s; tables = t }) (callOf (changing c) (reportLists w a b)) z x v
+  change-step c z x v o =
+      change-whole (record { state = s; tables = t }) c (reportLists w a b) batch-early (can .usable .sound) z x v
+      (subst (λ (q : List ℕ). BatchStep (record { state = s; tables = t }) c (reportLists q a b) z x v) first o)
 
   -- the lists keep their lengths, so the next batch may follow
   module _ (w′ a′ b′ : List ℕ) (v : World) (p : length a′ ≡ length a) (q : length b′ ≡ length b) where
@@ -167,29 +163,19 @@ module _ {s : State} {t : Tables} {w a b : List ℕ} (can : CanChange s t w a b)
           labels-long = omega (arith, can .labels-long);
         }
 
-    amended-can : (k : Call) → w′ ≡ w → Amended (record { state = s; tables = t }) k v → CanChange (v .state) (v .tables) w′ a′ b′
-    amended-can k e m = same-can e (m .limits) (tails-long (s .limits) t (v .tables) (m .tails) (can .usable .long)) (m .sound)
+    exchanged-can : (c : Change) → w′ ≡ w → Exchanged (record { state = s; tables = t }) c v → CanChange (v .state) (v .tables) w′ a′ b′
+    exchanged-can c e m = same-can e (m .limits) (tails-long (s .limits) t (v .tables) (m .tails) (can .usable .long)) (m .sound)
 
     left-can : w′ ≡ w → v ≡ record { state = s; tables = t } → CanChange (v .state) (v .tables) w′ a′ b′
     left-can e f =
         same-can e (ap (λ (y : World). y .state .limits) f) (ap (λ (y : World). longEnough (s .limits) (y .tables)) f ∙ can .usable .long)
         (ap (λ (y : World). isSound (y .state) (y .tables)) f ∙ can .usable .sound)
 
-    add-by : (is ns rs : List ℕ) (z : Answer) (n : Bool) → BatchOutcome n (record { state = s; tables = t }) (adding is ns rs w a b) z (batchLists w′ a′ b′) v →
+    change-by : (c : Change) (z : Answer) (n : Bool) → BatchOutcome n (record { state = s; tables = t }) c (reportLists w a b) z (reportLists w′ a′ b′) v →
         CanChange (v .state) (v .tables) w′ a′ b′
-    add-by is ns rs z true o = amended-can (adding is ns rs w a b) (ap (λ (y : Lent). y .work) (o .1)) (o .2)
-    add-by is ns rs z false o = left-can (ap (λ (y : Lent). y .work) (o .1)) (o .2)
+    change-by c z true o = exchanged-can c (ap (λ (y : Lent). y .work) (o .1)) (o .2)
+    change-by c z false o = left-can (ap (λ (y : Lent). y .work) (o .1)) (o .2)
 
-    pub add-can : (is ns rs : List ℕ) (z : Answer) → BatchStep (record { state = s; tables = t }) (adding is ns rs w a b) z (batchLists w′ a′ b′) v →
+    pub change-can : (c : Change) (z : Answer) → BatchStep (record { state = s; tables = t }) c (reportLists w a b) z (reportLists w′ a′ b′) v →
         CanChange (v .state) (v .tables) w′ a′ b′
-    add-can is ns rs z o =
-        add-by is ns rs z (isAccepted (callRefusal (s .limits) (registerOf s t) (adding is ns rs w a b))) o
-
-    remove-by : (is : List ℕ) (z : Answer) (n : Bool) → BatchOutcome n (record { state = s; tables = t }) (removing is w a b) z (batchLists w′ a′ b′) v →
-        CanChange (v .state) (v .tables) w′ a′ b′
-    remove-by is z true o = amended-can (removing is w a b) (ap (λ (y : Lent). y .work) (o .1)) (o .2)
-    remove-by is z false o = left-can (ap (λ (y : Lent). y .work) (o .1)) (o .2)
-
-    pub remove-can : (is : List ℕ) (z : Answer) → BatchStep (record { state = s; tables = t }) (removing is w a b) z (batchLists w′ a′ b′) v →
-        CanChange (v .state) (v .tables) w′ a′ b′
-    remove-can is z o = remove-by is z (isAccepted (callRefusal (s .limits) (registerOf s t) (removing is w a b))) o
+    change-can c z o = change-by c z (isAccepted (effect (registerOf s t) c .refusal (s .limits))) o

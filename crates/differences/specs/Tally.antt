@@ -5,10 +5,11 @@ use mathlib.Core.Path.{_≡_}
 use mathlib.Core.Logic.{_≢_, _↔_}
 use mathlib.Core.Bool.{Bool, true, false}
 use mathlib.Core.List.{List}
-use Prim.Native.Nat.{ℕ, _+_, _-_, _*_, _≤_}
+use Prim.Native.Nat.{ℕ, _+_, _-_, _≤_}
 use lib.Dec.{eqb}
 use lib.ListN.{length}
 use Rattle.lists.specs.Lists.{pick, one, among, at, rises}
+use Rattle.workspace.specs.Layout.{bufferAt, marksAt}
 use Rattle.workspace.specs.Regions.{region, IsZero}
 
 -- 2^30, which stands for a difference of 0
@@ -25,7 +26,7 @@ differenceAt w i = shifted (at w i)
 
 -- the n touched rows, those whose place is not 0, stand in the list, rising
 pub record Touched (m : ℕ) (work : List ℕ) (n : ℕ) : Type 0 where
-  pub long : 3 * m ≤ length work
+  pub long : marksAt m ≤ length work
   pub within : n ≤ m
   pub rising : rises 1 m (region work m n) ≡ true
   pub listed : (i : ℕ) → 1 ≤ i → i ≤ m → (among i (region work m n) ≡ true) ↔ (at work i ≢ 0)
@@ -35,7 +36,7 @@ pub record Touched (m : ℕ) (work : List ℕ) (n : ℕ) : Type 0 where
 pub record Tally (m : ℕ) (work : List ℕ) (n : ℕ) (δ : ℕ → ℕ) : Type 0 where
   pub touched : Touched m work n
   pub values : (i : ℕ) → 1 ≤ i → i ≤ m → differenceAt work i ≡ δ i
-  pub buffer : IsZero work (2 * m) m
+  pub buffer : IsZero work (bufferAt m) m
 
 -- differences counted up, or down, at the rows that pass a test
 abbrev pub counted : (up : Bool) → (before after : ℕ → ℕ) → (m : ℕ) → (rows : ℕ → Bool) → Type 0

@@ -7,6 +7,8 @@ ghost use Prim.Native.Nat.{_+_, _-_, _*_, _≤_, _<_};
 ghost use lib.Dec.{ltb};
 ghost use lib.ListN.{length};
 ghost use Rattle.lists.specs.Lists.{among, rises, valuesAt};
+ghost use Rattle.workspace.specs.Layout.{planAt};
+ghost use Rattle.workspace.specs.Planned.{newKind, goneKind};
 ghost use Rattle.workspace.specs.Regions.{cell};
 ghost use Rattle.pool.specs.Chains.{chain};
 ghost use Rattle.differences.specs.Gather.{rowsOfKind, planPart, CanGather, PlanRises, ChainRises, CanGrow, Gathered, CanPass, Passed, goneAt, CanReach, Reached};
@@ -14,6 +16,8 @@ ghost use Rattle.differences.specs.Tally.{shifted};
 ghost use Rattle.differences.specs.Count.{bumpedTo, CanCount, Counted, Bumped, CanMerge, Merged};
 use book::Row;
 use pool::Rec;
+use workspace::BUFFER;
+use workspace::PLAN;
 
 // 2^30, the shifted difference of a row whose multiplicity does not change.
 pub const BASE: u32 = 1073741824;
@@ -31,7 +35,7 @@ pub fn gather_rows(work: &mut [u32], list: &[u32], m: usize) -> usize
 {
     let mut k: usize = 0;
     while k < list.len() {
-        work[2 * m + k] = list[k];
+        work[BUFFER * m + k] = list[k];
         k += 1;
     }
     k
@@ -54,13 +58,13 @@ fn gather_below(
     let mut n = k;
     let mut a = from;
     while a < to {
-        let entry = work[8 * m + a];
+        let entry = work[PLAN * m + a];
         let row = workspace::row_of(entry);
         if least <= row {
             return Reach { rows: n, stop: a };
         }
         if workspace::kind_of(entry) == kind {
-            work[2 * m + n] = row;
+            work[BUFFER * m + n] = row;
             n += 1;
             a += 1;
         } else {
@@ -88,7 +92,7 @@ pub fn gather_chain(rows: &[u16], next: &[u32], work: &mut [u32], m: usize, r: R
     let mut k: usize = 0;
     while q != 0 {
         let i = (q - 1) as usize;
-        work[2 * m + k] = rows[i] as u32;
+        work[BUFFER * m + k] = rows[i] as u32;
         q = next[i];
         k += 1;
     }
@@ -106,7 +110,7 @@ pub fn gather_grown(
     to: usize,
 ) -> usize
     requires { ⌜ CanGrow m (now rows) (now next) (now work) (r .0) from to ⌝ }
-    ensures { λ k. ⌜ Gathered m (now (work .entry)) (now (work .exit)) k (λ i. among i (valuesAt (now (rows .entry)) (chain (now (next .entry)) (r .0))) || among i (rowsOfKind 1 (planPart m (now (work .entry)) from to))) ⌝ }
+    ensures { λ k. ⌜ Gathered m (now (work .entry)) (now (work .exit)) k (λ i. among i (valuesAt (now (rows .entry)) (chain (now (next .entry)) (r .0))) || among i (rowsOfKind newKind (planPart m (now (work .entry)) from to))) ⌝ }
 {
     let mut q = r.0;
     let mut k: usize = 0;
@@ -117,7 +121,7 @@ pub fn gather_grown(
         let met = gather_below(work, m, k, a, to, 1, Row(row));
         k = met.rows;
         a = met.stop;
-        work[2 * m + k] = row;
+        work[BUFFER * m + k] = row;
         q = next[i];
         k += 1;
     }
@@ -133,7 +137,7 @@ fn pass(work: &[u32], m: usize, from: usize, to: usize, row: Row) -> usize
     let least = row.0;
     let mut a = from;
     while a < to {
-        if least <= workspace::row_of(work[8 * m + a]) {
+        if least <= workspace::row_of(work[PLAN * m + a]) {
             return a;
         }
         a += 1;
@@ -143,18 +147,18 @@ fn pass(work: &[u32], m: usize, from: usize, to: usize, row: Row) -> usize
 
 // Whether the entry at a place of the plan, before to, is that a row is gone.
 fn is_gone(work: &[u32], m: usize, a: usize, to: usize, row: Row) -> bool
-    requires { ⌜ 8 * m + to ≤ length (now work) ⌝ }
+    requires { ⌜ planAt m + to ≤ length (now work) ⌝ }
     ensures { λ r. ⌜ r ≡ goneAt m (now (work .entry)) a to (row .0) ⌝ }
 {
     if to <= a {
         return false;
     }
-    let entry = work[8 * m + a];
+    let entry = work[PLAN * m + a];
     let i = row.0;
     if workspace::row_of(entry) != i {
         return false;
     }
-    workspace::kind_of(entry) == 2
+    workspace::kind_of(entry) == workspace::GONE
 }
 
 // Gathers the rows of the records from r on but for the gone rows of the part [from, to) of the plan, and gives their number.
@@ -168,7 +172,7 @@ pub fn gather_pruned(
     to: usize,
 ) -> usize
     requires { ⌜ CanGather m (now work) × ChainRises m (now rows) (now next) (r .0) × PlanRises m (now work) from to ⌝ }
-    ensures { λ k. ⌜ Gathered m (now (work .entry)) (now (work .exit)) k (λ i. among i (valuesAt (now (rows .entry)) (chain (now (next .entry)) (r .0))) && not (among i (rowsOfKind 2 (planPart m (now (work .entry)) from to)))) ⌝ }
+    ensures { λ k. ⌜ Gathered m (now (work .entry)) (now (work .exit)) k (λ i. among i (valuesAt (now (rows .entry)) (chain (now (next .entry)) (r .0))) && not (among i (rowsOfKind goneKind (planPart m (now (work .entry)) from to)))) ⌝ }
 {
     let mut q = r.0;
     let mut k: usize = 0;
@@ -180,7 +184,7 @@ pub fn gather_pruned(
         if is_gone(work, m, a, to, Row(row)) {
             q = next[i];
         } else {
-            work[2 * m + k] = row;
+            work[BUFFER * m + k] = row;
             q = next[i];
             k += 1;
         }
@@ -213,13 +217,13 @@ fn bump(work: &mut [u32], m: usize, n: usize, k: usize, up: bool) -> usize
     let mut i: usize = 0;
     let mut f: usize = 0;
     while i < k {
-        let row = work[2 * m + i];
+        let row = work[BUFFER * m + i];
         let place = (row - 1) as usize;
         let x = work[place];
         work[place] = bumped(x, up);
-        work[2 * m + i] = 0;
+        work[BUFFER * m + i] = 0;
         if x == 0 {
-            work[2 * m + f] = row;
+            work[BUFFER * m + f] = row;
             f += 1;
             i += 1;
         } else {
@@ -249,13 +253,13 @@ fn merge(work: &mut [u32], m: usize, n: usize, f: usize)
     let mut i = n;
     let mut k = f;
     while 0 < k {
-        let row = work[2 * m + (k - 1)];
+        let row = work[BUFFER * m + (k - 1)];
         if is_above(work, m, i, Row(row)) {
             work[m + (i + k - 1)] = work[m + (i - 1)];
             i -= 1;
         } else {
             work[m + (i + k - 1)] = row;
-            work[2 * m + (k - 1)] = 0;
+            work[BUFFER * m + (k - 1)] = 0;
             k -= 1;
         }
     }

@@ -3,11 +3,13 @@
 use mathlib.Core.Path.{_≡_}
 use mathlib.Core.Bool.{true}
 use mathlib.Core.List.{List, _++_}
-use Prim.Native.Nat.{ℕ, _+_, _-_, _*_, _≤_, _<_}
+use Prim.Native.Nat.{ℕ, _+_, _-_, _≤_, _<_}
 use lib.Dec.{leb}
 use lib.ListN.{length, getD}
 use Rattle.lists.specs.Lists.{at, valuesAt}
+use Rattle.workspace.specs.Layout.{marksAt, planAt}
 use Rattle.symbolic.specs.Factor.{patternFrom, nonZero, firstAbove}
+use Rattle.workspace.specs.Planned.{newKind}
 use Rattle.workspace.specs.Regions.{Outside}
 use Rattle.pool.specs.Chains.{chain, Linked}
 use Rattle.columns.specs.Plan.{planned, Suits, ofKind}
@@ -33,7 +35,7 @@ pub record CanEmit (rows counts next work : List ℕ) (m n j head used avail : �
   pub below : (i : ℕ) → 1 ≤ i → i < j → (at old i ≡ 0) × (at new i ≡ 0)
   pub small : (i : ℕ) → at new i < 65536
   pub room : used + length (patternFrom 1 old) + length (chain next avail) ≤ length next
-  pub plan-long : 8 * m + length next ≤ length work
+  pub plan-long : planAt m + length next ≤ length work
 
 -- the same for some multiplicities: what a call needs
 pub record Ready (rows counts next work : List ℕ) (m n j head used avail : ℕ) : Type 0 where
@@ -50,7 +52,7 @@ pub record Plan (next : List ℕ) (m j used avail : ℕ) (old new after : List �
   pub parent : e .parent .0 ≡ firstAbove j 1 new
   pub taken : List ℕ
   pub free-parts : chain next avail ≡ taken ++ chain next (e .avail .0)
-  pub taken-size : length taken ≡ ofKind 1 (planPart m after used (e .used))
+  pub taken-size : length taken ≡ ofKind newKind (planPart m after used (e .used))
   pub free : Linked next (e .avail .0) (chain next (e .avail .0))
 
 -- the differences are cleared, only they and the plan's places changed, and the plan fits exactly if there are free records for all new rows
@@ -59,8 +61,8 @@ pub record Emitted (next work : List ℕ) (m j used avail : ℕ) (old new after 
   pub used-low : used ≤ e .used
   pub used-high : e .used ≤ length next
   pub same-length : length after ≡ length work
-  pub frame : (k : ℕ) → Outside 0 (3 * m) k → Outside (8 * m + used) (e .used - used) k → getD after k 0 ≡ getD work k 0
-  pub fits : e .fits ≡ leb (ofKind 1 (planFrom 1 old new)) (length (chain next avail))
+  pub frame : (k : ℕ) → Outside 0 (marksAt m) k → Outside (planAt m + used) (e .used - used) k → getD after k 0 ≡ getD work k 0
+  pub fits : e .fits ≡ leb (ofKind newKind (planFrom 1 old new)) (length (chain next avail))
   pub plan : e .fits ≡ true → Plan next m j used avail old new after e
 
 -- for whatever multiplicities the call was ready

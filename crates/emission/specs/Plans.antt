@@ -4,11 +4,11 @@ use mathlib.Core.List.{List, [], _∷_}
 use Prim.Native.Nat.{ℕ, suc}
 use lib.Dec.{eqb}
 use Rattle.lists.specs.Lists.{pick}
-use Rattle.workspace.specs.Planned.{packed}
+use Rattle.workspace.specs.Planned.{packed, changedKind, newKind, goneKind}
 
--- 0 changed, 1 new, 2 gone
+-- the kind of a change
 abbrev pub kindFor : (old new : ℕ) → ℕ
-kindFor n n′ = pick (eqb n 0) 1 (pick (eqb n′ 0) 2 0)
+kindFor n n′ = pick (eqb n 0) newKind (pick (eqb n′ 0) goneKind changedKind)
 
 -- the plan for the rows from one on
 unfoldable pub planFrom : (row : ℕ) → (old new : List ℕ) → List ℕ

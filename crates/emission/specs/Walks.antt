@@ -4,10 +4,11 @@ use mathlib.Core.Path.{_≡_}
 use mathlib.Core.Logic.{_≢_}
 use mathlib.Core.Bool.{true, false, _&&_, not}
 use mathlib.Core.List.{List, [], _∷_, _++_}
-use Prim.Native.Nat.{ℕ, _+_, _*_, _≤_, _<_}
+use Prim.Native.Nat.{ℕ, _+_, _≤_, _<_}
 use lib.Dec.{ltb, eqb}
 use lib.ListN.{length, set}
 use Rattle.lists.specs.Lists.{pick, among, at, valuesAt}
+use Rattle.workspace.specs.Layout.{planAt}
 use Rattle.workspace.specs.Planned.{packed}
 use Rattle.pool.specs.Chains.{chain, Linked}
 use Rattle.emission.specs.Plans.{kindFor}
@@ -88,14 +89,14 @@ pub record CanPlan (next work : List ℕ) (m row old new : ℕ) (w : Walk) : Typ
   pub new-small : new < 65536
   pub size-small : w .size < 4294967295
   pub free : w .avail .0 ≤ length next
-  pub place : (old ≡ 0 → w .avail .0 ≢ 0) → 8 * m + w .used < length work
+  pub place : (old ≡ 0 → w .avail .0 ≢ 0) → planAt m + w .used < length work
 
 -- what planning one row does: nothing more if it does not change, one entry if it does and has or gets a record; a new row for which no free record is
 -- left ends the plan
 pub data Planned (next work : List ℕ) (m row old new : ℕ) (w : Walk) (work′ : List ℕ) (after : Walk) : Type 0 where
   same : old ≡ new → work′ ≡ work → after ≡ w → Planned next work m row old new w work′ after
-  stored : old ≢ 0 → old ≢ new → work′ ≡ set work (8 * m + w .used) (packed row new (kindFor old new)) → after ≡ longer w →
+  stored : old ≢ 0 → old ≢ new → work′ ≡ set work (planAt m + w .used) (packed row new (kindFor old new)) → after ≡ longer w →
       Planned next work m row old new w work′ after
-  fresh : old ≡ 0 → old ≢ new → w .avail .0 ≢ 0 → work′ ≡ set work (8 * m + w .used) (packed row new (kindFor old new)) → after ≡ longer (taking next w) →
+  fresh : old ≡ 0 → old ≢ new → w .avail .0 ≢ 0 → work′ ≡ set work (planAt m + w .used) (packed row new (kindFor old new)) → after ≡ longer (taking next w) →
       Planned next work m row old new w work′ after
   spent : old ≡ 0 → old ≢ new → w .avail .0 ≡ 0 → work′ ≡ work → after ≡ full w → Planned next work m row old new w work′ after

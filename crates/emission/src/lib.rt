@@ -5,6 +5,7 @@ ghost use mathlib.Core.Logic.{_≢_};
 ghost use Prim.Native.Nat.{_+_, _*_, _≤_, _<_};
 ghost use lib.ListN.{length, set};
 ghost use Rattle.lists.specs.Lists.{at};
+ghost use Rattle.workspace.specs.Layout.{planAt};
 ghost use Rattle.emission.specs.Plans.{kindFor};
 ghost use Rattle.emission.specs.Walks.{firstOver, stays, longer, taking, CanPass, Passed, storedAt, counting, advanced, CanPlan, Planned};
 ghost use Rattle.emission.specs.Emit.{Ready, Emits};
@@ -128,12 +129,12 @@ fn kind_for(old: u32, new: u32) -> u32
     ensures { λ r. ⌜ r ≡ kindFor old new ⌝ }
 {
     if old == 0 {
-        return 1;
+        return workspace::NEW;
     }
     if 0 < new {
-        return 0;
+        return workspace::CHANGED;
     }
-    2
+    workspace::GONE
 }
 
 // Counts a row with its new multiplicity, if it stays.
@@ -162,12 +163,12 @@ fn take_free(next: &[u32], walk: Walk) -> Walk
 
 // Writes an entry at the plan's end.
 fn put(work: &mut [u32], m: usize, walk: Walk, entry: u32) -> Walk
-    requires { ⌜ 8 * m + walk .used < length (now work) ⌝ }
-    ensures work { λ w. ⌜ now (work .exit) ≡ set (now (work .entry)) (8 * m + walk .used) entry ⌝ }
+    requires { ⌜ planAt m + walk .used < length (now work) ⌝ }
+    ensures work { λ w. ⌜ now (work .exit) ≡ set (now (work .entry)) (planAt m + walk .used) entry ⌝ }
     ensures walk { λ w. ⌜ w ≡ longer walk ⌝ }
 {
     let used = walk.used;
-    work[8 * m + used] = entry;
+    work[workspace::PLAN * m + used] = entry;
     let mut w = walk;
     w.used = used + 1;
     w

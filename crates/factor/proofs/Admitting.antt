@@ -1,5 +1,4 @@
--- Numbers 1 to 6 by the tests that the code makes, one law for each return; and what a call may rely on once it is admitted. A question has no lists of a
--- batch, so its 1 to 5 are those of sizes and tables alone (`early-question`). Assumes nothing.
+-- Numbers 1 to 6 by the tests that the code makes, one law for each return; and what a call may rely on once it is admitted. Assumes nothing.
 use mathlib.Core.Path.{_≡_, refl, sym, ap, _∙_}
 use mathlib.Core.Logic.{_≢_, inl, inr}
 use mathlib.Core.Bool.{Bool, true, false, _&&_, not, true≢false}
@@ -9,13 +8,12 @@ use lib.Dec.{leb}
 use lib.ListN.{length}
 use borrow.Author.Tests.{eq-eqb, ne-eqb, not-true, not-false}
 use Rattle.lists.specs.Lists.{pick}
-use Rattle.lists.proofs.Tests.{cases}
 use Rattle.workspace.specs.Regions.{zeroFirst}
 use Rattle.tables.specs.Tables.{Tables, Limits, State, longEnough, isSound}
-use Rattle.calls.specs.Refusals.{Refusal, accepted, isAccepted, orElse, unless, bounds, sizesRefusal, workFor, shortRefusal}
-use Rattle.calls.proofs.Choices.{or-both, or-first, or-second, unless-holds, Whole, unless-whole}
-use Rattle.calls.proofs.Refusals.{sizes-whole, HasRoom, short-facts}
-use Rattle.factor.specs.Admission.{earlyFor, admission, Admitted, HasPlaces, Usable}
+use Rattle.calls.specs.Refusals.{Refusal, accepted, isAccepted, orElse, unless, bounds, sizesRefusal, workFor, shortRefusal, earlyRefusal}
+use Rattle.calls.proofs.Choices.{or-both, or-first, or-second, unless-holds}
+use Rattle.calls.proofs.Refusals.{HasRoom, early-passed}
+use Rattle.factor.specs.Admission.{admission, Admitted, HasPlaces, Usable}
 
 -- ---- a choice by its number
 
@@ -29,7 +27,7 @@ number-some x {n} e d = ne-eqb (x .number) 0 (λ z. d (e ∙ z))
 
 module _ (l : Limits) (t : Tables) (w : List ℕ) where
   -- the sizes are refused
-  pub early-sizes : (z : Bool) {n : ℕ} → n ≡ sizesRefusal bounds l .number → n ≢ 0 → n ≡ earlyFor l t w z .number
+  pub early-sizes : (z : Bool) {n : ℕ} → n ≡ sizesRefusal bounds l .number → n ≢ 0 → n ≡ earlyRefusal l t w z .number
   early-sizes z e d =
       e ∙ sym (ap (λ (x : Refusal). x .number) (or-first (sizesRefusal bounds l) (orElse (shortRefusal l t w) (unless z 5 0)) (number-some (sizesRefusal bounds l) e d)))
 
@@ -37,10 +35,10 @@ module _ (l : Limits) (t : Tables) (w : List ℕ) where
     sizes-pass : isAccepted (sizesRefusal bounds l) ≡ true
     sizes-pass = number-zero (sizesRefusal bounds l) (sym d ∙ e)
 
-    past-sizes : (z : Bool) → earlyFor l t w z ≡ orElse (shortRefusal l t w) (unless z 5 0)
+    past-sizes : (z : Bool) → earlyRefusal l t w z ≡ orElse (shortRefusal l t w) (unless z 5 0)
     past-sizes z = or-second (sizesRefusal bounds l) (orElse (shortRefusal l t w) (unless z 5 0)) sizes-pass
 
-    pub early-short : (z : Bool) → x ≡ true → 5 ≡ earlyFor l t w z .number
+    pub early-short : (z : Bool) → x ≡ true → 5 ≡ earlyRefusal l t w z .number
     early-short z h =
         let s : isAccepted (shortRefusal l t w) ≡ false = not-true (isAccepted (shortRefusal l t w)) (sym f ∙ h) in
         sym (ap (λ (y : Refusal). y .number) (past-sizes z ∙ or-first (shortRefusal l t w) (unless z 5 0) s) ∙ five (longEnough l t && leb (workFor l) (length w)) s)
@@ -50,36 +48,22 @@ module _ (l : Limits) (t : Tables) (w : List ℕ) where
         five false q = refl
 
     module _ (h : x ≡ false) where
-      past-short : (z : Bool) → earlyFor l t w z ≡ unless z 5 0
+      past-short : (z : Bool) → earlyRefusal l t w z ≡ unless z 5 0
       past-short z = past-sizes z ∙ or-second (shortRefusal l t w) (unless z 5 0) (not-false (isAccepted (shortRefusal l t w)) (sym f ∙ h))
 
-      pub early-none : (z : Bool) → z ≡ true → 0 ≡ earlyFor l t w z .number
+      pub early-none : (z : Bool) → z ≡ true → 0 ≡ earlyRefusal l t w z .number
       early-none z e = sym (ap (λ (y : Refusal). y .number) (past-short z ∙ ap (λ (b : Bool). unless b 5 0) e))
 
-      pub early-lists : (z : Bool) → z ≡ false → 5 ≡ earlyFor l t w z .number
+      pub early-lists : (z : Bool) → z ≡ false → 5 ≡ earlyRefusal l t w z .number
       early-lists z e = sym (ap (λ (y : Refusal). y .number) (past-short z ∙ ap (λ (b : Bool). unless b 5 0) e))
-
-  -- a question's
-  pub early-question : earlyFor l t w true ≡ orElse (sizesRefusal bounds l) (shortRefusal l t w)
-  early-question = ap (λ (y : Refusal). orElse (sizesRefusal bounds l) y) (ended (shortRefusal l t w) (unless-whole (longEnough l t && leb (workFor l) (length w)) 5 0 refl))
-    where
-      ended : (x : Refusal) → Whole x → orElse x (unless true 5 0) ≡ x
-      ended x f = elim (cases (isAccepted x)) [ inl e ↦ or-second x (unless true 5 0) e ∙ sym (f e) | inr e ↦ or-first x (unless true 5 0) e ]
-
-  -- 1 to 5 are passed
-  pub early-passed : (z : Bool) → isAccepted (earlyFor l t w z) ≡ true → (sizesRefusal bounds l ≡ accepted) × HasRoom l t w
-  early-passed z h =
-      let u : (isAccepted (sizesRefusal bounds l) ≡ true) × (isAccepted (orElse (shortRefusal l t w) (unless z 5 0)) ≡ true) =
-      or-both (sizesRefusal bounds l) (orElse (shortRefusal l t w) (unless z 5 0)) h in
-      (sizes-whole l (u .0), short-facts l t w (or-both (shortRefusal l t w) (unless z 5 0) (u .1) .0))
 
 -- ---- 6
 
 module _ (s : State) (t : Tables) (w : List ℕ) (z : Bool) where
   abbrev early : Refusal
-  early = earlyFor (s .limits) t w z
+  early = earlyRefusal (s .limits) t w z
 
-  pub admit-early : {n : ℕ} → n ≡ earlyFor (s .limits) t w z .number → n ≢ 0 → Admitted s t w z n w
+  pub admit-early : {n : ℕ} → n ≡ earlyRefusal (s .limits) t w z .number → n ≢ 0 → Admitted s t w z n w
   admit-early {n} e d =
       let q : isAccepted early ≡ false = number-some early e d in
       record {
@@ -87,14 +71,14 @@ module _ (s : State) (t : Tables) (w : List ℕ) (z : Bool) where
         left = sym (ap (λ (b : Bool). pick b (zeroFirst (workFor (s .limits)) w) w) q);
       }
 
-  module _ {n : ℕ} (e : n ≡ earlyFor (s .limits) t w z .number) (d : n ≡ 0) where
+  module _ {n : ℕ} (e : n ≡ earlyRefusal (s .limits) t w z .number) (d : n ≡ 0) where
     passed : isAccepted early ≡ true
     passed = number-zero early (sym d ∙ e)
 
     -- the tables can be read through
     pub admit-reads : HasPlaces (s .limits) t w
     admit-reads =
-        let p : (sizesRefusal bounds (s .limits) ≡ accepted) × HasRoom (s .limits) t w = early-passed (s .limits) t w z passed in
+        let p : (sizesRefusal bounds (s .limits) ≡ accepted) × HasRoom (s .limits) t w × (z ≡ true) = early-passed (s .limits) t w z passed in
         record { sizes = p .0; long = p .1 .tables; room = p .1 .work }
 
     module _ {a : Bool} {w′ : List ℕ} (f : a ≡ isSound s t) (g : w′ ≡ zeroFirst (workFor (s .limits)) w) where
@@ -122,13 +106,13 @@ module _ {s : State} {t : Tables} {w : List ℕ} {z : Bool} {n : ℕ} {w′ : Li
     pub admitted-none : isAccepted (admission s t w z) ≡ true
     admitted-none = number-zero (admission s t w z) (sym d ∙ a .found)
 
-    both : (isAccepted (earlyFor (s .limits) t w z) ≡ true) × (isAccepted (unless (isSound s t) 6 0) ≡ true)
-    both = or-both (earlyFor (s .limits) t w z) (unless (isSound s t) 6 0) admitted-none
+    both : (isAccepted (earlyRefusal (s .limits) t w z) ≡ true) × (isAccepted (unless (isSound s t) 6 0) ≡ true)
+    both = or-both (earlyRefusal (s .limits) t w z) (unless (isSound s t) 6 0) admitted-none
 
-    pub admitted-early : isAccepted (earlyFor (s .limits) t w z) ≡ true
+    pub admitted-early : isAccepted (earlyRefusal (s .limits) t w z) ≡ true
     admitted-early = both .0
 
     pub admitted-usable : Usable s t
     admitted-usable =
-        let p : (sizesRefusal bounds (s .limits) ≡ accepted) × HasRoom (s .limits) t w = early-passed (s .limits) t w z (both .0) in
+        let p : (sizesRefusal bounds (s .limits) ≡ accepted) × HasRoom (s .limits) t w × (z ≡ true) = early-passed (s .limits) t w z (both .0) in
         record { sizes = p .0; long = p .1 .tables; sound = unless-holds (isSound s t) 6 0 refl (both .1) }

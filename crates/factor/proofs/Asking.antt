@@ -1,5 +1,5 @@
 -- The step of a call that is no opening, from its admission: refused by 1 to 6 (`refused-early`), a check (`check-step`), a question that was admitted
--- and answered (`asked-step`). `Admits` says of a call that its 1 to 6 are those of an admission. Assumes nothing.
+-- and answered (`list-step`, `plain-step`). `Admits` says of a call that its 1 to 6 are those of an admission. Assumes nothing.
 use mathlib.Core.Path.{_≡_, refl, sym, ap, _∙_}
 use mathlib.Core.Logic.{_≢_, inl, inr}
 use mathlib.Core.Bool.{Bool, true, false, _&&_}
@@ -11,17 +11,16 @@ use Rattle.lists.specs.Lists.{pick, isIn}
 use Rattle.lists.proofs.Tests.{cases, eq-or-ne}
 use Rattle.workspace.specs.Regions.{zeroFirst}
 use Rattle.tables.specs.Tables.{Tables, Limits, State, longEnough, registerOf, isSound}
-use Rattle.calls.specs.Refusals.{Refusal, isAccepted, orElse, unless, bounds, sizesRefusal, workFor, shortRefusal}
-use Rattle.calls.specs.Calls.{Call, checking, askMultiplicity, askParent, askPath, askColumn, limitsAfter}
-use Rattle.calls.specs.Report.{pathList, columnList}
-use Rattle.calls.specs.Numbers.{earlyRefusal, callRefusal, soundRefusal, refusalOf}
-use Rattle.calls.specs.Steps.{Answer, refusedBy, acceptedBy, Lent, lentTo, listsAfter, workAfter, withWork, writtenAt, World, AcceptedWorld, Transition}
+use Rattle.calls.specs.Refusals.{Refusal, isAccepted, orElse, unless, bounds, sizesRefusal, workFor, shortRefusal, earlyRefusal}
+use Rattle.calls.specs.Calls.{Question, checking, asking, Lent, workOnly, workAndList, withWork, Call, callOf, limitsAfter}
+use Rattle.calls.specs.Questions.{response}
+use Rattle.calls.specs.Numbers.{callEarly, callRefusal, soundRefusal, refusalOf}
+use Rattle.calls.specs.Steps.{Answer, refusedBy, acceptedBy, listsAfter, workAfter, writtenAt, World, AcceptedWorld, Transition}
 use Rattle.calls.proofs.Choices.{or-first, or-second, or-assoc}
 use Rattle.calls.proofs.Steps.{accepted-step, refused-step}
-use Rattle.questions.specs.Asked.{replyOf, repliedTo, listLeft}
-use Rattle.factor.specs.Entries.{workOnly, workAndList}
-use Rattle.factor.specs.Admission.{earlyFor, admission, Admitted}
-use Rattle.factor.proofs.Admitting.{early-question, admitted-some, admitted-none}
+use Rattle.questions.specs.Asked.{replyOf, repliedTo, replied, listLeft}
+use Rattle.factor.specs.Admission.{admission, Admitted}
+use Rattle.factor.proofs.Admitting.{admitted-some, admitted-none}
 
 -- ---- positions: 1 to 6 have none
 
@@ -44,14 +43,14 @@ flat-sizes l =
     (flat-or y (orElse z w) (flat-unless (isIn 1 16384 (l .n)) 2)
     (flat-or z w (flat-unless (isIn (l .m) 1048576 (l .f)) 3) (flat-unless (isIn 1 262144 (l .c)) 4)))
 
-pub flat-early : (l : Limits) (t : Tables) (w : List ℕ) (z : Bool) → earlyFor l t w z .position ≡ 0
+pub flat-early : (l : Limits) (t : Tables) (w : List ℕ) (z : Bool) → earlyRefusal l t w z .position ≡ 0
 flat-early l t w z =
     flat-or (sizesRefusal bounds l) (orElse (shortRefusal l t w) (unless z 5 0)) (flat-sizes l)
     (flat-or (shortRefusal l t w) (unless z 5 0) (flat-unless (longEnough l t && leb (workFor l) (length w)) 5) (flat-unless z 5))
 
 flat-admission : (s : State) (t : Tables) (w : List ℕ) (z : Bool) → Flat (admission s t w z)
 flat-admission s t w z =
-    flat-or (earlyFor (s .limits) t w z) (unless (isSound s t) 6 0) (flat-early (s .limits) t w z) (flat-unless (isSound s t) 6)
+    flat-or (earlyRefusal (s .limits) t w z) (unless (isSound s t) 6 0) (flat-early (s .limits) t w z) (flat-unless (isSound s t) 6)
 
 -- a refusal without a position, as an answer
 pub refused-flat : (x : Refusal) {n : ℕ} → n ≡ x .number → x .position ≡ 0 → replyOf (record { number = n; value = 0 }) ≡ refusedBy x
@@ -63,49 +62,39 @@ picked x y e = ap (λ (b : Bool). pick b x y) e
 
 -- ---- a call whose 1 to 6 are those of an admission
 
-pub record Admits (s : State) (t : Tables) (k : Call) (w : List ℕ) (z : Bool) : Type 0 where
-  pub early : earlyRefusal (s .limits) t k ≡ earlyFor (s .limits) t w z
-  pub sound : soundRefusal s t k ≡ unless (isSound s t) 6 0
-  pub lent : lentTo k .work ≡ w
-  pub limits : limitsAfter (s .limits) k ≡ s .limits
+-- isLong: the test of its lists, true for a call that has none
+pub record Admits (s : State) (t : Tables) (k : Call) (isLong : Bool) : Type 0 where
+  pub early : callEarly (s .limits) t k ≡ earlyRefusal (s .limits) t (k .lent .work) isLong
+  pub sound : soundRefusal s t (k .entry) ≡ unless (isSound s t) 6 0
+  pub limits : limitsAfter (s .limits) (k .entry) ≡ s .limits
 
-module _ (s : State) (t : Tables) (w : List ℕ) where
-  abbrev question : earlyFor (s .limits) t w true ≡ orElse (sizesRefusal bounds (s .limits)) (shortRefusal (s .limits) t w)
-  question = early-question (s .limits) t w
+module _ (s : State) (t : Tables) where
+  pub admits-check : (x : Lent) → Admits s t (callOf checking x) true
+  admits-check x = record { early = refl; sound = refl; limits = refl }
 
-  pub admits-check : Admits s t (checking w) w true
-  admits-check = record { early = sym question; sound = refl; lent = refl; limits = refl }
+  pub admits-ask : (q : Question) (p : ℕ) (x : Lent) → Admits s t (callOf (asking q p) x) true
+  admits-ask q p x = record { early = refl; sound = refl; limits = refl }
 
-  pub admits-multiplicity : (i j : ℕ) → Admits s t (askMultiplicity i j w) w true
-  admits-multiplicity i j = record { early = sym question; sound = refl; lent = refl; limits = refl }
+module _ {s : State} {t : Tables} {k : Call} {z : Bool} (m : Admits s t k z) {n : ℕ} {w′ : List ℕ} (a : Admitted s t (k .lent .work) z n w′) where
+  abbrev w : List ℕ
+  w = k .lent .work
 
-  pub admits-parent : (j : ℕ) → Admits s t (askParent j w) w true
-  admits-parent j = record { early = sym question; sound = refl; lent = refl; limits = refl }
-
-  pub admits-path : (j p : ℕ) (xs : List ℕ) → Admits s t (askPath j p w xs) w true
-  admits-path j p xs = record { early = sym question; sound = refl; lent = refl; limits = refl }
-
-  pub admits-column : (j p : ℕ) (xs : List ℕ) → Admits s t (askColumn j p w xs) w true
-  admits-column j p xs = record { early = sym question; sound = refl; lent = refl; limits = refl }
-
-module _ {s : State} {t : Tables} {k : Call} {w : List ℕ} {z : Bool} (m : Admits s t k w z) {n : ℕ} {w′ : List ℕ} (a : Admitted s t w z n w′) where
   abbrev call : Refusal
   call = callRefusal (s .limits) (registerOf s t) k
 
-  number-is : refusalOf s t k ≡ orElse (admission s t w z) call
+  number-is : refusalOf s t k ≡ orElse (admission s t (k .lent .work) z) call
   number-is =
-      ap (λ (x : Refusal). orElse x (orElse (soundRefusal s t k) call)) (m .early) ∙
-      ap (λ (x : Refusal). orElse (earlyFor (s .limits) t w z) (orElse x call)) (m .sound) ∙
-      sym (or-assoc (earlyFor (s .limits) t w z) (unless (isSound s t) 6 0) call)
+      ap (λ (x : Refusal). orElse x (orElse (soundRefusal s t (k .entry)) call)) (m .early) ∙
+      ap (λ (x : Refusal). orElse (earlyRefusal (s .limits) t w z) (orElse x call)) (m .sound) ∙
+      sym (or-assoc (earlyRefusal (s .limits) t w z) (unless (isSound s t) 6 0) call)
 
   pub work-is : w′ ≡ workAfter (s .limits) t k
   work-is =
       a .left ∙ ap (λ (x : Refusal). pick (isAccepted x) (zeroFirst (workFor (s .limits)) w) w) (sym (m .early)) ∙
-      ap (λ (l : Limits). pick (isAccepted (earlyRefusal (s .limits) t k)) (zeroFirst (workFor l) w) w) (sym (m .limits)) ∙
-      ap (λ (v : List ℕ). pick (isAccepted (earlyRefusal (s .limits) t k)) (zeroFirst (workFor (limitsAfter (s .limits) k)) v) v) (sym (m .lent))
+      ap (λ (l : Limits). pick (isAccepted (callEarly (s .limits) t k)) (zeroFirst (workFor l) w) w) (sym (m .limits))
 
   -- refused by 1 to 6
-  pub refused-early : n ≢ 0 → {x : Lent} → x ≡ withWork (lentTo k) w′ →
+  pub refused-early : n ≢ 0 → {x : Lent} → x ≡ withWork (k .lent) w′ →
       Transition (record { state = s; tables = t }) k (replyOf (record { number = n; value = 0 })) x (record { state = s; tables = t })
   refused-early d {x} e =
       let q : isAccepted (admission s t w z) ≡ false = admitted-some a d in
@@ -114,7 +103,7 @@ module _ {s : State} {t : Tables} {k : Call} {w : List ℕ} {z : Bool} (m : Admi
       (record {
         number = ap isAccepted r ∙ q;
         answer = refused-flat (admission s t w z) (a .found) (flat-admission s t w z) ∙ ap refusedBy (sym r);
-        lists = e ∙ ap (λ (v : List ℕ). withWork (lentTo k) v) work-is;
+        lists = e ∙ ap (λ (v : List ℕ). withWork (k .lent) v) work-is;
         world = refl;
       })
 
@@ -123,57 +112,52 @@ module _ {s : State} {t : Tables} {k : Call} {w : List ℕ} {z : Bool} (m : Admi
     own : refusalOf s t k ≡ call
     own = number-is ∙ or-second (admission s t w z) call (admitted-none a d)
 
-    pub asked-step : {b : Answer} {x : Lent} → b ≡ repliedTo (s .limits) (registerOf s t) k →
-        AcceptedWorld (record { state = s; tables = t }) k (record { state = s; tables = t }) →
-        (isAccepted call ≡ true → x ≡ listsAfter (registerOf s t) k w′) → (isAccepted call ≡ false → x ≡ withWork (lentTo k) w′) →
+    pub asked-step : {b : Answer} {x : Lent} → b ≡ pick (isAccepted call) (acceptedBy (registerOf s t) (k .entry)) (refusedBy call) →
+        AcceptedWorld (record { state = s; tables = t }) (k .entry) (record { state = s; tables = t }) →
+        (isAccepted call ≡ true → x ≡ listsAfter (registerOf s t) k w′) → (isAccepted call ≡ false → x ≡ withWork (k .lent) w′) →
         Transition (record { state = s; tables = t }) k b x (record { state = s; tables = t })
     asked-step {b} {x} answer stays taken refused =
         let u : World = record { state = s; tables = t } in
         elim (cases (isAccepted call)) [
           | inl q ↦ accepted-step u k b x u (record {
             number = ap isAccepted own ∙ q;
-            answer = answer ∙ ap (λ (c : Bool). pick c (acceptedBy (registerOf s t) k) (refusedBy call)) q;
+            answer = answer ∙ ap (λ (c : Bool). pick c (acceptedBy (registerOf s t) (k .entry)) (refusedBy call)) q;
             lists = taken q ∙ ap (λ (v : List ℕ). listsAfter (registerOf s t) k v) work-is;
             world = stays;
           })
           | inr q ↦ refused-step u k b x u (record {
             number = ap isAccepted own ∙ q;
-            answer = answer ∙ ap (λ (c : Bool). pick c (acceptedBy (registerOf s t) k) (refusedBy call)) q ∙ ap refusedBy (sym own);
-            lists = refused q ∙ ap (λ (v : List ℕ). withWork (lentTo k) v) work-is;
+            answer = answer ∙ ap (λ (c : Bool). pick c (acceptedBy (registerOf s t) (k .entry)) (refusedBy call)) q ∙ ap refusedBy (sym own);
+            lists = refused q ∙ ap (λ (v : List ℕ). withWork (k .lent) v) work-is;
             world = refl;
           })
         ]
 
--- ---- entry by entry
+-- ---- by kind
 
 module _ (s : State) (t : Tables) (w : List ℕ) {n : ℕ} {w′ : List ℕ} (a : Admitted s t w true n w′) where
   abbrev here : World
   here = record { state = s; tables = t }
 
   -- a check: 0 or the number
-  pub check-step : Transition here (checking w) (replyOf (record { number = n; value = 0 })) (workOnly w′) here
+  pub check-step : Transition here (callOf checking (workOnly w)) (replyOf (record { number = n; value = 0 })) (workOnly w′) here
   check-step =
       elim (eq-or-ne n 0) [
-        | inl d ↦ asked-step (admits-check s t w) a d (ap (λ (k : ℕ). replyOf (record { number = k; value = 0 })) d) refl (λ q. refl) (λ q. refl)
-        | inr d ↦ refused-early (admits-check s t w) a d refl
+        | inl d ↦ asked-step (admits-check s t (workOnly w)) a d (ap (λ (k : ℕ). replyOf (record { number = k; value = 0 })) d) refl (λ q. refl) (λ q. refl)
+        | inr d ↦ refused-early (admits-check s t (workOnly w)) a d refl
       ]
 
-  module _ (d : n ≡ 0) {b : Answer} where
-    pub multiplicity-step : (i j : ℕ) → b ≡ repliedTo (s .limits) (registerOf s t) (askMultiplicity i j []) → Transition here (askMultiplicity i j w) b (workOnly w′) here
-    multiplicity-step i j e = asked-step (admits-multiplicity s t w i j) a d e refl (λ q. refl) (λ q. refl)
+  module _ (d : n ≡ 0) {b : Answer} (q : Question) where
+    -- a question whose list is written from place p on
+    pub list-step : (p : ℕ) (xs : List ℕ) {ys : List ℕ} → b ≡ repliedTo (registerOf s t) q p xs → ys ≡ listLeft (registerOf s t) q p xs →
+        Transition here (callOf (asking q p) (workAndList w xs)) b (workAndList w′ ys) here
+    list-step p xs e f =
+        let new : List ℕ = writtenAt p (response (registerOf s t) q .list) xs in
+        asked-step (admits-ask s t q p (workAndList w xs)) a d e refl (λ z. ap (workAndList w′) (f ∙ picked new xs z)) (λ z. ap (workAndList w′) (f ∙ picked new xs z))
 
-    pub parent-step : (j : ℕ) → b ≡ repliedTo (s .limits) (registerOf s t) (askParent j []) → Transition here (askParent j w) b (workOnly w′) here
-    parent-step j e = asked-step (admits-parent s t w j) a d e refl (λ q. refl) (λ q. refl)
-
-    module _ (j p : ℕ) (xs : List ℕ) {ys : List ℕ} where
-      pub path-step : b ≡ repliedTo (s .limits) (registerOf s t) (askPath j p [] xs) → ys ≡ listLeft (s .limits) (registerOf s t) (askPath j p [] xs) →
-          Transition here (askPath j p w xs) b (workAndList w′ ys) here
-      path-step e f =
-          let new : List ℕ = writtenAt p (pathList (registerOf s t) j) xs in
-          asked-step (admits-path s t w j p xs) a d e refl (λ q. ap (workAndList w′) (f ∙ picked new xs q)) (λ q. ap (workAndList w′) (f ∙ picked new xs q))
-
-      pub column-step : b ≡ repliedTo (s .limits) (registerOf s t) (askColumn j p [] xs) → ys ≡ listLeft (s .limits) (registerOf s t) (askColumn j p [] xs) →
-          Transition here (askColumn j p w xs) b (workAndList w′ ys) here
-      column-step e f =
-          let new : List ℕ = writtenAt p (columnList (registerOf s t) j) xs in
-          asked-step (admits-column s t w j p xs) a d e refl (λ q. ap (workAndList w′) (f ∙ picked new xs q)) (λ q. ap (workAndList w′) (f ∙ picked new xs q))
+    -- a question that has none
+    pub plain-step : response (registerOf s t) q .list ≡ [] → b ≡ replied (registerOf s t) q →
+        Transition here (callOf (asking q 0) (workOnly w)) b (workOnly w′) here
+    plain-step none e =
+        asked-step (admits-ask s t q 0 (workOnly w)) a d e refl
+        (λ z. ap (λ (xs : List ℕ). workAndList w′ (writtenAt 0 xs [])) (sym none)) (λ z. refl)

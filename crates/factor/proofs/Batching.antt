@@ -7,8 +7,7 @@ use Prim.Native.Nat.{ℕ, _+_}
 use lib.ListN.{length, take, drop, take-append-drop, length-append}
 use Rattle.tables.specs.Tables.{Tables, Limits}
 use Rattle.tables.proofs.Tables.{Long, long-facts}
-use Rattle.calls.specs.Calls.{Call, isBatch}
-use Rattle.calls.specs.Steps.{Lent}
+use Rattle.calls.specs.Calls.{Change, Lent}
 use Rattle.batch.specs.Outcome.{cutWorld, CanBatch, batchAnswer, BatchStep}
 use Rattle.batch.specs.declared.Batch.{Batch}
 use Rattle.batch.proofs.Lifting.{cutTables, lift-can}
@@ -41,13 +40,13 @@ module _ (s : Factor) (t : Tables) {w a b : List ℕ} (c : CanChange (stateOf s)
   change-can =
       lift-can change-long (s .free) (s .«book_free») (c .usable .sizes) (c .usable .sound) (c .room) (c .zero) (c .touched-long) (c .labels-long)
 
-  pub change-step : (k : Call) → isBatch k ≡ true → (y : Tables) (x : Batch) (lists : Lent) → y .heads ≡ take (s .m) (t .heads) →
-      BatchStep (cutWorld (cutTables (stateOf s .limits) t) (s .free) (s .«book_free»)) k (batchAnswer x) lists (cutWorld y (x .free) (x .«book_free»)) →
-      {r : Changed} → r ≡ changedOf s x → BatchStep (worldOf s t) k (changedAnswer r) lists (worldOf (r .factor) (joinBut (stateOf s .limits) y t))
-  change-step k batch y x lists e o {r} q =
-      subst (λ (z : Changed). BatchStep (worldOf s t) k (changedAnswer z) lists (worldOf (z .factor) (joinBut l y t))) (sym q)
-      (subst (λ (v : Tables). BatchStep (worldOf s t) k (batchAnswer x) lists (worldOf (changedOf s x .factor) v)) (heads-stay l y t e)
-      (step-lifts change-long (s .free) (s .«book_free») y (x .free) (x .«book_free») k (batchAnswer x) lists batch o))
+  pub change-step : (k : Change) (lent : Lent) (y : Tables) (x : Batch) (lists : Lent) → y .heads ≡ take (s .m) (t .heads) →
+      BatchStep (cutWorld (cutTables (stateOf s .limits) t) (s .free) (s .«book_free»)) k lent (batchAnswer x) lists (cutWorld y (x .free) (x .«book_free»)) →
+      {r : Changed} → r ≡ changedOf s x → BatchStep (worldOf s t) k lent (changedAnswer r) lists (worldOf (r .factor) (joinBut (stateOf s .limits) y t))
+  change-step k lent y x lists e o {r} q =
+      subst (λ (z : Changed). BatchStep (worldOf s t) k lent (changedAnswer z) lists (worldOf (z .factor) (joinBut l y t))) (sym q)
+      (subst (λ (v : Tables). BatchStep (worldOf s t) k lent (batchAnswer x) lists (worldOf (changedOf s x .factor) v)) (heads-stay l y t e)
+      (step-lifts change-long (s .free) (s .«book_free») y (x .free) (x .«book_free») k (batchAnswer x) lent lists o))
 
 -- a prefix of the same length, written back
 pub joined-length : (n : ℕ) (xs ys : List ℕ) → length ys ≡ length (take n xs) → length (ys ++ drop n xs) ≡ length xs

@@ -11,21 +11,20 @@ use Rattle.lists.proofs.Tests.{lt-or-le, refute, in-range}
 use Rattle.workspace.specs.Regions.{zeroFirst}
 use Rattle.tables.specs.Tables.{Tables, Limits, limitsOf}
 use Rattle.tables.specs.Opening.{openedState, openedTables}
-use Rattle.calls.specs.Refusals.{Refusal, accepted, isAccepted, orElse, unless, bounds, sizesRefusal, workFor, shortRefusal}
-use Rattle.calls.specs.Calls.{opening, withDefault}
+use Rattle.calls.specs.Refusals.{Refusal, accepted, isAccepted, orElse, unless, bounds, sizesRefusal, workFor, shortRefusal, earlyRefusal}
+use Rattle.calls.specs.Calls.{opening, workOnly, callOf, withDefault}
 use Rattle.calls.specs.Numbers.{refusalOf}
 use Rattle.calls.specs.Steps.{refusedBy, World}
 use Rattle.calls.proofs.Choices.{or-first}
-use Rattle.calls.proofs.Refusals.{HasRoom, sizes-facts}
+use Rattle.calls.proofs.Refusals.{HasRoom, sizes-facts, early-passed}
 use Rattle.calls.proofs.Steps.{accepted-step, refused-step}
 use Rattle.refusals.specs.Early.{defaultRecords}
 use Rattle.refusals.proofs.Early.{default-allowed, default-refusal}
-use Rattle.factor.specs.Entries.{stateOf, workOnly, openingAnswer, OpenStep}
-use Rattle.factor.specs.Admission.{earlyFor, HasPlaces}
+use Rattle.factor.specs.Entries.{stateOf, openingAnswer, OpenStep}
+use Rattle.factor.specs.Admission.{HasPlaces}
 use Rattle.factor.specs.Written.{Written}
 use Rattle.factor.specs.declared.Factor.{Factor}
 use Rattle.factor.specs.declared.Opening.the-variants.{Opened, Refused}
-use Rattle.factor.proofs.Admitting.{early-question, early-passed}
 use Rattle.factor.proofs.Asking.{flat-early, refused-flat}
 
 module _ (m n f c : ℕ) (t : Tables) (w : List ℕ) {r : ℕ} (by : r ≡ defaultRecords m f) where
@@ -48,24 +47,24 @@ module _ (m n f c : ℕ) (t : Tables) (w : List ℕ) {r : ℕ} (by : r ≡ defau
       past : Limits → Refusal
       past l = orElse (unless (isIn 1 16384 (l .n)) 2 0) (orElse (unless (isIn (l .m) 1048576 (l .f)) 3 0) (unless (isIn 1 262144 (l .c)) 4 0))
 
-  pub open-early : earlyFor given t w true ≡ orElse (sizesRefusal bounds (withDefault asked)) (shortRefusal (withDefault asked) t w)
+  pub open-early : earlyRefusal given t w true ≡ earlyRefusal (withDefault asked) t w true
   open-early =
-      early-question given t w ∙
+      let rest : Limits → Refusal = λ l. orElse (shortRefusal l t w) (unless true 5 0) in
       elim (lt-or-le 4096 m) [
         | inl h ↦
-            or-first (sizesRefusal bounds given) (shortRefusal given t w) (sizes-large h given refl) ∙ ap (sizesRefusal bounds) given-is ∙ default-refusal m n f c ∙
-            sym (or-first (sizesRefusal bounds (withDefault asked)) (shortRefusal (withDefault asked) t w) (sizes-large h (withDefault asked) refl))
-        | inr h ↦ ap (λ (l : Limits). orElse (sizesRefusal bounds l) (shortRefusal l t w)) (given-is ∙ default-allowed m n f c h)
+            or-first (sizesRefusal bounds given) (rest given) (sizes-large h given refl) ∙ ap (sizesRefusal bounds) given-is ∙ default-refusal m n f c ∙
+            sym (or-first (sizesRefusal bounds (withDefault asked)) (rest (withDefault asked)) (sizes-large h (withDefault asked) refl))
+        | inr h ↦ ap (λ (l : Limits). earlyRefusal l t w true) (given-is ∙ default-allowed m n f c h)
       ]
 
-  module _ {k : ℕ} (e : k ≡ earlyFor given t w true .number) where
+  module _ {k : ℕ} (e : k ≡ earlyRefusal given t w true .number) where
     pub open-refused : k ≢ 0 → OpenStep asked t w (Refused k) t w
     open-refused d s =
         let u : World = record { state = s; tables = t } in
-        let x : Refusal = earlyFor given t w true in
+        let x : Refusal = earlyRefusal given t w true in
         let q : isAccepted x ≡ false = ne-eqb (x .number) 0 (λ z. d (e ∙ z)) in
-        let p : refusalOf s t (opening asked w) ≡ x = ap (λ (y : Refusal). orElse y accepted) (sym open-early) ∙ or-first x accepted q in
-        refused-step u (opening asked w) (openingAnswer (Refused k)) (workOnly w) u
+        let p : refusalOf s t (callOf (opening asked) (workOnly w)) ≡ x = ap (λ (y : Refusal). orElse y accepted) (sym open-early) ∙ or-first x accepted q in
+        refused-step u (callOf (opening asked) (workOnly w)) (openingAnswer (Refused k)) (workOnly w) u
         (record {
           number = ap isAccepted p ∙ q;
           answer = refused-flat x e (flat-early given t w true) ∙ ap refusedBy (sym p);
@@ -75,12 +74,12 @@ module _ (m n f c : ℕ) (t : Tables) (w : List ℕ) {r : ℕ} (by : r ≡ defau
         })
 
     module _ (d : k ≡ 0) where
-      passed : isAccepted (earlyFor given t w true) ≡ true
-      passed = eq-eqb (earlyFor given t w true .number) 0 (sym e ∙ d)
+      passed : isAccepted (earlyRefusal given t w true) ≡ true
+      passed = eq-eqb (earlyRefusal given t w true .number) 0 (sym e ∙ d)
 
       pub open-writes : HasPlaces given t w
       open-writes =
-          let p : (sizesRefusal bounds given ≡ accepted) × HasRoom given t w = early-passed given t w true passed in
+          let p : (sizesRefusal bounds given ≡ accepted) × HasRoom given t w × (true ≡ true) = early-passed given t w true passed in
           record { sizes = p .0; long = p .1 .tables; room = p .1 .work }
 
       allowed : m ≤ 4096
@@ -92,12 +91,12 @@ module _ (m n f c : ℕ) (t : Tables) (w : List ℕ) {r : ℕ} (by : r ≡ defau
           let u : World = record { state = s; tables = t } in
           let l : Limits = withDefault asked in
           let q : given ≡ l = given-is ∙ default-allowed m n f c allowed in
-          let z : isAccepted (orElse (sizesRefusal bounds l) (shortRefusal l t w)) ≡ true = ap isAccepted (sym open-early) ∙ passed in
+          let z : isAccepted (earlyRefusal l t w true) ≡ true = ap isAccepted (sym open-early) ∙ passed in
           let x : Factor = record { m = m; n = n; f = r; c = c; free = free; «book_free» = bookFree } in
           let st : stateOf x ≡ openedState given = λ i. record { limits = given; free = h .free-is i; bookFree = h .book-free-is i } in
-          accepted-step u (opening asked w) (openingAnswer (Opened x)) (workOnly w′) (record { state = stateOf x; tables = t′ })
+          accepted-step u (callOf (opening asked) (workOnly w)) (openingAnswer (Opened x)) (workOnly w′) (record { state = stateOf x; tables = t′ })
           (record {
-            number = ap (λ (b : Bool). isAccepted (pick b accepted (orElse (sizesRefusal bounds l) (shortRefusal l t w)))) z;
+            number = ap (λ (b : Bool). isAccepted (pick b accepted (earlyRefusal l t w true))) z;
             answer = refl;
             lists = ap workOnly (h .left ∙ ap (λ (y : Limits). zeroFirst (workFor y) w) q ∙ sym (ap (λ (b : Bool). pick b (zeroFirst (workFor l) w) w) z));
             world = (st ∙ ap openedState q, h .tables ∙ ap (λ (y : Limits). openedTables y t) q);

@@ -8,20 +8,16 @@ use lib.ListN.{length}
 use Rattle.lists.specs.Lists.{pick}
 use Rattle.workspace.specs.Regions.{zeroFirst}
 use Rattle.tables.specs.Tables.{Tables, Limits, State, longEnough, isSound}
-use Rattle.calls.specs.Refusals.{Refusal, accepted, isAccepted, orElse, unless, bounds, sizesRefusal, workFor, shortRefusal}
+use Rattle.calls.specs.Refusals.{Refusal, accepted, isAccepted, orElse, unless, bounds, sizesRefusal, workFor, earlyRefusal}
 
--- 1 to 5; lists: those of a batch are long enough
-abbrev pub earlyFor : Limits → Tables → (work : List ℕ) → (lists : Bool) → Refusal
-earlyFor l t w z = orElse (sizesRefusal bounds l) (orElse (shortRefusal l t w) (unless z 5 0))
-
--- 1 to 6
+-- 1 to 6; lists: those of a batch are long enough
 abbrev pub admission : State → Tables → (work : List ℕ) → (lists : Bool) → Refusal
-admission s t w z = orElse (earlyFor (s .limits) t w z) (unless (isSound s t) 6 0)
+admission s t w z = orElse (earlyRefusal (s .limits) t w z) (unless (isSound s t) 6 0)
 
 -- "from check 6 on, the first W work places are zero"
 pub record Admitted (s : State) (t : Tables) (work : List ℕ) (lists : Bool) (number : ℕ) (after : List ℕ) : Type 0 where
   pub found : number ≡ admission s t work lists .number
-  pub left : after ≡ pick (isAccepted (earlyFor (s .limits) t work lists)) (zeroFirst (workFor (s .limits)) work) work
+  pub left : after ≡ pick (isAccepted (earlyRefusal (s .limits) t work lists)) (zeroFirst (workFor (s .limits)) work) work
 
 -- 1 to 5 are passed: sizes in range, tables and work table long enough for them
 pub record HasPlaces (l : Limits) (t : Tables) (work : List ℕ) : Type 0 where

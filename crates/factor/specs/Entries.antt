@@ -1,10 +1,10 @@
 -- The public entries' records as the definitions of calls/ have them: the factor as limits and free heads, tables, answers. A contract is `Transition` of the
 -- entry's call over these, and nothing else. Assumes nothing: these are definitions.
-use mathlib.Core.List.{List, []}
+use mathlib.Core.List.{List}
 use Prim.Native.Nat.{ℕ}
 use Rattle.tables.specs.Tables.{Tables, Limits, State, limitsOf}
-use Rattle.calls.specs.Calls.{opening}
-use Rattle.calls.specs.Steps.{Answer, Lent, World, Transition}
+use Rattle.calls.specs.Calls.{opening, workOnly, callOf}
+use Rattle.calls.specs.Steps.{Answer, World, Transition}
 use Rattle.factor.specs.declared.Factor.{Factor}
 use Rattle.factor.specs.declared.Opening.{Opening}
 use Rattle.factor.specs.declared.Opening.the-variants.{Opened, Refused}
@@ -16,14 +16,6 @@ stateOf x = record { limits = limitsOf (x .m) (x .n) (x .f) (x .c); free = x .fr
 -- a factor with the tables that are lent to its entries
 abbrev pub worldOf : Factor → Tables → World
 worldOf x t = record { state = stateOf x; tables = t }
-
--- the lists of a call that has a work table alone
-abbrev pub workOnly : (work : List ℕ) → Lent
-workOnly w = record { work = w; touched = []; labels = []; list = [] }
-
--- the lists of a question that writes a list
-abbrev pub workAndList : (work list : List ℕ) → Lent
-workAndList w xs = record { work = w; touched = []; labels = []; list = xs }
 
 -- an opening's answer: accepted, all numbers are 0; refused, the number
 abbrev pub openingAnswer : Opening → Answer
@@ -38,4 +30,4 @@ stateAfter (Refused n) s = s
 -- OPEN, whatever record there was before
 abbrev pub OpenStep : (asked : Limits) (t : Tables) (work : List ℕ) (r : Opening) (t′ : Tables) (work′ : List ℕ) → Type 0
 OpenStep l t w r t′ w′ =
-    (s : State) → Transition (record { state = s; tables = t }) (opening l w) (openingAnswer r) (workOnly w′) (record { state = stateAfter r s; tables = t′ })
+    (s : State) → Transition (record { state = s; tables = t }) (callOf (opening l) (workOnly w)) (openingAnswer r) (workOnly w′) (record { state = stateAfter r s; tables = t′ })

@@ -2,9 +2,9 @@
 ghost use mathlib.Core.Path.{_≡_};
 ghost use Rattle.workspace.specs.Regions.{zeroFirst};
 ghost use Rattle.tables.specs.Tables.{isSound, limitsOf, tablesOf};
-ghost use Rattle.calls.specs.Refusals.{workFor};
+ghost use Rattle.calls.specs.Refusals.{workFor, earlyRefusal};
 ghost use Rattle.factor.specs.Entries.{stateOf};
-ghost use Rattle.factor.specs.Admission.{earlyFor, Admitted, HasPlaces};
+ghost use Rattle.factor.specs.Admission.{Admitted, HasPlaces};
 use crate::Factor;
 use pool::Rec;
 
@@ -22,7 +22,7 @@ pub fn early(
     work: &[u32],
     lists: bool,
 ) -> u32
-    ensures { λ r. ⌜ r ≡ earlyFor (limitsOf (factor .m) (factor .n) (factor .f) (factor .c)) (tablesOf (now (heads .entry)) (now (parents .entry)) (now (rows .entry)) (now (counts .entry)) (now (next .entry)) (now («book_heads» .entry)) (now («book_rows» .entry)) (now («book_next» .entry))) (now (work .entry)) lists .number ⌝ }
+    ensures { λ r. ⌜ r ≡ earlyRefusal (limitsOf (factor .m) (factor .n) (factor .f) (factor .c)) (tablesOf (now (heads .entry)) (now (parents .entry)) (now (rows .entry)) (now (counts .entry)) (now (next .entry)) (now («book_heads» .entry)) (now («book_rows» .entry)) (now («book_next» .entry))) (now (work .entry)) lists .number ⌝ }
 {
     let number = refusals::sizes(
         factor.m,

@@ -1,9 +1,10 @@
 // Adding and removing batches, with all input checked: an entry refuses by 1 to 6 and hands on to its unchecked twin.
 ghost use mathlib.Core.Path.{_≡_};
 ghost use Rattle.tables.specs.Tables.{tablesOf};
-ghost use Rattle.calls.specs.Calls.Call.{adding, removing};
+ghost use Rattle.calls.specs.Calls.{callOf, reportLists};
+ghost use Rattle.calls.specs.Calls.Change.{adding, removing};
+ghost use Rattle.calls.specs.Calls.Entry.{changing};
 ghost use Rattle.calls.specs.Steps.{Transition};
-ghost use Rattle.batch.specs.Outcome.{batchLists};
 ghost use Rattle.factor.specs.Entries.{worldOf};
 ghost use Rattle.factor.specs.Batches.{changedAnswer};
 use crate::Changed;
@@ -43,7 +44,7 @@ impl Factor {
         row_counts: &[u32],
         row_list: &[u32],
     ) -> Changed
-        ensures { λ r. ⌜ Transition (worldOf self (tablesOf (now (heads .entry)) (now (parents .entry)) (now (rows .entry)) (now (counts .entry)) (now (next .entry)) (now («book_heads» .entry)) (now («book_rows» .entry)) (now («book_next» .entry)))) (adding (now (ids .entry)) (now («row_counts» .entry)) (now («row_list» .entry)) (now (work .entry)) (now (touched .entry)) (now (labels .entry))) (changedAnswer r) (batchLists (now (work .exit)) (now (touched .exit)) (now (labels .exit))) (worldOf (r .factor) (tablesOf (now (heads .entry)) (now (parents .exit)) (now (rows .exit)) (now (counts .exit)) (now (next .exit)) (now («book_heads» .exit)) (now («book_rows» .exit)) (now («book_next» .exit)))) ⌝ }
+        ensures { λ r. ⌜ Transition (worldOf self (tablesOf (now (heads .entry)) (now (parents .entry)) (now (rows .entry)) (now (counts .entry)) (now (next .entry)) (now («book_heads» .entry)) (now («book_rows» .entry)) (now («book_next» .entry)))) (callOf (changing (adding (now (ids .entry)) (now («row_counts» .entry)) (now («row_list» .entry)))) (reportLists (now (work .entry)) (now (touched .entry)) (now (labels .entry)))) (changedAnswer r) (reportLists (now (work .exit)) (now (touched .exit)) (now (labels .exit))) (worldOf (r .factor) (tablesOf (now (heads .entry)) (now (parents .exit)) (now (rows .exit)) (now (counts .exit)) (now (next .exit)) (now («book_heads» .exit)) (now («book_rows» .exit)) (now («book_next» .exit)))) ⌝ }
     {
         let short = refusals::short_lists(touched, labels, self.m);
         let number = admission::admit(
@@ -96,7 +97,7 @@ impl Factor {
         labels: &mut [u16],
         ids: &[u32],
     ) -> Changed
-        ensures { λ r. ⌜ Transition (worldOf self (tablesOf (now (heads .entry)) (now (parents .entry)) (now (rows .entry)) (now (counts .entry)) (now (next .entry)) (now («book_heads» .entry)) (now («book_rows» .entry)) (now («book_next» .entry)))) (removing (now (ids .entry)) (now (work .entry)) (now (touched .entry)) (now (labels .entry))) (changedAnswer r) (batchLists (now (work .exit)) (now (touched .exit)) (now (labels .exit))) (worldOf (r .factor) (tablesOf (now (heads .entry)) (now (parents .exit)) (now (rows .exit)) (now (counts .exit)) (now (next .exit)) (now («book_heads» .exit)) (now («book_rows» .exit)) (now («book_next» .exit)))) ⌝ }
+        ensures { λ r. ⌜ Transition (worldOf self (tablesOf (now (heads .entry)) (now (parents .entry)) (now (rows .entry)) (now (counts .entry)) (now (next .entry)) (now («book_heads» .entry)) (now («book_rows» .entry)) (now («book_next» .entry)))) (callOf (changing (removing (now (ids .entry)))) (reportLists (now (work .entry)) (now (touched .entry)) (now (labels .entry)))) (changedAnswer r) (reportLists (now (work .exit)) (now (touched .exit)) (now (labels .exit))) (worldOf (r .factor) (tablesOf (now (heads .entry)) (now (parents .exit)) (now (rows .exit)) (now (counts .exit)) (now (next .exit)) (now («book_heads» .exit)) (now («book_rows» .exit)) (now («book_next» .exit)))) ⌝ }
     {
         let short = refusals::short_lists(touched, labels, self.m);
         let number = admission::admit(

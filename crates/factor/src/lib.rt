@@ -2,9 +2,11 @@
 // and fixes everything lent. A caller that has proved its tables sound uses the unchecked twins of unchecked.rt.
 ghost use Rattle.tables.specs.Tables.{limitsOf, tablesOf};
 ghost use Rattle.questions.specs.Asked.{replyOf};
-ghost use Rattle.calls.specs.Calls.Call.{checking, askMultiplicity, askParent, askPath, askColumn};
+ghost use Rattle.calls.specs.Calls.{callOf, workOnly, workAndList};
+ghost use Rattle.calls.specs.Calls.Entry.{checking, asking};
+ghost use Rattle.calls.specs.Calls.Question.{askMultiplicity, askParent, askPath, askColumn};
 ghost use Rattle.calls.specs.Steps.{Transition};
-ghost use Rattle.factor.specs.Entries.{worldOf, workOnly, workAndList, OpenStep};
+ghost use Rattle.factor.specs.Entries.{worldOf, OpenStep};
 
 mod admission;
 mod batches;
@@ -133,7 +135,7 @@ impl Factor {
         book_next: &[u32],
         work: &mut [u32],
     ) -> Reply
-        ensures { λ r. ⌜ Transition (worldOf self (tablesOf (now (heads .entry)) (now (parents .entry)) (now (rows .entry)) (now (counts .entry)) (now (next .entry)) (now («book_heads» .entry)) (now («book_rows» .entry)) (now («book_next» .entry)))) (checking (now (work .entry))) (replyOf r) (workOnly (now (work .exit))) (worldOf self (tablesOf (now (heads .entry)) (now (parents .entry)) (now (rows .entry)) (now (counts .entry)) (now (next .entry)) (now («book_heads» .entry)) (now («book_rows» .entry)) (now («book_next» .entry)))) ⌝ }
+        ensures { λ r. ⌜ Transition (worldOf self (tablesOf (now (heads .entry)) (now (parents .entry)) (now (rows .entry)) (now (counts .entry)) (now (next .entry)) (now («book_heads» .entry)) (now («book_rows» .entry)) (now («book_next» .entry)))) (callOf checking (workOnly (now (work .entry)))) (replyOf r) (workOnly (now (work .exit))) (worldOf self (tablesOf (now (heads .entry)) (now (parents .entry)) (now (rows .entry)) (now (counts .entry)) (now (next .entry)) (now («book_heads» .entry)) (now («book_rows» .entry)) (now («book_next» .entry)))) ⌝ }
     {
         let number = admission::admit(
             self,
@@ -166,7 +168,7 @@ impl Factor {
         i: Row,
         j: Row,
     ) -> Reply
-        ensures { λ r. ⌜ Transition (worldOf self (tablesOf (now (heads .entry)) (now (parents .entry)) (now (rows .entry)) (now (counts .entry)) (now (next .entry)) (now («book_heads» .entry)) (now («book_rows» .entry)) (now («book_next» .entry)))) (askMultiplicity (i .0) (j .0) (now (work .entry))) (replyOf r) (workOnly (now (work .exit))) (worldOf self (tablesOf (now (heads .entry)) (now (parents .entry)) (now (rows .entry)) (now (counts .entry)) (now (next .entry)) (now («book_heads» .entry)) (now («book_rows» .entry)) (now («book_next» .entry)))) ⌝ }
+        ensures { λ r. ⌜ Transition (worldOf self (tablesOf (now (heads .entry)) (now (parents .entry)) (now (rows .entry)) (now (counts .entry)) (now (next .entry)) (now («book_heads» .entry)) (now («book_rows» .entry)) (now («book_next» .entry)))) (callOf (asking (askMultiplicity (i .0) (j .0)) 0) (workOnly (now (work .entry)))) (replyOf r) (workOnly (now (work .exit))) (worldOf self (tablesOf (now (heads .entry)) (now (parents .entry)) (now (rows .entry)) (now (counts .entry)) (now (next .entry)) (now («book_heads» .entry)) (now («book_rows» .entry)) (now («book_next» .entry)))) ⌝ }
     {
         let number = admission::admit(
             self,
@@ -212,7 +214,7 @@ impl Factor {
         work: &mut [u32],
         j: Row,
     ) -> Reply
-        ensures { λ r. ⌜ Transition (worldOf self (tablesOf (now (heads .entry)) (now (parents .entry)) (now (rows .entry)) (now (counts .entry)) (now (next .entry)) (now («book_heads» .entry)) (now («book_rows» .entry)) (now («book_next» .entry)))) (askParent (j .0) (now (work .entry))) (replyOf r) (workOnly (now (work .exit))) (worldOf self (tablesOf (now (heads .entry)) (now (parents .entry)) (now (rows .entry)) (now (counts .entry)) (now (next .entry)) (now («book_heads» .entry)) (now («book_rows» .entry)) (now («book_next» .entry)))) ⌝ }
+        ensures { λ r. ⌜ Transition (worldOf self (tablesOf (now (heads .entry)) (now (parents .entry)) (now (rows .entry)) (now (counts .entry)) (now (next .entry)) (now («book_heads» .entry)) (now («book_rows» .entry)) (now («book_next» .entry)))) (callOf (asking (askParent (j .0)) 0) (workOnly (now (work .entry)))) (replyOf r) (workOnly (now (work .exit))) (worldOf self (tablesOf (now (heads .entry)) (now (parents .entry)) (now (rows .entry)) (now (counts .entry)) (now (next .entry)) (now («book_heads» .entry)) (now («book_rows» .entry)) (now («book_next» .entry)))) ⌝ }
     {
         let number = admission::admit(
             self,
@@ -259,7 +261,7 @@ impl Factor {
         j: Row,
         place: usize,
     ) -> Reply
-        ensures { λ r. ⌜ Transition (worldOf self (tablesOf (now (heads .entry)) (now (parents .entry)) (now (rows .entry)) (now (counts .entry)) (now (next .entry)) (now («book_heads» .entry)) (now («book_rows» .entry)) (now («book_next» .entry)))) (askPath (j .0) place (now (work .entry)) (now (list .entry))) (replyOf r) (workAndList (now (work .exit)) (now (list .exit))) (worldOf self (tablesOf (now (heads .entry)) (now (parents .entry)) (now (rows .entry)) (now (counts .entry)) (now (next .entry)) (now («book_heads» .entry)) (now («book_rows» .entry)) (now («book_next» .entry)))) ⌝ }
+        ensures { λ r. ⌜ Transition (worldOf self (tablesOf (now (heads .entry)) (now (parents .entry)) (now (rows .entry)) (now (counts .entry)) (now (next .entry)) (now («book_heads» .entry)) (now («book_rows» .entry)) (now («book_next» .entry)))) (callOf (asking (askPath (j .0)) place) (workAndList (now (work .entry)) (now (list .entry)))) (replyOf r) (workAndList (now (work .exit)) (now (list .exit))) (worldOf self (tablesOf (now (heads .entry)) (now (parents .entry)) (now (rows .entry)) (now (counts .entry)) (now (next .entry)) (now («book_heads» .entry)) (now («book_rows» .entry)) (now («book_next» .entry)))) ⌝ }
     {
         let number = admission::admit(
             self,
@@ -308,7 +310,7 @@ impl Factor {
         j: Row,
         place: usize,
     ) -> Reply
-        ensures { λ r. ⌜ Transition (worldOf self (tablesOf (now (heads .entry)) (now (parents .entry)) (now (rows .entry)) (now (counts .entry)) (now (next .entry)) (now («book_heads» .entry)) (now («book_rows» .entry)) (now («book_next» .entry)))) (askColumn (j .0) place (now (work .entry)) (now (list .entry))) (replyOf r) (workAndList (now (work .exit)) (now (list .exit))) (worldOf self (tablesOf (now (heads .entry)) (now (parents .entry)) (now (rows .entry)) (now (counts .entry)) (now (next .entry)) (now («book_heads» .entry)) (now («book_rows» .entry)) (now («book_next» .entry)))) ⌝ }
+        ensures { λ r. ⌜ Transition (worldOf self (tablesOf (now (heads .entry)) (now (parents .entry)) (now (rows .entry)) (now (counts .entry)) (now (next .entry)) (now («book_heads» .entry)) (now («book_rows» .entry)) (now («book_next» .entry)))) (callOf (asking (askColumn (j .0)) place) (workAndList (now (work .entry)) (now (list .entry)))) (replyOf r) (workAndList (now (work .exit)) (now (list .exit))) (worldOf self (tablesOf (now (heads .entry)) (now (parents .entry)) (now (rows .entry)) (now (counts .entry)) (now (next .entry)) (now («book_heads» .entry)) (now («book_rows» .entry)) (now («book_next» .entry)))) ⌝ }
     {
         let number = admission::admit(
             self,

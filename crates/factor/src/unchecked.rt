@@ -1,11 +1,12 @@
 // The unchecked twins, all of them: their premise is that sizes are in range and tables long enough and sound; for a batch also that the first W work places
 // are zero and its lists long enough. A question needs no work table and reads no more than its answer takes; a batch costs what it touches.
 ghost use mathlib.Core.Path.{_≡_};
-ghost use mathlib.Core.List.{[]};
-ghost use Rattle.tables.specs.Tables.{registerOf, limitsOf, tablesOf};
-ghost use Rattle.calls.specs.Calls.Call.{adding, removing, askMultiplicity, askParent, askPath, askColumn};
-ghost use Rattle.batch.specs.Outcome.{batchLists, BatchStep};
-ghost use Rattle.questions.specs.Asked.{replyOf, repliedTo, listLeft};
+ghost use Rattle.tables.specs.Tables.{registerOf, tablesOf};
+ghost use Rattle.calls.specs.Calls.{reportLists};
+ghost use Rattle.calls.specs.Calls.Change.{adding, removing};
+ghost use Rattle.calls.specs.Calls.Question.{askMultiplicity, askParent, askPath, askColumn};
+ghost use Rattle.batch.specs.Outcome.{BatchStep};
+ghost use Rattle.questions.specs.Asked.{replyOf, repliedTo, replied, listLeft};
 ghost use Rattle.factor.specs.Entries.{stateOf, worldOf};
 ghost use Rattle.factor.specs.Admission.{Usable};
 ghost use Rattle.factor.specs.Batches.{CanChange, changedAnswer};
@@ -54,7 +55,7 @@ impl Factor {
         j: Row,
     ) -> Reply
         requires { ⌜ Usable (stateOf self) (tablesOf (now heads) (now parents) (now rows) (now counts) (now next) (now «book_heads») (now «book_rows») (now «book_next»)) ⌝ }
-        ensures { λ a. ⌜ replyOf a ≡ repliedTo (limitsOf (self .m) (self .n) (self .f) (self .c)) (registerOf (stateOf self) (tablesOf (now (heads .entry)) (now (parents .entry)) (now (rows .entry)) (now (counts .entry)) (now (next .entry)) (now («book_heads» .entry)) (now («book_rows» .entry)) (now («book_next» .entry)))) (askMultiplicity (i .0) (j .0) []) ⌝ }
+        ensures { λ a. ⌜ replyOf a ≡ replied (registerOf (stateOf self) (tablesOf (now (heads .entry)) (now (parents .entry)) (now (rows .entry)) (now (counts .entry)) (now (next .entry)) (now («book_heads» .entry)) (now («book_rows» .entry)) (now («book_next» .entry)))) (askMultiplicity (i .0) (j .0)) ⌝ }
     {
         let m = self.m as usize;
         let f = self.f as usize;
@@ -75,7 +76,7 @@ impl Factor {
         j: Row,
     ) -> Reply
         requires { ⌜ Usable (stateOf self) (tablesOf (now heads) (now parents) (now rows) (now counts) (now next) (now «book_heads») (now «book_rows») (now «book_next»)) ⌝ }
-        ensures { λ a. ⌜ replyOf a ≡ repliedTo (limitsOf (self .m) (self .n) (self .f) (self .c)) (registerOf (stateOf self) (tablesOf (now (heads .entry)) (now (parents .entry)) (now (rows .entry)) (now (counts .entry)) (now (next .entry)) (now («book_heads» .entry)) (now («book_rows» .entry)) (now («book_next» .entry)))) (askParent (j .0) []) ⌝ }
+        ensures { λ a. ⌜ replyOf a ≡ replied (registerOf (stateOf self) (tablesOf (now (heads .entry)) (now (parents .entry)) (now (rows .entry)) (now (counts .entry)) (now (next .entry)) (now («book_heads» .entry)) (now («book_rows» .entry)) (now («book_next» .entry)))) (askParent (j .0)) ⌝ }
     {
         let m = self.m as usize;
         questions::parent(&parents[..m], j)
@@ -97,8 +98,8 @@ impl Factor {
         place: usize,
     ) -> Reply
         requires { ⌜ Usable (stateOf self) (tablesOf (now heads) (now parents) (now rows) (now counts) (now next) (now «book_heads») (now «book_rows») (now «book_next»)) ⌝ }
-        ensures reply { λ a. ⌜ replyOf a ≡ repliedTo (limitsOf (self .m) (self .n) (self .f) (self .c)) (registerOf (stateOf self) (tablesOf (now (heads .entry)) (now (parents .entry)) (now (rows .entry)) (now (counts .entry)) (now (next .entry)) (now («book_heads» .entry)) (now («book_rows» .entry)) (now («book_next» .entry)))) (askPath (j .0) place [] (now (list .entry))) ⌝ }
-        ensures written { λ a. ⌜ now (list .exit) ≡ listLeft (limitsOf (self .m) (self .n) (self .f) (self .c)) (registerOf (stateOf self) (tablesOf (now (heads .entry)) (now (parents .entry)) (now (rows .entry)) (now (counts .entry)) (now (next .entry)) (now («book_heads» .entry)) (now («book_rows» .entry)) (now («book_next» .entry)))) (askPath (j .0) place [] (now (list .entry))) ⌝ }
+        ensures reply { λ a. ⌜ replyOf a ≡ repliedTo (registerOf (stateOf self) (tablesOf (now (heads .entry)) (now (parents .entry)) (now (rows .entry)) (now (counts .entry)) (now (next .entry)) (now («book_heads» .entry)) (now («book_rows» .entry)) (now («book_next» .entry)))) (askPath (j .0)) place (now (list .entry)) ⌝ }
+        ensures written { λ a. ⌜ now (list .exit) ≡ listLeft (registerOf (stateOf self) (tablesOf (now (heads .entry)) (now (parents .entry)) (now (rows .entry)) (now (counts .entry)) (now (next .entry)) (now («book_heads» .entry)) (now («book_rows» .entry)) (now («book_next» .entry)))) (askPath (j .0)) place (now (list .entry)) ⌝ }
     {
         let m = self.m as usize;
         questions::path(&parents[..m], list, j, place)
@@ -120,8 +121,8 @@ impl Factor {
         place: usize,
     ) -> Reply
         requires { ⌜ Usable (stateOf self) (tablesOf (now heads) (now parents) (now rows) (now counts) (now next) (now «book_heads») (now «book_rows») (now «book_next»)) ⌝ }
-        ensures reply { λ a. ⌜ replyOf a ≡ repliedTo (limitsOf (self .m) (self .n) (self .f) (self .c)) (registerOf (stateOf self) (tablesOf (now (heads .entry)) (now (parents .entry)) (now (rows .entry)) (now (counts .entry)) (now (next .entry)) (now («book_heads» .entry)) (now («book_rows» .entry)) (now («book_next» .entry)))) (askColumn (j .0) place [] (now (list .entry))) ⌝ }
-        ensures written { λ a. ⌜ now (list .exit) ≡ listLeft (limitsOf (self .m) (self .n) (self .f) (self .c)) (registerOf (stateOf self) (tablesOf (now (heads .entry)) (now (parents .entry)) (now (rows .entry)) (now (counts .entry)) (now (next .entry)) (now («book_heads» .entry)) (now («book_rows» .entry)) (now («book_next» .entry)))) (askColumn (j .0) place [] (now (list .entry))) ⌝ }
+        ensures reply { λ a. ⌜ replyOf a ≡ repliedTo (registerOf (stateOf self) (tablesOf (now (heads .entry)) (now (parents .entry)) (now (rows .entry)) (now (counts .entry)) (now (next .entry)) (now («book_heads» .entry)) (now («book_rows» .entry)) (now («book_next» .entry)))) (askColumn (j .0)) place (now (list .entry)) ⌝ }
+        ensures written { λ a. ⌜ now (list .exit) ≡ listLeft (registerOf (stateOf self) (tablesOf (now (heads .entry)) (now (parents .entry)) (now (rows .entry)) (now (counts .entry)) (now (next .entry)) (now («book_heads» .entry)) (now («book_rows» .entry)) (now («book_next» .entry)))) (askColumn (j .0)) place (now (list .entry)) ⌝ }
     {
         let m = self.m as usize;
         let f = self.f as usize;
@@ -155,7 +156,7 @@ impl Factor {
         row_list: &[u32],
     ) -> Changed
         requires { ⌜ CanChange (stateOf self) (tablesOf (now heads) (now parents) (now rows) (now counts) (now next) (now «book_heads») (now «book_rows») (now «book_next»)) (now work) (now touched) (now labels) ⌝ }
-        ensures { λ r. ⌜ BatchStep (worldOf self (tablesOf (now (heads .entry)) (now (parents .entry)) (now (rows .entry)) (now (counts .entry)) (now (next .entry)) (now («book_heads» .entry)) (now («book_rows» .entry)) (now («book_next» .entry)))) (adding (now (ids .entry)) (now («row_counts» .entry)) (now («row_list» .entry)) (now (work .entry)) (now (touched .entry)) (now (labels .entry))) (changedAnswer r) (batchLists (now (work .exit)) (now (touched .exit)) (now (labels .exit))) (worldOf (r .factor) (tablesOf (now (heads .entry)) (now (parents .exit)) (now (rows .exit)) (now (counts .exit)) (now (next .exit)) (now («book_heads» .exit)) (now («book_rows» .exit)) (now («book_next» .exit)))) ⌝ }
+        ensures { λ r. ⌜ BatchStep (worldOf self (tablesOf (now (heads .entry)) (now (parents .entry)) (now (rows .entry)) (now (counts .entry)) (now (next .entry)) (now («book_heads» .entry)) (now («book_rows» .entry)) (now («book_next» .entry)))) (adding (now (ids .entry)) (now («row_counts» .entry)) (now («row_list» .entry))) (reportLists (now (work .entry)) (now (touched .entry)) (now (labels .entry))) (changedAnswer r) (reportLists (now (work .exit)) (now (touched .exit)) (now (labels .exit))) (worldOf (r .factor) (tablesOf (now (heads .entry)) (now (parents .exit)) (now (rows .exit)) (now (counts .exit)) (now (next .exit)) (now («book_heads» .exit)) (now («book_rows» .exit)) (now («book_next» .exit)))) ⌝ }
     {
         let m = self.m as usize;
         let n = self.n as usize;
@@ -199,7 +200,7 @@ impl Factor {
         ids: &[u32],
     ) -> Changed
         requires { ⌜ CanChange (stateOf self) (tablesOf (now heads) (now parents) (now rows) (now counts) (now next) (now «book_heads») (now «book_rows») (now «book_next»)) (now work) (now touched) (now labels) ⌝ }
-        ensures { λ r. ⌜ BatchStep (worldOf self (tablesOf (now (heads .entry)) (now (parents .entry)) (now (rows .entry)) (now (counts .entry)) (now (next .entry)) (now («book_heads» .entry)) (now («book_rows» .entry)) (now («book_next» .entry)))) (removing (now (ids .entry)) (now (work .entry)) (now (touched .entry)) (now (labels .entry))) (changedAnswer r) (batchLists (now (work .exit)) (now (touched .exit)) (now (labels .exit))) (worldOf (r .factor) (tablesOf (now (heads .entry)) (now (parents .exit)) (now (rows .exit)) (now (counts .exit)) (now (next .exit)) (now («book_heads» .exit)) (now («book_rows» .exit)) (now («book_next» .exit)))) ⌝ }
+        ensures { λ r. ⌜ BatchStep (worldOf self (tablesOf (now (heads .entry)) (now (parents .entry)) (now (rows .entry)) (now (counts .entry)) (now (next .entry)) (now («book_heads» .entry)) (now («book_rows» .entry)) (now («book_next» .entry)))) (removing (now (ids .entry))) (reportLists (now (work .entry)) (now (touched .entry)) (now (labels .entry))) (changedAnswer r) (reportLists (now (work .exit)) (now (touched .exit)) (now (labels .exit))) (worldOf (r .factor) (tablesOf (now (heads .entry)) (now (parents .exit)) (now (rows .exit)) (now (counts .exit)) (now (next .exit)) (now («book_heads» .exit)) (now («book_rows» .exit)) (now («book_next» .exit)))) ⌝ }
     {
         let m = self.m as usize;
         let n = self.n as usize;

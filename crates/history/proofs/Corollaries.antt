@@ -20,14 +20,14 @@ use Rattle.symbolic.proofs.Theorems.{equation-31}
 use Rattle.tables.specs.Tables.{Limits, storedIn}
 use Rattle.tables.specs.Stays.{ColumnStays}
 use Rattle.tables.proofs.Revised.{stays-self}
-use Rattle.calls.specs.Calls.{isOpening, isBatch}
+use Rattle.calls.specs.Calls.{isOpening, isChange}
 use Rattle.calls.specs.Numbers.{callRefusal}
-use Rattle.calls.specs.Steps.{World}
+use Rattle.calls.specs.Steps.{World, bookedIn}
 use Rattle.calls.proofs.Order.{bag-number, bag-touched}
 use Rattle.history.specs.Runs.{Plain}
 use Rattle.history.specs.Statements.{Consistent, Justified, Stands}
 use Rattle.history.specs.Corollaries.{Keeps, KeepsPattern, AltersOnly, fromChild, startsHere, isUnion, PatternsAre}
-use Rattle.history.proofs.Invariant.{booked, Inv, book-once, inv-rows, inv-consistent}
+use Rattle.history.proofs.Invariant.{Inv, book-once, inv-rows, inv-consistent}
 use Rattle.history.proofs.Steps.{inv-justified, inv-run}
 use Rattle.history.proofs.Theorems.{begun-inv}
 
@@ -37,9 +37,9 @@ keeps-of {p} {v} i =
     record {
       sound = i .sound;
       columns = k .columns;
-      means = k .numbers;
+      means = k .stored;
       chains = subst (λ (m : ℕ). (x j : ℕ) → 1 ≤ j → j < x → x ≤ m → Stands v x j ↔ ChainTo m (live (p .register)) x j) (sym (i .rows)) (k .chains);
-      numbers = λ c. ap (λ (l : Limits). callRefusal l (booked v) c) (i .limits) ∙ bag-number (booked v) (p .register) (inv-rows i) (i .bag) (p .limits) c;
+      refusals = λ c. ap (λ (l : Limits). callRefusal l (bookedIn v) c) (i .limits) ∙ bag-number (bookedIn v) (p .register) (inv-rows i) (i .bag) (p .limits) c;
     }
 
 pub keeps-pattern : KeepsPattern
@@ -49,13 +49,13 @@ pub alters-only : AltersOnly
 alters-only u p es v e w j b r s o x y =
     let i : Inv _ v = inv-run es v (begun-inv u p b) r in
     let t : Justified _ v e w = inv-justified i e w s in (
-      λ n q h. t .others n q j x (subst (λ (l : Limits). j ≤ l .m) (i .limits) y)
-          (ap (λ (ks : List ℕ). among j ks) (sym (bag-touched (booked v) _ (inv-rows i) (i .bag) (book-once v) (e .call))) ∙ h),
+      λ c q n h. t .alters n c q .others j x (subst (λ (l : Limits). j ≤ l .m) (i .limits) y)
+          (ap (λ (ks : List ℕ). among j ks) (sym (bag-touched (bookedIn v) _ (inv-rows i) (i .bag) (book-once v) c)) ∙ h),
       λ h. subst (λ (z : World). ColumnStays (storedIn (v .state) (v .tables)) (storedIn (z .state) (z .tables)) j) (sym (t .unchanged (quiet h)))
           (stays-self (storedIn (v .state) (v .tables)) j),
     )
   where
-    quiet : (e .answer .number ≢ 0) ⊎ (isBatch (e .call) ≡ false) → (e .answer .number ≢ 0) ⊎ ((isBatch (e .call) || isOpening (e .call)) ≡ false)
+    quiet : (e .answer .number ≢ 0) ⊎ (isChange (e .call .entry) ≡ false) → (e .answer .number ≢ 0) ⊎ ((isChange (e .call .entry) || isOpening (e .call .entry)) ≡ false)
     quiet (inl n) = inl n
     quiet (inr q) = inr (rw (q, o) refl)
 

@@ -8,21 +8,22 @@ use lib.ListN.{replicate}
 use Rattle.lists.specs.Lists.{all, any, among, noRepeats, allZero, same, sumOf, valuesAt, rises, upFrom}
 use Rattle.symbolic.specs.Columns.{startingWith}
 use Rattle.symbolic.specs.Factor.{childrenWith, countsFrom, firstAbove, buildFrom, patternFrom, nonZero, pathFrom, sizeSum}
-use Rattle.symbolic.specs.Batch.{touchedFrom, labelFrom, labelsOf, entriesOf}
+use Rattle.symbolic.specs.Batch.{passing, labelFrom, entriesOf}
 use Rattle.symbolic.specs.Change.{idsOf, without, columnOf, columnsOf}
 use Rattle.pool.specs.Chains.{chainFrom, lastOf}
 use Rattle.pool.specs.Whole.{chains}
 use Rattle.book.specs.Book.{columnsFrom}
 use Rattle.tables.specs.Stored.{holdsFrom}
 use Rattle.calls.specs.Refusals.{batchOf, rowsRefusal, columnsRefusal, idsRefusal}
-use Rattle.calls.specs.Calls.{Call, opening, removing, checking, askMultiplicity, askParent, askPath, askColumn}
-use Rattle.calls.specs.Report.{pairsOf}
-use Rattle.calls.specs.Steps.{Answer, World, Amended, Transition}
-use Rattle.calls.proofs.Amends.{amends-passed}
+use Rattle.calls.specs.Calls.{Change, removing, askMultiplicity, askParent, askPath, askColumn, checking, workOnly, Call, callOf}
+use Rattle.calls.specs.Changes.{labelled}
+use Rattle.calls.specs.Questions.{pairsOf}
+use Rattle.calls.specs.Steps.{Answer, World, Exchanged, Transition}
+use Rattle.calls.proofs.Exchanges.{exchange-passed}
 use Rattle.history.specs.Runs.{Event, Run, Begun, Plain}
 use Rattle.tables.specs.Tables.{Limits}
 use Rattle.tables.specs.Opening.{openedState, openedTables}
-use Rattle.history.specs.Example.{askedSizes, workLent, listLent, add, answered, valued, workLeft, eventCalls, eventAnswers, eventTouched, eventLabels, eventWork, eventLists, shownFrom}
+use Rattle.history.specs.Example.{askedSizes, workLent, listLent, add, change, ask, askFrom, openWith, answered, valued, workLeft, eventCalls, eventAnswers, eventTouched, eventLabels, eventWork, eventLists, shownFrom}
 use Rattle.history.specs.Statements.{ConcreteRun}
 
 -- ---- the worlds
@@ -89,26 +90,26 @@ world5 =
 
 -- ---- what each accepted batch leaves
 
-first-amended : Amended world1 (add 1 (1 ∷ 3 ∷ [])) world2
-unfolding all any among noRepeats allZero same valuesAt rises upFrom startingWith childrenWith countsFrom firstAbove buildFrom patternFrom nonZero pathFrom touchedFrom chainFrom lastOf chains columnsFrom holdsFrom batchOf
-first-amended = amends-passed world1 (add 1 (1 ∷ 3 ∷ [])) world2 refl refl refl
+first-exchanged : Exchanged world1 (add 1 (1 ∷ 3 ∷ [])) world2
+unfolding all any among noRepeats allZero same valuesAt rises upFrom startingWith childrenWith countsFrom firstAbove buildFrom patternFrom nonZero pathFrom passing chainFrom lastOf chains columnsFrom holdsFrom batchOf
+first-exchanged = exchange-passed world1 (add 1 (1 ∷ 3 ∷ [])) world2 refl refl refl
 
-second-amended : Amended world2 (add 2 (1 ∷ 4 ∷ [])) world3
-unfolding all any among noRepeats allZero same valuesAt rises upFrom startingWith childrenWith countsFrom firstAbove buildFrom patternFrom nonZero pathFrom touchedFrom chainFrom lastOf chains columnsFrom holdsFrom batchOf
-second-amended = amends-passed world2 (add 2 (1 ∷ 4 ∷ [])) world3 refl refl refl
+second-exchanged : Exchanged world2 (add 2 (1 ∷ 4 ∷ [])) world3
+unfolding all any among noRepeats allZero same valuesAt rises upFrom startingWith childrenWith countsFrom firstAbove buildFrom patternFrom nonZero pathFrom passing chainFrom lastOf chains columnsFrom holdsFrom batchOf
+second-exchanged = exchange-passed world2 (add 2 (1 ∷ 4 ∷ [])) world3 refl refl refl
 
-third-amended : Amended world3 (add 3 (2 ∷ 3 ∷ [])) world4
-unfolding all any among noRepeats allZero same valuesAt rises upFrom startingWith childrenWith countsFrom firstAbove buildFrom patternFrom nonZero pathFrom touchedFrom chainFrom lastOf chains columnsFrom holdsFrom batchOf
-third-amended = amends-passed world3 (add 3 (2 ∷ 3 ∷ [])) world4 refl refl refl
+third-exchanged : Exchanged world3 (add 3 (2 ∷ 3 ∷ [])) world4
+unfolding all any among noRepeats allZero same valuesAt rises upFrom startingWith childrenWith countsFrom firstAbove buildFrom patternFrom nonZero pathFrom passing chainFrom lastOf chains columnsFrom holdsFrom batchOf
+third-exchanged = exchange-passed world3 (add 3 (2 ∷ 3 ∷ [])) world4 refl refl refl
 
-removal-amended : Amended world4 (removing (2 ∷ []) workLent listLent listLent) world5
-unfolding all any among noRepeats allZero same valuesAt rises upFrom startingWith childrenWith countsFrom firstAbove buildFrom patternFrom nonZero pathFrom touchedFrom chainFrom lastOf chains columnsFrom holdsFrom without columnOf columnsOf
-removal-amended = amends-passed world4 (removing (2 ∷ []) workLent listLent listLent) world5 refl refl refl
+removal-exchanged : Exchanged world4 (removing (2 ∷ [])) world5
+unfolding all any among noRepeats allZero same valuesAt rises upFrom startingWith childrenWith countsFrom firstAbove buildFrom patternFrom nonZero pathFrom passing chainFrom lastOf chains columnsFrom holdsFrom without columnOf columnsOf
+removal-exchanged = exchange-passed world4 (removing (2 ∷ [])) world5 refl refl refl
 
 -- ---- the run
 
-abbrev event : Call → Answer → (touched labels : List ℕ) → Event
-event k a ts ls = record { call = k; answer = a; left = record { work = workLeft 1124; touched = ts; labels = ls; list = [] } }
+abbrev event : Change → Answer → (touched labels : List ℕ) → Event
+event c a ts ls = record { call = change c; answer = a; left = record { work = workLeft 1124; touched = ts; labels = ls; list = [] } }
 
 abbrev first : Event
 first = event (add 1 (1 ∷ 3 ∷ [])) (answered 0 0 2 3 1) (1 ∷ 3 ∷ 9 ∷ 9 ∷ 9 ∷ 9 ∷ []) (1 ∷ 1 ∷ 9 ∷ 9 ∷ 9 ∷ 9 ∷ [])
@@ -123,31 +124,31 @@ abbrev third : Event
 third = event (add 3 (2 ∷ 3 ∷ [])) (answered 0 0 3 5 1) (2 ∷ 3 ∷ 4 ∷ 9 ∷ 9 ∷ 9 ∷ []) (1 ∷ 1 ∷ 1 ∷ 9 ∷ 9 ∷ 9 ∷ [])
 
 abbrev checked : Event
-checked = record { call = checking workLent; answer = answered 0 0 0 0 0; left = record { work = workLeft 1124; touched = []; labels = []; list = [] } }
+checked = record { call = callOf checking (workOnly workLent); answer = answered 0 0 0 0 0; left = record { work = workLeft 1124; touched = []; labels = []; list = [] } }
 
 abbrev question : Call → (value : ℕ) → (list : List ℕ) → Event
 question k v xs = record { call = k; answer = valued v; left = record { work = workLeft 1124; touched = []; labels = []; list = xs } }
 
 abbrev path : Event
-path = question (askPath 1 1 workLent listLent) 3 (9 ∷ 1 ∷ 3 ∷ 4 ∷ 9 ∷ 9 ∷ [])
+path = question (askFrom (askPath 1) 1) 3 (9 ∷ 1 ∷ 3 ∷ 4 ∷ 9 ∷ 9 ∷ [])
 
 abbrev column : Event
-column = question (askColumn 1 0 workLent listLent) 3 (1 ∷ 3 ∷ 3 ∷ 1 ∷ 4 ∷ 1 ∷ [])
+column = question (askFrom (askColumn 1) 0) 3 (1 ∷ 3 ∷ 3 ∷ 1 ∷ 4 ∷ 1 ∷ [])
 
 abbrev multiplicity : Event
-multiplicity = question (askMultiplicity 3 1 workLent) 1 []
+multiplicity = question (ask (askMultiplicity 3 1)) 1 []
 
 abbrev parent : Event
-parent = question (askParent 1 workLent) 3 []
+parent = question (ask (askParent 1)) 3 []
 
 abbrev removal : Event
 removal =
-    event (removing (2 ∷ []) workLent listLent listLent) (answered 0 0 3 4 1) (1 ∷ 3 ∷ 4 ∷ 9 ∷ 9 ∷ 9 ∷ []) (1 ∷ 1 ∷ 1 ∷ 9 ∷ 9 ∷ 9 ∷ [])
+    event (removing (2 ∷ [])) (answered 0 0 3 4 1) (1 ∷ 3 ∷ 4 ∷ 9 ∷ 9 ∷ 9 ∷ []) (1 ∷ 1 ∷ 1 ∷ 9 ∷ 9 ∷ 9 ∷ [])
 
 abbrev noRows : Event
 noRows =
     record {
-      call = opening (record { m = 0; n = 8; f = 9; c = 16 }) workLent;
+      call = openWith (record { m = 0; n = 8; f = 9; c = 16 });
       answer = answered 1 0 0 0 0;
       left = record { work = workLent; touched = []; labels = []; list = [] };
     }
@@ -158,7 +159,7 @@ lastSizes = record { m = 1; n = 1; f = 2; c = 1 }
 abbrev oneRow : Event
 oneRow =
     record {
-      call = opening lastSizes workLent;
+      call = openWith lastSizes;
       answer = answered 0 0 0 0 0;
       left = record { work = workLeft 1042; touched = []; labels = []; list = [] };
     }
@@ -171,12 +172,12 @@ abbrev plain1 : Plain
 plain1 = record { limits = askedSizes; register = record { m = 5; columns = [] } }
 
 opened-begun : Begun world1 plain1
-unfolding all any among noRepeats allZero same sumOf valuesAt rises upFrom startingWith childrenWith countsFrom firstAbove buildFrom patternFrom nonZero pathFrom sizeSum touchedFrom labelFrom labelsOf entriesOf idsOf chainFrom lastOf chains columnsFrom holdsFrom batchOf rowsRefusal columnsRefusal
+unfolding all any among noRepeats allZero same sumOf valuesAt rises upFrom startingWith childrenWith countsFrom firstAbove buildFrom patternFrom nonZero pathFrom sizeSum passing labelFrom labelled entriesOf idsOf chainFrom lastOf chains columnsFrom holdsFrom batchOf rowsRefusal columnsRefusal
 opened-begun =
     record {
       before = world0;
       asked = askedSizes;
-      work = workLent;
+      lent = workOnly workLent;
       answer = answered 0 0 0 0 0;
       left = record { work = workLeft 1124; touched = []; labels = []; list = [] };
       step = (refl, refl, (refl, refl));
@@ -185,51 +186,51 @@ opened-begun =
     }
 
 first-step : Transition world1 (first .call) (first .answer) (first .left) world2
-unfolding all any among noRepeats allZero same sumOf valuesAt rises upFrom startingWith childrenWith countsFrom firstAbove buildFrom patternFrom nonZero pathFrom sizeSum touchedFrom labelFrom labelsOf entriesOf idsOf chainFrom lastOf chains columnsFrom holdsFrom batchOf rowsRefusal columnsRefusal
-first-step = (refl, refl, first-amended)
+unfolding all any among noRepeats allZero same sumOf valuesAt rises upFrom startingWith childrenWith countsFrom firstAbove buildFrom patternFrom nonZero pathFrom sizeSum passing labelFrom labelled entriesOf idsOf chainFrom lastOf chains columnsFrom holdsFrom batchOf rowsRefusal columnsRefusal
+first-step = (refl, refl, first-exchanged)
 
 again-step : Transition world2 (again .call) (again .answer) (again .left) world2
-unfolding all any among noRepeats allZero same sumOf valuesAt rises upFrom startingWith childrenWith countsFrom firstAbove buildFrom patternFrom nonZero pathFrom sizeSum touchedFrom labelFrom labelsOf entriesOf idsOf chainFrom lastOf chains columnsFrom holdsFrom batchOf rowsRefusal columnsRefusal
+unfolding all any among noRepeats allZero same sumOf valuesAt rises upFrom startingWith childrenWith countsFrom firstAbove buildFrom patternFrom nonZero pathFrom sizeSum passing labelFrom labelled entriesOf idsOf chainFrom lastOf chains columnsFrom holdsFrom batchOf rowsRefusal columnsRefusal
 again-step = (refl, refl, refl)
 
 second-step : Transition world2 (second .call) (second .answer) (second .left) world3
-unfolding all any among noRepeats allZero same sumOf valuesAt rises upFrom startingWith childrenWith countsFrom firstAbove buildFrom patternFrom nonZero pathFrom sizeSum touchedFrom labelFrom labelsOf entriesOf idsOf chainFrom lastOf chains columnsFrom holdsFrom batchOf rowsRefusal columnsRefusal
-second-step = (refl, refl, second-amended)
+unfolding all any among noRepeats allZero same sumOf valuesAt rises upFrom startingWith childrenWith countsFrom firstAbove buildFrom patternFrom nonZero pathFrom sizeSum passing labelFrom labelled entriesOf idsOf chainFrom lastOf chains columnsFrom holdsFrom batchOf rowsRefusal columnsRefusal
+second-step = (refl, refl, second-exchanged)
 
 third-step : Transition world3 (third .call) (third .answer) (third .left) world4
-unfolding all any among noRepeats allZero same sumOf valuesAt rises upFrom startingWith childrenWith countsFrom firstAbove buildFrom patternFrom nonZero pathFrom sizeSum touchedFrom labelFrom labelsOf entriesOf idsOf chainFrom lastOf chains columnsFrom holdsFrom batchOf rowsRefusal columnsRefusal
-third-step = (refl, refl, third-amended)
+unfolding all any among noRepeats allZero same sumOf valuesAt rises upFrom startingWith childrenWith countsFrom firstAbove buildFrom patternFrom nonZero pathFrom sizeSum passing labelFrom labelled entriesOf idsOf chainFrom lastOf chains columnsFrom holdsFrom batchOf rowsRefusal columnsRefusal
+third-step = (refl, refl, third-exchanged)
 
 checked-step : Transition world4 (checked .call) (checked .answer) (checked .left) world4
-unfolding all any among noRepeats allZero same sumOf valuesAt rises upFrom startingWith childrenWith countsFrom firstAbove buildFrom patternFrom nonZero pathFrom sizeSum touchedFrom labelFrom labelsOf entriesOf idsOf chainFrom lastOf chains columnsFrom holdsFrom batchOf rowsRefusal columnsRefusal
+unfolding all any among noRepeats allZero same sumOf valuesAt rises upFrom startingWith childrenWith countsFrom firstAbove buildFrom patternFrom nonZero pathFrom sizeSum passing labelFrom labelled entriesOf idsOf chainFrom lastOf chains columnsFrom holdsFrom batchOf rowsRefusal columnsRefusal
 checked-step = (refl, refl, refl)
 
 path-step : Transition world4 (path .call) (path .answer) (path .left) world4
-unfolding all any among noRepeats allZero same sumOf valuesAt rises upFrom startingWith childrenWith countsFrom firstAbove buildFrom patternFrom nonZero pathFrom sizeSum touchedFrom labelFrom labelsOf entriesOf idsOf chainFrom lastOf chains columnsFrom holdsFrom batchOf rowsRefusal columnsRefusal
+unfolding all any among noRepeats allZero same sumOf valuesAt rises upFrom startingWith childrenWith countsFrom firstAbove buildFrom patternFrom nonZero pathFrom sizeSum passing labelFrom labelled entriesOf idsOf chainFrom lastOf chains columnsFrom holdsFrom batchOf rowsRefusal columnsRefusal
 path-step = (refl, refl, refl)
 
 column-step : Transition world4 (column .call) (column .answer) (column .left) world4
-unfolding all any among noRepeats allZero same sumOf valuesAt rises upFrom startingWith childrenWith countsFrom firstAbove buildFrom patternFrom nonZero pathFrom sizeSum touchedFrom labelFrom labelsOf entriesOf idsOf chainFrom lastOf chains columnsFrom holdsFrom batchOf rowsRefusal columnsRefusal pairsOf
+unfolding all any among noRepeats allZero same sumOf valuesAt rises upFrom startingWith childrenWith countsFrom firstAbove buildFrom patternFrom nonZero pathFrom sizeSum passing labelFrom labelled entriesOf idsOf chainFrom lastOf chains columnsFrom holdsFrom batchOf rowsRefusal columnsRefusal pairsOf
 column-step = (refl, refl, refl)
 
 multiplicity-step : Transition world4 (multiplicity .call) (multiplicity .answer) (multiplicity .left) world4
-unfolding all any among noRepeats allZero same sumOf valuesAt rises upFrom startingWith childrenWith countsFrom firstAbove buildFrom patternFrom nonZero pathFrom sizeSum touchedFrom labelFrom labelsOf entriesOf idsOf chainFrom lastOf chains columnsFrom holdsFrom batchOf rowsRefusal columnsRefusal
+unfolding all any among noRepeats allZero same sumOf valuesAt rises upFrom startingWith childrenWith countsFrom firstAbove buildFrom patternFrom nonZero pathFrom sizeSum passing labelFrom labelled entriesOf idsOf chainFrom lastOf chains columnsFrom holdsFrom batchOf rowsRefusal columnsRefusal
 multiplicity-step = (refl, refl, refl)
 
 parent-step : Transition world4 (parent .call) (parent .answer) (parent .left) world4
-unfolding all any among noRepeats allZero same sumOf valuesAt rises upFrom startingWith childrenWith countsFrom firstAbove buildFrom patternFrom nonZero pathFrom sizeSum touchedFrom labelFrom labelsOf entriesOf idsOf chainFrom lastOf chains columnsFrom holdsFrom batchOf rowsRefusal columnsRefusal
+unfolding all any among noRepeats allZero same sumOf valuesAt rises upFrom startingWith childrenWith countsFrom firstAbove buildFrom patternFrom nonZero pathFrom sizeSum passing labelFrom labelled entriesOf idsOf chainFrom lastOf chains columnsFrom holdsFrom batchOf rowsRefusal columnsRefusal
 parent-step = (refl, refl, refl)
 
 removal-step : Transition world4 (removal .call) (removal .answer) (removal .left) world5
-unfolding all any among noRepeats allZero same sumOf valuesAt rises upFrom startingWith childrenWith countsFrom firstAbove buildFrom patternFrom nonZero pathFrom sizeSum touchedFrom labelFrom labelsOf entriesOf idsOf chainFrom lastOf chains columnsFrom holdsFrom batchOf rowsRefusal columnsRefusal idsRefusal without columnOf columnsOf
-removal-step = (refl, refl, removal-amended)
+unfolding all any among noRepeats allZero same sumOf valuesAt rises upFrom startingWith childrenWith countsFrom firstAbove buildFrom patternFrom nonZero pathFrom sizeSum passing labelFrom labelled entriesOf idsOf chainFrom lastOf chains columnsFrom holdsFrom batchOf rowsRefusal columnsRefusal idsRefusal without columnOf columnsOf
+removal-step = (refl, refl, removal-exchanged)
 
 no-rows-step : Transition world5 (noRows .call) (noRows .answer) (noRows .left) world5
-unfolding all any among noRepeats allZero same sumOf valuesAt rises upFrom startingWith childrenWith countsFrom firstAbove buildFrom patternFrom nonZero pathFrom sizeSum touchedFrom labelFrom labelsOf entriesOf idsOf chainFrom lastOf chains columnsFrom holdsFrom batchOf rowsRefusal columnsRefusal
+unfolding all any among noRepeats allZero same sumOf valuesAt rises upFrom startingWith childrenWith countsFrom firstAbove buildFrom patternFrom nonZero pathFrom sizeSum passing labelFrom labelled entriesOf idsOf chainFrom lastOf chains columnsFrom holdsFrom batchOf rowsRefusal columnsRefusal
 no-rows-step = (refl, refl, refl)
 
 one-row-step : Transition world5 (oneRow .call) (oneRow .answer) (oneRow .left) world6
-unfolding all any among noRepeats allZero same sumOf valuesAt rises upFrom startingWith childrenWith countsFrom firstAbove buildFrom patternFrom nonZero pathFrom sizeSum touchedFrom labelFrom labelsOf entriesOf idsOf chainFrom lastOf chains columnsFrom holdsFrom batchOf rowsRefusal columnsRefusal
+unfolding all any among noRepeats allZero same sumOf valuesAt rises upFrom startingWith childrenWith countsFrom firstAbove buildFrom patternFrom nonZero pathFrom sizeSum passing labelFrom labelled entriesOf idsOf chainFrom lastOf chains columnsFrom holdsFrom batchOf rowsRefusal columnsRefusal
 one-row-step = (refl, refl, (refl, refl))
 
 pub concrete-run : ConcreteRun

@@ -5,14 +5,15 @@ use mathlib.Core.Path.{refl}
 use Rattle.lists.specs.Lists.{any, among, sumOf, upFrom}
 use Rattle.symbolic.specs.Columns.{startingWith}
 use Rattle.symbolic.specs.Factor.{childrenWith, countsFrom, firstAbove, buildFrom, patternFrom, nonZero, pathFrom, sizeSum}
-use Rattle.symbolic.specs.Batch.{touchedFrom, labelFrom, labelsOf, entriesOf}
+use Rattle.symbolic.specs.Batch.{passing, labelFrom, entriesOf}
 use Rattle.symbolic.specs.Change.{idsOf, without, columnOf, columnsOf}
 use Rattle.calls.specs.Refusals.{batchOf, rowsRefusal, columnsRefusal, idsRefusal}
-use Rattle.calls.specs.Report.{pairsOf}
+use Rattle.calls.specs.Changes.{labelled}
+use Rattle.calls.specs.Questions.{pairsOf}
 use Rattle.history.specs.Instances.{StarredInstances, NinthInstance}
 
 pub starred-instances : StarredInstances
-unfolding any among sumOf upFrom startingWith childrenWith countsFrom firstAbove buildFrom patternFrom nonZero pathFrom sizeSum touchedFrom labelFrom labelsOf entriesOf idsOf without columnOf columnsOf batchOf rowsRefusal columnsRefusal pairsOf
+unfolding any among sumOf upFrom startingWith childrenWith countsFrom firstAbove buildFrom patternFrom nonZero pathFrom sizeSum passing labelFrom labelled entriesOf idsOf without columnOf columnsOf batchOf rowsRefusal columnsRefusal pairsOf
 starred-instances =
     record {
       fresh = (refl, refl);

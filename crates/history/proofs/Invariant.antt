@@ -13,23 +13,20 @@ use Rattle.symbolic.proofs.Bags.{bag-mem, bag-all}
 use Rattle.book.specs.Book.{columnFits}
 use Rattle.book.proofs.Columns.{ids-distinct}
 use Rattle.tables.specs.Stored.{Stored, holdsFrom}
-use Rattle.tables.specs.Tables.{Tables, Limits, longEnough, storedIn, bookIn, registerOf, isSound}
+use Rattle.tables.specs.Tables.{Tables, Limits, longEnough, storedIn, bookIn, isSound}
 use Rattle.tables.specs.Opening.{openedState, openedTables}
 use Rattle.tables.proofs.Stored.{stands-chain}
 use Rattle.tables.proofs.Tables.{sound-fits, sound-factor, fits-rows}
 use Rattle.tables.proofs.Opening.{opened-columns, opened-sound, opened-long}
 use Rattle.calls.specs.Refusals.{accepted, isAccepted, bounds, sizesRefusal}
-use Rattle.calls.specs.Calls.{opening, withDefault}
-use Rattle.calls.specs.Steps.{World}
+use Rattle.calls.specs.Calls.{opening, Lent, callOf, withDefault}
+use Rattle.calls.specs.Steps.{World, bookedIn}
 use Rattle.calls.proofs.Refusals.{InRange, sizes-facts}
 use Rattle.calls.proofs.Numbers.{Ready}
 use Rattle.calls.proofs.Order.{bag-factor}
 use Rattle.history.specs.Runs.{Plain}
 use Rattle.history.specs.Statements.{Consistent}
-
--- the columns that a world's book holds
-abbrev pub booked : World → Register
-booked u = registerOf (u .state) (u .tables)
+use Rattle.history.proofs.Reports.{held-factor}
 
 pub record Inv (p : Plain) (u : World) : Type 0 where
   pub in-range : sizesRefusal bounds (p .limits) ≡ accepted
@@ -37,17 +34,17 @@ pub record Inv (p : Plain) (u : World) : Type 0 where
   pub rows : p .register .m ≡ p .limits .m
   pub long : longEnough (p .limits) (u .tables) ≡ true
   pub sound : isSound (u .state) (u .tables) ≡ true
-  pub bag : Bag (booked u .columns) (p .register .columns)
+  pub bag : Bag (bookedIn u .columns) (p .register .columns)
   pub once : noRepeats (idsOf (p .register .columns)) ≡ true
 
 -- the book's ids stand once, whatever the tables hold
-pub book-once : (u : World) → noRepeats (idsOf (booked u .columns)) ≡ true
+pub book-once : (u : World) → noRepeats (idsOf (bookedIn u .columns)) ≡ true
 book-once u = ids-distinct (bookIn (u .state) (u .tables))
 
 -- ---- what it gives
 
 module _ {p : Plain} {u : World} (i : Inv p u) where
-  pub inv-rows : booked u .m ≡ p .register .m
+  pub inv-rows : bookedIn u .m ≡ p .register .m
   inv-rows = ap (λ (l : Limits). l .m) (i .limits) ∙ sym (i .rows)
 
   pub inv-long : longEnough (u .state .limits) (u .tables) ≡ true
@@ -57,13 +54,13 @@ module _ {p : Plain} {u : World} (i : Inv p u) where
   inv-numbers =
       let s : Stored = storedIn (u .state) (u .tables) in
       ap (λ (l : Limits). holdsFrom s (factorFor (p .register)) 1 (l .m)) (sym (i .limits)) ∙
-      ap (λ (fs : List FactorColumn). holdsFrom s fs 1 (u .state .limits .m)) (sym (bag-factor (booked u) (p .register) inv-rows (i .bag))) ∙
+      ap (λ (fs : List FactorColumn). holdsFrom s fs 1 (u .state .limits .m)) (sym (bag-factor (bookedIn u) (p .register) inv-rows (i .bag))) ∙
       sound-factor (u .state) (u .tables) inv-long (i .sound)
 
   pub inv-fits : all (columnFits (p .limits .m)) (p .register .columns) ≡ true
   inv-fits =
       subst (λ (l : Limits). all (columnFits (l .m)) (p .register .columns) ≡ true) (i .limits)
-      (bag-all (columnFits (u .state .limits .m)) (booked u .columns) (p .register .columns) (i .bag) (sound-fits (u .state) (u .tables) (i .sound)))
+      (bag-all (columnFits (u .state .limits .m)) (bookedIn u .columns) (p .register .columns) (i .bag) (sound-fits (u .state) (u .tables) (i .sound)))
 
   pub inv-consistent : Consistent p u
   inv-consistent =
@@ -77,10 +74,11 @@ module _ {p : Plain} {u : World} (i : Inv p u) where
         rows = i .rows;
         long = i .long;
         sound = i .sound;
-        columns = λ c. (λ k. bag-mem (p .register .columns) (booked u .columns) (λ f. sym (i .bag f)) k, λ k. bag-mem (booked u .columns) (p .register .columns) (i .bag) k);
+        columns = λ c. (λ k. bag-mem (p .register .columns) (bookedIn u .columns) (λ f. sym (i .bag f)) k, λ k. bag-mem (bookedIn u .columns) (p .register .columns) (i .bag) k);
         book-once = book-once u;
         register-once = i .once;
-        numbers = inv-numbers;
+        factor = held-factor (p .register) u (subst (λ (n : ℕ). holdsFrom s (factorFor (p .register)) 1 n ≡ true) (sym (i .rows)) inv-numbers);
+        stored = inv-numbers;
         chains = λ x j a b d. stands-chain m (live (p .register)) s h (fits-rows m (p .register .columns) inv-fits) x j a b d;
       }
 
@@ -92,7 +90,7 @@ openedPlain l = record { limits = withDefault l; register = record { m = l .m; c
 abbrev pub openedWorld : Limits → Tables → World
 openedWorld l t = record { state = openedState (withDefault l); tables = openedTables (withDefault l) t }
 
-pub inv-opened : (l k : Limits) (t : Tables) (w : List ℕ) → Ready k t (opening l w) → Inv (openedPlain l) (openedWorld l t)
+pub inv-opened : (l k : Limits) (t : Tables) (w : Lent) → Ready k t (callOf (opening l) w) → Inv (openedPlain l) (openedWorld l t)
 unfolding noRepeats idsOf
 inv-opened l k t w r =
     let f : InRange (withDefault l) = sizes-facts (withDefault l) (ap isAccepted (r .sizes)) in

@@ -1,3 +1,4 @@
+pub mod Reports
 pub mod Invariant
 pub mod Steps
 pub mod Theorems

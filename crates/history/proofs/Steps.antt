@@ -2,32 +2,38 @@
 -- so after a list of calls (`inv-run`). The tables are sound, so 6 is not given; the sizes are in range, so 1 to 4 are an opening's.
 -- Assumes nothing.
 use mathlib.Core.Path.{_≡_, refl, sym, ap, _∙_, subst}
-use mathlib.Core.Logic.{_⊎_, inl, inr, _≢_}
+use mathlib.Core.Logic.{_⊎_, inl, inr, _≢_, _↔_}
 use mathlib.Core.Bool.{Bool, true, false}
 use mathlib.Core.List.{List, [], _∷_}
 use Prim.Native.Nat.{ℕ, _≤_}
 use native.Mathlib.Omega.{arith}
 use borrow.Author.Tests.{eq-eqb, ne-eqb}
-use Rattle.lists.specs.Lists.{pick, among}
+use lib.ListN.{length, take, drop}
+use lib.Seq.{take-at}
+use Rattle.lists.specs.Lists.{pick, Mem, among, rises, over}
 use Rattle.lists.proofs.Tests.{cases}
 use Rattle.tables.specs.Tables.{Limits}
 use Rattle.tables.specs.Stays.{TailsStay}
 use Rattle.tables.proofs.Tables.{tails-long}
 use Rattle.calls.specs.Refusals.{Refusal, isAccepted, orElse}
-use Rattle.calls.specs.Calls.{Call, opening, adding, removing, checking, askMultiplicity, askParent, askPath, askColumn, registerAfter, limitsAfter, isOpening}
-use Rattle.calls.specs.Numbers.{earlyRefusal, callRefusal, refusalOf}
-use Rattle.calls.specs.Steps.{Answer, refusedBy, lentTo, listsAfter, workAfter, withWork, World, Amended, AcceptedWorld, Transition}
+use Rattle.calls.specs.Calls.{Change, Entry, opening, changing, checking, asking, Lent, Call, callOf, withWork, isOpening, limitsAfter}
+use Rattle.calls.specs.Changes.{effect, touchedBy, registerAfter}
+use Rattle.calls.specs.Numbers.{callEarly, callRefusal, refusalOf}
+use Rattle.calls.specs.Steps.{Answer, refusedBy, resultOf, acceptedBy, listsAfter, workAfter, World, bookedIn, Exchanged, AcceptedWorld, Transition}
 use Rattle.calls.proofs.Choices.{or-both, or-first, or-second}
 use Rattle.calls.proofs.Numbers.{early-facts, early-number, early-low, call-number, sound-number}
-use Rattle.calls.proofs.Order.{bag-after, bag-number, bag-touched, bag-answer, bag-lists, once-after}
-use Rattle.calls.proofs.Steps.{Accepted, Refused, step-cases, taken-zero, refused-some, quiet-world, batch-world}
+use Rattle.calls.proofs.Order.{bag-after, bag-number, bag-ids, bag-touched, bag-answer, bag-lists, once-after}
+use Rattle.calls.proofs.Steps.{Accepted, Refused, step-cases, taken-zero, refused-some, quiet-world, change-world}
+use Rattle.calls.proofs.Changes.{rows-stay, touched-rise}
+use Rattle.calls.proofs.Exchanges.{exchanged-keeps}
 use Rattle.history.specs.Runs.{Event, Run, Plain, plainNext, plainAfter}
-use Rattle.history.specs.Statements.{plainRefusal, Justified}
-use Rattle.history.proofs.Invariant.{booked, Inv, book-once, inv-rows, openedPlain, openedWorld, inv-opened}
+use Rattle.history.specs.Statements.{plainRefusal, OnPathOf, reported, ReportsJust, AltersJust, Justified}
+use Rattle.history.proofs.Reports.{reports-exactly}
+use Rattle.history.proofs.Invariant.{Inv, book-once, inv-rows, inv-long, openedPlain, openedWorld, inv-opened}
 
 -- the plain register after an accepted call
-abbrev taken : Plain → Call → Plain
-taken p k = record { limits = limitsAfter (p .limits) k; register = registerAfter (p .register) k }
+abbrev taken : Plain → Entry → Plain
+taken p e = record { limits = limitsAfter (p .limits) e; register = registerAfter (p .register) e }
 
 module _ {p : Plain} {u : World} (i : Inv p u) where
   -- ---- the number
@@ -35,12 +41,12 @@ module _ {p : Plain} {u : World} (i : Inv p u) where
   pub number-plain : (k : Call) → refusalOf (u .state) (u .tables) k ≡ plainRefusal p (u .tables) k
   number-plain k =
       sound-number (u .state) (u .tables) k (i .sound) ∙
-      ap (λ (l : Limits). orElse (earlyRefusal l (u .tables) k) (callRefusal l (booked u) k)) (i .limits) ∙
-      ap (λ (y : Refusal). orElse (earlyRefusal (p .limits) (u .tables) k) y) (bag-number (booked u) (p .register) (inv-rows i) (i .bag) (p .limits) k)
+      ap (λ (l : Limits). orElse (callEarly l (u .tables) k) (callRefusal l (bookedIn u) k)) (i .limits) ∙
+      ap (λ (y : Refusal). orElse (callEarly (p .limits) (u .tables) k) y) (bag-number (bookedIn u) (p .register) (inv-rows i) (i .bag) (p .limits) k)
 
   never-six : (k : Call) → plainRefusal p (u .tables) k .number ≢ 6
   never-six k h =
-      let x : Refusal = earlyRefusal (p .limits) (u .tables) k in
+      let x : Refusal = callEarly (p .limits) (u .tables) k in
       let y : Refusal = callRefusal (p .limits) (p .register) k in
       elim (cases (isAccepted x)) [
         | inl e ↦
@@ -48,12 +54,12 @@ module _ {p : Plain} {u : World} (i : Inv p u) where
             elim (call-number (p .limits) (p .register) k) [ inl n ↦ omega arith | inr n ↦ omega arith ]
         | inr e ↦
             let q : orElse x y .number ≡ x .number = ap (λ (z : Refusal). z .number) (or-first x y e) in
-            omega (arith, early-low (p .limits) (u .tables) (i .in-range) k)
+            omega (arith, early-low (p .limits) (u .tables) k)
       ]
 
-  from-five : (k : Call) → isOpening k ≡ false → (plainRefusal p (u .tables) k .number ≡ 0) ⊎ (5 ≤ plainRefusal p (u .tables) k .number)
+  from-five : (k : Call) → isOpening (k .entry) ≡ false → (plainRefusal p (u .tables) k .number ≡ 0) ⊎ (5 ≤ plainRefusal p (u .tables) k .number)
   from-five k o =
-      let x : Refusal = earlyRefusal (p .limits) (u .tables) k in
+      let x : Refusal = callEarly (p .limits) (u .tables) k in
       let y : Refusal = callRefusal (p .limits) (p .register) k in
       elim (cases (isAccepted x)) [
         | inl e ↦
@@ -69,6 +75,39 @@ module _ {p : Plain} {u : World} (i : Inv p u) where
   work-plain : (k : Call) → workAfter (u .state .limits) (u .tables) k ≡ workAfter (p .limits) (u .tables) k
   work-plain k = ap (λ (l : Limits). workAfter l (u .tables) k) (i .limits)
 
+  change-alters : {v : World} (c : Change) → Exchanged u c v → AltersJust p u c v
+  change-alters {v} c x =
+      record {
+        others = λ j a b t. x .others j a (subst (λ (l : Limits). j ≤ l .m) (sym (i .limits)) b)
+            (ap (λ (ks : List ℕ). among j ks) (bag-touched (bookedIn u) (p .register) (inv-rows i) (i .bag) (book-once u) c) ∙ t);
+        entries = λ j a b. exchanged-keeps x (inv-long i) (i .sound) j a (subst (λ (l : Limits). j ≤ l .m) (sym (i .limits)) b);
+        ids = λ d a b t. x .book d a (subst (λ (l : Limits). d ≤ l .n) (sym (i .limits)) b)
+            (ap (λ (ks : List ℕ). among d ks) (bag-ids (bookedIn u) (p .register) (inv-rows i) (i .bag) (book-once u) c) ∙ t);
+        tails = subst (λ (l : Limits). TailsStay l (u .tables) (v .tables)) (i .limits) (x .tails);
+      }
+
+  -- the front of the lent list is the register's report
+  report-is : (e : Event) (c : Change) → e .call .entry ≡ changing c → e .answer ≡ acceptedBy (bookedIn u) (e .call .entry) →
+      e .left ≡ listsAfter (bookedIn u) (e .call) (workAfter (u .state .limits) (u .tables) (e .call)) → reported e ≡ touchedBy (p .register) c
+  report-is e c q a x =
+      let js : List ℕ = touchedBy (bookedIn u) c in
+      let n : e .answer .touched ≡ length js = ap (λ (y : Answer). y .touched) a ∙ ap (λ (k : Entry). length (resultOf (bookedIn u) k .touched)) q in
+      let l : e .left .touched ≡ over js (e .call .lent .touched) =
+      ap (λ (y : Lent). y .touched) x ∙ ap (λ (k : Entry). over (resultOf (bookedIn u) k .touched) (e .call .lent .touched)) q in
+      ap (λ (k : ℕ). take k (e .left .touched)) n ∙ ap (λ (ys : List ℕ). take (length js) ys) l ∙
+      take-at js (drop (length js) (e .call .lent .touched)) (length js) refl ∙
+      bag-touched (bookedIn u) (p .register) (inv-rows i) (i .bag) (book-once u) c
+
+  change-reports : (e : Event) (c : Change) → e .call .entry ≡ changing c → e .answer ≡ acceptedBy (bookedIn u) (e .call .entry) →
+      e .left ≡ listsAfter (bookedIn u) (e .call) (workAfter (u .state .limits) (u .tables) (e .call)) → ReportsJust p e c
+  change-reports e c q a x =
+      let r : reported e ≡ touchedBy (p .register) c = report-is e c q a x in
+      record {
+        ascending = ap (λ (js : List ℕ). rises 1 (p .register .m) js) r ∙ touched-rise (p .register) c;
+        exactly = λ M N P Q f g j b d. subst (λ (js : List ℕ). Mem j js ↔ (OnPathOf (p .register .m) P (effect (p .register) c .leave) j ⊎ OnPathOf (p .register .m) Q (effect (p .register) c .enter) j)) (sym r)
+            (reports-exactly (p .register) c M N P Q f g j b d);
+      }
+
   module _ {e : Event} {v : World} where
     accepted-justified : Accepted u (e .call) (e .answer) (e .left) v → Justified p u e v
     accepted-justified s =
@@ -76,18 +115,14 @@ module _ {p : Plain} {u : World} (i : Inv p u) where
         let z : isAccepted (plainRefusal p (u .tables) k) ≡ true = ap isAccepted (sym (number-plain k)) ∙ s .number in
         let n : e .answer .number ≡ 0 = taken-zero s in
         record {
-          answer = rw z (s .answer ∙ bag-answer (booked u) (p .register) (inv-rows i) (i .bag) (book-once u) k);
+          answer = rw z (s .answer ∙ bag-answer (bookedIn u) (p .register) (inv-rows i) (i .bag) (book-once u) (k .entry));
           never-unsound = λ h. omega arith;
           sizes-at-openings = λ o. inl n;
-          left = rw z (s .lists ∙ bag-lists (booked u) (p .register) (inv-rows i) (i .bag) (book-once u) k (workAfter (u .state .limits) (u .tables) k) ∙
+          left = rw z (s .lists ∙ bag-lists (bookedIn u) (p .register) (inv-rows i) (i .bag) (book-once u) k (workAfter (u .state .limits) (u .tables) k) ∙
               ap (λ (w : List ℕ). listsAfter (p .register) k w) (work-plain k));
-          unchanged = λ h. elim h [ inl q ↦ absurd (q n) | inr q ↦ quiet-world u k v q (s .world) ];
-          others = λ q b j x y t.
-              batch-world u k v b (s .world) .others j x (subst (λ (l : Limits). j ≤ l .m) (sym (i .limits)) y)
-              (ap (λ (ks : List ℕ). among j ks) (bag-touched (booked u) (p .register) (inv-rows i) (i .bag) (book-once u) k) ∙ t);
-          entries = λ q b j x y. batch-world u k v b (s .world) .entries j x (subst (λ (l : Limits). j ≤ l .m) (sym (i .limits)) y);
-          ids = λ q b d x y t. batch-world u k v b (s .world) .book d x (subst (λ (l : Limits). d ≤ l .n) (sym (i .limits)) y) t;
-          tails = λ q b. subst (λ (l : Limits). TailsStay l (u .tables) (v .tables)) (i .limits) (batch-world u k v b (s .world) .tails);
+          unchanged = λ h. elim h [ inl q ↦ absurd (q n) | inr q ↦ quiet-world u (k .entry) v q (s .world) ];
+          reports = λ q c h. change-reports e c h (s .answer) (s .lists);
+          alters = λ q c h. change-alters c (change-world h (s .world));
         }
 
     refused-justified : Refused u (e .call) (e .answer) (e .left) v → Justified p u e v
@@ -101,12 +136,10 @@ module _ {p : Plain} {u : World} (i : Inv p u) where
           answer = rw z a;
           never-unsound = λ h. never-six k (sym q ∙ h);
           sizes-at-openings = λ o. elim (from-five k o) [ inl h ↦ inl (q ∙ h) | inr h ↦ inr (omega arith) ];
-          left = rw z (s .lists ∙ ap (λ (w : List ℕ). withWork (lentTo k) w) (work-plain k));
+          left = rw z (s .lists ∙ ap (λ (w : List ℕ). withWork (k .lent) w) (work-plain k));
           unchanged = λ h. s .world;
-          others = λ h b j x y t. absurd (n h);
-          entries = λ h b j x y. absurd (n h);
-          ids = λ h b d x y t. absurd (n h);
-          tails = λ h b. absurd (n h);
+          reports = λ h c q. absurd (n h);
+          alters = λ h c q. absurd (n h);
         }
 
   -- ONE CALL
@@ -116,44 +149,41 @@ module _ {p : Plain} {u : World} (i : Inv p u) where
   -- ---- the invariant after it
 
   both-accepted : (k : Call) → isAccepted (refusalOf (u .state) (u .tables) k) ≡ true →
-      (isAccepted (earlyRefusal (p .limits) (u .tables) k) ≡ true) × (isAccepted (callRefusal (p .limits) (p .register) k) ≡ true)
+      (isAccepted (callEarly (p .limits) (u .tables) k) ≡ true) × (isAccepted (callRefusal (p .limits) (p .register) k) ≡ true)
   both-accepted k h =
-      or-both (earlyRefusal (p .limits) (u .tables) k) (callRefusal (p .limits) (p .register) k) (ap isAccepted (sym (number-plain k)) ∙ h)
+      or-both (callEarly (p .limits) (u .tables) k) (callRefusal (p .limits) (p .register) k) (ap isAccepted (sym (number-plain k)) ∙ h)
 
   module _ {v : World} where
-    inv-batch : (k : Call) → isAccepted (refusalOf (u .state) (u .tables) k) ≡ true → limitsAfter (p .limits) k ≡ p .limits →
-        registerAfter (p .register) k .m ≡ p .register .m → Amended u k v → Inv (taken p k) v
-    inv-batch k h e f s =
-        let l : v .state .limits ≡ p .limits = s .limits ∙ i .limits in
+    inv-change : (c : Change) → isAccepted (effect (p .register) c .refusal (p .limits)) ≡ true → Exchanged u c v → Inv (taken p (changing c)) v
+    inv-change c h s =
         record {
-          in-range = rw e (i .in-range);
-          limits = l ∙ sym e;
-          rows = f ∙ i .rows ∙ ap (λ (x : Limits). x .m) (sym e);
-          long = rw e (tails-long (p .limits) (u .tables) (v .tables) (subst (λ (x : Limits). TailsStay x (u .tables) (v .tables)) (i .limits) (s .tails)) (i .long));
+          in-range = i .in-range;
+          limits = s .limits ∙ i .limits;
+          rows = rows-stay (p .register) c ∙ i .rows;
+          long = tails-long (p .limits) (u .tables) (v .tables) (subst (λ (x : Limits). TailsStay x (u .tables) (v .tables)) (i .limits) (s .tails)) (i .long);
           sound = s .sound;
-          bag = λ g. s .columns g ∙ bag-after (booked u) (p .register) (inv-rows i) (i .bag) k g;
-          once = once-after (p .limits) (p .register) k (i .once) (both-accepted k h .1);
+          bag = λ g. s .columns g ∙ bag-after (bookedIn u) (p .register) (inv-rows i) (i .bag) c g;
+          once = once-after (p .limits) (p .register) c (i .once) h;
         }
 
-    inv-taken : (k : Call) → isAccepted (refusalOf (u .state) (u .tables) k) ≡ true → AcceptedWorld u k v → Inv (taken p k) v
-    inv-taken (opening l w) h s =
-        let q : v ≡ openedWorld l (u .tables) = λ j. record { state = s .0 j; tables = s .1 j } in
-        subst (λ (x : World). Inv (openedPlain l) x) (sym q)
-        (inv-opened l (p .limits) (u .tables) w (early-facts (p .limits) (u .tables) (opening l w) (both-accepted (opening l w) h .0)))
-    inv-taken (adding is ns rs w a b) h s = inv-batch (adding is ns rs w a b) h refl refl s
-    inv-taken (removing is w a b) h s = inv-batch (removing is w a b) h refl refl s
-    inv-taken (checking w) h s = subst (λ (x : World). Inv p x) (sym s) i
-    inv-taken (askMultiplicity x y w) h s = subst (λ (x : World). Inv p x) (sym s) i
-    inv-taken (askParent y w) h s = subst (λ (x : World). Inv p x) (sym s) i
-    inv-taken (askPath y q w xs) h s = subst (λ (x : World). Inv p x) (sym s) i
-    inv-taken (askColumn y q w xs) h s = subst (λ (x : World). Inv p x) (sym s) i
+    inv-taken : (k : Call) (e : Entry) → k .entry ≡ e → isAccepted (refusalOf (u .state) (u .tables) k) ≡ true → AcceptedWorld u e v → Inv (taken p e) v
+    inv-taken k (opening l) q h s =
+        let w : v ≡ openedWorld l (u .tables) = λ j. record { state = s .0 j; tables = s .1 j } in
+        let r : isAccepted (callEarly (p .limits) (u .tables) (callOf (opening l) (k .lent))) ≡ true =
+        subst (λ (e : Entry). isAccepted (callEarly (p .limits) (u .tables) (callOf e (k .lent))) ≡ true) q (both-accepted k h .0) in
+        subst (λ (x : World). Inv (openedPlain l) x) (sym w)
+        (inv-opened l (p .limits) (u .tables) (k .lent) (early-facts (p .limits) (u .tables) (callOf (opening l) (k .lent)) r))
+    inv-taken k (changing c) q h s =
+        inv-change c (subst (λ (e : Entry). isAccepted (callRefusal (p .limits) (p .register) (callOf e (k .lent))) ≡ true) q (both-accepted k h .1)) s
+    inv-taken k checking q h s = subst (λ (x : World). Inv p x) (sym s) i
+    inv-taken k (asking a b) q h s = subst (λ (x : World). Inv p x) (sym s) i
 
   pub inv-step : (e : Event) (v : World) → Transition u (e .call) (e .answer) (e .left) v → Inv (plainNext p e) v
   inv-step e v s =
       elim (step-cases u (e .call) (e .answer) (e .left) v s) [
-        | inl t ↦ subst (λ (z : Bool). Inv (pick z (taken p (e .call)) p) v) (sym (eq-eqb (e .answer .number) 0 (taken-zero t)))
-            (inv-taken (e .call) (t .number) (t .world))
-        | inr t ↦ subst (λ (z : Bool). Inv (pick z (taken p (e .call)) p) v) (sym (ne-eqb (e .answer .number) 0 (refused-some t)))
+        | inl t ↦ subst (λ (z : Bool). Inv (pick z (taken p (e .call .entry)) p) v) (sym (eq-eqb (e .answer .number) 0 (taken-zero t)))
+            (inv-taken (e .call) (e .call .entry) refl (t .number) (t .world))
+        | inr t ↦ subst (λ (z : Bool). Inv (pick z (taken p (e .call .entry)) p) v) (sym (ne-eqb (e .answer .number) 0 (refused-some t)))
             (subst (λ (x : World). Inv p x) (sym (t .world)) i)
       ]
 

@@ -2,16 +2,17 @@
 -- between calls) and Steps.antt (that each call keeps it, and answers by the register).
 -- Assumes nothing.
 use mathlib.Core.Path.{_≡_, refl, sym, subst}
+use mathlib.Core.Bool.{false}
 use mathlib.Core.List.{List, [], _∷_}
 use Prim.Native.Nat.{ℕ}
 use Rattle.tables.specs.Tables.{Limits}
 use Rattle.calls.specs.Refusals.{accepted}
-use Rattle.calls.specs.Calls.{opening}
-use Rattle.calls.specs.Numbers.{earlyRefusal}
-use Rattle.calls.specs.Steps.{Answer, Lent, World, Transition}
+use Rattle.calls.specs.Calls.{Entry, opening, changing, Lent, Call, callOf, isOpening}
+use Rattle.calls.specs.Numbers.{callEarly}
+use Rattle.calls.specs.Steps.{Answer, World, Transition}
 use Rattle.calls.proofs.Choices.{or-both}
 use Rattle.calls.proofs.Numbers.{Ready, early-facts, Found, accepted-found}
-use Rattle.calls.proofs.Steps.{Accepted, step-taken, batch-apart}
+use Rattle.calls.proofs.Steps.{Accepted, step-taken, change-of}
 use Rattle.history.specs.Runs.{Run, Plain, plainAfter, Begun}
 use Rattle.history.specs.Statements.{Demand3, RunSplits, plainOf, AnySound, OpeningSound}
 use Rattle.history.proofs.Invariant.{Inv, book-once, inv-consistent, openedPlain, openedWorld, inv-opened}
@@ -19,13 +20,13 @@ use Rattle.history.proofs.Steps.{inv-justified, inv-step, inv-run}
 
 -- ---- an accepted opening
 
-module _ (u : World) (l : Limits) (w : List ℕ) (a : Answer) (x : Lent) (v : World) (s : Transition u (opening l w) a x v) (n : a .number ≡ 0) where
+module _ (u : World) (l : Limits) (w : Lent) (a : Answer) (x : Lent) (v : World) (s : Transition u (callOf (opening l) w) a x v) (n : a .number ≡ 0) where
   opened-inv : Inv (openedPlain l) v
   opened-inv =
-      let t : Accepted u (opening l w) a x v = step-taken u (opening l w) a x v s n in
+      let t : Accepted u (callOf (opening l) w) a x v = step-taken u (callOf (opening l) w) a x v s n in
       let q : v ≡ openedWorld l (u .tables) = λ j. record { state = t .world .0 j; tables = t .world .1 j } in
-      let r : Ready (u .state .limits) (u .tables) (opening l w) =
-      early-facts (u .state .limits) (u .tables) (opening l w) (or-both (earlyRefusal (u .state .limits) (u .tables) (opening l w)) accepted (t .number) .0) in
+      let r : Ready (u .state .limits) (u .tables) (callOf (opening l) w) =
+      early-facts (u .state .limits) (u .tables) (callOf (opening l) w) (or-both (callEarly (u .state .limits) (u .tables) (callOf (opening l) w)) accepted (t .number) .0) in
       subst (λ (y : World). Inv (openedPlain l) y) (sym q) (inv-opened l (u .state .limits) (u .tables) w r)
 
 pub opening-sound : OpeningSound
@@ -34,7 +35,7 @@ opening-sound u l w a x v s n = opened-inv u l w a x v s n .sound
 -- ---- a list of calls
 
 pub begun-inv : (u : World) (p : Plain) → Begun u p → Inv p u
-begun-inv u p b = subst (λ (q : Plain). Inv q u) (sym (b .plain)) (opened-inv (b .before) (b .asked) (b .work) (b .answer) (b .left) u (b .step) (b .taken))
+begun-inv u p b = subst (λ (q : Plain). Inv q u) (sym (b .plain)) (opened-inv (b .before) (b .asked) (b .lent) (b .answer) (b .left) u (b .step) (b .taken))
 
 pub demand3 : Demand3
 demand3 u p es v b r = (
@@ -56,7 +57,7 @@ pub any-sound : AnySound
 unfolding plainAfter
 any-sound u e v s n b =
     let t : Accepted u (e .call) (e .answer) (e .left) v = step-taken u (e .call) (e .answer) (e .left) v s n in
-    let f : Found (u .state) (u .tables) = accepted-found (u .state) (u .tables) (e .call) (batch-apart (e .call) b) (t .number) in
+    let f : Found (u .state) (u .tables) = accepted-found (u .state) (u .tables) (e .call) (subst (λ (i : Entry). isOpening i ≡ false) (sym (change-of (e .call .entry) b .1)) refl) (t .number) in
     let i : Inv (plainOf u) u =
     record { in-range = f .in-range; limits = refl; rows = refl; long = f .long; sound = f .sound; bag = λ f. refl; once = book-once u } in
     (inv-consistent i, inv-justified i e v s, inv-consistent (inv-step i e v s))

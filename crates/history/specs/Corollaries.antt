@@ -14,20 +14,20 @@ use Rattle.symbolic.specs.Chains.{ChainTo}
 use Rattle.tables.specs.Stored.{holdsFrom}
 use Rattle.tables.specs.Tables.{storedIn, registerOf, isSound}
 use Rattle.tables.specs.Stays.{ColumnStays}
-use Rattle.calls.specs.Calls.{Call, isOpening, isBatch}
-use Rattle.calls.specs.Report.{touchedBy}
+use Rattle.calls.specs.Calls.{Change, changing, Call, isOpening, isChange}
+use Rattle.calls.specs.Changes.{touchedBy}
 use Rattle.calls.specs.Numbers.{callRefusal}
-use Rattle.calls.specs.Steps.{World, Transition}
+use Rattle.calls.specs.Steps.{World, bookedIn, Transition}
 use Rattle.history.specs.Runs.{Event, Run, Plain, plainAfter, Begun}
 use Rattle.history.specs.Statements.{Stands}
 
 -- sound tables that hold the register's columns and its factor, with the chains of rows, and the numbers of any next call
 pub record Keeps (p : Plain) (v : World) : Type 0 where
   pub sound : isSound (v .state) (v .tables) ≡ true
-  pub columns : (c : Column) → Mem c (registerOf (v .state) (v .tables) .columns) ↔ Mem c (p .register .columns)
+  pub columns : (c : Column) → Mem c (bookedIn v .columns) ↔ Mem c (p .register .columns)
   pub means : holdsFrom (storedIn (v .state) (v .tables)) (factorFor (p .register)) 1 (p .limits .m) ≡ true
   pub chains : (i j : ℕ) → 1 ≤ j → j < i → i ≤ p .register .m → Stands v i j ↔ ChainTo (p .register .m) (live (p .register)) i j
-  pub numbers : (k : Call) → callRefusal (v .state .limits) (registerOf (v .state) (v .tables)) k ≡ callRefusal (p .limits) (p .register) k
+  pub refusals : (k : Call) → callRefusal (v .state .limits) (bookedIn v) k ≡ callRefusal (p .limits) (p .register) k
 
 -- after every list of calls from an accepted opening, record and tables are those of the register by then
 abbrev pub KeepsPattern : Type 0
@@ -37,10 +37,10 @@ KeepsPattern = (u : World) (p : Plain) (es : List Event) (v : World) → Begun u
 abbrev pub AltersOnly : Type 0
 AltersOnly =
     (u : World) (p : Plain) (es : List Event) (v : World) (e : Event) (w : World) (j : ℕ) → Begun u p → Run u es v →
-    Transition v (e .call) (e .answer) (e .left) w → isOpening (e .call) ≡ false → 1 ≤ j → j ≤ v .state .limits .m →
-    (e .answer .number ≡ 0 → isBatch (e .call) ≡ true → among j (touchedBy (registerOf (v .state) (v .tables)) (e .call)) ≡ false →
+    Transition v (e .call) (e .answer) (e .left) w → isOpening (e .call .entry) ≡ false → 1 ≤ j → j ≤ v .state .limits .m →
+    ((c : Change) → e .call .entry ≡ changing c → e .answer .number ≡ 0 → among j (touchedBy (bookedIn v) c) ≡ false →
     ColumnStays (storedIn (v .state) (v .tables)) (storedIn (w .state) (w .tables)) j) ×
-    ((e .answer .number ≢ 0) ⊎ (isBatch (e .call) ≡ false) → ColumnStays (storedIn (v .state) (v .tables)) (storedIn (w .state) (w .tables)) j)
+    ((e .answer .number ≢ 0) ⊎ (isChange (e .call .entry) ≡ false) → ColumnStays (storedIn (v .state) (v .tables)) (storedIn (w .state) (w .tables)) j)
 
 -- "of L_c without c for every child c of j": row i comes from child c
 abbrev pub fromChild : Register → (i j c : ℕ) → Bool

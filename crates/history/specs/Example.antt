@@ -7,8 +7,8 @@ use lib.ListN.{length, replicate}
 use Rattle.lists.specs.Lists.{at, valuesAt}
 use Rattle.tables.specs.Stored.{Stored, recordsOf}
 use Rattle.tables.specs.Tables.{Limits, storedIn}
-use Rattle.calls.specs.Calls.{Call, opening, adding, removing, checking, askMultiplicity, askParent, askPath, askColumn}
-use Rattle.calls.specs.Report.{pairsOf}
+use Rattle.calls.specs.Calls.{Change, adding, removing, Question, askMultiplicity, askParent, askPath, askColumn, opening, changing, checking, asking, workOnly, reportLists, workAndList, Call, callOf}
+use Rattle.calls.specs.Questions.{pairsOf}
 use Rattle.calls.specs.Steps.{Answer, World}
 use Rattle.history.specs.Runs.{Event}
 
@@ -25,23 +25,37 @@ abbrev pub listLent : List ℕ
 listLent = replicate 6 9
 
 -- "add id rows"
-abbrev pub add : (id : ℕ) → (rows : List ℕ) → Call
-add i rs = adding (i ∷ []) (length rs ∷ []) rs workLent listLent listLent
+abbrev pub add : (id : ℕ) → (rows : List ℕ) → Change
+add i rs = adding (i ∷ []) (length rs ∷ []) rs
+
+-- a change with its lists
+abbrev pub change : Change → Call
+change c = callOf (changing c) (reportLists workLent listLent listLent)
+
+-- a question that writes no list
+abbrev pub ask : Question → Call
+ask q = callOf (asking q 0) (workOnly workLent)
+
+-- a question that writes a list from a place on
+abbrev pub askFrom : Question → (place : ℕ) → Call
+askFrom q p = callOf (asking q p) (workAndList workLent listLent)
+
+-- an opening
+abbrev pub openWith : Limits → Call
+openWith l = callOf (opening l) (workOnly workLent)
 
 -- id 1 is live when it comes a second time
 abbrev pub listedCalls : List Call
-listedCalls = add 1 (1 ∷ 3 ∷ []) ∷ add 1 (2 ∷ []) ∷ add 2 (1 ∷ 4 ∷ []) ∷ add 3 (2 ∷ 3 ∷ []) ∷ []
+listedCalls = change (add 1 (1 ∷ 3 ∷ [])) ∷ change (add 1 (2 ∷ [])) ∷ change (add 2 (1 ∷ 4 ∷ [])) ∷ change (add 3 (2 ∷ 3 ∷ [])) ∷ []
 
 -- check; path of 1, from place 1 on; column 1, multiplicity of row 3 in it, its parent; removal of 2
 abbrev pub laterCalls : List Call
 laterCalls =
-    checking workLent ∷
-    askPath 1 1 workLent listLent ∷
-    askColumn 1 0 workLent listLent ∷ askMultiplicity 3 1 workLent ∷ askParent 1 workLent ∷ removing (2 ∷ []) workLent listLent listLent ∷ []
+    callOf checking (workOnly workLent) ∷ askFrom (askPath 1) 1 ∷ askFrom (askColumn 1) 0 ∷ ask (askMultiplicity 3 1) ∷ ask (askParent 1) ∷ change (removing (2 ∷ [])) ∷ []
 
 -- an opening that is refused, for its m; then one that is accepted, of one row
 abbrev pub lastCalls : List Call
-lastCalls = opening (record { m = 0; n = 8; f = 9; c = 16 }) workLent ∷ opening (record { m = 1; n = 1; f = 2; c = 1 }) workLent ∷ []
+lastCalls = openWith (record { m = 0; n = 8; f = 9; c = 16 }) ∷ openWith (record { m = 1; n = 1; f = 2; c = 1 }) ∷ []
 
 -- number, position, touched columns, entries, grade
 abbrev pub answered : (number position touched entries grade : ℕ) → Answer

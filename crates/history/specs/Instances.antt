@@ -1,5 +1,5 @@
--- Document 01's instances as one table, over the definitions that the entries' contracts cite: registerAfter, factorFor, callRefusal, acceptedBy,
--- touchedBy, labelsBy, entriesBy, gradeOf, pathList, columnList. proofs/Instances.antt has the terms, by computing.
+-- Document 01's instances as one table, over the definitions that the entries' contracts cite: effect, factorFor, acceptedBy, touchedBy, labelsBy,
+-- entriesBy, gradeOf, pathList, columnList. proofs/Instances.antt has the terms, by computing.
 -- Assumes nothing: these are definitions.
 use mathlib.Core.Path.{_≡_}
 use mathlib.Core.List.{List, [], _∷_}
@@ -9,14 +9,14 @@ use Rattle.symbolic.specs.Columns.{Register}
 use Rattle.symbolic.specs.Factor.{factorFor, parentOf}
 use Rattle.symbolic.specs.Batch.{gradeOf}
 use Rattle.tables.specs.Tables.{Limits}
-use Rattle.calls.specs.Refusals.{refusal, accepted}
-use Rattle.calls.specs.Calls.{Call, opening, adding, removing, registerAfter}
-use Rattle.calls.specs.Report.{touchedBy, labelsBy, entriesBy, pathList, columnList}
-use Rattle.calls.specs.Numbers.{callRefusal}
+use Rattle.calls.specs.Refusals.{Refusal, refusal, accepted}
+use Rattle.calls.specs.Calls.{Change, adding, removing, opening, changing}
+use Rattle.calls.specs.Changes.{effect, touchedBy, labelsBy, entriesBy, registerAfter}
+use Rattle.calls.specs.Questions.{pathList, columnList}
 use Rattle.calls.specs.Steps.{acceptedBy}
 use Rattle.history.specs.Example.{answered}
 
--- ---- the calls: lent lists play no part here
+-- ---- the changes: lent lists play no part here
 
 -- sizes with given m and F, and with ids and book records enough for every instance
 abbrev pub sizesOf : (m f : ℕ) → Limits
@@ -24,37 +24,37 @@ sizesOf m f = record { m = m; n = 8; f = f; c = 64 }
 
 -- the register of an accepted opening
 abbrev pub opened : (m : ℕ) → Register
-opened m = registerAfter (record { m = 0; columns = [] }) (opening (sizesOf m 0) [])
+opened m = registerAfter (record { m = 0; columns = [] }) (opening (sizesOf m 0))
 
--- an addition with no list lent
-abbrev pub adds : (ids counts rows : List ℕ) → Call
-adds is ns rs = adding is ns rs [] [] []
+-- the register after a change
+abbrev pub after : Register → Change → Register
+after r c = effect r c .register
 
--- a removal with no list lent
-abbrev pub removes : (ids : List ℕ) → Call
-removes is = removing is [] [] []
+-- the number and position of a change
+abbrev pub refusalBy : Limits → Register → Change → Refusal
+refusalBy l r c = effect r c .refusal l
 
 -- "add 1 1 3", "add 2 1 4", "add 3 2 3", one after another
 abbrev pub listed : Register
 listed =
-    registerAfter (registerAfter (registerAfter (opened 5) (adds (1 ∷ []) (2 ∷ []) (1 ∷ 3 ∷ []))) (adds (2 ∷ []) (2 ∷ []) (1 ∷ 4 ∷ [])))
-    (adds (3 ∷ []) (2 ∷ []) (2 ∷ 3 ∷ []))
+    after (after (after (opened 5) (adding (1 ∷ []) (2 ∷ []) (1 ∷ 3 ∷ []))) (adding (2 ∷ []) (2 ∷ []) (1 ∷ 4 ∷ [])))
+    (adding (3 ∷ []) (2 ∷ []) (2 ∷ 3 ∷ []))
 
 -- "The three columns as one batch"
-abbrev pub three : Call
-three = adds (1 ∷ 2 ∷ 3 ∷ []) (2 ∷ 2 ∷ 2 ∷ []) (1 ∷ 3 ∷ 1 ∷ 4 ∷ 2 ∷ 3 ∷ [])
+abbrev pub three : Change
+three = adding (1 ∷ 2 ∷ 3 ∷ []) (2 ∷ 2 ∷ 2 ∷ []) (1 ∷ 3 ∷ 1 ∷ 4 ∷ 2 ∷ 3 ∷ [])
 
 -- "{1,3} twice under two ids, one removed"
 abbrev pub oneLeft : Register
-oneLeft = registerAfter (registerAfter (opened 3) (adds (4 ∷ 7 ∷ []) (2 ∷ 2 ∷ []) (1 ∷ 3 ∷ 1 ∷ 3 ∷ []))) (removes (7 ∷ []))
+oneLeft = after (after (opened 3) (adding (4 ∷ 7 ∷ []) (2 ∷ 2 ∷ []) (1 ∷ 3 ∷ 1 ∷ 3 ∷ []))) (removing (7 ∷ []))
 
 -- {1, .., 22}, {23} and {24}: 253 + 1 + 1 entries
-abbrev pub entries255 : Call
-entries255 = adds (1 ∷ 2 ∷ 3 ∷ []) (22 ∷ 1 ∷ 1 ∷ []) (upFrom 1 24)
+abbrev pub entries255 : Change
+entries255 = adding (1 ∷ 2 ∷ 3 ∷ []) (22 ∷ 1 ∷ 1 ∷ []) (upFrom 1 24)
 
 -- {1, .., 22} and {23, 24}: 253 + 3 entries
-abbrev pub entries256 : Call
-entries256 = adds (1 ∷ 2 ∷ []) (22 ∷ 2 ∷ []) (upFrom 1 24)
+abbrev pub entries256 : Change
+entries256 = adding (1 ∷ 2 ∷ []) (22 ∷ 2 ∷ []) (upFrom 1 24)
 
 -- column j as the listing has it: its parent, then row and multiplicity, entry after entry
 abbrev pub ColumnIs : Register → (j parent : ℕ) → (entries : List ℕ) → Type 0
@@ -76,38 +76,38 @@ pub record StarredInstances : Type 0 where
   pub batch-touched : touchedBy (opened 5) three ≡ 1 ∷ 2 ∷ 3 ∷ 4 ∷ []
   pub batch-labels : labelsBy (opened 5) three ≡ 2 ∷ 3 ∷ 3 ∷ 3 ∷ []
   pub batch-entries : entriesBy (opened 5) three ≡ 8
-  pub batch-answer : acceptedBy (opened 5) three ≡ answered 0 0 4 8 1
-  pub batch-register : registerAfter (opened 5) three ≡ listed
+  pub batch-answer : acceptedBy (opened 5) (changing three) ≡ answered 0 0 4 8 1
+  pub batch-register : after (opened 5) three ≡ listed
   -- 4. "Then remove 2: touched 1 3 4, entries 4; L_1 is 1:2 3:1, L_3 is 3:3 with parent 0, L_4 is 4:1"
-  pub removal-touched : touchedBy listed (removes (2 ∷ [])) ≡ 1 ∷ 3 ∷ 4 ∷ []
-  pub removal-entries : entriesBy listed (removes (2 ∷ [])) ≡ 4
-  pub removal-answer : acceptedBy listed (removes (2 ∷ [])) ≡ answered 0 0 3 4 1
-  pub removal-1 : ColumnIs (registerAfter listed (removes (2 ∷ []))) 1 3 (1 ∷ 2 ∷ 3 ∷ 1 ∷ [])
-  pub removal-3 : ColumnIs (registerAfter listed (removes (2 ∷ []))) 3 0 (3 ∷ 3 ∷ [])
-  pub removal-4 : ColumnIs (registerAfter listed (removes (2 ∷ []))) 4 0 (4 ∷ 1 ∷ [])
+  pub removal-touched : touchedBy listed (removing (2 ∷ [])) ≡ 1 ∷ 3 ∷ 4 ∷ []
+  pub removal-entries : entriesBy listed (removing (2 ∷ [])) ≡ 4
+  pub removal-answer : acceptedBy listed (changing (removing (2 ∷ []))) ≡ answered 0 0 3 4 1
+  pub removal-1 : ColumnIs (after listed (removing (2 ∷ []))) 1 3 (1 ∷ 2 ∷ 3 ∷ 1 ∷ [])
+  pub removal-3 : ColumnIs (after listed (removing (2 ∷ []))) 3 0 (3 ∷ 3 ∷ [])
+  pub removal-4 : ColumnIs (after listed (removing (2 ∷ []))) 4 0 (4 ∷ 1 ∷ [])
   -- 5. "{1,3} twice under two ids, one removed: L_1 is 1:2 3:1, L_3 is 3:2"
   pub twice-1 : ColumnIs oneLeft 1 3 (1 ∷ 2 ∷ 3 ∷ 1 ∷ [])
   pub twice-3 : ColumnIs oneLeft 3 0 (3 ∷ 2 ∷ [])
   -- 6. "{5} alone: L_5 is 5:2"
-  pub alone : ColumnIs (registerAfter (opened 5) (adds (1 ∷ []) (1 ∷ []) (5 ∷ []))) 5 0 (5 ∷ 2 ∷ [])
+  pub alone : ColumnIs (after (opened 5) (adding (1 ∷ []) (1 ∷ []) (5 ∷ []))) 5 0 (5 ∷ 2 ∷ [])
   -- 7. "Case 3 with F = 9 is accepted, with F = 8 refused by 16"
-  pub room-9 : callRefusal (sizesOf 5 9) (opened 5) three ≡ accepted
-  pub room-8 : callRefusal (sizesOf 5 8) (opened 5) three ≡ refusal 16 0
+  pub room-9 : refusalBy (sizesOf 5 9) (opened 5) three ≡ accepted
+  pub room-8 : refusalBy (sizesOf 5 8) (opened 5) three ≡ refusal 16 0
   -- 8. "255 entries give grade 1, 256 give 2"
   pub grade-1 : gradeOf 255 ≡ 1
   pub grade-2 : gradeOf 256 ≡ 2
-  pub answer-255 : acceptedBy (opened 24) entries255 ≡ answered 0 0 24 255 1
-  pub answer-256 : acceptedBy (opened 24) entries256 ≡ answered 0 0 24 256 2
+  pub answer-255 : acceptedBy (opened 24) (changing entries255) ≡ answered 0 0 24 255 1
+  pub answer-256 : acceptedBy (opened 24) (changing entries256) ≡ answered 0 0 24 256 2
 
 -- ---- the ninth: run by a test program, and computed here too
 
 -- the instance that has no star
 pub record NinthInstance : Type 0 where
   -- "Removing every column gives the fresh patterns"
-  pub emptied : factorFor (registerAfter listed (removes (1 ∷ 2 ∷ 3 ∷ []))) ≡ factorFor (opened 5)
+  pub emptied : factorFor (after listed (removing (1 ∷ 2 ∷ 3 ∷ []))) ≡ factorFor (opened 5)
   -- "Removing 3 3 in case 2: 9 at position 2"
-  pub repeated : callRefusal (sizesOf 5 9) listed (removes (3 ∷ 3 ∷ [])) ≡ refusal 9 2
+  pub repeated : refusalBy (sizesOf 5 9) listed (removing (3 ∷ 3 ∷ [])) ≡ refusal 9 2
   -- "Rows 4 4: 14"
-  pub equal-rows : callRefusal (sizesOf 5 9) listed (adds (4 ∷ []) (2 ∷ []) (4 ∷ 4 ∷ [])) ≡ refusal 14 1
+  pub equal-rows : refusalBy (sizesOf 5 9) listed (adding (4 ∷ []) (2 ∷ []) (4 ∷ 4 ∷ [])) ≡ refusal 14 1
   -- "Path of 1 in case 2: 1 3 4"
   pub path : pathList listed 1 ≡ 1 ∷ 3 ∷ 4 ∷ []

@@ -8,8 +8,9 @@ use lib.Dec.{eqb}
 use Rattle.lists.specs.Lists.{pick}
 use Rattle.symbolic.specs.Columns.{Register}
 use Rattle.tables.specs.Tables.{Limits}
-use Rattle.calls.specs.Calls.{Call, opening, registerAfter, limitsAfter, withDefault}
-use Rattle.calls.specs.Steps.{Answer, Lent, World, Transition}
+use Rattle.calls.specs.Calls.{opening, Lent, Call, callOf, withDefault, limitsAfter}
+use Rattle.calls.specs.Changes.{registerAfter}
+use Rattle.calls.specs.Steps.{Answer, World, Transition}
 
 -- a call with everything lent to it, the numbers it answered and the lists it left
 pub record Event : Type 0 where
@@ -31,7 +32,7 @@ pub record Plain : Type 0 where
 abbrev pub plainNext : Plain → Event → Plain
 plainNext p e =
     pick (eqb (e .answer .number) 0)
-    (record { limits = limitsAfter (p .limits) (e .call); register = registerAfter (p .register) (e .call) }) p
+    (record { limits = limitsAfter (p .limits) (e .call .entry); register = registerAfter (p .register) (e .call .entry) }) p
 
 -- the register after a list of calls
 unfoldable pub plainAfter : Plain → List Event → Plain
@@ -42,9 +43,9 @@ plainAfter p (e ∷ es) = plainAfter (plainNext p e) es
 pub record Begun (u : World) (p : Plain) : Type 0 where
   pub before : World
   pub asked : Limits
-  pub work : List ℕ
+  pub lent : Lent
   pub answer : Answer
   pub left : Lent
-  pub step : Transition before (opening asked work) answer left u
+  pub step : Transition before (callOf (opening asked) lent) answer left u
   pub taken : answer .number ≡ 0
   pub plain : p ≡ record { limits = withDefault asked; register = record { m = asked .m; columns = [] } }

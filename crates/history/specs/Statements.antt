@@ -6,8 +6,11 @@ use mathlib.Core.Logic.{_⊎_, _≢_, _↔_}
 use mathlib.Core.Bool.{true, false, _||_}
 use mathlib.Core.List.{List, [], _∷_, _++_}
 use Prim.Native.Nat.{ℕ, _≤_, _<_}
-use Rattle.lists.specs.Lists.{pick, Mem, all, same, among, noRepeats, valuesAt}
-use Rattle.symbolic.specs.Columns.{Column, live}
+use lib.Dec.{eqb}
+use lib.ListN.{take}
+use Rattle.lists.specs.Lists.{pick, Mem, all, same, among, noRepeats, at, valuesAt, rises}
+use Rattle.symbolic.specs.Columns.{Column, smallest, startingWith, Register, live}
+use Rattle.symbolic.specs.Definition.{IsFactor, OnPath}
 use Rattle.symbolic.specs.Factor.{factorFor}
 use Rattle.symbolic.specs.Chains.{ChainTo}
 use Rattle.symbolic.specs.Change.{idsOf}
@@ -16,10 +19,10 @@ use Rattle.tables.specs.Stored.{recordsOf, holdsFrom}
 use Rattle.tables.specs.Tables.{Tables, Limits, longEnough, storedIn, bookIn, registerOf, isSound}
 use Rattle.tables.specs.Stays.{ColumnStays, EntriesKeep, TailsStay}
 use Rattle.calls.specs.Refusals.{Refusal, accepted, isAccepted, orElse, bounds, sizesRefusal}
-use Rattle.calls.specs.Calls.{Call, opening, isOpening, isBatch, idsBy}
-use Rattle.calls.specs.Report.{touchedBy}
-use Rattle.calls.specs.Numbers.{earlyRefusal, callRefusal}
-use Rattle.calls.specs.Steps.{Answer, refusedBy, acceptedBy, Lent, lentTo, listsAfter, workAfter, withWork, World, Transition}
+use Rattle.calls.specs.Calls.{Change, opening, changing, Lent, withWork, Call, callOf, isOpening, isChange}
+use Rattle.calls.specs.Changes.{effect, touchedBy}
+use Rattle.calls.specs.Numbers.{callEarly, callRefusal}
+use Rattle.calls.specs.Steps.{Answer, refusedBy, acceptedBy, listsAfter, workAfter, World, bookedIn, Transition}
 use Rattle.history.specs.Runs.{Event, Run, Plain, plainAfter, Begun}
 use Rattle.history.specs.Example.{askedSizes, listedCalls, listedAnswers, listedTouched, listedLabels, laterCalls, laterAnswers, laterTouched, laterLabels, laterLists, lastCalls, lastAnswers, workLeft, lastWork, eventCalls, eventAnswers, eventTouched, eventLabels, eventWork, eventLists, shown, listing, laterListing, lastListing}
 
@@ -29,6 +32,26 @@ use Rattle.history.specs.Example.{askedSizes, listedCalls, listedAnswers
 abbrev pub Stands : World → (i j : ℕ) → Type 0
 Stands v i j =
     Mem i (valuesAt (storedIn (v .state) (v .tables) .rows) (recordsOf (storedIn (v .state) (v .tables)) j))
+
+-- what stands beside a key in two lists that keep step; 0 where the key has nothing
+unfoldable pub valueFor : (keys values : List ℕ) → (key : ℕ) → ℕ
+valueFor [] vs k = 0
+valueFor (x ∷ xs) [] k = 0
+valueFor (x ∷ xs) (y ∷ ys) k = pick (eqb x k) y (valueFor xs ys k)
+
+-- the multiplicity that the tables hold for row i in column j: that of the chain's record with the row, "0 when absent"
+abbrev pub heldCount : World → (i j : ℕ) → ℕ
+heldCount v i j =
+    valueFor (valuesAt (storedIn (v .state) (v .tables) .rows) (recordsOf (storedIn (v .state) (v .tables)) j))
+    (valuesAt (storedIn (v .state) (v .tables) .counts) (recordsOf (storedIn (v .state) (v .tables)) j)) i
+
+-- the parent that the tables hold for column j
+abbrev pub heldParent : World → (j : ℕ) → ℕ
+heldParent v j = at (storedIn (v .state) (v .tables) .parents) j
+
+-- multiplicities M and parents P are document 01's for the live columns of a register
+abbrev pub IsFactorOf : Register → (M : ℕ → ℕ → ℕ) (P : ℕ → ℕ) → Type 0
+IsFactorOf r M P = IsFactor (r .m) (λ j i. startingWith j i (live r)) M P
 
 -- what holds of record and tables after a list of calls, against the register by then
 pub record Consistent (p : Plain) (v : World) : Type 0 where
@@ -40,11 +63,13 @@ pub record Consistent (p : Plain) (v : World) : Type 0 where
   -- demand 3: tables sound
   pub sound : isSound (v .state) (v .tables) ≡ true
   -- demand 3: book = the plain register: the same columns, both ways, each id once
-  pub columns : (c : Column) → Mem c (registerOf (v .state) (v .tables) .columns) ↔ Mem c (p .register .columns)
-  pub book-once : noRepeats (idsOf (registerOf (v .state) (v .tables) .columns)) ≡ true
+  pub columns : (c : Column) → Mem c (bookedIn v .columns) ↔ Mem c (p .register .columns)
+  pub book-once : noRepeats (idsOf (bookedIn v .columns)) ≡ true
   pub register-once : noRepeats (idsOf (p .register .columns)) ≡ true
-  -- demand 3: numbers justified: multiplicities and parents in the tables are the definition's for the register
-  pub numbers : holdsFrom (storedIn (v .state) (v .tables)) (factorFor (p .register)) 1 (p .limits .m) ≡ true
+  -- demand 3: numbers justified: multiplicities and parents in the tables are the definition's for the register, as the declarative definition has it
+  pub factor : IsFactorOf (p .register) (heldCount v) (heldParent v)
+  -- and as it is computed: chain j holds just the pattern's rows, rising, with their multiplicities
+  pub stored : holdsFrom (storedIn (v .state) (v .tables)) (factorFor (p .register)) 1 (p .limits .m) ≡ true
   -- demand 3: row i in column j exactly if a chain of rows leads there
   pub chains : (i j : ℕ) → 1 ≤ j → j < i → i ≤ p .limits .m → Stands v i j ↔ ChainTo (p .limits .m) (live (p .register)) i j
 
@@ -52,33 +77,54 @@ pub record Consistent (p : Plain) (v : World) : Type 0 where
 
 -- the number and position that table lengths, limits, register and arguments give
 abbrev pub plainRefusal : Plain → Tables → Call → Refusal
-plainRefusal p t k = orElse (earlyRefusal (p .limits) t k) (callRefusal (p .limits) (p .register) k)
+plainRefusal p t k = orElse (callEarly (p .limits) t k) (callRefusal (p .limits) (p .register) k)
+
+-- j lies on the path of the smallest row of some column, in the tree of parents P
+abbrev pub OnPathOf : (m : ℕ) (P : ℕ → ℕ) → List Column → (j : ℕ) → Type 0
+OnPathOf m P cs j = (c : Column) × Mem c cs × (1 ≤ smallest c) × (smallest c ≤ m) × OnPath P (smallest c) j
+
+-- "The report is the list of touched columns and their number": the lent list's front
+abbrev pub reported : Event → List ℕ
+reported e = take (e .answer .touched) (e .left .touched)
+
+-- demand 3: an accepted batch reports each once, ascending, exactly the columns on its paths: of those that leave in the tree before the call, of those that
+-- enter in the tree after it, whatever parents P and Q meet the definition there
+pub record ReportsJust (p : Plain) (e : Event) (c : Change) : Type 0 where
+  pub ascending : rises 1 (p .register .m) (reported e) ≡ true
+  pub exactly : (M N : ℕ → ℕ → ℕ) (P Q : ℕ → ℕ) → IsFactorOf (p .register) M P → IsFactorOf (effect (p .register) c .register) N Q →
+      (j : ℕ) → 1 ≤ j → j ≤ p .register .m →
+      Mem j (reported e) ↔ (OnPathOf (p .register .m) P (effect (p .register) c .leave) j ⊎ OnPathOf (p .register .m) Q (effect (p .register) c .enter) j)
+
+-- what an accepted change may alter of record and tables, from world u to world v
+pub record AltersJust (p : Plain) (u : World) (c : Change) (v : World) : Type 0 where
+  -- demand 3: each accepted batch alters no column off its paths
+  pub others : (j : ℕ) → 1 ≤ j → j ≤ p .limits .m → among j (touchedBy (p .register) c) ≡ false →
+      ColumnStays (storedIn (u .state) (u .tables)) (storedIn (v .state) (v .tables)) j
+  -- "An entry that stands in a column before and after a batch keeps its record"
+  pub entries : (j : ℕ) → 1 ≤ j → j ≤ p .limits .m → EntriesKeep (storedIn (u .state) (u .tables)) (storedIn (v .state) (v .tables)) j
+  -- the book's column of every id that the batch does not name stays, and so do the places beyond the sizes
+  pub ids : (i : ℕ) → 1 ≤ i → i ≤ p .limits .n → among i (effect (p .register) c .ids) ≡ false →
+      book.ColumnStays (bookIn (u .state) (u .tables)) (bookIn (v .state) (v .tables)) i
+  pub tails : TailsStay (p .limits) (u .tables) (v .tables)
 
 -- what holds of one call, from world u to world v, against the register before it
 pub record Justified (p : Plain) (u : World) (e : Event) (v : World) : Type 0 where
   -- number, position and every other number, from the register
   pub answer : e .answer ≡
-      pick (isAccepted (plainRefusal p (u .tables) (e .call))) (acceptedBy (p .register) (e .call)) (refusedBy (plainRefusal p (u .tables) (e .call)))
+      pick (isAccepted (plainRefusal p (u .tables) (e .call))) (acceptedBy (p .register) (e .call .entry)) (refusedBy (plainRefusal p (u .tables) (e .call)))
   -- so never 6, and 1 to 4 only at openings
   pub never-unsound : e .answer .number ≢ 6
-  pub sizes-at-openings : isOpening (e .call) ≡ false → (e .answer .number ≡ 0) ⊎ (5 ≤ e .answer .number)
+  pub sizes-at-openings : isOpening (e .call .entry) ≡ false → (e .answer .number ≡ 0) ⊎ (5 ≤ e .answer .number)
   -- every lent list, from the register: the report, a question's list, the work table
   pub left : e .left ≡
       pick (isAccepted (plainRefusal p (u .tables) (e .call)))
       (listsAfter (p .register) (e .call) (workAfter (p .limits) (u .tables) (e .call)))
-      (withWork (lentTo (e .call)) (workAfter (p .limits) (u .tables) (e .call)))
+      (withWork (e .call .lent) (workAfter (p .limits) (u .tables) (e .call)))
   -- a refused call, a check or a question leaves record and tables
-  pub unchanged : (e .answer .number ≢ 0) ⊎ ((isBatch (e .call) || isOpening (e .call)) ≡ false) → v ≡ u
-  -- demand 3: each accepted batch alters no column off its paths
-  pub others : e .answer .number ≡ 0 → isBatch (e .call) ≡ true → (j : ℕ) → 1 ≤ j → j ≤ p .limits .m →
-      among j (touchedBy (p .register) (e .call)) ≡ false → ColumnStays (storedIn (u .state) (u .tables)) (storedIn (v .state) (v .tables)) j
-  -- "An entry that stands in a column before and after a batch keeps its record"
-  pub entries : e .answer .number ≡ 0 → isBatch (e .call) ≡ true → (j : ℕ) → 1 ≤ j → j ≤ p .limits .m →
-      EntriesKeep (storedIn (u .state) (u .tables)) (storedIn (v .state) (v .tables)) j
-  -- the book's column of every id that the batch does not name stays, and so do the places beyond the sizes
-  pub ids : e .answer .number ≡ 0 → isBatch (e .call) ≡ true → (i : ℕ) → 1 ≤ i → i ≤ p .limits .n → among i (idsBy (e .call)) ≡ false →
-      book.ColumnStays (bookIn (u .state) (u .tables)) (bookIn (v .state) (v .tables)) i
-  pub tails : e .answer .number ≡ 0 → isBatch (e .call) ≡ true → TailsStay (p .limits) (u .tables) (v .tables)
+  pub unchanged : (e .answer .number ≢ 0) ⊎ ((isChange (e .call .entry) || isOpening (e .call .entry)) ≡ false) → v ≡ u
+  -- what an accepted change reports and alters
+  pub reports : e .answer .number ≡ 0 → (c : Change) → e .call .entry ≡ changing c → ReportsJust p e c
+  pub alters : e .answer .number ≡ 0 → (c : Change) → e .call .entry ≡ changing c → AltersJust p u c v
 
 -- ---- DEMAND 3, one claim about a list of calls from an accepted opening, refused ones among them
 
@@ -100,19 +146,19 @@ RunSplits =
 
 -- what a world holds, in place of a register
 abbrev pub plainOf : World → Plain
-plainOf u = record { limits = u .state .limits; register = registerOf (u .state) (u .tables) }
+plainOf u = record { limits = u .state .limits; register = bookedIn u }
 
 -- "On sound tables that no such list has left, what demand 3 says of an accepted batch holds too, with what they hold in place of the register": an
 -- accepted batch has passed 1 to 6, so that its tables are in range, long enough and sound is a conclusion here
 abbrev pub AnySound : Type 0
 AnySound =
-    (u : World) (e : Event) (v : World) → Transition u (e .call) (e .answer) (e .left) v → e .answer .number ≡ 0 → isBatch (e .call) ≡ true →
+    (u : World) (e : Event) (v : World) → Transition u (e .call) (e .answer) (e .left) v → e .answer .number ≡ 0 → isChange (e .call .entry) ≡ true →
     Consistent (plainOf u) u × Justified (plainOf u) u e v × Consistent (plainAfter (plainOf u) (e ∷ [])) v
 
 -- every accepted opening leaves sound tables
 abbrev pub OpeningSound : Type 0
 OpeningSound =
-    (u : World) (l : Limits) (w : List ℕ) (a : Answer) (x : Lent) (v : World) → Transition u (opening l w) a x v → a .number ≡ 0 →
+    (u : World) (l : Limits) (w : Lent) (a : Answer) (x : Lent) (v : World) → Transition u (callOf (opening l) w) a x v → a .number ≡ 0 →
     isSound (v .state) (v .tables) ≡ true
 
 -- ---- a run that is, so that nothing above is empty: the listed example, with a refused addition among the others; then a check, every question and a

@@ -1,5 +1,5 @@
--- A batch's line by its number (`ok-answer`, `no-answer`); what an addition or a removal answers before an accepted opening (`closed-adds`, `closed-removes`)
--- and after it (`open-adds`, `open-removes`), where the unchecked batch's step is that of the whole call. Assumes nothing.
+-- A batch's line by its number (`ok-answer`, `no-answer`); what an addition or a removal answers before an accepted opening (`closed-changes`)
+-- and after it (`open-changes`), where the unchecked batch's step is that of the whole call. Assumes nothing.
 use mathlib.Core.Path.{_≡_, refl, sym, ap, subst}
 use mathlib.Core.Logic.{inl, inr, _≢_}
 use mathlib.Core.Bool.{Bool}
@@ -11,15 +11,15 @@ use borrow.Author.Tests.{eq-eqb, ne-eqb}
 use Rattle.lists.specs.Lists.{pick}
 use Rattle.tables.specs.Tables.{Tables, State}
 use Rattle.calls.specs.Refusals.{refusal, isAccepted}
-use Rattle.calls.specs.Calls.{Call, adding, removing}
+use Rattle.calls.specs.Calls.{Change, changing, reportLists, callOf}
 use Rattle.calls.specs.Steps.{Answer, refusedBy, World, Transition}
 use Rattle.calls.proofs.Steps.{refused-step}
-use Rattle.batch.specs.Outcome.{batchLists, BatchStep}
+use Rattle.batch.specs.Outcome.{BatchStep}
 use Rattle.factor.specs.Entries.{stateOf, worldOf}
 use Rattle.factor.specs.Batches.{CanChange, changedAnswer}
 use Rattle.factor.specs.declared.Factor.{Factor}
 use Rattle.factor.specs.declared.Changed.{Changed}
-use Rattle.continuing.proofs.Continuing.{add-step, add-can, remove-step, remove-can}
+use Rattle.continuing.proofs.Continuing.{change-step, change-can}
 use Rattle.listing_text.specs.Text.{okLine, noLine, Written}
 use Rattle.listing_show.specs.Showing.{answerLine, noState}
 use Rattle.listing_show.proofs.Showing.{usable-some}
@@ -46,61 +46,38 @@ ready-some u r d = elim r [ inl q ↦ absurd (d (ap (λ (s : State). s .limits .
 
 -- ---- before an accepted opening: `no 1 0`
 
-no-add : (t : Tables) (is ns rs w a b : List ℕ) →
-    Transition (record { state = noState; tables = t }) (adding is ns rs w a b) (refusedBy (refusal 1 0)) (batchLists w a b) (record { state = noState; tables = t })
-no-add t is ns rs w a b =
+no-change : (t : Tables) (c : Change) (w a b : List ℕ) →
+    Transition (record { state = noState; tables = t }) (callOf (changing c) (reportLists w a b)) (refusedBy (refusal 1 0)) (reportLists w a b) (record { state = noState; tables = t })
+no-change t c w a b =
     let u : World = record { state = noState; tables = t } in
-    refused-step u (adding is ns rs w a b) (refusedBy (refusal 1 0)) (batchLists w a b) u (record { number = refl; answer = refl; lists = refl; world = refl })
+    refused-step u (callOf (changing c) (reportLists w a b)) (refusedBy (refusal 1 0)) (reportLists w a b) u
+    (record { number = refl; answer = refl; lists = refl; world = refl })
 
-no-remove : (t : Tables) (is w a b : List ℕ) →
-    Transition (record { state = noState; tables = t }) (removing is w a b) (refusedBy (refusal 1 0)) (batchLists w a b) (record { state = noState; tables = t })
-no-remove t is w a b =
-    let u : World = record { state = noState; tables = t } in
-    refused-step u (removing is w a b) (refusedBy (refusal 1 0)) (batchLists w a b) u (record { number = refl; answer = refl; lists = refl; world = refl })
-
-module _ (x : Factor) (t : Tables) (w a b out₀ out : List ℕ) (end : ℕ) (line : Written out₀ 0 (noLine 1 0) out end) (e : stateOf x ≡ noState) where
-  refuses : (k : Call) → Transition (worldOf x t) k (refusedBy (refusal 1 0)) (batchLists w a b) (worldOf x t) →
-      Answers (BatchAnswered (memoryOf x t w a b) k) out₀ out (record { factor = x; end = end }) (memoryOf x t w a b)
-  refuses k s =
-      record {
-        bytes = noLine 1 0;
-        says = record { answer = refusedBy (refusal 1 0); step = s; printed = refl };
-        written = line;
-        usable = inl e;
-      }
-
-  pub closed-adds : (is ns rs : List ℕ) → Answers (BatchAnswered (memoryOf x t w a b) (adding is ns rs w a b)) out₀ out (record { factor = x; end = end }) (memoryOf x t w a b)
-  closed-adds is ns rs =
-      refuses (adding is ns rs w a b)
-      (subst (λ (s : State). Transition (record { state = s; tables = t }) (adding is ns rs w a b) (refusedBy (refusal 1 0)) (batchLists w a b) (record { state = s; tables = t })) (sym e)
-      (no-add t is ns rs w a b))
-
-  pub closed-removes : (is : List ℕ) → Answers (BatchAnswered (memoryOf x t w a b) (removing is w a b)) out₀ out (record { factor = x; end = end }) (memoryOf x t w a b)
-  closed-removes is =
-      refuses (removing is w a b)
-      (subst (λ (s : State). Transition (record { state = s; tables = t }) (removing is w a b) (refusedBy (refusal 1 0)) (batchLists w a b) (record { state = s; tables = t })) (sym e)
-      (no-remove t is w a b))
+pub closed-changes : (x : Factor) (t : Tables) (w a b out₀ out : List ℕ) (end : ℕ) → Written out₀ 0 (noLine 1 0) out end → stateOf x ≡ noState →
+    (c : Change) → Answers (BatchAnswered (memoryOf x t w a b) c) out₀ out (record { factor = x; end = end }) (memoryOf x t w a b)
+closed-changes x t w a b out₀ out end line e c =
+    record {
+      bytes = noLine 1 0;
+      says = record {
+        answer = refusedBy (refusal 1 0);
+        step = subst (λ (s : State). Transition (record { state = s; tables = t }) (callOf (changing c) (reportLists w a b)) (refusedBy (refusal 1 0)) (reportLists w a b) (record { state = s; tables = t }))
+            (sym e) (no-change t c w a b);
+        printed = refl;
+      };
+      written = line;
+      usable = inl e;
+    }
 
 -- ---- after it
 
 module _ (x : Factor) (t : Tables) (w a b : List ℕ) (can : CanChange (stateOf x) t w a b) (y : Changed) (t′ : Tables) (w′ a′ b′ out₀ out : List ℕ) (end : ℕ)
     (line : Written out₀ 0 (answerLine (changedAnswer y)) out end) (p : length a′ ≡ length a) (q : length b′ ≡ length b) where
-  pub open-adds : (is ns rs : List ℕ) → BatchStep (worldOf x t) (adding is ns rs w a b) (changedAnswer y) (batchLists w′ a′ b′) (worldOf (y .factor) t′) →
-      Answers (BatchAnswered (memoryOf x t w a b) (adding is ns rs w a b)) out₀ out (record { factor = y .factor; end = end }) (memoryOf (y .factor) t′ w′ a′ b′)
-  open-adds is ns rs o =
+  pub open-changes : (c : Change) → BatchStep (worldOf x t) c (reportLists w a b) (changedAnswer y) (reportLists w′ a′ b′) (worldOf (y .factor) t′) →
+      Answers (BatchAnswered (memoryOf x t w a b) c) out₀ out (record { factor = y .factor; end = end }) (memoryOf (y .factor) t′ w′ a′ b′)
+  open-changes c o =
       record {
         bytes = answerLine (changedAnswer y);
-        says = record { answer = changedAnswer y; step = add-step can (changedAnswer y) (batchLists w′ a′ b′) (worldOf (y .factor) t′) is ns rs o; printed = refl };
+        says = record { answer = changedAnswer y; step = change-step can c (changedAnswer y) (reportLists w′ a′ b′) (worldOf (y .factor) t′) o; printed = refl };
         written = line;
-        usable = inr (add-can can w′ a′ b′ (worldOf (y .factor) t′) p q is ns rs (changedAnswer y) o);
-      }
-
-  pub open-removes : (is : List ℕ) → BatchStep (worldOf x t) (removing is w a b) (changedAnswer y) (batchLists w′ a′ b′) (worldOf (y .factor) t′) →
-      Answers (BatchAnswered (memoryOf x t w a b) (removing is w a b)) out₀ out (record { factor = y .factor; end = end }) (memoryOf (y .factor) t′ w′ a′ b′)
-  open-removes is o =
-      record {
-        bytes = answerLine (changedAnswer y);
-        says = record { answer = changedAnswer y; step = remove-step can (changedAnswer y) (batchLists w′ a′ b′) (worldOf (y .factor) t′) is o; printed = refl };
-        written = line;
-        usable = inr (remove-can can w′ a′ b′ (worldOf (y .factor) t′) p q is (changedAnswer y) o);
+        usable = inr (change-can can w′ a′ b′ (worldOf (y .factor) t′) p q c (changedAnswer y) o);
       }

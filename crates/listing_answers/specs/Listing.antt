@@ -6,10 +6,9 @@ use mathlib.Core.List.{List, [], _∷_}
 use Prim.Native.Nat.{ℕ}
 use lib.ListN.{length}
 use Rattle.tables.specs.Tables.{Tables, Limits, limitsOf}
-use Rattle.calls.specs.Calls.{Call, opening, adding, removing}
+use Rattle.calls.specs.Calls.{Change, adding, removing, opening, changing, workOnly, reportLists, callOf}
 use Rattle.calls.specs.Steps.{Answer, World, Transition}
-use Rattle.batch.specs.Outcome.{batchLists}
-use Rattle.factor.specs.Entries.{worldOf, workOnly, OpenStep}
+use Rattle.factor.specs.Entries.{worldOf, OpenStep}
 use Rattle.factor.specs.Batches.{CanChange}
 use Rattle.factor.specs.declared.Factor.{Factor}
 use Rattle.factor.specs.declared.Opening.{Opening}
@@ -62,22 +61,23 @@ pub record Ready (u : Memory) : Type 0 where
 -- an opening: the lists of a batch stay
 pub record OpenAnswered (u : Memory) (asked : Limits) (bytes : List ℕ) (v : Memory) : Type 0 where
   pub answer : Answer
-  pub step : Transition (u .world) (opening asked (u .work)) answer (workOnly (v .work)) (v .world)
+  pub step : Transition (u .world) (callOf (opening asked) (workOnly (u .work))) answer (workOnly (v .work)) (v .world)
   pub printed : bytes ≡ answerLine answer
   pub touched : v .touched ≡ u .touched
   pub labels : v .labels ≡ u .labels
 
 -- an addition or a removal
-pub record BatchAnswered (u : Memory) (k : Call) (bytes : List ℕ) (v : Memory) : Type 0 where
+pub record BatchAnswered (u : Memory) (c : Change) (bytes : List ℕ) (v : Memory) : Type 0 where
   pub answer : Answer
-  pub step : Transition (u .world) k answer (batchLists (v .work) (v .touched) (v .labels)) (v .world)
+  pub step :
+      Transition (u .world) (callOf (changing c) (reportLists (u .work) (u .touched) (u .labels))) answer (reportLists (v .work) (v .touched) (v .labels)) (v .world)
   pub printed : bytes ≡ answerLine answer
 
 -- a command, with the rows of an add line
 abbrev pub CommandAnswered : Command → (rows : List ℕ) → Memory → (bytes : List ℕ) → Memory → Type 0
 CommandAnswered (Open m n f c) rs u bs v = OpenAnswered u (limitsOf m n f c) bs v
-CommandAnswered (Add i n) rs u bs v = BatchAnswered u (adding (i ∷ []) (n ∷ []) rs (u .work) (u .touched) (u .labels)) bs v
-CommandAnswered (Drop i) rs u bs v = BatchAnswered u (removing (i ∷ []) (u .work) (u .touched) (u .labels)) bs v
+CommandAnswered (Add i n) rs u bs v = BatchAnswered u (adding (i ∷ []) (n ∷ []) rs) bs v
+CommandAnswered (Drop i) rs u bs v = BatchAnswered u (removing (i ∷ [])) bs v
 CommandAnswered Show rs u bs v = (bs ≡ shownBy (u .world)) × (v ≡ u)
 CommandAnswered Unknown rs u bs v = (bs ≡ noLine 19 0) × (v ≡ u)
 

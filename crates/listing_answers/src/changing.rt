@@ -2,7 +2,7 @@
 ghost use mathlib.Core.List.{[], _∷_};
 ghost use Prim.Native.Nat.{_≤_};
 ghost use lib.ListN.{length, take};
-ghost use Rattle.calls.specs.Calls.Call.{adding, removing};
+ghost use Rattle.calls.specs.Calls.Change.{adding, removing};
 ghost use Rattle.tables.specs.Tables.{limitsOf, tablesOf};
 ghost use Rattle.factor.specs.Batches.{changedAnswer};
 ghost use Rattle.listing_text.specs.Text.{Written};
@@ -103,7 +103,7 @@ pub fn add_line(
     requires room { ⌜ 40 ≤ length (now out) ⌝ }
     requires listed { ⌜ count ≤ length (now list) ⌝ }
     requires usable { ⌜ IsReady (memoryOf factor (tablesOf (now heads) (now parents) (now rows) (now counts) (now next) (now «book_heads») (now «book_rows») (now «book_next»)) (now work) (now touched) (now labels)) ⌝ }
-    ensures { λ r. ⌜ Answers (BatchAnswered (memoryOf factor (tablesOf (now (heads .entry)) (now (parents .entry)) (now (rows .entry)) (now (counts .entry)) (now (next .entry)) (now («book_heads» .entry)) (now («book_rows» .entry)) (now («book_next» .entry))) (now (work .entry)) (now (touched .entry)) (now (labels .entry))) (adding (id ∷ []) (count ∷ []) (take count (now (list .entry))) (now (work .entry)) (now (touched .entry)) (now (labels .entry)))) (now (out .entry)) (now (out .exit)) r (memoryOf (r .factor) (tablesOf (now (heads .entry)) (now (parents .exit)) (now (rows .exit)) (now (counts .exit)) (now (next .exit)) (now («book_heads» .exit)) (now («book_rows» .exit)) (now («book_next» .exit))) (now (work .exit)) (now (touched .exit)) (now (labels .exit))) ⌝ }
+    ensures { λ r. ⌜ Answers (BatchAnswered (memoryOf factor (tablesOf (now (heads .entry)) (now (parents .entry)) (now (rows .entry)) (now (counts .entry)) (now (next .entry)) (now («book_heads» .entry)) (now («book_rows» .entry)) (now («book_next» .entry))) (now (work .entry)) (now (touched .entry)) (now (labels .entry))) (adding (id ∷ []) (count ∷ []) (take count (now (list .entry))))) (now (out .entry)) (now (out .exit)) r (memoryOf (r .factor) (tablesOf (now (heads .entry)) (now (parents .exit)) (now (rows .exit)) (now (counts .exit)) (now (next .exit)) (now («book_heads» .exit)) (now («book_rows» .exit)) (now («book_next» .exit))) (now (work .exit)) (now (touched .exit)) (now (labels .exit))) ⌝ }
 {
     if factor.m == 0 {
         let end = text::no_line(out, 0, 1, 0);
@@ -152,7 +152,7 @@ pub fn drop_line(
 ) -> Printed
     requires room { ⌜ 40 ≤ length (now out) ⌝ }
     requires usable { ⌜ IsReady (memoryOf factor (tablesOf (now heads) (now parents) (now rows) (now counts) (now next) (now «book_heads») (now «book_rows») (now «book_next»)) (now work) (now touched) (now labels)) ⌝ }
-    ensures { λ r. ⌜ Answers (BatchAnswered (memoryOf factor (tablesOf (now (heads .entry)) (now (parents .entry)) (now (rows .entry)) (now (counts .entry)) (now (next .entry)) (now («book_heads» .entry)) (now («book_rows» .entry)) (now («book_next» .entry))) (now (work .entry)) (now (touched .entry)) (now (labels .entry))) (removing (id ∷ []) (now (work .entry)) (now (touched .entry)) (now (labels .entry)))) (now (out .entry)) (now (out .exit)) r (memoryOf (r .factor) (tablesOf (now (heads .entry)) (now (parents .exit)) (now (rows .exit)) (now (counts .exit)) (now (next .exit)) (now («book_heads» .exit)) (now («book_rows» .exit)) (now («book_next» .exit))) (now (work .exit)) (now (touched .exit)) (now (labels .exit))) ⌝ }
+    ensures { λ r. ⌜ Answers (BatchAnswered (memoryOf factor (tablesOf (now (heads .entry)) (now (parents .entry)) (now (rows .entry)) (now (counts .entry)) (now (next .entry)) (now («book_heads» .entry)) (now («book_rows» .entry)) (now («book_next» .entry))) (now (work .entry)) (now (touched .entry)) (now (labels .entry))) (removing (id ∷ []))) (now (out .entry)) (now (out .exit)) r (memoryOf (r .factor) (tablesOf (now (heads .entry)) (now (parents .exit)) (now (rows .exit)) (now (counts .exit)) (now (next .exit)) (now («book_heads» .exit)) (now («book_rows» .exit)) (now («book_next» .exit))) (now (work .exit)) (now (touched .exit)) (now (labels .exit))) ⌝ }
 {
     if factor.m == 0 {
         let end = text::no_line(out, 0, 1, 0);

@@ -16,12 +16,12 @@ use Rattle.symbolic.specs.Columns.{Register, live}
 use Rattle.symbolic.specs.Factor.{factorFor, columnAt, parentOf, patternFrom, nonZero, sizeOf}
 use Rattle.symbolic.proofs.Build.{counts-length}
 use Rattle.tables.specs.Tables.{Limits}
-use Rattle.calls.specs.Calls.{askParent, askColumn}
-use Rattle.calls.specs.Report.{pairsOf, columnList}
+use Rattle.calls.specs.Calls.{askParent, askColumn, asking}
+use Rattle.calls.specs.Questions.{pairsOf, columnList}
 use Rattle.calls.specs.Refusals.{accepted, isAccepted, rowRefusal}
-use Rattle.calls.specs.Numbers.{callRefusal}
+use Rattle.calls.specs.Numbers.{askRefusal}
 use Rattle.calls.specs.Steps.{Answer, refusedBy, acceptedBy, writtenAt}
-use Rattle.questions.specs.Asked.{replyOf, repliedTo, listLeft}
+use Rattle.questions.specs.Asked.{replyOf, repliedTo, replied, listLeft}
 use Rattle.questions.specs.declared.Reply.{Reply}
 
 -- ---- how many entries a column has
@@ -50,28 +50,28 @@ module _ (r : Register) (j : ℕ) (low : 1 ≤ j) (high : j ≤ r .m) where
   row-taken : rowRefusal (r .m) j ≡ accepted
   row-taken = rw (le-leb 1 j low, le-leb j (r .m) high) refl
 
-  module _ (l : Limits) (a : Reply) where
-    pub parent-answered : replyOf a ≡ repliedTo l r (askParent j []) → a .value ≡ parentOf (factorFor r) j
+  module _ (a : Reply) where
+    pub parent-answered : replyOf a ≡ replied r (askParent j) → a .value ≡ parentOf (factorFor r) j
     parent-answered e = ap (λ (x : Answer). x .value) (e ∙ taken)
       where
-        taken : repliedTo l r (askParent j []) ≡ acceptedBy r (askParent j [])
+        taken : replied r (askParent j) ≡ acceptedBy r (asking (askParent j) 0)
         taken = rw row-taken refl
 
     module _ (list : List ℕ) (room : length (columnList r j) ≤ length list) where
-      column-taken : isAccepted (callRefusal l r (askColumn j 0 [] list)) ≡ true
+      column-taken : isAccepted (askRefusal r (askColumn j) 0 list) ≡ true
       column-taken =
           let h : 0 + length (columnList r j) ≤ length list = omega arith in
           rw (row-taken, le-leb (0 + length (columnList r j)) (length list) h) refl
 
-      pub column-answered : replyOf a ≡ repliedTo l r (askColumn j 0 [] list) → a .value ≡ sizeOf (columnAt (factorFor r) j)
+      pub column-answered : replyOf a ≡ repliedTo r (askColumn j) 0 list → a .value ≡ sizeOf (columnAt (factorFor r) j)
       column-answered e =
           ap (λ (x : Answer). x .value)
-          (e ∙ ap (λ (z : Bool). pick z (acceptedBy r (askColumn j 0 [] list)) (refusedBy (callRefusal l r (askColumn j 0 [] list)))) column-taken)
+          (e ∙ ap (λ (z : Bool). pick z (acceptedBy r (asking (askColumn j) 0)) (refusedBy (askRefusal r (askColumn j) 0 list))) column-taken)
 
-      column-list : listLeft l r (askColumn j 0 [] list) ≡ columnList r j ++ drop (0 + length (columnList r j)) list
+      column-list : listLeft r (askColumn j) 0 list ≡ columnList r j ++ drop (0 + length (columnList r j)) list
       column-list = ap (λ (z : Bool). pick z (writtenAt 0 (columnList r j) list) list) column-taken
 
-      pub column-listed : (list′ : List ℕ) → list′ ≡ listLeft l r (askColumn j 0 [] list) → (n : ℕ) → n ≡ sizeOf (columnAt (factorFor r) j) →
+      pub column-listed : (list′ : List ℕ) → list′ ≡ listLeft r (askColumn j) 0 list → (n : ℕ) → n ≡ sizeOf (columnAt (factorFor r) j) →
           take (2 * n) list′ ≡ columnList r j
       column-listed list′ e n q =
           ap (λ (x : List ℕ). take (2 * n) x) (e ∙ column-list) ∙

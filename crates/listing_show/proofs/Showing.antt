@@ -13,7 +13,7 @@ use Rattle.symbolic.specs.Columns.{Register}
 use Rattle.symbolic.specs.Factor.{factorFor, parentOf}
 use Rattle.tables.specs.Tables.{Tables, State, registerOf}
 use Rattle.calls.specs.Refusals.{accepted, isAccepted, bounds, sizesRefusal}
-use Rattle.calls.specs.Report.{columnList}
+use Rattle.calls.specs.Questions.{columnList}
 use Rattle.calls.specs.Steps.{refusedBy, World}
 use Rattle.calls.proofs.Refusals.{InRange, sizes-facts}
 use Rattle.factor.specs.Admission.{Usable}

@@ -12,7 +12,7 @@ use Rattle.symbolic.specs.Columns.{Register}
 use Rattle.symbolic.specs.Factor.{factorFor, parentOf}
 use Rattle.tables.specs.Tables.{Tables, State, registerOf, limitsOf}
 use Rattle.calls.specs.Refusals.{isAccepted, bounds, sizesRefusal}
-use Rattle.calls.specs.Report.{columnList}
+use Rattle.calls.specs.Questions.{columnList}
 use Rattle.calls.specs.Steps.{Answer, refusedBy, World}
 use Rattle.factor.specs.Admission.{Usable}
 use Rattle.listing_text.specs.Text.{okLine, noLine, showPairs, showLine, Written}

@@ -1,4 +1,5 @@
--- What each return of a question answers, for every register whose tables these are: 17, 18, or the value with what is written. One law for each return.
+-- What each return of a question answers, for every register whose tables these are: 17, 18, or the value with what is written. First for any question: one
+-- without a list, one whose list is written from a place on. Then question by question, a law for each return.
 -- Assumes nothing.
 use mathlib.Core.Path.{_≡_, refl, sym, ap, _∙_, subst}
 use mathlib.Core.List.{List, []}
@@ -8,118 +9,116 @@ use Rattle.lists.specs.Lists.{at}
 use Rattle.symbolic.specs.Columns.{Register}
 use Rattle.symbolic.specs.Factor.{factorFor, columnAt, sizeOf, multiplicity}
 use Rattle.calls.specs.Refusals.{Refusal, refusal, accepted, orElse, rowRefusal, roomFor}
-use Rattle.calls.specs.Calls.{Call, askMultiplicity, askParent, askPath, askColumn}
-use Rattle.calls.specs.Report.{pathList, columnList}
+use Rattle.calls.specs.Calls.{Question, askMultiplicity, askParent, askPath, askColumn}
+use Rattle.calls.specs.Questions.{pathList, columnList, response}
+use Rattle.calls.specs.Numbers.{askRefusal}
 use Rattle.calls.specs.Steps.{writtenAt}
-use Rattle.questions.specs.Asked.{ColumnsFor, ParentsFor, replyOf, Replies, Leaves}
+use Rattle.questions.specs.Asked.{ColumnsFor, ParentsFor, RepliesAt, Replies, Leaves}
 use Rattle.questions.proofs.Replies.{refused-reply, refused-list, accepted-reply, accepted-list}
 
--- two tests in order, of which the second may be by the register
-module _ {k m : ℕ} (e : k ≡ m) (i : ℕ) (y : Refusal) where
-  first-out : rowRefusal m i ≡ refusal 17 0 → orElse (rowRefusal k i) y ≡ refusal 17 0
-  first-out h = subst (λ (n : ℕ). orElse (rowRefusal n i) y ≡ refusal 17 0) (sym e) (ap (λ (x : Refusal). orElse x y) h)
-
-  first-in : rowRefusal m i ≡ accepted → orElse (rowRefusal k i) y ≡ y
-  first-in h = subst (λ (n : ℕ). orElse (rowRefusal n i) y ≡ y) (sym e) (ap (λ (x : Refusal). orElse x y) h)
-
+-- a row's test by the register
 row-at : {k m : ℕ} (e : k ≡ m) (i : ℕ) {x : Refusal} → rowRefusal m i ≡ x → rowRefusal k i ≡ x
 row-at e i {x} h = subst (λ (n : ℕ). rowRefusal n i ≡ x) (sym e) h
+
+-- ---- any question without a list
+
+module _ (Fits : Register → Type 0) (q : Question) (empty : (r : Register) → response r q .list ≡ []) where
+  abbrev after : (r : Register) → Refusal → Refusal
+  after r x = orElse x (roomFor [] 0 (length (response r q .list)))
+
+  pub plain-refused : ((r : Register) → Fits r → response r q .refusal ≡ refusal 17 0) → Replies Fits q (record { number = 17; value = 0 })
+  plain-refused h r f = refused-reply r q 0 [] 17 refl (ap (after r) (h r f))
+
+  pub plain-answer : (n : ℕ) → ((r : Register) → Fits r → response r q .refusal ≡ accepted) → ((r : Register) → Fits r → n ≡ response r q .value) →
+      Replies Fits q (record { number = 0; value = n })
+  plain-answer n h v r f =
+      accepted-reply r q 0 [] (ap (after r) (h r f) ∙ ap (λ (xs : List ℕ). orElse accepted (roomFor [] 0 (length xs))) (empty r)) (v r f)
+
+-- ---- any question about column j whose list is written from place p on
+
+module _ (Fits : Register → Type 0) (m : ℕ) (size : (r : Register) → Fits r → r .m ≡ m) (q : Question) (j : ℕ)
+    (row : (r : Register) → response r q .refusal ≡ rowRefusal (r .m) j) (p : ℕ) (xs : List ℕ) where
+  abbrev room : Register → Refusal
+  room r = roomFor xs p (length (response r q .list))
+
+  first-is : {x : Refusal} → rowRefusal m j ≡ x → (r : Register) → Fits r → askRefusal r q p xs ≡ orElse x (room r)
+  first-is h r f = ap (λ (y : Refusal). orElse y (room r)) (row r ∙ row-at (size r f) j h)
+
+  pub list-row : rowRefusal m j ≡ refusal 17 0 → RepliesAt Fits q p xs (record { number = 17; value = 0 }) × Leaves Fits q p xs xs
+  list-row h = (λ r f. refused-reply r q p xs 17 refl (first-is h r f), λ r f. refused-list r q p xs 17 refl (first-is h r f))
+
+  module _ (a : rowRefusal m j ≡ accepted) (n : ℕ) (v : (r : Register) → Fits r → n ≡ length (response r q .list)) where
+    second-is : {x : Refusal} → roomFor xs p n ≡ x → (r : Register) → Fits r → askRefusal r q p xs ≡ x
+    second-is {x} h r f = first-is a r f ∙ subst (λ (k : ℕ). roomFor xs p k ≡ x) (v r f) h
+
+    pub list-room : roomFor xs p n ≡ refusal 18 0 → RepliesAt Fits q p xs (record { number = 18; value = 0 }) × Leaves Fits q p xs xs
+    list-room h = (λ r f. refused-reply r q p xs 18 refl (second-is h r f), λ r f. refused-list r q p xs 18 refl (second-is h r f))
+
+    pub list-answer : (k : ℕ) (ys : List ℕ) → roomFor xs p n ≡ accepted → ((r : Register) → Fits r → k ≡ response r q .value) →
+        ((r : Register) → Fits r → ys ≡ writtenAt p (response r q .list) xs) → RepliesAt Fits q p xs (record { number = 0; value = k }) × Leaves Fits q p xs ys
+    list-answer k ys h u w = (λ r f. accepted-reply r q p xs (second-is h r f) (u r f), λ r f. accepted-list r q p xs (second-is h r f) (w r f))
 
 -- ---- a multiplicity
 
 module _ (hs rs cs ns : List ℕ) (i j : ℕ) where
-  pub multiplicity-row : rowRefusal (length hs) i ≡ refusal 17 0 →
-      Replies (ColumnsFor hs rs cs ns) (askMultiplicity i j []) (record { number = 17; value = 0 })
-  multiplicity-row h l r f = refused-reply l r (askMultiplicity i j []) 17 refl (first-out (f .size) i (rowRefusal (r .m) j) h)
+  abbrev both : Register → Refusal
+  both r = orElse (rowRefusal (r .m) i) (rowRefusal (r .m) j)
+
+  first-row : {x : Refusal} → rowRefusal (length hs) i ≡ x → (r : Register) → ColumnsFor hs rs cs ns r → both r ≡ orElse x (rowRefusal (r .m) j)
+  first-row h r f = ap (λ (y : Refusal). orElse y (rowRefusal (r .m) j)) (row-at (f .size) i h)
+
+  pub multiplicity-row : rowRefusal (length hs) i ≡ refusal 17 0 → Replies (ColumnsFor hs rs cs ns) (askMultiplicity i j) (record { number = 17; value = 0 })
+  multiplicity-row h = plain-refused (ColumnsFor hs rs cs ns) (askMultiplicity i j) (λ r. refl) (λ r f. first-row h r f)
 
   module _ (a : rowRefusal (length hs) i ≡ accepted) where
-    pub multiplicity-column : rowRefusal (length hs) j ≡ refusal 17 0 →
-        Replies (ColumnsFor hs rs cs ns) (askMultiplicity i j []) (record { number = 17; value = 0 })
-    multiplicity-column h l r f =
-        refused-reply l r (askMultiplicity i j []) 17 refl (first-in (f .size) i (rowRefusal (r .m) j) a ∙ row-at (f .size) j h)
+    pub multiplicity-column : rowRefusal (length hs) j ≡ refusal 17 0 → Replies (ColumnsFor hs rs cs ns) (askMultiplicity i j) (record { number = 17; value = 0 })
+    multiplicity-column h =
+        plain-refused (ColumnsFor hs rs cs ns) (askMultiplicity i j) (λ r. refl) (λ r f. first-row a r f ∙ row-at (f .size) j h)
 
-    pub multiplicity-answer : (n : ℕ) → rowRefusal (length hs) j ≡ accepted →
-        ((r : Register) → ColumnsFor hs rs cs ns r → n ≡ multiplicity (factorFor r) i j) →
-        Replies (ColumnsFor hs rs cs ns) (askMultiplicity i j []) (record { number = 0; value = n })
-    multiplicity-answer n b v l r f =
-        accepted-reply l r (askMultiplicity i j []) (first-in (f .size) i (rowRefusal (r .m) j) a ∙ row-at (f .size) j b)
-        (ap (λ (x : ℕ). replyOf (record { number = 0; value = x })) (v r f))
+    pub multiplicity-answer : (n : ℕ) → rowRefusal (length hs) j ≡ accepted → ((r : Register) → ColumnsFor hs rs cs ns r → n ≡ multiplicity (factorFor r) i j) →
+        Replies (ColumnsFor hs rs cs ns) (askMultiplicity i j) (record { number = 0; value = n })
+    multiplicity-answer n b v =
+        plain-answer (ColumnsFor hs rs cs ns) (askMultiplicity i j) (λ r. refl) n (λ r f. first-row a r f ∙ row-at (f .size) j b) v
 
 -- ---- a parent
 
 module _ (ps : List ℕ) (j : ℕ) where
-  pub parent-row : rowRefusal (length ps) j ≡ refusal 17 0 → Replies (ParentsFor ps) (askParent j []) (record { number = 17; value = 0 })
-  parent-row h l r f = refused-reply l r (askParent j []) 17 refl (row-at (f .size) j h)
+  pub parent-row : rowRefusal (length ps) j ≡ refusal 17 0 → Replies (ParentsFor ps) (askParent j) (record { number = 17; value = 0 })
+  parent-row h = plain-refused (ParentsFor ps) (askParent j) (λ r. refl) (λ r f. row-at (f .size) j h)
 
-  pub parent-answer : rowRefusal (length ps) j ≡ accepted → 1 ≤ j → j ≤ length ps →
-      Replies (ParentsFor ps) (askParent j []) (record { number = 0; value = at ps j })
-  parent-answer h a b l r f =
-      accepted-reply l r (askParent j []) (row-at (f .size) j h) (ap (λ (x : ℕ). replyOf (record { number = 0; value = x })) (f .parent j a b))
+  pub parent-answer : rowRefusal (length ps) j ≡ accepted → 1 ≤ j → j ≤ length ps → Replies (ParentsFor ps) (askParent j) (record { number = 0; value = at ps j })
+  parent-answer h a b = plain-answer (ParentsFor ps) (askParent j) (λ r. refl) (at ps j) (λ r f. row-at (f .size) j h) (λ r f. f .parent j a b)
 
 -- ---- a path
 
 module _ (ps : List ℕ) (j p : ℕ) (xs : List ℕ) where
-  abbrev pathCall : Call
-  pathCall = askPath j p [] xs
-
   pub path-row : rowRefusal (length ps) j ≡ refusal 17 0 →
-      Replies (ParentsFor ps) (askPath j p [] xs) (record { number = 17; value = 0 }) × Leaves (ParentsFor ps) (askPath j p [] xs) xs
-  path-row h = (
-    λ l r f. refused-reply l r pathCall 17 refl (first-out (f .size) j (roomFor xs p (length (pathList r j))) h),
-    λ l r f. refused-list l r pathCall 17 refl (first-out (f .size) j (roomFor xs p (length (pathList r j))) h),
-  )
+      RepliesAt (ParentsFor ps) (askPath j) p xs (record { number = 17; value = 0 }) × Leaves (ParentsFor ps) (askPath j) p xs xs
+  path-row h = list-row (ParentsFor ps) (length ps) (λ r f. f .size) (askPath j) j (λ r. refl) p xs h
 
   module _ (a : rowRefusal (length ps) j ≡ accepted) (n : ℕ) (v : (r : Register) → ParentsFor ps r → n ≡ length (pathList r j)) where
-    second : (l : Refusal) → roomFor xs p n ≡ l → (r : Register) → ParentsFor ps r →
-        orElse (rowRefusal (r .m) j) (roomFor xs p (length (pathList r j))) ≡ l
-    second l h r f =
-        first-in (f .size) j (roomFor xs p (length (pathList r j))) a ∙ subst (λ (k : ℕ). roomFor xs p k ≡ l) (v r f) h
-
     pub path-room : roomFor xs p n ≡ refusal 18 0 →
-        Replies (ParentsFor ps) (askPath j p [] xs) (record { number = 18; value = 0 }) × Leaves (ParentsFor ps) (askPath j p [] xs) xs
-    path-room h = (
-      λ l r f. refused-reply l r pathCall 18 refl (second (refusal 18 0) h r f),
-      λ l r f. refused-list l r pathCall 18 refl (second (refusal 18 0) h r f),
-    )
+        RepliesAt (ParentsFor ps) (askPath j) p xs (record { number = 18; value = 0 }) × Leaves (ParentsFor ps) (askPath j) p xs xs
+    path-room h = list-room (ParentsFor ps) (length ps) (λ r f. f .size) (askPath j) j (λ r. refl) p xs a n v h
 
     pub path-answer : (ys : List ℕ) → roomFor xs p n ≡ accepted → ((r : Register) → ParentsFor ps r → ys ≡ writtenAt p (pathList r j) xs) →
-        Replies (ParentsFor ps) (askPath j p [] xs) (record { number = 0; value = n }) × Leaves (ParentsFor ps) (askPath j p [] xs) ys
-    path-answer ys h w = (
-      λ l r f. accepted-reply l r pathCall (second accepted h r f) (ap (λ (x : ℕ). replyOf (record { number = 0; value = x })) (v r f)),
-      λ l r f. accepted-list l r pathCall (second accepted h r f) (w r f),
-    )
+        RepliesAt (ParentsFor ps) (askPath j) p xs (record { number = 0; value = n }) × Leaves (ParentsFor ps) (askPath j) p xs ys
+    path-answer ys h w = list-answer (ParentsFor ps) (length ps) (λ r f. f .size) (askPath j) j (λ r. refl) p xs a n v n ys h v w
 
 -- ---- a column
 
 module _ (hs rs cs ns : List ℕ) (j p : ℕ) (xs : List ℕ) where
-  abbrev columnCall : Call
-  columnCall = askColumn j p [] xs
-
   pub column-row : rowRefusal (length hs) j ≡ refusal 17 0 →
-      Replies (ColumnsFor hs rs cs ns) (askColumn j p [] xs) (record { number = 17; value = 0 }) × Leaves (ColumnsFor hs rs cs ns) (askColumn j p [] xs) xs
-  column-row h = (
-    λ l r f. refused-reply l r columnCall 17 refl (first-out (f .size) j (roomFor xs p (length (columnList r j))) h),
-    λ l r f. refused-list l r columnCall 17 refl (first-out (f .size) j (roomFor xs p (length (columnList r j))) h),
-  )
+      RepliesAt (ColumnsFor hs rs cs ns) (askColumn j) p xs (record { number = 17; value = 0 }) × Leaves (ColumnsFor hs rs cs ns) (askColumn j) p xs xs
+  column-row h = list-row (ColumnsFor hs rs cs ns) (length hs) (λ r f. f .size) (askColumn j) j (λ r. refl) p xs h
 
   module _ (a : rowRefusal (length hs) j ≡ accepted) (k : ℕ) (v : (r : Register) → ColumnsFor hs rs cs ns r → k ≡ length (columnList r j)) where
-    second-column : (l : Refusal) → roomFor xs p k ≡ l → (r : Register) → ColumnsFor hs rs cs ns r →
-        orElse (rowRefusal (r .m) j) (roomFor xs p (length (columnList r j))) ≡ l
-    second-column l h r f =
-        first-in (f .size) j (roomFor xs p (length (columnList r j))) a ∙ subst (λ (n : ℕ). roomFor xs p n ≡ l) (v r f) h
-
     pub column-room : roomFor xs p k ≡ refusal 18 0 →
-        Replies (ColumnsFor hs rs cs ns) (askColumn j p [] xs) (record { number = 18; value = 0 }) × Leaves (ColumnsFor hs rs cs ns) (askColumn j p [] xs) xs
-    column-room h = (
-      λ l r f. refused-reply l r columnCall 18 refl (second-column (refusal 18 0) h r f),
-      λ l r f. refused-list l r columnCall 18 refl (second-column (refusal 18 0) h r f),
-    )
+        RepliesAt (ColumnsFor hs rs cs ns) (askColumn j) p xs (record { number = 18; value = 0 }) × Leaves (ColumnsFor hs rs cs ns) (askColumn j) p xs xs
+    column-room h = list-room (ColumnsFor hs rs cs ns) (length hs) (λ r f. f .size) (askColumn j) j (λ r. refl) p xs a k v h
 
     pub column-answer : (n : ℕ) (ys : List ℕ) → roomFor xs p k ≡ accepted →
         ((r : Register) → ColumnsFor hs rs cs ns r → n ≡ sizeOf (columnAt (factorFor r) j)) →
         ((r : Register) → ColumnsFor hs rs cs ns r → ys ≡ writtenAt p (columnList r j) xs) →
-        Replies (ColumnsFor hs rs cs ns) (askColumn j p [] xs) (record { number = 0; value = n }) × Leaves (ColumnsFor hs rs cs ns) (askColumn j p [] xs) ys
-    column-answer n ys h u w = (
-      λ l r f. accepted-reply l r columnCall (second-column accepted h r f) (ap (λ (x : ℕ). replyOf (record { number = 0; value = x })) (u r f)),
-      λ l r f. accepted-list l r columnCall (second-column accepted h r f) (w r f),
-    )
+        RepliesAt (ColumnsFor hs rs cs ns) (askColumn j) p xs (record { number = 0; value = n }) × Leaves (ColumnsFor hs rs cs ns) (askColumn j) p xs ys
+    column-answer n ys h u w = list-answer (ColumnsFor hs rs cs ns) (length hs) (λ r f. f .size) (askColumn j) j (λ r. refl) p xs a k v n ys h u w

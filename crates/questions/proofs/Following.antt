@@ -13,7 +13,7 @@ use Rattle.symbolic.specs.Columns.{Register, live}
 use Rattle.symbolic.specs.Factor.{factorFor, parentOf}
 use Rattle.symbolic.proofs.Build.{laws}
 use Rattle.symbolic.proofs.Paths.{path-root, path-step, path-length}
-use Rattle.calls.specs.Report.{pathList}
+use Rattle.calls.specs.Questions.{pathList}
 use Rattle.questions.specs.Asked.{ParentsFor}
 
 -- ---- one step up

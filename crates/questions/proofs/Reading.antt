@@ -21,7 +21,7 @@ use Rattle.tables.proofs.Stored.{SoundFor, Holds, sound-facts}
 use Rattle.columns.specs.Search.{countOf, entriesAt, pairs, CanRead, CanCount, CanCopy}
 use Rattle.columns.proofs.Holding.{holds-rises, holds-count, holds-pairs}
 use Rattle.columns.proofs.Copying.{entries-length}
-use Rattle.calls.specs.Report.{pairsOf, columnList}
+use Rattle.calls.specs.Questions.{pairsOf, columnList}
 use Rattle.questions.specs.Asked.{ColumnsFor, ParentsFor, CanAsk, CanFollow}
 
 pairs-same : (xs ns : List ℕ) → pairs xs ns ≡ pairsOf xs ns

@@ -14,11 +14,11 @@ use borrow.Rule.Slice.PartMut.{putMid}
 use Rattle.lists.specs.Lists.{isIn, over}
 use Rattle.lists.proofs.Tests.{in-range}
 use Rattle.symbolic.specs.Columns.{Register}
-use Rattle.tables.specs.Tables.{Limits}
 use Rattle.calls.specs.Refusals.{refusal, accepted, isAccepted, unless, rowRefusal, roomFor}
-use Rattle.calls.specs.Calls.{Call}
-use Rattle.calls.specs.Numbers.{callRefusal}
-use Rattle.calls.specs.Steps.{acceptedBy, lentTo, listsAfter, writtenAt}
+use Rattle.calls.specs.Calls.{Question}
+use Rattle.calls.specs.Questions.{response}
+use Rattle.calls.specs.Numbers.{askRefusal}
+use Rattle.calls.specs.Steps.{writtenAt}
 use Rattle.refusals.specs.Early.{NoRoom}
 use Rattle.questions.specs.Asked.{replyOf, repliedTo, listLeft}
 
@@ -54,19 +54,19 @@ module _ (xs : List ℕ) (p n : ℕ) {x : Bool} (e : NoRoom (length xs) p n x) w
 
 -- ---- the reply and the list
 
-module _ (l : Limits) (r : Register) (k : Call) where
-  module _ (n : ℕ) (q : eqb n 0 ≡ false) (e : callRefusal l r k ≡ refusal n 0) where
-    pub refused-reply : replyOf (record { number = n; value = 0 }) ≡ repliedTo l r k
+module _ (r : Register) (k : Question) (p : ℕ) (xs : List ℕ) where
+  module _ (n : ℕ) (q : eqb n 0 ≡ false) (e : askRefusal r k p xs ≡ refusal n 0) where
+    pub refused-reply : replyOf (record { number = n; value = 0 }) ≡ repliedTo r k p xs
     refused-reply = rw (e, q) refl
 
-    pub refused-list : lentTo k .list ≡ listLeft l r k
+    pub refused-list : xs ≡ listLeft r k p xs
     refused-list = rw (e, q) refl
 
-  module _ (e : callRefusal l r k ≡ accepted) where
-    pub accepted-reply : {v : ℕ} → replyOf (record { number = 0; value = v }) ≡ acceptedBy r k → replyOf (record { number = 0; value = v }) ≡ repliedTo l r k
-    accepted-reply a = rw e a
+  module _ (e : askRefusal r k p xs ≡ accepted) where
+    pub accepted-reply : {v : ℕ} → v ≡ response r k .value → replyOf (record { number = 0; value = v }) ≡ repliedTo r k p xs
+    accepted-reply a = rw e (ap (λ (x : ℕ). replyOf (record { number = 0; value = x })) a)
 
-    pub accepted-list : {xs : List ℕ} → xs ≡ listsAfter r k [] .list → xs ≡ listLeft l r k
+    pub accepted-list : {ys : List ℕ} → ys ≡ writtenAt p (response r k .list) xs → ys ≡ listLeft r k p xs
     accepted-list a = rw e a
 
 -- ---- a part of the list, from place p on, written from its front

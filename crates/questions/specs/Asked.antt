@@ -9,12 +9,12 @@ use Rattle.lists.specs.Lists.{pick, at}
 use Rattle.symbolic.specs.Columns.{Register}
 use Rattle.symbolic.specs.Factor.{factorFor, columnAt, parentOf}
 use Rattle.pool.specs.Chains.{chain, Linked}
-use Rattle.tables.specs.Tables.{Limits}
 use Rattle.columns.specs.Commit.{HoldsFrom}
 use Rattle.calls.specs.Refusals.{isAccepted}
-use Rattle.calls.specs.Calls.{Call}
-use Rattle.calls.specs.Numbers.{callRefusal}
-use Rattle.calls.specs.Steps.{Answer, refusedBy, acceptedBy, lentTo, listsAfter}
+use Rattle.calls.specs.Calls.{Question, asking}
+use Rattle.calls.specs.Questions.{response}
+use Rattle.calls.specs.Numbers.{askRefusal}
+use Rattle.calls.specs.Steps.{Answer, refusedBy, acceptedBy, writtenAt}
 use Rattle.questions.specs.declared.Reply.{Reply}
 
 -- a reply as an answer: what a question does not have is 0
@@ -50,18 +50,26 @@ pub record CanFollow (parents : List ℕ) : Type 0 where
 
 -- ---- the reply, and the list afterwards
 
--- the answer that a register gives to a question, accepted or refused
-abbrev pub repliedTo : (l : Limits) → Register → Call → Answer
-repliedTo l r k = pick (isAccepted (callRefusal l r k)) (acceptedBy r k) (refusedBy (callRefusal l r k))
+-- the answer that a register gives to a question whose list is written from a place on, accepted or refused
+abbrev pub repliedTo : Register → Question → (place : ℕ) → (list : List ℕ) → Answer
+repliedTo r q p xs = pick (isAccepted (askRefusal r q p xs)) (acceptedBy r (asking q p)) (refusedBy (askRefusal r q p xs))
+
+-- the same of a question that has no list
+abbrev pub replied : Register → Question → Answer
+replied r q = repliedTo r q 0 []
 
 -- the question's list afterwards: with the answer written if it is accepted, otherwise as lent
-abbrev pub listLeft : (l : Limits) → Register → Call → List ℕ
-listLeft l r k = pick (isAccepted (callRefusal l r k)) (listsAfter r k [] .list) (lentTo k .list)
+abbrev pub listLeft : Register → Question → (place : ℕ) → (list : List ℕ) → List ℕ
+listLeft r q p xs = pick (isAccepted (askRefusal r q p xs)) (writtenAt p (response r q .list) xs) xs
 
--- the reply is what each register whose tables these are says, whatever the limits
-abbrev pub Replies : (Register → Type 0) → Call → Reply → Type 0
-Replies Fits k a = (l : Limits) (r : Register) → Fits r → replyOf a ≡ repliedTo l r k
+-- the reply is what each register whose tables these are says
+abbrev pub RepliesAt : (Register → Type 0) → Question → (place : ℕ) → (list : List ℕ) → Reply → Type 0
+RepliesAt Fits q p xs a = (r : Register) → Fits r → replyOf a ≡ repliedTo r q p xs
 
--- the list is left as each register whose tables these are says, whatever the limits
-abbrev pub Leaves : (Register → Type 0) → Call → (list : List ℕ) → Type 0
-Leaves Fits k xs = (l : Limits) (r : Register) → Fits r → xs ≡ listLeft l r k
+-- the same of a question that has no list
+abbrev pub Replies : (Register → Type 0) → Question → Reply → Type 0
+Replies Fits q a = (r : Register) → Fits r → replyOf a ≡ replied r q
+
+-- the list is left as each register whose tables these are says
+abbrev pub Leaves : (Register → Type 0) → Question → (place : ℕ) → (list after : List ℕ) → Type 0
+Leaves Fits q p xs ys = (r : Register) → Fits r → ys ≡ listLeft r q p xs

@@ -1,14 +1,13 @@
 // Questions on sound stored columns: a multiplicity, a parent, a path, a column. They cost only what they read. A promise is for every register whose
 // columns, or parents, the tables hold.
 ghost use mathlib.Core.Path.{_≡_};
-ghost use mathlib.Core.List.{[]};
 ghost use Prim.Native.Nat.{_≤_};
 ghost use lib.ListN.{length};
 ghost use Rattle.lists.specs.Lists.{over};
 ghost use Rattle.symbolic.specs.Columns.{Register};
-ghost use Rattle.calls.specs.Report.{pathList};
-ghost use Rattle.calls.specs.Calls.Call.{askMultiplicity, askParent, askPath, askColumn};
-ghost use Rattle.questions.specs.Asked.{ColumnsFor, ParentsFor, CanAsk, CanFollow, Replies, Leaves};
+ghost use Rattle.calls.specs.Questions.{pathList};
+ghost use Rattle.calls.specs.Calls.Question.{askMultiplicity, askParent, askPath, askColumn};
+ghost use Rattle.questions.specs.Asked.{ColumnsFor, ParentsFor, CanAsk, CanFollow, RepliesAt, Replies, Leaves};
 use book::Row;
 use pool::Rec;
 
@@ -29,7 +28,7 @@ pub fn multiplicity(
     j: Row,
 ) -> Reply
     requires { ⌜ CanAsk (now heads) (now rows) (now counts) (now next) ⌝ }
-    ensures { λ a. ⌜ Replies (ColumnsFor (now (heads .entry)) (now (rows .entry)) (now (counts .entry)) (now (next .entry))) (askMultiplicity (i .0) (j .0) []) a ⌝ }
+    ensures { λ a. ⌜ Replies (ColumnsFor (now (heads .entry)) (now (rows .entry)) (now (counts .entry)) (now (next .entry))) (askMultiplicity (i .0) (j .0)) a ⌝ }
 {
     let m = heads.len() as u32;
     if refusals::row_outside(m, i.0) {
@@ -56,7 +55,7 @@ pub fn multiplicity(
 // The parent of j, 0 for a root; 17 outside 1 to m.
 pub fn parent(parents: &[u16], j: Row) -> Reply
     requires { ⌜ CanFollow (now parents) ⌝ }
-    ensures { λ a. ⌜ Replies (ParentsFor (now (parents .entry))) (askParent (j .0) []) a ⌝ }
+    ensures { λ a. ⌜ Replies (ParentsFor (now (parents .entry))) (askParent (j .0)) a ⌝ }
 {
     let m = parents.len() as u32;
     let k = j.0;
@@ -104,8 +103,8 @@ fn copy_path(parents: &[u16], list: &mut [u32], j: Row)
 // The path of j, written from a place of the list on; 17 outside 1 to m, 18 where the list ends before the path does.
 pub fn path(parents: &[u16], list: &mut [u32], j: Row, place: usize) -> Reply
     requires { ⌜ CanFollow (now parents) ⌝ }
-    ensures reply { λ a. ⌜ Replies (ParentsFor (now (parents .entry))) (askPath (j .0) place [] (now (list .entry))) a ⌝ }
-    ensures written { λ a. ⌜ Leaves (ParentsFor (now (parents .entry))) (askPath (j .0) place [] (now (list .entry))) (now (list .exit)) ⌝ }
+    ensures reply { λ a. ⌜ RepliesAt (ParentsFor (now (parents .entry))) (askPath (j .0)) place (now (list .entry)) a ⌝ }
+    ensures written { λ a. ⌜ Leaves (ParentsFor (now (parents .entry))) (askPath (j .0)) place (now (list .entry)) (now (list .exit)) ⌝ }
 {
     let m = parents.len() as u32;
     if refusals::row_outside(m, j.0) {
@@ -140,8 +139,8 @@ pub fn column(
     place: usize,
 ) -> Reply
     requires { ⌜ CanAsk (now heads) (now rows) (now counts) (now next) ⌝ }
-    ensures reply { λ a. ⌜ Replies (ColumnsFor (now (heads .entry)) (now (rows .entry)) (now (counts .entry)) (now (next .entry))) (askColumn (j .0) place [] (now (list .entry))) a ⌝ }
-    ensures written { λ a. ⌜ Leaves (ColumnsFor (now (heads .entry)) (now (rows .entry)) (now (counts .entry)) (now (next .entry))) (askColumn (j .0) place [] (now (list .entry))) (now (list .exit)) ⌝ }
+    ensures reply { λ a. ⌜ RepliesAt (ColumnsFor (now (heads .entry)) (now (rows .entry)) (now (counts .entry)) (now (next .entry))) (askColumn (j .0)) place (now (list .entry)) a ⌝ }
+    ensures written { λ a. ⌜ Leaves (ColumnsFor (now (heads .entry)) (now (rows .entry)) (now (counts .entry)) (now (next .entry))) (askColumn (j .0)) place (now (list .entry)) (now (list .exit)) ⌝ }
 {
     let m = heads.len() as u32;
     let k = j.0;

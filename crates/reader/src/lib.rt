@@ -1,6 +1,7 @@
 // A reader over one stored column: its entries, one for each call, then the end each time. `entry_at` does the work on the three tables, of any contents
 // and lengths; with `place_after` it is what callers with plain slices use, whose proofs need no walk by hand. The reader holds the tables and a place:
-// each call reads there and moves on.
+// each call reads there and moves on. Nothing is checked: on tables that are not sound the records may form a cycle, which gives entries for ever, so a
+// caller that is not sure of its tables has them checked first, or stops after m entries, which no column exceeds.
 ghost use mathlib.Core.Path.{_≡_};
 ghost use Rattle.reader.specs.Reading.{entryAt, after};
 ghost use Rattle.reader.specs.Reader.{begun, entryOf, moved};

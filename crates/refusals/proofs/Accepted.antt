@@ -24,7 +24,7 @@ use Rattle.book.proofs.Columns.{ids-booked}
 use Rattle.book.proofs.Sound.{Fitting, fitting, rows-room}
 use Rattle.tables.specs.Tables.{Limits}
 use Rattle.calls.specs.Refusals as calls
-use Rattle.calls.specs.Refusals.{isAccepted, orElse, unless, isLive, rowsRefusal, columnsRefusal, rowSum, addRefusal, idsRefusal, removeRefusal, batchOf}
+use Rattle.calls.specs.Refusals.{isAccepted, orElse, unless, inRegister, rowsRefusal, columnsRefusal, rowSum, addRefusal, idsRefusal, removeRefusal, batchOf}
 use Rattle.calls.proofs.Choices.{or-both, unless-holds, or-assoc}
 use Rattle.calls.proofs.Refusals.{ColumnsFit, columns-facts, IdsFit, ids-facts}
 use Rattle.refusals.specs.Offsets.{offsetOf, columnAt}
@@ -63,7 +63,7 @@ columns-counts r n p bs (i ∷ is) [] rs h = absurd (omega (arith, eqb-true 7 0 
 columns-counts r n p bs (i ∷ is) (k ∷ ns) rs h =
     let a : calls.Refusal = unless (isIn 1 n i) 8 p in
     let b : calls.Refusal = unless (not (among i bs)) 9 p in
-    let c : calls.Refusal = unless (not (isLive r i)) 10 p in
+    let c : calls.Refusal = unless (not (inRegister r i)) 10 p in
     let d : calls.Refusal = unless (isIn 1 256 k && leb k (length rs)) 12 p in
     let e : calls.Refusal = rowsRefusal (r .m) p 0 (take k rs) in
     let f : calls.Refusal = columnsRefusal r n (suc p) (i ∷ bs) is ns (drop k rs) in
@@ -110,8 +110,8 @@ add-ready m b is ns rs h =
       named = named;
       absent = λ k l.
           sym (ids-booked b (getD is k 0) (named k l .0)) ∙
-          refute (isLive (registerIn m b) (getD is k 0)) (λ e.
-          omega (arith, f .apart (getD is k 0), mem-times (place-mem is k 0 l), pos-one (among (getD is k 0) [] || isLive (registerIn m b) (getD is k 0)) (or-right (among (getD is k 0) []) (isLive (registerIn m b) (getD is k 0)) e)));
+          refute (inRegister (registerIn m b) (getD is k 0)) (λ e.
+          omega (arith, f .apart (getD is k 0), mem-times (place-mem is k 0 l), pos-one (among (getD is k 0) [] || inRegister (registerIn m b) (getD is k 0)) (or-right (among (getD is k 0) []) (inRegister (registerIn m b) (getD is k 0)) e)));
       batch-ids = f .ids;
       batch-fits = f .fits;
       batch-rows = f .used;
@@ -175,5 +175,5 @@ remove-ready m b is h =
       few = w .1;
       distinct = of-once is (λ x. omega (arith, f .apart x));
       named = named;
-      booked = λ k l. sym (ids-booked b (getD is k 0) (named k l .0)) ∙ all-at (isLive (registerIn m b)) (place-mem is k 0 l) (f .live);
+      booked = λ k l. sym (ids-booked b (getD is k 0) (named k l .0)) ∙ all-at (inRegister (registerIn m b)) (place-mem is k 0 l) (f .live);
     }

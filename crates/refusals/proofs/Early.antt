@@ -13,10 +13,10 @@ use borrow.Author.Tests.{le-leb}
 use Rattle.lists.specs.Lists.{isIn}
 use Rattle.lists.proofs.Tests.{lt-or-le, refute, in-range}
 use Rattle.tables.specs.Tables.{Tables, Limits, longEnough, limitsOf}
-use Rattle.calls.specs.Refusals.{Refusal, refusal, Bounds, isAccepted, orElse, unless, bounds, sizesRefusal, workFor, shortRefusal, shortBatch, rowRefusal, roomFor}
+use Rattle.calls.specs.Refusals.{Refusal, refusal, Bounds, isAccepted, orElse, unless, bounds, sizesRefusal, workFor, shortRefusal, rowRefusal, roomFor}
 use Rattle.calls.specs.Calls.{withDefault}
 use Rattle.calls.proofs.Choices.{or-first}
-use Rattle.refusals.specs.Early.{defaultRecords, factorLong, bookLong, listsLong, NoRoom}
+use Rattle.refusals.specs.Early.{defaultRecords, factorLong, bookLong, NoRoom}
 use Rattle.refusals.proofs.Tests.{below-not, is-out, is-in, unless-accepted, test-refusal}
 
 -- ---- 1 to 4
@@ -115,22 +115,6 @@ sizes-refusal l {r} e =
     nowhere true true false d = refl
     nowhere true true true false = refl
     nowhere true true true true = refl
-
--- a batch's number 5, from the answers of `short` and `short_lists`
-pub short-batch : (l : Limits) (t : Tables) (w a b : List ℕ) {x y : Bool} → x ≡ not (isAccepted (shortRefusal l t w)) → y ≡ not (listsLong (l .m) a b) →
-    shortBatch l t w a b ≡ unless (not x && not y) 5 0
-short-batch l t w a b {x} {y} e h =
-    ap (λ (z : Bool). unless z 5 0)
-    (four (longEnough l t && leb (workFor l) (length w)) (leb (l .m) (length a)) (leb (l .m) (length b)) x y
-    (e ∙ ap not (unless-accepted (longEnough l t && leb (workFor l) (length w)) 5 0 refl)) h)
-  where
-    twice : (z : Bool) → z ≡ not (not z)
-    twice true = refl
-    twice false = refl
-
-    four : (z u v x y : Bool) → x ≡ not z → y ≡ not (u && v) → z && u && v ≡ not x && not y
-    four true u v x y e h = rw (e, h) (twice (u && v))
-    four false u v x y e h = rw e refl
 
 -- number 5, from the answer of `short`
 pub short-refusal : (l : Limits) (t : Tables) (w : List ℕ) {x : Bool} → x ≡ not (isAccepted (shortRefusal l t w)) → shortRefusal l t w ≡ unless (not x) 5 0

@@ -17,7 +17,7 @@ use Rattle.lists.proofs.Tests.{cases, and-both, in-range}
 use Rattle.symbolic.specs.Columns.{Register}
 use Rattle.book.specs.Book.{bookOf, isBooked}
 use Rattle.book.proofs.Columns.{ids-booked}
-use Rattle.calls.specs.Refusals.{Refusal, refusal, accepted, isAccepted, orElse, unless, isLive, rowsRefusal, columnsRefusal, idsRefusal}
+use Rattle.calls.specs.Refusals.{Refusal, refusal, accepted, isAccepted, orElse, unless, inRegister, rowsRefusal, columnsRefusal, idsRefusal}
 use Rattle.calls.proofs.Choices.{or-both, unless-holds, or-first, or-assoc}
 use Rattle.refusals.specs.Parts.{placed, IsNumber, before, idRefusal, countRefusal, columnRefusal, leavingRefusal}
 use Rattle.book.specs.Book.{registerIn}
@@ -53,22 +53,22 @@ module _ (n : ℕ) (is : List ℕ) (k : ℕ) (z y : Bool) (h : 1 ≤ getD is k 0
 module _ (r : Register) (n p k : ℕ) (is : List ℕ) (h : k < length is) where
   pub columns-here : (ns rs : List ℕ) → k < length ns →
       columnsRefusal r n p (before k is) (drop k is) (drop k ns) rs ≡
-      orElse (columnRefusal (r .m) n (isLive r (getD is k 0)) is ns rs k p) (columnsRefusal r n (suc p) (before (suc k) is) (drop (suc k) is) (drop (suc k) ns) (drop (getD ns k 0) rs))
+      orElse (columnRefusal (r .m) n (inRegister r (getD is k 0)) is ns rs k p) (columnsRefusal r n (suc p) (before (suc k) is) (drop (suc k) is) (drop (suc k) ns) (drop (getD ns k 0) rs))
   unfolding columnsRefusal before
   columns-here ns rs g =
       rw (drop-cons is k 0 h, drop-cons ns k 0 g)
       (sym
-      (regroup (unless (isIn 1 n (getD is k 0)) 8 p) (unless (not (among (getD is k 0) (before k is))) 9 p) (unless (not (isLive r (getD is k 0))) 10 p)
+      (regroup (unless (isIn 1 n (getD is k 0)) 8 p) (unless (not (among (getD is k 0) (before k is))) 9 p) (unless (not (inRegister r (getD is k 0))) 10 p)
       (unless (isIn 1 256 (getD ns k 0) && leb (getD ns k 0) (length rs)) 12 p) (rowsRefusal (r .m) p 0 (take (getD ns k 0) rs))
       (columnsRefusal r n (suc p) (getD is k 0 ∷ before k is) (drop (suc k) is) (drop (suc k) ns) (drop (getD ns k 0) rs))))
 
   pub ids-here : idsRefusal r n p (before k is) (drop k is) ≡
-      orElse (leavingRefusal n (isLive r (getD is k 0)) is k p) (idsRefusal r n (suc p) (before (suc k) is) (drop (suc k) is))
+      orElse (leavingRefusal n (inRegister r (getD is k 0)) is k p) (idsRefusal r n (suc p) (before (suc k) is) (drop (suc k) is))
   unfolding idsRefusal before
   ids-here =
       let a : Refusal = unless (isIn 1 n (getD is k 0)) 8 p in
       let b : Refusal = unless (not (among (getD is k 0) (before k is))) 9 p in
-      let c : Refusal = unless (isLive r (getD is k 0)) 11 p in
+      let c : Refusal = unless (inRegister r (getD is k 0)) 11 p in
       let d : Refusal = idsRefusal r n (suc p) (getD is k 0 ∷ before k is) (drop (suc k) is) in
       rw (drop-cons is k 0 h) (sym (or-assoc (orElse a b) c d ∙ or-assoc a b (orElse c d)))
 
@@ -98,7 +98,7 @@ module _ {m : ℕ} {hs is ns rs : List ℕ} {k from : ℕ} (l : ColumnsLeft m hs
         let f : Refusal = columnsRefusal r (length hs) (suc (suc k)) (before (suc k) is) (drop (suc k) is) (drop (suc k) ns) (drop (getD ns k 0) (drop from rs)) in
         sym (l .same rows next free) ∙ columns-here r (length hs) (suc k) k is h ns (drop from rs) (omega arith) ∙
         ap (λ (x : Refusal). orElse x f)
-        (same-after (length hs) is k (isLive r (getD is k 0)) (isBooked hs (getD is k 0)) (λ e. ids-booked (bookOf hs rows next free) (getD is k 0) e)
+        (same-after (length hs) is k (inRegister r (getD is k 0)) (isBooked hs (getD is k 0)) (λ e. ids-booked (bookOf hs rows next free) (getD is k 0) e)
         (λ (z : Bool). orElse (unless (not z) 10 (suc k)) (countRefusal m (getD ns k 0) (drop from rs) (suc k))) (suc k) ∙
         t .same (suc k))
 
@@ -168,7 +168,7 @@ module _ {hs is : List ℕ} {k : ℕ} (l : IdsLeft hs is k) where
         let r : Register = registerIn m (bookOf hs rows next free) in
         sym (l .same m rows next free) ∙ ids-here r (length hs) (suc k) k is h ∙
         ap (λ (x : Refusal). orElse x (idsRefusal r (length hs) (suc (suc k)) (before (suc k) is) (drop (suc k) is)))
-        (same-after (length hs) is k (isLive r (getD is k 0)) (isBooked hs (getD is k 0)) (λ e. ids-booked (bookOf hs rows next free) (getD is k 0) e) (λ (z : Bool). unless z 11 (suc k)) (suc k) ∙ t .same (suc k))
+        (same-after (length hs) is k (inRegister r (getD is k 0)) (isBooked hs (getD is k 0)) (λ e. ids-booked (bookOf hs rows next free) (getD is k 0) e) (λ (z : Bool). unless z 11 (suc k)) (suc k) ∙ t .same (suc k))
 
     pub ids-refused : a ≢ 0 → (m : ℕ) (rows next : List ℕ) (free : ℕ) → refusal a (k + 1) ≡ idsRefusal (registerIn m (bookOf hs rows next free)) (length hs) 1 [] is
     ids-refused e m rows next free =

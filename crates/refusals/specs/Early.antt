@@ -1,5 +1,5 @@
--- The four sizes and the eight tables as the definitions of numbers 1 to 5 read them; the records that an opening with F = 0 gets; when the tables of L,
--- those of the book and a batch's lists are long enough, each group by itself; the room that an answer asks for. The numbers are in calls, Refusals.
+-- The four sizes and the eight tables as the definitions of numbers 1 to 5 read them; the records that an opening with F = 0 gets; when the tables of L
+-- and those of the book are long enough, each group by itself; the room that an answer asks for. The numbers are in calls, Refusals.
 -- Assumes nothing: these are definitions.
 use mathlib.Core.Path.{_≡_}
 use mathlib.Core.Bool.{Bool, _&&_, not}
@@ -18,7 +18,7 @@ largest m n f c = record { m = m; n = n; f = f; c = c }
 abbrev pub defaultRecords : (m f : ℕ) → ℕ
 defaultRecords m f = pick (leb m 268435455 && eqb f 0) (16 * m) f
 
--- ---- long enough: the tables of L, those of the book, a batch's lists
+-- ---- long enough: the tables of L, those of the book
 
 -- the tables of L have places for m heads and parents, and for F rows, multiplicities and nexts
 abbrev pub factorLong : (m f : ℕ) → (heads parents rows counts next : List ℕ) → Bool
@@ -28,10 +28,6 @@ factorLong m f hs ps rs cs ns =
 -- the tables of the book have places for n heads, and for C rows and nexts
 abbrev pub bookLong : (n c : ℕ) → (heads rows next : List ℕ) → Bool
 bookLong n c hs rs ns = leb n (length hs) && leb c (length rs) && leb c (length ns)
-
--- "The lists for touched columns and labels .. need m places each"
-abbrev pub listsLong : (m : ℕ) → (touched labels : List ℕ) → Bool
-listsLong m ts ls = leb m (length ts) && leb m (length ls)
 
 -- an answer is refused by 18, for every list of that length
 abbrev pub NoRoom : (len place places : ℕ) → (answer : Bool) → Type 0

@@ -35,12 +35,12 @@ rowsPart m rs p = rowsRefusal m p 0 rs
 abbrev pub countRefusal : (m count : ℕ) → (rows : List ℕ) → (position : ℕ) → Refusal
 countRefusal m k rs p = orElse (unless (isIn 1 256 k && leb k (length rs)) 12 p) (rowsPart m (take k rs) p)
 
--- 8, 9, 10, 12, 13 or 14: the column at place k of an addition, where its id is live or not
-abbrev pub columnRefusal : (m n : ℕ) → (isLive : Bool) → (ids counts rows : List ℕ) → (k position : ℕ) → Refusal
+-- 8, 9, 10, 12, 13 or 14: the column at place k of an addition, where its id is booked or not
+abbrev pub columnRefusal : (m n : ℕ) → (isTaken : Bool) → (ids counts rows : List ℕ) → (k position : ℕ) → Refusal
 columnRefusal m n z is ns rs k p = orElse (idRefusal n is k p) (orElse (unless (not z) 10 p) (countRefusal m (getD ns k 0) rs p))
 
 -- 8, 9 or 11: the id at place k of a removal
-abbrev pub leavingRefusal : (n : ℕ) → (isLive : Bool) → (ids : List ℕ) → (k position : ℕ) → Refusal
+abbrev pub leavingRefusal : (n : ℕ) → (isTaken : Bool) → (ids : List ℕ) → (k position : ℕ) → Refusal
 leavingRefusal n z is k p = orElse (idRefusal n is k p) (unless z 11 p)
 
 -- a count for each id, and no more ids than a batch can have

@@ -7,6 +7,7 @@ pub mod Columns
 pub mod Patterns
 pub mod Paths
 pub mod Touched
+pub mod Exchange
 pub mod Locality
 pub mod Labels
 pub mod Bags

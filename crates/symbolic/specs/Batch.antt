@@ -1,6 +1,7 @@
--- A batch's touched columns, labels, entries and grade in a given tree: "in the tree after the call when adding, before it when removing".
+-- A batch's touched columns, labels, entries and grade in a given tree: "in the tree after the call when adding, before it when removing". An exchange,
+-- in which columns leave and others enter, touches what the leaving ones touch in the tree before and the entering ones in the tree after.
 -- Assumes nothing: these are definitions.
-use mathlib.Core.Bool.{Bool}
+use mathlib.Core.Bool.{Bool, _||_}
 use mathlib.Core.List.{List, [], _∷_}
 use Prim.Native.Nat.{ℕ, zero, suc, _+_, _-_}
 use lib.Dec.{ltb, eqb}
@@ -29,6 +30,19 @@ touchedFrom fs cs j (suc n) = pick (isTouched fs cs j) (j ∷ touchedFrom fs cs 
 -- "the touched columns ascending"
 abbrev pub touched : List FactorColumn → (batch : List Column) → List ℕ
 touched fs cs = touchedFrom fs cs 1 (length fs)
+
+-- j is touched by a column that leaves, in the tree before, or by one that enters, in the tree after
+abbrev pub isExchanged : (before after : List FactorColumn) → (leave enter : List Column) → (j : ℕ) → Bool
+isExchanged fs gs xs ys j = isTouched fs xs j || isTouched gs ys j
+
+-- those of so many numbers from j on that pass a test, rising
+unfoldable pub passing : (ℕ → Bool) → (j : ℕ) → ℕ → List ℕ
+passing f j zero = []
+passing f j (suc n) = pick (f j) (j ∷ passing f (suc j) n) (passing f (suc j) n)
+
+-- the columns that an exchange touches, ascending
+abbrev pub exchanged : (before after : List FactorColumn) → (leave enter : List Column) → List ℕ
+exchanged fs gs xs ys = passing (isExchanged fs gs xs ys) 1 (length gs)
 
 -- the largest position whose path passes through j, of columns with positions from a given one on; 0 where none does
 unfoldable pub labelFrom : List FactorColumn → (j position : ℕ) → List Column → ℕ

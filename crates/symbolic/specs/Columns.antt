@@ -33,7 +33,12 @@ pub record Register : Type 0 where
   pub m : ℕ
   pub columns : List Column
 
--- the "live" columns of document 01: the definitions of the factor take what this gives, so what a later rule leaves out or shortens is left out or
--- shortened here; check 6 takes them too, and counts by the book's own columns (soundness/proofs/Local.antt `live-booked`)
+-- the columns that count, of some that a register has booked: all of them, whole. What a later rule leaves out or shortens is left out or shortened
+-- here; a column then keeps its place in a list, with fewer rows or none
+abbrev pub counted : Register → List Column → List Column
+counted r cs = cs
+
+-- the "live" columns of document 01, which the definitions of the factor take, and check 6 too: that they are all the book has is used in
+-- soundness/proofs/Local.antt `live-booked` alone
 abbrev pub live : Register → List Column
-live r = r .columns
+live r = counted r (r .columns)

@@ -2,10 +2,12 @@
 -- The book has its own `ColumnStays`. Both are read within the sizes, before and after one call.
 -- Assumes nothing: these are definitions.
 use mathlib.Core.Path.{_≡_}
+use mathlib.Core.Bool.{true}
 use mathlib.Core.List.{List}
 use Prim.Native.Nat.{ℕ}
 use lib.ListN.{length, drop}
 use Rattle.lists.specs.Lists.{Mem, at}
+use Rattle.symbolic.specs.Factor.{FactorColumn, inPattern}
 use Rattle.tables.specs.Stored.{Stored, recordsOf}
 use Rattle.tables.specs.Tables.{Tables, Limits}
 
@@ -22,6 +24,11 @@ pub record ColumnStays (before after : Stored) (j : ℕ) : Type 0 where
 abbrev pub EntriesKeep : (before after : Stored) (j : ℕ) → Type 0
 EntriesKeep b a j =
     (x y : ℕ) → Mem x (recordsOf b j) → Mem y (recordsOf a j) → at (b .rows) x ≡ at (a .rows) y → x ≡ y
+
+-- the same of the entries that stand in a third factor too, that of the columns which stay while others leave and enter
+abbrev pub EntriesStay : (staying : List FactorColumn) (before after : Stored) (j : ℕ) → Type 0
+EntriesStay fs b a j =
+    (x y : ℕ) → Mem x (recordsOf b j) → Mem y (recordsOf a j) → at (b .rows) x ≡ at (a .rows) y → inPattern fs (at (b .rows) x) j ≡ true → x ≡ y
 
 -- "Table places beyond the sizes keep their content"; lengths stay
 pub record Beyond (n : ℕ) (before after : List ℕ) : Type 0 where

@@ -1,18 +1,18 @@
 -- The columns that a sound book has under some ids: the head and the smallest row of each (`booked-first`, `booked-start`), its rows copied into the buffer (`booked-copy`,
 -- `booked-gathered`), the loops over them. Assumes nothing.
 use mathlib.Core.Path.{_≡_, refl, sym, ap, _∙_, subst}
-use mathlib.Core.Logic.{_⊎_, inl, inr, _≢_}
+use mathlib.Core.Logic.{inl, inr, _≢_}
 use mathlib.Core.Bool.{Bool, true, false, _&&_}
 use mathlib.Core.List.{List, [], _∷_, _++_}
 use Prim.Native.Nat.{ℕ, zero, suc, _+_, _-_, _*_, _≤_, _<_}
 use native.Mathlib.Omega.{arith}
-use lib.ListN.{length, getD, take, drop, set, length-take, length-drop, length-append, List·getD-append}
-use lib.Seq.{ext-getD, getD-take, getD-drop, getD-append-add, length-take-le, take-append-seam}
+use lib.ListN.{length, getD, take, drop, length-drop, length-append, List·getD-append}
+use lib.Seq.{ext-getD, getD-take, getD-drop, getD-append-add, length-take-le}
 use Rattle.lists.specs.Lists.{at, among, rises, all, valuesAt, over, allZero}
-use Rattle.lists.proofs.Tests.{eq-or-ne, lt-or-le, and-both}
+use Rattle.lists.proofs.Tests.{and-both}
 use Rattle.lists.proofs.Rising.{rises-length}
 use Rattle.symbolic.specs.Columns.{Column, smallest, holds}
-use Rattle.workspace.specs.Regions.{cell, region, Outside, IsZero, OnlyIn}
+use Rattle.workspace.specs.Regions.{cell, region, IsZero}
 use Rattle.workspace.proofs.Regions.{region-cell, region-length}
 use Rattle.pool.specs.Chains.{chain, Linked}
 use Rattle.pool.specs.Whole.{isWhole, Pool}
@@ -20,14 +20,14 @@ use Rattle.pool.proofs.Chains.{linked-head}
 use Rattle.pool.proofs.Whole.{whole-pool, pool-linked}
 use Rattle.book.specs.Book as book
 use Rattle.book.specs.Entries.{CanCopy, HasHead, StartsAt}
-use Rattle.differences.specs.Gather.{Buffered, Gathered, CanGather}
+use Rattle.differences.specs.Gather.{Gathered}
 use Rattle.differences.specs.Count.{Counted}
 use Rattle.updown.specs.Entries.{Booked}
 use Rattle.updown.specs.Marks.{Room, marked}
 use Rattle.updown.specs.Children.{Steady}
 use Rattle.updown.specs.States.{startOf}
 use Rattle.updown.specs.Starts.{StartsTo, CanStart, BookHolds, CanMarkBooked}
-use Rattle.updown.proofs.Children.{can-gather, bumps}
+use Rattle.updown.proofs.Children.{bumps}
 use Rattle.updown.proofs.Listing.{none, Fits, fits-at, starts-next, Counting, counting-steady, counting-here, counting-past}
 
 booked-length : (b : book.Book) (ids : List ℕ) (W : List Column) → Booked b ids W → length W ≡ length ids

@@ -1,19 +1,18 @@
 -- What count_kept, count_with and count_without do with a done column, branch by branch, over the tables of their calls. Assumes nothing.
-use mathlib.Core.Path.{_≡_, refl, sym, ap, _∙_, subst}
-use mathlib.Core.Logic.{_⊎_, inl, inr, _≢_}
+use mathlib.Core.Path.{_≡_, sym, ap, _∙_, subst}
 use mathlib.Core.Bool.{Bool, true, false, _&&_, _||_, not}
 use mathlib.Core.List.{List}
-use Prim.Native.Nat.{ℕ, _+_, _-_, _*_, _≤_, _<_}
+use Prim.Native.Nat.{ℕ, _-_, _*_, _≤_, _<_}
 use native.Mathlib.Omega.{arith}
-use lib.ListN.{length, getD}
+use lib.ListN.{length}
 use Rattle.lists.specs.Lists.{pick, at, among, valuesAt}
 use Rattle.workspace.specs.Regions.{cell}
 use Rattle.pool.specs.Chains.{chain}
-use Rattle.differences.specs.Gather.{rowsOfKind, planPart, CanGather, PlanRises, ChainRises, CanGrow, Gathered}
+use Rattle.differences.specs.Gather.{rowsOfKind, planPart, PlanRises, ChainRises, CanGrow, Gathered}
 use Rattle.differences.specs.Count.{Counted}
 use Rattle.updown.specs.Marks.{endAt}
 use Rattle.updown.specs.Children.{Steady, Bumps, Counts, PlanOf, ChainOf, oldOf, keptRow, wholeRow}
-use Rattle.updown.proofs.Children.{bumps, can-gather, head-in, second-rises, second-test, old-facts, plan-rises, new-test, gone-test, grown-test, pruned-test, can-grow}
+use Rattle.updown.proofs.Children.{bumps, head-in, second-rises, second-test, old-facts, plan-rises, new-test, gone-test, grown-test, pruned-test, can-grow}
 
 -- ---- the rows of a chain from the second record on, by direction
 

@@ -1,26 +1,26 @@
 -- What a done column brings: gathered rows counted into the differences (`can-count`, `bumps`), the rows of its chain but the diagonal (`second-rows`), and
 -- the rows that each of B, C and D gathers, as tests on its multiplicities with and without the batch. Assumes nothing.
 use mathlib.Core.Path.{_≡_, refl, sym, ap, _∙_, subst}
-use mathlib.Core.Logic.{_⊎_, inl, inr, _≢_, _↔_}
+use mathlib.Core.Logic.{inl, inr, _≢_, _↔_}
 use mathlib.Core.Bool.{Bool, true, false, _&&_, _||_, not, true≢false, false≢true}
 use mathlib.Core.List.{List, [], _∷_}
-use Prim.Native.Nat.{ℕ, zero, suc, _+_, _-_, _*_, _≤_, _<_}
+use Prim.Native.Nat.{ℕ, suc, _+_, _-_, _*_, _≤_, _<_}
 use native.Mathlib.Omega.{arith}
 use lib.Dec.{leb, eqb}
 use lib.ListN.{length, getD}
-use borrow.Author.Tests.{eqb-true, eqb-false, eq-eqb, ne-eqb, not-true}
-use Rattle.lists.specs.Lists.{pick, one, at, among, rises, times, valuesAt, Mem, first, later}
-use Rattle.lists.proofs.Tests.{cases, eq-or-ne, zero-or-pos, and-both, both-and, both-ways, refute, or-either}
+use borrow.Author.Tests.{eq-eqb, ne-eqb}
+use Rattle.lists.specs.Lists.{one, at, among, rises, valuesAt, Mem, first}
+use Rattle.lists.proofs.Tests.{eq-or-ne, zero-or-pos, and-both, refute}
 use Rattle.lists.proofs.Member.{among-mem, mem-among}
 use Rattle.lists.proofs.Rising.{rises-in, rises-first, rises-weaken}
 use Rattle.symbolic.specs.Factor.{FactorColumn, patternFrom}
 use Rattle.symbolic.proofs.Patterns.{pattern-members, pattern-rises}
-use Rattle.workspace.specs.Regions.{cell, region, IsZero, OnlyIn}
-use Rattle.workspace.proofs.Regions.{only-cell, only-region, only-zero, only-trans, only-wider}
-use Rattle.pool.specs.Chains.{chain, Linked}
+use Rattle.workspace.specs.Regions.{cell, region}
+use Rattle.workspace.proofs.Regions.{only-region, only-zero, only-trans, only-wider}
+use Rattle.pool.specs.Chains.{chain}
 use Rattle.pool.proofs.Chains.{Step, linked-step, linked-end, linked-chain, linked-self}
-use Rattle.differences.specs.Tally.{base, shifted, differenceAt, Touched, Tally, counted}
-use Rattle.differences.specs.Gather.{rowsIn, rowsOfKind, planPart, CanGather, PlanRises, ChainRises, CanGrow, Buffered, Gathered}
+use Rattle.differences.specs.Tally.{shifted, differenceAt, Touched, counted}
+use Rattle.differences.specs.Gather.{rowsIn, rowsOfKind, planPart, CanGather, PlanRises, ChainRises, CanGrow, Gathered}
 use Rattle.differences.specs.Count.{CanCount, Counted}
 use Rattle.emission.specs.Plans.{planFrom}
 use Rattle.updown.specs.Marks.{endAt}

@@ -1,26 +1,23 @@
 -- Column j planned: once both its queues are empty the differences are those from before to after the batch (`can-emit`), and what emission leaves is what
 -- the walk goes on with (`planned`). Assumes nothing.
-use mathlib.Core.Path.{_≡_, refl, sym, ap, _∙_, subst}
-use mathlib.Core.Logic.{_⊎_, inl, inr, _≢_}
-use mathlib.Core.Bool.{Bool, true, false, true≢false}
-use mathlib.Core.List.{List, _++_}
-use Prim.Native.Nat.{ℕ, suc, _+_, _-_, _*_, _≤_, _<_}
+use mathlib.Core.Path.{_≡_, sym, ap, _∙_}
+use mathlib.Core.Logic.{inl, inr}
+use mathlib.Core.Bool.{Bool, true, false}
+use mathlib.Core.List.{List}
+use Prim.Native.Nat.{ℕ, _+_, _-_, _*_, _≤_, _<_}
 use native.Mathlib.Omega.{arith}
-use lib.ListN.{length, getD}
-use Rattle.lists.specs.Lists.{at, valuesAt}
-use Rattle.lists.proofs.Tests.{eq-or-ne, lt-or-le, refute}
-use Rattle.symbolic.specs.Columns.{Column, startingWith}
+use lib.ListN.{length}
+use Rattle.lists.specs.Lists.{at}
+use Rattle.lists.proofs.Tests.{lt-or-le}
+use Rattle.symbolic.specs.Columns.{Column}
 use Rattle.symbolic.specs.Factor.{columnAt, multiplicity, sizeOf}
-use Rattle.symbolic.specs.Batch.{isTouched}
-use Rattle.workspace.specs.Regions.{cell, Outside}
 use Rattle.pool.specs.Chains.{chain, Linked}
-use Rattle.differences.specs.Tally.{base, differenceAt, Tally}
+use Rattle.differences.specs.Tally.{base, differenceAt}
 use Rattle.emission.specs.Emit.{CanEmit, Ready, Emitted, Emits}
 use Rattle.emission.specs.declared.Emission.{Emission}
-use Rattle.updown.specs.Queues.{Queues}
 use Rattle.updown.specs.Children.{Counts, ChainOf}
-use Rattle.updown.specs.Turns.{larger, smaller, before, after, otherParent, treeParent, standing, isHere, Shift}
-use Rattle.updown.specs.Walks.{Columns, Turn, Still, Emptied}
+use Rattle.updown.specs.Turns.{larger, smaller, before, after, standing, isHere, Shift}
+use Rattle.updown.specs.Walks.{Columns, Turn, Emptied}
 use Rattle.updown.specs.States.{Multiplicities, Planned}
 use Rattle.updown.proofs.Queueing.{queues-frame}
 use Rattle.updown.proofs.Tallying.{tallied-end}

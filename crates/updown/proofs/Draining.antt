@@ -2,24 +2,24 @@
 -- (`turn-lost`: D), closed (`turn-close`); the chain from the local head gets shorter (`drain-less`). Assumes nothing.
 use mathlib.Core.Path.{_≡_, refl, sym, ap, _∙_, subst}
 use mathlib.Core.Logic.{_⊎_, inl, inr, _≢_}
-use mathlib.Core.Bool.{Bool, true, false, _&&_, _||_, not, true≢false}
-use mathlib.Core.List.{List, [], _∷_, _++_}
-use Prim.Native.Nat.{ℕ, zero, suc, _+_, _-_, _*_, _≤_, _<_}
+use mathlib.Core.Bool.{Bool, true, false, _&&_, not, true≢false}
+use mathlib.Core.List.{List, _++_}
+use Prim.Native.Nat.{ℕ, suc, _+_, _-_, _*_, _≤_, _<_}
 use native.Mathlib.Omega.{arith}
 use lib.Dec.{eqb}
 use lib.ListN.{length, getD, set, length-set}
 use lib.Seq.{getD-set-same, getD-set-other, set-set}
 use borrow.Author.Tests.{eqb-true, eqb-false, eq-eqb, ne-eqb}
-use Rattle.lists.specs.Lists.{pick, one, at, among, times, count, Mem}
-use Rattle.lists.proofs.Tests.{cases, eq-or-ne, and-both, both-ways, one-pos, pos-one, refute}
+use Rattle.lists.specs.Lists.{pick, one, among, count, Mem}
+use Rattle.lists.proofs.Tests.{eq-or-ne, both-ways, one-pos, pos-one}
 use Rattle.lists.proofs.Times.{mem-times, times-mem, among-count, UpTo}
 use Rattle.lists.proofs.Member.{among-mem, mem-among}
 use Rattle.lists.proofs.Count.{count-ext, count-at}
 use Rattle.symbolic.specs.Columns.{Column, startingWith}
-use Rattle.symbolic.specs.Factor.{columnAt, multiplicity}
+use Rattle.symbolic.specs.Factor.{columnAt}
 use Rattle.symbolic.specs.Batch.{isTouched}
 use Rattle.workspace.specs.Regions.{cell, Outside, OnlyIn}
-use Rattle.pool.specs.Chains.{chain, Linked}
+use Rattle.pool.specs.Chains.{chain}
 use Rattle.pool.proofs.Chains.{linked-chain, linked-once, linked-in}
 use Rattle.updown.specs.Plans.{InPlan}
 use Rattle.updown.specs.Marks.{passedOn}
@@ -30,7 +30,7 @@ use Rattle.updown.specs.Walks.{Turn, Drain, Still}
 use Rattle.updown.proofs.Queueing.{queue-frame, queue-first, queue-empty, links-length, link-frame, queues-ext, queues-frame, queues-open, local-open, local-first, queues-pop, local-pop, queues-push, local-push, queues-close, moved-self, moved-other}
 use Rattle.updown.proofs.Tallying.{tallied-kept, tallied-gained, tallied-lost}
 use Rattle.updown.proofs.Plans.{in-touched, plans-frame}
-use Rattle.updown.proofs.Standing.{here-at, at-here, never-here, waits-child, waits-lost, moves-child, moves-lost, other-above}
+use Rattle.updown.proofs.Standing.{here-at, never-here, waits-child, waits-lost, moves-child, moves-lost, other-above}
 use Rattle.updown.proofs.Turning.{tallied-frame, plan-places}
 
 -- ---- how many wait

@@ -2,20 +2,20 @@
 -- is done, its plan and chain can be read, and what was counted can be counted on. Assumes nothing.
 use mathlib.Core.Path.{_≡_, refl, sym, ap, _∙_, subst}
 use mathlib.Core.Logic.{_⊎_, inl, inr, _≢_}
-use mathlib.Core.Bool.{Bool, true, false, not}
+use mathlib.Core.Bool.{Bool, true, not}
 use mathlib.Core.List.{List, _++_}
 use Prim.Native.Nat.{ℕ, suc, _+_, _-_, _*_, _≤_, _<_}
 use native.Mathlib.Omega.{arith}
 use lib.Dec.{eqb}
 use lib.ListN.{length, getD, set, length-set, length-append}
 use lib.Seq.{getD-set-other}
-use Rattle.lists.specs.Lists.{pick, at}
+use Rattle.lists.specs.Lists.{pick}
 use Rattle.lists.proofs.Tests.{eq-or-ne}
-use Rattle.symbolic.specs.Columns.{Column, startingWith}
+use Rattle.symbolic.specs.Columns.{Column}
 use Rattle.symbolic.specs.Factor.{columnAt}
 use Rattle.symbolic.specs.Batch.{isTouched}
 use Rattle.symbolic.proofs.Columns.{starts-le}
-use Rattle.workspace.specs.Regions.{cell, Outside}
+use Rattle.workspace.specs.Regions.{cell}
 use Rattle.pool.specs.Chains.{chain}
 use Rattle.updown.specs.Marks.{otherAt, passedOn}
 use Rattle.updown.specs.Queues.{links, moved}

@@ -1,9 +1,9 @@
 -- The walk's end: past the last row nothing is busy but the plans and the flags, so with the flags cleared the table holds the plan (`plan-made`).
 -- Assumes nothing.
-use mathlib.Core.Path.{_≡_, refl, sym, ap, _∙_, subst}
-use mathlib.Core.Logic.{_⊎_, inl, inr, _≢_}
-use mathlib.Core.Bool.{Bool, true, false, true≢false, false≢true}
-use mathlib.Core.List.{List, [], _∷_, _++_}
+use mathlib.Core.Path.{_≡_, sym, ap, _∙_, subst}
+use mathlib.Core.Logic.{_⊎_, inl, inr}
+use mathlib.Core.Bool.{Bool, false≢true}
+use mathlib.Core.List.{List, _++_}
 use Prim.Native.Nat.{ℕ, suc, _+_, _-_, _*_, _≤_, _<_}
 use native.Mathlib.Omega.{arith}
 use lib.Dec.{eqb}
@@ -12,21 +12,19 @@ use borrow.Author.Tests.{ne-eqb}
 use Rattle.lists.specs.Lists.{at, among, Mem}
 use Rattle.lists.proofs.Tests.{eq-or-ne, lt-or-le}
 use Rattle.symbolic.specs.Columns.{Column}
-use Rattle.symbolic.specs.Factor.{factorOf}
-use Rattle.symbolic.specs.Batch.{touched, touchedFrom, entriesOf, labelOf}
+use Rattle.symbolic.specs.Batch.{touched, touchedFrom, entriesOf}
 use Rattle.symbolic.proofs.Build.{factor-length}
-use Rattle.workspace.specs.Regions.{cell, region, Outside, IsZero, cleared}
+use Rattle.workspace.specs.Regions.{Outside, cleared}
 use Rattle.workspace.proofs.Regions.{zero-at, cleared-length, cleared-zero, cleared-outside}
-use Rattle.differences.specs.Tally.{base, Tally}
-use Rattle.pool.specs.Chains.{chain}
+use Rattle.differences.specs.Tally.{Tally}
 use Rattle.columns.specs.Plan.{ofKind}
-use Rattle.updown.specs.Plans.{marksAt, startsAt, nextAt, planAt, InPlan, firstOf, PlansFrom, PlanIs}
-use Rattle.updown.specs.Queues.{links}
+use Rattle.updown.specs.Plans.{InPlan, firstOf, PlansFrom, PlanIs}
+use Rattle.workspace.specs.Layout.{marksAt, startsAt, nextAt}
 use Rattle.updown.specs.Turns.{larger, before, after, labelAt, done, standing, PlansTo}
 use Rattle.updown.specs.States.{Busy, differs, plans, marks, queues, flagged, Walking, Numbers, Between, Fitting}
 use Rattle.updown.proofs.Queueing.{queue-none, links-length}
 use Rattle.updown.proofs.Plans.{region-same, plans-frame, plans-all}
-use Rattle.updown.proofs.Standing.{Stands, nowhere, tree, other, gone, stands, tree-above, other-above}
+use Rattle.updown.proofs.Standing.{nowhere, tree, other, gone, stands, tree-above, other-above}
 use Rattle.updown.proofs.Turning.{plan-places}
 use Rattle.updown.proofs.Stepping.{done-in}
 

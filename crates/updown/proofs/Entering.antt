@@ -1,18 +1,17 @@
 -- One turn of the loop over listed columns that enter, call by call; the walk's start, its end, and where it stops. Assumes nothing.
-use mathlib.Core.Path.{_≡_, refl, sym, ap, _∙_, subst}
-use mathlib.Core.Logic.{_⊎_, inl, inr, _≢_}
-use mathlib.Core.Bool.{Bool, true, false, true≢false, false≢true}
-use mathlib.Core.List.{List, [], _∷_, _++_}
-use Prim.Native.Nat.{ℕ, suc, _+_, _-_, _*_, _%_, _≤_, _<_}
+use mathlib.Core.Path.{_≡_, sym, _∙_}
+use mathlib.Core.Logic.{_≢_}
+use mathlib.Core.Bool.{Bool, true, false, true≢false}
+use mathlib.Core.List.{List}
+use Prim.Native.Nat.{ℕ, _*_, _%_, _≤_}
 use native.Mathlib.Omega.{arith}
-use lib.ListN.{length, getD}
+use lib.ListN.{length}
 use Rattle.symbolic.specs.Columns.{Column}
-use Rattle.pool.specs.Chains.{chain, Linked}
+use Rattle.pool.specs.Chains.{chain}
 use Rattle.updown.specs.Entries.{Listed}
 use Rattle.updown.specs.Marks.{Room, markAt, Flagged, Next, begun}
-use Rattle.updown.specs.Plans.{firstOf}
-use Rattle.updown.specs.Turns.{done, standing}
-use Rattle.updown.specs.States.{startOf, Halted, Setting, Turning, SomeTurning, Between, Turned}
+use Rattle.updown.specs.Turns.{standing}
+use Rattle.updown.specs.States.{startOf, Setting, Turning, SomeTurning, Turned}
 use Rattle.updown.specs.Starts.{CanStart, Started, SomeStart, CanEnter, Entered}
 use Rattle.updown.proofs.Seeking.{Seeking, seeking-next, seeking-begun, seeking-start, seeking-bits, turning-from, seeking-on, seeking-flags}
 use Rattle.updown.proofs.Leaving.{between-start}
@@ -65,12 +64,10 @@ module _ {heads parents rows counts next row-counts row-list : List ℕ} {m flag
 
         pub enter-stops : fits ≡ false → Entered next work₀ w₂ m flags F R W fits f′ l′ n′ k′ used′ avail′
         enter-stops bad =
-            let p : (Halted m flags R W work₀ w₂ j used′ (done m R W (suc j)) × (f′ ≡ firstOf (done m R W (suc j)))) × (l′ ≡ j) = turned .halted refl bad in
-            let g : j ≡ l′ = sym (p .1) in
             record {
               made = λ x. absurd (true≢false (sym x ∙ bad));
               halted = λ _. (
-                (subst (λ (x : ℕ). Halted m flags R W work₀ w₂ x used′ (done m R W (suc x))) g (p .0 .0), p .0 .1 ∙ ap (λ (x : ℕ). firstOf (done m R W (suc x))) g),
+                turned .halted bad,
                 sizes-exceed (c .size) j (h .marked z .0) (h .marked z .1) (c .setting .columns .narrow) (c .setting .columns .few) (seeking-begun (c .setting) h z e .touched)
                     (turning .numbers) (sym (turned .fits-is) ∙ bad),
               );

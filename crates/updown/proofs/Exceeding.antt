@@ -1,10 +1,10 @@
 -- Sizes after an addition: where the turn of j finds too few free records the sizes exceed the pool (`sizes-exceed`), and where all fit they do not
 -- (`sizes-fit`). Assumes nothing.
-use mathlib.Core.Path.{_≡_, refl, sym, ap, _∙_, subst}
-use mathlib.Core.Logic.{_⊎_, inl, inr}
-use mathlib.Core.Bool.{Bool, true, false}
+use mathlib.Core.Path.{_≡_, refl, sym, ap, _∙_}
+use mathlib.Core.Logic.{inl, inr}
+use mathlib.Core.Bool.{true, false}
 use mathlib.Core.List.{List, [], _∷_, _++_}
-use Prim.Native.Nat.{ℕ, zero, suc, _+_, _-_, _*_, _≤_, _<_}
+use Prim.Native.Nat.{ℕ, zero, suc, _+_, _-_, _≤_, _<_}
 use native.Mathlib.Omega.{arith}
 use lib.Dec.{leb}
 use lib.ListN.{length}
@@ -16,7 +16,6 @@ use Rattle.symbolic.specs.Factor.{FactorColumn, columnAt, sizeSum}
 use Rattle.symbolic.specs.Batch.{isTouched, touchedFrom, touched, entriesOf}
 use Rattle.symbolic.proofs.Build.{factor-length}
 use Rattle.symbolic.proofs.Sizes.{size-grows, sizes-local-sum}
-use Rattle.workspace.specs.Regions.{region}
 use Rattle.pool.specs.Chains.{chain}
 use Rattle.columns.specs.Plan.{ofKind}
 use Rattle.emission.specs.Plans.{planFrom}

@@ -1,24 +1,23 @@
 -- One turn of the loop over booked columns that leave, call by call; and the walk's start and end. Assumes nothing.
 use mathlib.Core.Path.{_≡_, refl, sym, ap, _∙_, subst}
-use mathlib.Core.Logic.{_⊎_, inl, inr, _≢_}
+use mathlib.Core.Logic.{inl, inr, _≢_}
 use mathlib.Core.Bool.{Bool, true, false}
-use mathlib.Core.List.{List, [], _∷_, _++_}
-use Prim.Native.Nat.{ℕ, suc, _+_, _-_, _*_, _%_, _≤_, _<_}
+use mathlib.Core.List.{List}
+use Prim.Native.Nat.{ℕ, _+_, _-_, _*_, _%_, _≤_, _<_}
 use native.Mathlib.Omega.{arith}
 use lib.Dec.{eqb}
-use lib.ListN.{length, getD}
+use lib.ListN.{length}
 use borrow.Author.Tests.{eq-eqb, ne-eqb}
 use Rattle.lists.specs.Lists.{pick}
 use Rattle.lists.proofs.Tests.{eq-or-ne}
 use Rattle.symbolic.specs.Columns.{Column}
 use Rattle.symbolic.specs.Batch.{touchedFrom, entriesOf}
-use Rattle.workspace.specs.Regions.{region}
 use Rattle.pool.specs.Chains.{chain, lastOf, Linked}
 use Rattle.pool.proofs.Chains.{chain-nil, linked-nil}
 use Rattle.columns.specs.Plan.{ofKind}
 use Rattle.updown.specs.Marks.{Room, markAt, Flagged, Next, begun}
-use Rattle.updown.specs.Turns.{before, after, done, standing}
-use Rattle.updown.specs.States.{startOf, Numbers, Walking, Setting, Turning, SomeTurning, Between, Turned}
+use Rattle.updown.specs.Turns.{standing}
+use Rattle.updown.specs.States.{startOf, Walking, Setting, Turning, SomeTurning, Between, Turned}
 use Rattle.updown.specs.Starts.{CanStart, Started, BookHolds, SomeStartBooked, CanLeave}
 use Rattle.updown.proofs.Seeking.{Seeking, seeking-next, seeking-begun, seeking-start, seeking-bits, turning-from, seeking-on, seeking-flags, removing-fits}
 

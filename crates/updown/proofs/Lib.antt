@@ -19,7 +19,6 @@ pub mod Booking
 pub mod Numbering
 pub mod Ending
 pub mod Halting
-pub mod Clearing
 pub mod Turned
 pub mod Seeking
 pub mod Leaving

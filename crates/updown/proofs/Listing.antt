@@ -1,29 +1,29 @@
 -- Batch columns read one after another, listed or booked: the column at a position (`Reading`); their starts marked (`starts-next`), and at row j counted
 -- (`counting-here`, `counting-past`). Assumes nothing.
 use mathlib.Core.Path.{_≡_, refl, sym, ap, _∙_, subst}
-use mathlib.Core.Logic.{_⊎_, inl, inr, _≢_}
-use mathlib.Core.Bool.{Bool, true, false, _&&_, true≢false}
-use mathlib.Core.List.{List, [], _∷_, _++_, append-nil, append-assoc}
-use Prim.Native.Nat.{ℕ, zero, suc, _+_, _-_, _*_, _/_, _%_, _≤_, _<_}
+use mathlib.Core.Logic.{inl, inr, _≢_}
+use mathlib.Core.Bool.{Bool, true, false, _&&_}
+use mathlib.Core.List.{List, [], _∷_, _++_, append-nil}
+use Prim.Native.Nat.{ℕ, suc, _+_, _-_, _*_, _/_, _%_, _≤_, _<_}
 use native.Mathlib.Omega.{arith}
 use native.Mathlib.Numerals.{add-one}
 use lib.Dec.{eqb}
 use lib.ListN.{length, getD, take, drop, set, length-take, length-drop, length-set, length-append}
 use lib.Seq.{drop-cons, take-all, take-suc, drop-drop, getD-take, getD-drop, getD-set-same, getD-set-other}
 use borrow.Author.Tests.{eq-eqb, ne-eqb}
-use Rattle.lists.specs.Lists.{one, isIn, among, rises, all, Mem, first}
-use Rattle.lists.proofs.Tests.{eq-or-ne, and-both, in-range, lt-or-le, refute}
+use Rattle.lists.specs.Lists.{one, isIn, among, rises, all, first}
+use Rattle.lists.proofs.Tests.{eq-or-ne, and-both, in-range, refute}
 use Rattle.lists.proofs.Member.{all-at, place-mem, among-mem}
 use Rattle.lists.proofs.Rising.{rises-in, rises-first}
 use Rattle.symbolic.specs.Columns.{Column, smallest, holds, startingWith}
 use Rattle.symbolic.specs.Factor.{multiplicity}
 use Rattle.symbolic.proofs.Columns.{starts-append, starts-le}
 use Rattle.differences.specs.Tally.{differenceAt}
-use Rattle.workspace.specs.Regions.{cell, Outside, IsZero, OnlyIn}
+use Rattle.workspace.specs.Regions.{IsZero, OnlyIn}
 use Rattle.workspace.proofs.Regions.{only-refl, only-trans}
 use Rattle.book.specs.Book as book
 use Rattle.updown.specs.Entries.{Listed}
-use Rattle.updown.specs.Marks.{Room, markAt, flagAt, marked, Flagged}
+use Rattle.updown.specs.Marks.{Room, markAt, flagAt, marked}
 use Rattle.updown.specs.Children.{Steady, Bumps}
 use Rattle.updown.specs.Turns.{smaller, Tallied, soFar, Shift}
 use Rattle.updown.specs.States.{startOf}

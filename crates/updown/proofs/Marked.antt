@@ -1,23 +1,20 @@
 -- Marks during the walk: the mark of the next row says whether it is touched and what its label is (`mark-touched`, `touched-mark`, `mark-label`); the marks
 -- stay where their places stay, for a row that is not touched, and when a tree parent is raised (`marks-raise`). Assumes nothing.
-use mathlib.Core.Path.{_≡_, refl, sym, ap, _∙_, subst}
+use mathlib.Core.Path.{_≡_, refl, sym, ap, _∙_}
 use mathlib.Core.Logic.{_⊎_, inl, inr, _≢_}
 use mathlib.Core.Bool.{Bool, true, false, true≢false}
 use mathlib.Core.List.{List, _++_}
 use Prim.Native.Nat.{ℕ, suc, _+_, _-_, _*_, _/_, _%_, _≤_, _<_}
 use native.Mathlib.Omega.{arith}
-use lib.Dec.{ltb}
 use lib.ListN.{length, getD, set, length-set}
 use lib.Seq.{getD-set-same, getD-set-other}
 use borrow.Author.Tests.{lt-ltb, le-ltb}
-use Rattle.lists.specs.Lists.{pick}
 use Rattle.lists.proofs.Tests.{eq-or-ne, lt-or-le, refute}
 use Rattle.symbolic.specs.Columns.{Column}
 use Rattle.symbolic.specs.Batch.{isTouched}
 use Rattle.symbolic.proofs.Paths.{parent-outside}
-use Rattle.symbolic.proofs.Labels.{label-start, label-child, label-cases, label-touched, touched-label, label-passes}
-use Rattle.workspace.specs.Regions.{cell}
-use Rattle.updown.specs.Marks.{Room, markAt, flagAt, marked, raised, Flagged}
+use Rattle.symbolic.proofs.Labels.{label-cases, label-touched, touched-label, label-passes}
+use Rattle.updown.specs.Marks.{Room, markAt, flagAt, raised}
 use Rattle.updown.specs.Turns.{larger, treeParent, labelAt}
 use Rattle.updown.specs.States.{startOf, MarksHold}
 use Rattle.updown.proofs.Standing.{tree-above}

@@ -1,13 +1,12 @@
 -- Marks and flags as the walk finds and makes them: a block without a flag is passed at once. Assumes nothing.
-use mathlib.Core.Path.{_≡_, refl, sym, ap, _∙_, subst}
-use mathlib.Core.Logic.{_⊎_, inl, inr, _≢_}
+use mathlib.Core.Path.{_≡_, sym, ap, _∙_}
+use mathlib.Core.Logic.{inl, inr}
 use mathlib.Core.List.{List}
-use Prim.Native.Nat.{ℕ, _+_, _-_, _*_, _/_, _%_, _≤_, _<_}
+use Prim.Native.Nat.{ℕ, _+_, _-_, _*_, _/_, _≤_, _<_}
 use native.Mathlib.Omega.{arith}
-use lib.ListN.{length}
 use Rattle.lists.proofs.Tests.{eq-or-ne, lt-or-le}
 use Rattle.workspace.specs.Regions.{cell}
-use Rattle.updown.specs.Marks.{markAt, flagAt, Flagged, Next}
+use Rattle.updown.specs.Marks.{markAt, Flagged, Next}
 
 -- the first i rows past the first ones are not marked
 pub record Passing (m : ℕ) (work : List ℕ) (from i : ℕ) : Type 0 where

@@ -1,7 +1,7 @@
 -- The numbers of a walk, one touched column more: first and last column, count, entries, the free records taken, and the room that is left; and bounds of
 -- them, so that they fit their types. Assumes nothing.
 use mathlib.Core.Path.{_≡_, refl, sym, ap, _∙_, subst}
-use mathlib.Core.Logic.{_⊎_, inl, inr, _≢_}
+use mathlib.Core.Logic.{inl, inr}
 use mathlib.Core.Bool.{Bool, true, false, false≢true}
 use mathlib.Core.List.{List, [], _∷_, _++_}
 use Prim.Native.Nat.{ℕ, suc, _+_, _-_, _*_, _≤_, _<_}
@@ -9,17 +9,17 @@ use native.Mathlib.Omega.{arith}
 use lib.Dec.{eqb}
 use lib.ListN.{length, getD, length-append}
 use borrow.Author.Tests.{eq-eqb, ne-eqb}
-use Rattle.lists.specs.Lists.{pick, one, Mem, first, later, rises}
-use Rattle.lists.proofs.Tests.{cases, eq-or-ne, lt-or-le, zero-or-pos}
+use Rattle.lists.specs.Lists.{pick, Mem, first, later}
+use Rattle.lists.proofs.Tests.{cases, lt-or-le, zero-or-pos}
 use Rattle.lists.proofs.Count.{count-le}
 use Rattle.lists.proofs.Rising.{rises-length}
 use Rattle.symbolic.specs.Columns.{Column}
-use Rattle.symbolic.specs.Factor.{FactorColumn, factorOf, columnAt, inPattern, sizeOf, patternFrom}
+use Rattle.symbolic.specs.Factor.{factorOf, columnAt, inPattern, sizeOf}
 use Rattle.symbolic.specs.Batch.{isTouched, entriesOf}
 use Rattle.symbolic.proofs.Sizes.{size-is}
 use Rattle.workspace.specs.Regions.{region}
 use Rattle.workspace.proofs.Regions.{region-join, region-length}
-use Rattle.pool.specs.Chains.{chain, lastOf, Linked}
+use Rattle.pool.specs.Chains.{chain, lastOf}
 use Rattle.columns.specs.Plan.{ofKind}
 use Rattle.differences.specs.Gather.{planPart}
 use Rattle.workspace.specs.Planned.{packed, kindOf}
@@ -30,8 +30,7 @@ use Rattle.emission.specs.Emit as emit
 use Rattle.emission.specs.declared.Emission.{Emission}
 use Rattle.updown.specs.Plans.{firstOf}
 use Rattle.updown.specs.Turns.{larger, smaller, before, after, done}
-use Rattle.updown.specs.Walks.{Columns}
-use Rattle.updown.specs.States.{Numbers, Setting}
+use Rattle.updown.specs.States.{Numbers}
 use Rattle.updown.proofs.Planning.{fits, plan-length, plan-sizes}
 use Rattle.updown.proofs.Plans.{touched-rising, region-same, last-append, entries-append}
 use Rattle.updown.proofs.Turning.{beyond, column-counts}

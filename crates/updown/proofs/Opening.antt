@@ -1,28 +1,28 @@
 -- The walk's start: a table that is zero but for the marked starts is in the state before row 1 (`walking-start`). Assumes nothing.
 use mathlib.Core.Path.{_≡_, refl, sym, ap, _∙_, subst}
-use mathlib.Core.Logic.{_⊎_, inl, inr, _≢_, _↔_}
-use mathlib.Core.Bool.{Bool, true, false, _&&_, true≢false, false≢true}
-use mathlib.Core.List.{List, [], _∷_, _++_}
-use Prim.Native.Nat.{ℕ, zero, suc, _+_, _-_, _*_, _/_, _%_, _≤_, _<_}
+use mathlib.Core.Logic.{_⊎_, inl, inr}
+use mathlib.Core.Bool.{Bool, true, false, _&&_, false≢true}
+use mathlib.Core.List.{List, [], _++_}
+use Prim.Native.Nat.{ℕ, _+_, _-_, _*_, _/_, _≤_, _<_}
 use native.Mathlib.Omega.{arith}
-use lib.Dec.{ltb, eqb}
-use lib.ListN.{length, getD, take}
-use borrow.Author.Tests.{le-ltb, ne-eqb, eq-eqb}
-use Rattle.lists.specs.Lists.{pick, one, at, among, rises, times}
+use lib.Dec.{eqb}
+use lib.ListN.{length, getD}
+use borrow.Author.Tests.{le-ltb, ne-eqb}
+use Rattle.lists.specs.Lists.{one, among, rises}
 use Rattle.lists.proofs.Tests.{eq-or-ne, lt-or-le}
 use Rattle.lists.proofs.Times.{times-nil}
 use Rattle.symbolic.specs.Columns.{Column}
 use Rattle.symbolic.specs.Batch.{isTouched, touchedFrom}
 use Rattle.symbolic.proofs.Labels.{label-start}
-use Rattle.workspace.specs.Regions.{cell, region, Outside, IsZero}
+use Rattle.workspace.specs.Regions.{Outside, IsZero}
 use Rattle.workspace.proofs.Regions.{zero-at}
 use Rattle.pool.specs.Chains.{Linked}
 use Rattle.pool.proofs.Chains.{linked-nil}
-use Rattle.differences.specs.Tally.{base, Touched, Tally}
-use Rattle.updown.specs.Marks.{Room, markAt, Flagged}
-use Rattle.updown.specs.Queues.{links, Queue, Queues}
-use Rattle.updown.specs.Turns.{larger, before, after, labelAt, done, standing, isDone}
-use Rattle.updown.specs.States.{startOf, MarksHold, Busy, differs, plans, marks, queues, flagged, Walking}
+use Rattle.differences.specs.Tally.{base, Tally}
+use Rattle.updown.specs.Marks.{Room, markAt}
+use Rattle.updown.specs.Queues.{links, Queues}
+use Rattle.updown.specs.Turns.{larger, before, after, labelAt, standing}
+use Rattle.updown.specs.States.{startOf, MarksHold, marks, flagged, Walking}
 use Rattle.updown.specs.Starts.{StartsTo}
 use Rattle.updown.proofs.Plans.{plans-none}
 use Rattle.updown.proofs.Standing.{stands-none}

@@ -1,20 +1,19 @@
 -- Laws of the plan that takes one column from old to new: the rows of a kind are those that it is for, all rows rise, and how many entries there are of a
 -- kind, against the sizes before and after. Assumes nothing.
 use mathlib.Core.Path.{_≡_, refl, sym, ap, _∙_, subst}
-use mathlib.Core.Logic.{_⊎_, inl, inr, _≢_}
-use mathlib.Core.Bool.{Bool, true, false, _&&_, _||_, not, true≢false, false≢true}
+use mathlib.Core.Logic.{inl, inr, _≢_}
+use mathlib.Core.Bool.{Bool, true, false, _&&_, not}
 use mathlib.Core.List.{List, [], _∷_}
-use Prim.Native.Nat.{ℕ, zero, suc, _+_, _-_, _*_, _≤_, _<_}
+use Prim.Native.Nat.{ℕ, suc, _+_, _-_, _≤_, _<_}
 use native.Mathlib.Omega.{arith}
-use lib.Dec.{leb, eqb}
+use lib.Dec.{eqb}
 use lib.ListN.{length, getD}
 use borrow.Author.Tests.{eqb-true, eqb-false, eq-eqb, ne-eqb, le-leb}
-use Rattle.lists.specs.Lists.{pick, one, at, among, rises, Mem, first, later}
-use Rattle.lists.proofs.Tests.{cases, eq-or-ne, lt-or-le, zero-or-pos, both-and, refute}
-use Rattle.lists.proofs.Member.{among-mem, mem-among}
-use Rattle.lists.proofs.Rising.{rises-weaken, rises-in}
+use Rattle.lists.specs.Lists.{among, rises}
+use Rattle.lists.proofs.Tests.{cases, eq-or-ne, zero-or-pos, both-and}
+use Rattle.lists.proofs.Rising.{rises-weaken}
 use Rattle.symbolic.specs.Factor.{patternFrom}
-use Rattle.workspace.specs.Planned.{packed, rowOf, multiplicityOf, kindOf, FitsEntry}
+use Rattle.workspace.specs.Planned.{packed, kindOf, FitsEntry}
 use Rattle.workspace.proofs.Planned.{packed-row, packed-kind}
 use Rattle.columns.specs.Plan.{ofKind}
 use Rattle.differences.specs.Gather.{rowsIn, rowsOfKind}

@@ -2,12 +2,12 @@
 -- the next column, one plan more; the plan of one done column, with its end; all plans, as the walk leaves them. Assumes nothing.
 use mathlib.Core.Path.{_≡_, refl, sym, ap, _∙_, subst}
 use mathlib.Core.Logic.{_⊎_, inl, inr, _≢_}
-use mathlib.Core.Bool.{Bool, true, false, _&&_, true≢false}
+use mathlib.Core.Bool.{true, _&&_}
 use mathlib.Core.List.{List, [], _∷_, _++_}
-use Prim.Native.Nat.{ℕ, zero, suc, _+_, _-_, _*_, _≤_, _<_}
+use Prim.Native.Nat.{ℕ, zero, suc, _+_, _-_, _≤_, _<_}
 use native.Mathlib.Omega.{arith}
 use lib.Dec.{leb}
-use lib.ListN.{length, getD, take, drop, length-take, length-drop}
+use lib.ListN.{length, getD, drop, length-take, length-drop}
 use lib.Seq.{ext-getD}
 use borrow.Author.Tests.{le-leb}
 use Rattle.lists.specs.Lists.{pick, Mem, first, later, rises}
@@ -20,7 +20,8 @@ use Rattle.workspace.specs.Regions.{cell, region}
 use Rattle.workspace.proofs.Regions.{region-cell}
 use Rattle.pool.specs.Chains.{lastOf}
 use Rattle.columns.specs.Plan.{planned, Suits}
-use Rattle.updown.specs.Plans.{marksAt, startsAt, nextAt, planAt, labelIn, parentIn, ColumnPlan, firstOf, PlansFrom, InPlan}
+use Rattle.updown.specs.Plans.{labelIn, parentIn, PlansFrom, InPlan}
+use Rattle.workspace.specs.Layout.{marksAt, startsAt, nextAt, planAt}
 use Rattle.updown.specs.Turns.{DoneColumn, PlansTo}
 
 -- ---- the touched columns below a row, one row more

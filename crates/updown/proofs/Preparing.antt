@@ -1,7 +1,6 @@
 -- What planning asks, as the walk needs it: the setting of sound tables (`setting-of`), the marks' premises, and for removal the tables with the batch in
 -- them (`remove-mark`, `remove-leave`, `remove-planned`). Assumes nothing.
-use mathlib.Core.Path.{_≡_, refl, sym, ap, _∙_, subst}
-use mathlib.Core.Logic.{_⊎_, inl, inr, _≢_}
+use mathlib.Core.Path.{_≡_, sym, ap, _∙_, subst}
 use mathlib.Core.Bool.{Bool, true, false}
 use mathlib.Core.List.{List, [], _∷_, _++_}
 use Prim.Native.Nat.{ℕ, suc, _+_, _-_, _*_, _≤_, _<_}
@@ -11,23 +10,22 @@ use Rattle.lists.specs.Lists.{all}
 use Rattle.symbolic.specs.Columns.{Column}
 use Rattle.symbolic.specs.Factor.{FactorColumn, factorOf, columnAt, parentOf, multiplicitiesOf}
 use Rattle.symbolic.specs.Batch.{touched, labelOf, entriesOf}
-use Rattle.symbolic.specs.Change.{Bag}
 use Rattle.symbolic.proofs.Bags.{bag-length}
 use Rattle.symbolic.proofs.Order.{factor-bag}
-use Rattle.workspace.specs.Regions.{cell, IsZero, cleared}
-use Rattle.workspace.proofs.Regions.{zero-at, zero-part}
-use Rattle.pool.specs.Chains.{chain, Linked}
+use Rattle.workspace.specs.Regions.{IsZero, cleared}
+use Rattle.workspace.proofs.Regions.{zero-at}
+use Rattle.pool.specs.Chains.{chain}
 use Rattle.book.specs.Book as book
 use Rattle.tables.specs.Stored.{Stored, Sized, isSoundFor, storedOf}
 use Rattle.updown.specs.Entries.{planNeed, Booked, CanPlan, CanRemove, RemovePlanned}
 use Rattle.updown.specs.Plans.{PlanIs}
 use Rattle.updown.specs.Children.{ChainOf}
 use Rattle.updown.specs.Marks.{Room}
-use Rattle.updown.specs.Turns.{larger, before, done}
-use Rattle.updown.specs.States.{startOf, Setting, Walking, Between}
+use Rattle.updown.specs.Turns.{before, done}
+use Rattle.updown.specs.States.{startOf, Setting, Between}
 use Rattle.updown.specs.Starts.{StartsTo, BookHolds, CanMarkBooked, CanLeave}
 use Rattle.updown.proofs.Listing.{none, Fits, fits-at}
-use Rattle.updown.proofs.Sound.{sound-pool, sound-column, sound-chain, sound-size, entries-within}
+use Rattle.updown.proofs.Sound.{sound-column, sound-chain, sound-size, entries-within}
 use Rattle.updown.proofs.Opening.{walking-start}
 use Rattle.updown.proofs.Ending.{plan-made}
 

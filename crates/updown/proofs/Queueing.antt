@@ -1,22 +1,22 @@
 -- Laws of the queues: one queue framed, pushed, popped; all queues while one of them is emptied into a local head, as a turn does it: opened, popped, the
 -- column passed on, closed; a column queued. Premises are indices for omega. Assumes nothing.
 use mathlib.Core.Path.{_≡_, refl, sym, ap, _∙_, subst}
-use mathlib.Core.Logic.{_⊎_, inl, inr, _≢_}
+use mathlib.Core.Logic.{inl, inr, _≢_}
 use mathlib.Core.Bool.{Bool, true, false, true≢false}
 use mathlib.Core.List.{List, [], _∷_}
-use Prim.Native.Nat.{ℕ, zero, suc, _+_, _-_, _*_, _≤_, _<_}
+use Prim.Native.Nat.{ℕ, suc, _+_, _-_, _*_, _≤_, _<_}
 use native.Mathlib.Omega.{arith}
 use lib.Dec.{eqb}
 use lib.ListN.{length, getD, set, length-set}
 use lib.Seq.{getD-set-same, getD-set-other}
-use borrow.Author.Tests.{eqb-true, eqb-false, eq-eqb, ne-eqb}
-use Rattle.lists.specs.Lists.{pick, one, at, times}
-use Rattle.lists.proofs.Tests.{cases, eq-or-ne, one-pos, pos-one, one-le, refute}
+use borrow.Author.Tests.{eqb-true, eq-eqb, ne-eqb}
+use Rattle.lists.specs.Lists.{one, at, times}
+use Rattle.lists.proofs.Tests.{eq-or-ne, one-pos, pos-one, refute}
 use Rattle.lists.proofs.Times.{times-self, times-other, times-nil}
-use Rattle.workspace.specs.Regions.{cell, region}
+use Rattle.workspace.specs.Regions.{cell}
 use Rattle.workspace.proofs.Regions.{region-length, region-cell}
 use Rattle.pool.specs.Chains.{Linked}
-use Rattle.pool.proofs.Chains.{Step, linked-frame, linked-cons, linked-step, linked-end, linked-nil, linked-some, linked-low, linked-high, linked-once}
+use Rattle.pool.proofs.Chains.{Step, linked-frame, linked-cons, linked-step, linked-end, linked-low, linked-high, linked-once}
 use Rattle.updown.specs.Queues.{links, Queue, Queues, moved}
 
 -- ---- one queue

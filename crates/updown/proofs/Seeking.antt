@@ -1,22 +1,22 @@
 -- The walk's loop: from the state between two turns to the next marked row (`seeking-next`), its turn begun and its batch columns counted (`turning-from`),
 -- and what the loop's calls ask. Removing always fits (`removing-fits`). Assumes nothing.
 use mathlib.Core.Path.{_≡_, refl, sym, ap, _∙_, subst}
-use mathlib.Core.Logic.{_⊎_, inl, inr, _≢_}
-use mathlib.Core.Bool.{Bool, true, false, _&&_, not}
-use mathlib.Core.List.{List, [], _∷_, _++_}
+use mathlib.Core.Logic.{inl, inr, _≢_}
+use mathlib.Core.Bool.{Bool, true}
+use mathlib.Core.List.{List, [], _∷_}
 use Prim.Native.Nat.{ℕ, zero, suc, _+_, _-_, _*_, _%_, _≤_, _<_}
 use native.Mathlib.Omega.{arith}
 use lib.Dec.{eqb, leb}
 use lib.ListN.{length, getD}
-use borrow.Author.Tests.{eqb-false, eq-eqb, ne-eqb, le-leb}
-use Rattle.lists.specs.Lists.{pick, one, Mem}
-use Rattle.lists.proofs.Tests.{cases, eq-or-ne, lt-or-le, zero-or-pos}
+use borrow.Author.Tests.{eqb-false, ne-eqb, le-leb}
+use Rattle.lists.specs.Lists.{Mem}
+use Rattle.lists.proofs.Tests.{cases, lt-or-le, zero-or-pos}
 use Rattle.lists.proofs.Member.{mem-place}
-use Rattle.symbolic.specs.Columns.{Column, smallest, startingWith}
+use Rattle.symbolic.specs.Columns.{Column, smallest}
 use Rattle.symbolic.specs.Factor.{columnAt}
-use Rattle.symbolic.specs.Batch.{isTouched, entriesOf}
+use Rattle.symbolic.specs.Batch.{entriesOf}
 use Rattle.symbolic.proofs.Columns.{starts-append, starts-none}
-use Rattle.workspace.specs.Regions.{cell, region, OnlyIn}
+use Rattle.workspace.specs.Regions.{region}
 use Rattle.workspace.proofs.Regions.{only-refl}
 use Rattle.pool.specs.Chains.{chain, lastOf}
 use Rattle.workspace.specs.Planned.{packed, kindOf}
@@ -25,8 +25,8 @@ use Rattle.columns.specs.Plan.{ofKind}
 use Rattle.emission.specs.Plans.{kindFor, planFrom}
 use Rattle.updown.specs.Marks.{Room, markAt, Flagged, Next, begun}
 use Rattle.updown.specs.Children.{Counts}
-use Rattle.updown.specs.Turns.{larger, smaller, before, after, done, standing, Tallied}
-use Rattle.updown.specs.States.{startOf, Numbers, MarksHold, Walking, Begun, Setting, Turning, Between, Turned}
+use Rattle.updown.specs.Turns.{larger, smaller, before, after, done, standing}
+use Rattle.updown.specs.States.{startOf, Numbers, Begun, Setting, Turning, Between, Turned}
 use Rattle.updown.specs.Starts.{CanStart, Started}
 use Rattle.book.specs.Book as book
 use Rattle.lists.specs.Lists.{all}

@@ -1,15 +1,15 @@
 -- Sound tables as the walk reads them: each chain holds its column (`sound-column`), all sizes and the free records make up the pool (`sound-size`), so that
 -- touched columns fit (`sound-fitting`); with them the walk's setting, adding and removing. Assumes nothing.
 use mathlib.Core.Path.{_≡_, refl, sym, ap, _∙_, subst}
-use mathlib.Core.Logic.{_⊎_, inl, inr, _≢_}
-use mathlib.Core.Bool.{Bool, true, false, _&&_}
-use mathlib.Core.List.{List, [], _∷_, _++_}
-use Prim.Native.Nat.{ℕ, zero, suc, _+_, _-_, _*_, _≤_, _<_}
+use mathlib.Core.Logic.{inl, inr}
+use mathlib.Core.Bool.{Bool, true, _&&_}
+use mathlib.Core.List.{List, [], _∷_}
+use Prim.Native.Nat.{ℕ, zero, suc, _+_, _-_, _≤_, _<_}
 use native.Mathlib.Omega.{arith}
 use lib.Dec.{eqb}
-use lib.ListN.{length, getD, length-append}
+use lib.ListN.{length, getD}
 use borrow.Author.Tests.{eqb-true}
-use Rattle.lists.specs.Lists.{at, valuesAt, sumOf, upFrom, same, all, Mem}
+use Rattle.lists.specs.Lists.{at, valuesAt, sumOf, upFrom, same}
 use Rattle.lists.proofs.Tests.{cases, eq-or-ne, and-both}
 use Rattle.lists.proofs.Member.{same-eq}
 use Rattle.lists.proofs.Sum.{sum-ext, sum-places}
@@ -20,7 +20,7 @@ use Rattle.symbolic.specs.Factor.{FactorColumn, factorOf, columnAt, patternOf, 
 use Rattle.symbolic.specs.Batch.{isTouched, touchedFrom, entriesOf}
 use Rattle.symbolic.proofs.Build.{factor-length}
 use Rattle.symbolic.proofs.Sizes.{size-sum}
-use Rattle.pool.specs.Chains.{chain, Linked}
+use Rattle.pool.specs.Chains.{chain}
 use Rattle.pool.specs.Whole.{isWhole, chains, Pool}
 use Rattle.pool.proofs.Whole.{whole-pool, pool-linked, chains-nil, chains-length}
 use Rattle.tables.specs.Stored.{Stored, Sized, recordsOf, holdsColumn, holdsFrom, freeZero, isSoundFor}

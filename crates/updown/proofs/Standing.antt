@@ -1,22 +1,21 @@
 -- Where a done column waits before the turn of j (`standing`), by cases; who waits for j (`waits-child`, `waits-lost`, `relevant-here`); what one row more
 -- changes: those that waited for j move on, j itself starts to wait for its tree parent, and for a row that is not touched nothing changes. Assumes nothing.
-use mathlib.Core.Path.{_≡_, refl, sym, ap, _∙_, subst}
+use mathlib.Core.Path.{_≡_, refl, sym, ap, _∙_}
 use mathlib.Core.Logic.{_⊎_, inl, inr, _≢_}
-use mathlib.Core.Bool.{Bool, true, false, _&&_, _||_, not, true≢false, false≢true}
+use mathlib.Core.Bool.{Bool, true, false, _&&_, not, true≢false}
 use mathlib.Core.List.{List, _++_}
-use Prim.Native.Nat.{ℕ, suc, _+_, _-_, _≤_, _<_}
+use Prim.Native.Nat.{ℕ, suc, _+_, _≤_, _<_}
 use native.Mathlib.Omega.{arith}
 use lib.Dec.{ltb, leb, eqb}
-use borrow.Author.Tests.{ltb-true, lt-ltb, le-ltb, le-leb, lt-leb, eqb-true, eqb-false, eq-eqb, ne-eqb}
+use borrow.Author.Tests.{ltb-true, lt-ltb, le-ltb, le-leb, lt-leb, eqb-true, eq-eqb, ne-eqb}
 use Rattle.lists.specs.Lists.{pick}
 use Rattle.lists.proofs.Tests.{cases, eq-or-ne, lt-or-le, zero-or-pos, and-both, both-and, or-either, or-left, or-right, refute}
 use Rattle.symbolic.specs.Columns.{Column}
-use Rattle.symbolic.specs.Factor.{factorOf, multiplicity, parentOf}
 use Rattle.symbolic.specs.Batch.{isTouched}
 use Rattle.symbolic.proofs.Build.{laws}
 use Rattle.symbolic.proofs.Touched.{touched-parent}
 use Rattle.symbolic.proofs.Locality.{parent-stays-or-falls, touched-old-parent}
-use Rattle.updown.specs.Turns.{larger, smaller, treeParent, otherParent, isDone, standing, isHere}
+use Rattle.updown.specs.Turns.{larger, treeParent, otherParent, isDone, standing, isHere}
 
 module _ (m : ℕ) (R W : List Column) where
   abbrev T : ℕ → Bool

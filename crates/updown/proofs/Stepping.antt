@@ -1,35 +1,32 @@
 -- From the turn of j to the next row: column j planned and one step taken up gives the state before the next row (`walk-on`), whatever way the step stores
 -- its marks and queues; and the list of done columns has one more. Assumes nothing.
 use mathlib.Core.Path.{_≡_, refl, sym, ap, _∙_, subst}
-use mathlib.Core.Logic.{_⊎_, inl, inr, _≢_}
+use mathlib.Core.Logic.{inl, inr, _≢_}
 use mathlib.Core.Bool.{Bool, true, false}
 use mathlib.Core.List.{List, [], _∷_, _++_, append-nil}
-use Prim.Native.Nat.{ℕ, suc, _+_, _-_, _*_, _/_, _%_, _≤_, _<_}
+use Prim.Native.Nat.{ℕ, suc, _+_, _-_, _*_, _/_, _≤_, _<_}
 use native.Mathlib.Omega.{arith}
 use lib.ListN.{length, getD}
 use borrow.Author.Tests.{ne-eqb}
-use Rattle.lists.specs.Lists.{pick, Mem, first, later}
-use Rattle.lists.proofs.Tests.{eq-or-ne, lt-or-le}
+use Rattle.lists.specs.Lists.{pick, Mem, first}
+use Rattle.lists.proofs.Tests.{lt-or-le}
 use Rattle.lists.proofs.Member.{mem-left, mem-right}
 use Rattle.symbolic.specs.Columns.{Column}
 use Rattle.symbolic.specs.Factor.{FactorColumn, columnAt, parentOf}
 use Rattle.symbolic.specs.Batch.{isTouched, touchedFrom}
 use Rattle.workspace.specs.Regions.{cell, region, Outside}
-use Rattle.workspace.proofs.Regions.{place-cases}
-use Rattle.differences.specs.Tally.{base, Tally}
-use Rattle.differences.specs.Gather.{planPart}
-use Rattle.emission.specs.Plans.{planFrom}
 use Rattle.emission.specs.Emit as emit
 use Rattle.emission.specs.declared.Emission.{Emission}
 use Rattle.columns.specs.Plan.{planned, Suits}
-use Rattle.updown.specs.Plans.{marksAt, startsAt, nextAt, planAt, labelIn, parentIn, InPlan}
-use Rattle.updown.specs.Marks.{Room, markAt, Flagged}
+use Rattle.updown.specs.Plans.{labelIn, parentIn, InPlan}
+use Rattle.workspace.specs.Layout.{planAt}
+use Rattle.updown.specs.Marks.{markAt, Flagged}
 use Rattle.updown.specs.Queues.{Queues}
-use Rattle.updown.specs.Turns.{larger, before, after, treeParent, labelAt, done, standing, DoneColumn, PlansTo}
+use Rattle.updown.specs.Turns.{larger, before, after, labelAt, done, standing, DoneColumn, PlansTo}
 use Rattle.updown.specs.States.{MarksHold, Busy, differs, plans, marks, queues, flagged, Walking, Begun, Planned}
 use Rattle.updown.proofs.Queueing.{queue-none, links-length}
 use Rattle.updown.proofs.Plans.{touched-more, in-touched, region-same, plans-frame, plans-more}
-use Rattle.updown.proofs.Turning.{tally-frame, plan-places}
+use Rattle.updown.proofs.Turning.{tally-frame}
 use Rattle.updown.proofs.Marked.{mark-label}
 
 -- ---- the done columns, one row more

@@ -2,28 +2,27 @@
 -- counted at the end, and always small. Over `update-steps-at` of symbolic: removing is adding backwards, with the signs turned. Assumes nothing.
 use mathlib.Core.Path.{_≡_, refl, sym, ap, _∙_, subst}
 use mathlib.Core.Logic.{_⊎_, inl, inr, _≢_}
-use mathlib.Core.Bool.{Bool, true, false, _&&_, _||_, not, true≢false}
+use mathlib.Core.Bool.{Bool, true, false, _&&_, not}
 use mathlib.Core.List.{List, _++_}
-use Prim.Native.Nat.{ℕ, suc, _+_, _-_, _≤_, _<_}
+use Prim.Native.Nat.{ℕ, _+_, _≤_, _<_}
 use native.Mathlib.Omega.{arith}
 use lib.Dec.{eqb}
-use lib.ListN.{length, length-append}
-use borrow.Author.Tests.{eqb-true, eq-eqb, ne-eqb}
-use Rattle.lists.specs.Lists.{one, at, count}
-use Rattle.lists.proofs.Tests.{cases, eq-or-ne, lt-or-le, zero-or-pos, one-le, refute}
+use lib.ListN.{length}
+use borrow.Author.Tests.{eq-eqb, ne-eqb}
+use Rattle.lists.specs.Lists.{one}
+use Rattle.lists.proofs.Tests.{eq-or-ne, lt-or-le, one-le}
 use Rattle.lists.proofs.Count.{count-le}
-use Rattle.symbolic.specs.Columns.{Column, smallest, startingWith}
+use Rattle.symbolic.specs.Columns.{Column, startingWith}
 use Rattle.symbolic.specs.Factor.{factorOf, multiplicity, parentOf}
 use Rattle.symbolic.specs.Definition.{childWith}
 use Rattle.symbolic.specs.Batch.{isTouched}
 use Rattle.symbolic.specs.Steps.{childSoFar, StepsAt}
 use Rattle.symbolic.proofs.Build.{laws}
-use Rattle.symbolic.proofs.Columns.{starts-le, starts-append}
 use Rattle.symbolic.proofs.Order.{count-bound}
 use Rattle.symbolic.proofs.Steps.{isNew, child-kept-adding, child-gained, child-lost}
 use Rattle.symbolic.proofs.Locality.{multiplicity-stays, update-steps-at}
 use Rattle.differences.specs.Tally.{base, differenceAt, Tally, counted}
-use Rattle.updown.specs.Children.{Steady, Bumps, keptRow, wholeRow}
+use Rattle.updown.specs.Children.{Steady, Bumps}
 use Rattle.updown.specs.Queues.{moved}
 use Rattle.updown.specs.Turns.{larger, smaller, treeParent, otherParent, standing, isHere, handled, soFar, Shift, Tallied}
 use Rattle.updown.proofs.Queueing.{moved-self, moved-other}

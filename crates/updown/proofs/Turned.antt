@@ -1,32 +1,31 @@
 -- A whole turn: what plan_column asks after the batch columns are counted (`turning-ready`), where the step goes, and the walk's state and numbers after it.
 -- Assumes nothing.
-use mathlib.Core.Path.{_≡_, refl, sym, ap, _∙_, subst}
-use mathlib.Core.Logic.{_⊎_, inl, inr, _≢_}
-use mathlib.Core.Bool.{Bool, true, false, true≢false, false≢true}
+use mathlib.Core.Path.{_≡_, sym, ap, _∙_, subst}
+use mathlib.Core.Logic.{inl, inr}
+use mathlib.Core.Bool.{Bool, true, false}
 use mathlib.Core.List.{List, [], _∷_, _++_}
-use Prim.Native.Nat.{ℕ, suc, _+_, _-_, _*_, _≤_, _<_}
+use Prim.Native.Nat.{ℕ, suc, _+_, _≤_, _<_}
 use native.Mathlib.Omega.{arith}
-use lib.Dec.{eqb, leb}
+use lib.Dec.{eqb}
 use lib.ListN.{length, getD}
 use Rattle.lists.specs.Lists.{pick, at}
 use Rattle.lists.proofs.Tests.{zero-or-pos}
-use Rattle.symbolic.specs.Columns.{Column, startingWith}
+use Rattle.symbolic.specs.Columns.{Column}
 use Rattle.symbolic.specs.Factor.{factorOf, columnAt, parentOf, sizeOf, firstAbove}
 use Rattle.symbolic.specs.Batch.{entriesOf}
 use Rattle.symbolic.proofs.Build.{laws, parent-is}
-use Rattle.pool.specs.Chains.{chain, Linked}
+use Rattle.pool.specs.Chains.{chain}
 use Rattle.emission.specs.declared.Emission.{Emission}
-use Rattle.updown.specs.Plans.{firstOf}
 use Rattle.updown.specs.Marks.{Room, markAt, steppedUp}
-use Rattle.updown.specs.Turns.{larger, before, after, treeParent, standing, done}
-use Rattle.updown.specs.Walks.{Columns, Parents, Turn}
-use Rattle.updown.specs.States.{startOf, Numbers, Walking, Begun, Planned, SomePlanned, Halted, Setting, Turning, Between, Turned}
+use Rattle.updown.specs.Turns.{before, after, treeParent, standing, done}
+use Rattle.updown.specs.Walks.{Turn}
+use Rattle.updown.specs.States.{startOf, Numbers, Walking, Begun, Planned, SomePlanned, Halted, Setting, Turning, Between}
 use Rattle.updown.proofs.Plans.{entries-append}
-use Rattle.updown.proofs.Stepping.{done-next, done-in}
+use Rattle.updown.proofs.Stepping.{done-next}
 use Rattle.updown.proofs.Halting.{halted}
 use Rattle.updown.proofs.Upward.{stepped, stepped-frame, step-room}
 use Rattle.updown.proofs.Walking.{begun-turn}
-use Rattle.updown.proofs.Numbering.{count-bound, entries-small, size-small, first-more, numbers-next}
+use Rattle.updown.proofs.Numbering.{count-bound, entries-small, size-small, numbers-next}
 
 module _ {heads parents rows counts next : List ℕ} {m flags : ℕ} {R W : List Column} {adding : Bool} {free : ℕ} (s : Setting heads parents rows counts next m flags R W adding free)
     {work₀ w : List ℕ} {n j f l c k used avail : ℕ} (t : Turning next work₀ w m flags R W adding free n j f l c k used avail) where
@@ -117,18 +116,6 @@ module _ {heads parents rows counts next : List ℕ} {m flags : ℕ} {R W : List
         subst (λ (v : ℕ). Between next work₀ w₂ m flags R W adding free (suc j) f′ l′ c′ k′ v avail′) (sym eu)
         (subst (λ (v : ℕ). Between next work₀ w₂ m flags R W adding free (suc j) f′ l′ c′ k′ (e .used) v) (sym ea) (record { walking = h; numbers = nums }))
 
-  -- a turn that does not fit, adding
-  pub turned-halted : {w₁ : List ℕ} {e : Emission} → Planned next w w₁ m R W adding j used avail e → {f′ l′ used′ : ℕ} → f′ ≡ pick (eqb f 0) j f → l′ ≡ j → used′ ≡ e .used → adding ≡ true →
-      (Halted m flags R W work₀ w₁ j used′ (done m R W (suc j)) × (f′ ≡ firstOf (done m R W (suc j)))) × (l′ ≡ j)
-  turned-halted {w₁} {e} d {f′} {l′} {used′} ef el eu z =
-      let b : Begun m flags R W adding work₀ w j used = t .begun in (
-        (
-          subst (λ (x : ℕ). Halted m flags R W work₀ w₁ j x (done m R W (suc j))) (sym eu) (go adding z b d),
-          ef ∙ ap (λ (x : ℕ). pick (eqb x 0) j x) (t .numbers .first-is) ∙ sym (ap firstOf (done-next m R W j (b .low) (b .touched)) ∙ first-more (done m R W j) j (λ x y. done-in m R W j (b .low) y .0)),
-        ),
-        el,
-      )
-    where
-      go : (x : Bool) → x ≡ true → Begun m flags R W x work₀ w j used → Planned next w w₁ m R W x j used avail e → Halted m flags R W work₀ w₁ j (e .used) (done m R W (suc j))
-      go true y b d = halted b d (s .fit) (s .columns .positions)
-      go false y b d = absurd (false≢true y)
+  -- a turn that does not fit
+  pub turned-halted : {w₁ : List ℕ} {e : Emission} → Planned next w w₁ m R W adding j used avail e → {used′ : ℕ} → used′ ≡ e .used → Halted m flags work₀ w₁ used′
+  turned-halted {w₁} d x = subst (λ (v : ℕ). Halted m flags work₀ w₁ v) (sym x) (halted (t .begun) d (s .fit))

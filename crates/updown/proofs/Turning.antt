@@ -1,31 +1,30 @@
 -- A done column in the turn of j, read from the work table: its multiplicities with and without the batch (`column-counts`), its plan (`turn-plan`), its
 -- other parent (`turn-other`). And what leaves their places leaves the differences, the plans and the queues. Assumes nothing.
 use mathlib.Core.Path.{_≡_, refl, sym, ap, _∙_, subst}
-use mathlib.Core.Logic.{_⊎_, inl, inr, _≢_}
-use mathlib.Core.Bool.{Bool, true, false, _&&_}
+use mathlib.Core.Logic.{_⊎_, inl, inr}
+use mathlib.Core.Bool.{Bool, true, false}
 use mathlib.Core.List.{List, [], _∷_, _++_}
-use Prim.Native.Nat.{ℕ, zero, suc, _+_, _-_, _*_, _/_, _≤_, _<_}
+use Prim.Native.Nat.{ℕ, zero, suc, _+_, _-_, _*_, _≤_, _<_}
 use native.Mathlib.Omega.{arith}
 use lib.ListN.{length, getD, length-append}
-use Rattle.lists.specs.Lists.{pick, at, among, rises, Mem}
+use Rattle.lists.specs.Lists.{at, among, rises}
 use Rattle.lists.proofs.Tests.{lt-or-le}
 use Rattle.symbolic.specs.Columns.{Column}
-use Rattle.symbolic.specs.Factor.{FactorColumn, factorOf, columnAt, multiplicity, parentOf}
+use Rattle.symbolic.specs.Factor.{factorOf, columnAt, multiplicity, parentOf}
 use Rattle.symbolic.specs.Batch.{isTouched}
 use Rattle.symbolic.proofs.Laws.{diagonal-in}
 use Rattle.symbolic.proofs.Build.{laws, counts-length}
 use Rattle.symbolic.proofs.Order.{count-bound}
 use Rattle.symbolic.proofs.Locality.{multiplicity-stays}
-use Rattle.workspace.specs.Regions.{cell, region, IsZero, OnlyIn}
-use Rattle.workspace.proofs.Regions.{region-cell}
-use Rattle.differences.specs.Tally.{base, shifted, differenceAt, Touched, Tally}
+use Rattle.workspace.specs.Regions.{cell, region}
+use Rattle.differences.specs.Tally.{shifted, differenceAt, Tally}
 use Rattle.differences.specs.Gather.{planPart}
 use Rattle.emission.specs.Plans.{planFrom}
-use Rattle.updown.specs.Plans.{marksAt, startsAt, nextAt, planAt, labelIn, parentIn, InPlan}
-use Rattle.updown.specs.Marks.{markAt, endAt, otherAt}
-use Rattle.updown.specs.Queues.{Queues}
+use Rattle.updown.specs.Plans.{parentIn, InPlan}
+use Rattle.workspace.specs.Layout.{marksAt}
+use Rattle.updown.specs.Marks.{endAt, otherAt}
 use Rattle.updown.specs.Children.{Counts, PlanOf, ChainOf, oldOf, newOf}
-use Rattle.updown.specs.Turns.{larger, smaller, before, after, otherParent, labelAt, done, DoneColumn, PlansTo, soFar, Shift, Tallied}
+use Rattle.updown.specs.Turns.{larger, smaller, before, after, otherParent, labelAt, done, soFar, Shift, Tallied}
 use Rattle.updown.specs.Walks.{Columns, Parents, Turn}
 use Rattle.updown.proofs.Plans.{touched-in, in-touched, region-same, Found, plans-find}
 

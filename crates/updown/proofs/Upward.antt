@@ -1,18 +1,17 @@
 -- One step up from j, as it is stored: the new parent kept in j's mark, the tree parent raised and j in its queue; then the state is that before the next
 -- row (`stepped`). Assumes nothing.
-use mathlib.Core.Path.{_≡_, refl, sym, ap, _∙_, subst}
+use mathlib.Core.Path.{_≡_, sym, ap, _∙_}
 use mathlib.Core.Logic.{_⊎_, inl, inr, _≢_}
-use mathlib.Core.Bool.{Bool, true, false}
+use mathlib.Core.Bool.{Bool, true}
 use mathlib.Core.List.{List, _++_}
 use Prim.Native.Nat.{ℕ, suc, _+_, _-_, _*_, _/_, _%_, _≤_, _<_}
 use native.Mathlib.Omega.{arith}
 use lib.ListN.{length, getD, set, length-set}
 use lib.Seq.{getD-set-same, getD-set-other}
 use borrow.Author.Tests.{eq-eqb, ne-eqb}
-use Rattle.lists.proofs.Tests.{eq-or-ne, lt-or-le}
+use Rattle.lists.proofs.Tests.{eq-or-ne}
 use Rattle.symbolic.specs.Columns.{Column}
 use Rattle.symbolic.specs.Factor.{parentOf}
-use Rattle.symbolic.specs.Batch.{isTouched}
 use Rattle.symbolic.proofs.Labels.{label-child, touched-label, label-passes}
 use Rattle.workspace.specs.Regions.{cell, Outside}
 use Rattle.emission.specs.declared.Emission.{Emission}
@@ -22,7 +21,7 @@ use Rattle.updown.specs.Turns.{larger, after, treeParent, labelAt, stand
 use Rattle.updown.specs.States.{startOf, MarksHold, Walking, Begun, Planned}
 use Rattle.updown.proofs.Queueing.{queues-ext, queues-fewer, queues-frame, queues-push, moved-self, moved-other}
 use Rattle.updown.proofs.Standing.{tree-above, stands-self}
-use Rattle.updown.proofs.Marked.{marks-frame, raised-length, raised-other, raised-mark, raised-flag, raised-own}
+use Rattle.updown.proofs.Marked.{raised-length, raised-other, raised-mark, raised-flag, raised-own}
 use Rattle.updown.proofs.Stepping.{label-same, walk-on}
 
 module _ {next : List ℕ} {m flags : ℕ} {R W : List Column} {adding : Bool} {work₀ w w₁ : List ℕ} {j used avail : ℕ} {e : Emission} (b : Begun m flags R W adding work₀ w j used)

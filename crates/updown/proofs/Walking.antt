@@ -1,31 +1,29 @@
--- The walk from row to row: a row without a mark is passed (`walking-skip`, `walking-to`), at a marked one its turn begins (`walking-begin`), after which
+-- The walk from row to row: a row without a mark is passed (`walking-skip`), at a marked one its turn begins (`walking-begin`), after which
 -- the batch columns that start there may be counted (`begun-counted`, `begun-turn`). Assumes nothing.
 use mathlib.Core.Path.{_≡_, refl, sym, ap, _∙_, subst}
 use mathlib.Core.Logic.{_⊎_, inl, inr, _≢_}
 use mathlib.Core.Bool.{Bool, true, false, true≢false}
-use mathlib.Core.List.{List, [], _∷_, _++_}
-use Prim.Native.Nat.{ℕ, zero, suc, _+_, _-_, _*_, _/_, _≤_, _<_}
+use mathlib.Core.List.{List, _++_}
+use Prim.Native.Nat.{ℕ, suc, _+_, _-_, _*_, _/_, _≤_, _<_}
 use native.Mathlib.Omega.{arith}
 use lib.Dec.{eqb}
 use lib.ListN.{length, getD, set, length-set}
 use lib.Seq.{getD-set-same, getD-set-other}
 use borrow.Author.Tests.{eq-eqb, ne-eqb}
-use Rattle.lists.specs.Lists.{pick, Mem, rises}
+use Rattle.lists.specs.Lists.{pick, Mem}
 use Rattle.lists.proofs.Tests.{eq-or-ne, lt-or-le}
-use Rattle.lists.proofs.Rising.{rises-weaken}
 use Rattle.symbolic.specs.Columns.{Column, startingWith}
 use Rattle.symbolic.specs.Batch.{isTouched}
-use Rattle.workspace.specs.Regions.{cell, Outside, OnlyIn}
+use Rattle.workspace.specs.Regions.{cell, OnlyIn}
 use Rattle.pool.specs.Chains.{lastOf}
-use Rattle.updown.specs.Plans.{marksAt, startsAt, nextAt, planAt, InPlan}
-use Rattle.updown.specs.Marks.{Room, markAt, flagAt, Flagged, Next, begun}
-use Rattle.updown.specs.Queues.{Queues, links}
+use Rattle.updown.specs.Plans.{InPlan}
+use Rattle.updown.specs.Marks.{markAt, begun}
 use Rattle.updown.specs.Turns.{larger, before, after, labelAt, done, standing, isHere, PlansTo, Tallied}
 use Rattle.updown.specs.Walks.{Turn}
-use Rattle.updown.specs.States.{startOf, MarksHold, Busy, differs, plans, marks, queues, flagged, Walking, Begun}
+use Rattle.updown.specs.States.{startOf, Busy, differs, plans, marks, queues, flagged, Walking, Begun}
 use Rattle.updown.proofs.Queueing.{queue-none, links-length, queues-ext, queues-fewer, queues-frame}
 use Rattle.updown.proofs.Plans.{touched-rising, plans-frame, plans-link, last-in}
-use Rattle.updown.proofs.Standing.{stands, stands-untouched, not-here, at-here, here-at, never-here}
+use Rattle.updown.proofs.Standing.{stands-untouched, here-at, never-here}
 use Rattle.updown.proofs.Turning.{plan-places}
 use Rattle.updown.proofs.Marked.{mark-touched, touched-mark, marks-skip, marks-frame}
 use Rattle.updown.proofs.Stepping.{done-skip, done-in, in-plan-wider, own-in}
@@ -70,28 +68,6 @@ module _ {m flags : ℕ} {R W : List Column} {adding : Bool} {work₀ w : List �
       busier k e q p a (marks x y) = marks (omega arith) y
       busier k e q p a (queues x y) = queues (omega arith) y
       busier k e q p a (flagged x y) = flagged x y
-
-  pub walking-to : (n : ℕ) {j used : ℕ} → Walking m flags R W adding work₀ w j used → j + n ≤ suc m → ((q : ℕ) → j ≤ q → q < j + n → markAt m w q ≡ 0) →
-      Walking m flags R W adding work₀ w (j + n) used
-  walking-to zero {j} {used} h l z = let e : j ≡ j + 0 = omega arith in subst (λ (x : ℕ). Walking m flags R W adding work₀ w x used) e h
-  walking-to (suc n) {j} {used} h l z =
-      let e : suc j + n ≡ j + suc n = omega arith in
-      subst (λ (x : ℕ). Walking m flags R W adding work₀ w x used) e
-      (walking-to n (walking-skip h (omega arith) (z j (omega arith) (omega arith))) (omega arith) (λ q x y. z q (omega arith) (omega arith)))
-
-  -- to the next marked row, and past the last one
-  pub walking-found : {j used r : ℕ} → Walking m flags R W adding work₀ w j used → Next m w (j - 1) r → r ≢ 0 → Walking m flags R W adding work₀ w r used
-  walking-found {j} {used} {r} h f n =
-      let t : (j - 1 < r) × ((r ≤ m) × (markAt m w r ≢ 0)) = f .found n in
-      let e : j + (r - j) ≡ r = omega (arith, h .low) in
-      subst (λ (x : ℕ). Walking m flags R W adding work₀ w x used) e
-      (walking-to (r - j) h (omega (arith, h .low)) (λ q x y. f .passed q (omega (arith, h .low)) (omega (arith, h .low)) (λ _. omega (arith, h .low))))
-
-  pub walking-last : {j used r : ℕ} → Walking m flags R W adding work₀ w j used → Next m w (j - 1) r → r ≡ 0 → Walking m flags R W adding work₀ w (suc m) used
-  walking-last {j} {used} {r} h f z =
-      let e : j + (suc m - j) ≡ suc m = omega (arith, h .high) in
-      subst (λ (x : ℕ). Walking m flags R W adding work₀ w x used) e
-      (walking-to (suc m - j) h (omega (arith, h .high)) (λ q x y. f .passed q (omega (arith, h .low)) (omega (arith, h .high)) (λ n. absurd (n z))))
 
   -- ---- a turn begins
 

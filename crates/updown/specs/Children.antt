@@ -1,14 +1,15 @@
 -- What a done column brings to a parent, as it is counted into the differences: more are its multiplicities with the batch, less those without it, so
 -- adding goes from less to more and removing from more to less. Assumes nothing: these are definitions.
 use mathlib.Core.Path.{_≡_}
-use mathlib.Core.Bool.{Bool, true, false, _&&_, not}
+use mathlib.Core.Bool.{Bool, _&&_, not}
 use mathlib.Core.List.{List}
-use Prim.Native.Nat.{ℕ, _+_, _-_, _*_, _≤_, _<_}
+use Prim.Native.Nat.{ℕ, _+_, _-_, _≤_, _<_}
 use lib.Dec.{eqb}
 use lib.ListN.{length, getD}
 use Rattle.lists.specs.Lists.{pick, at, valuesAt}
 use Rattle.symbolic.specs.Factor.{patternFrom}
 use Rattle.workspace.specs.Regions.{cell, OnlyIn}
+use Rattle.workspace.specs.Layout.{marksAt, startsAt, nextAt, planAt}
 use Rattle.pool.specs.Chains.{chain, Linked}
 use Rattle.differences.specs.Tally.{differenceAt, Tally, counted}
 use Rattle.differences.specs.Gather.{planPart}
@@ -26,7 +27,7 @@ pub record Steady (m : ℕ) (work : List ℕ) (n : ℕ) : Type 0 where
 pub record Bumps (m : ℕ) (before after : List ℕ) (n : ℕ) (up : Bool) (p : ℕ → Bool) : Type 0 where
   pub tally : Tally m after n (differenceAt after)
   pub counts : counted up (differenceAt before) (differenceAt after) m p
-  pub only : OnlyIn 0 (3 * m) before after
+  pub only : OnlyIn 0 (marksAt m) before after
 
 -- ---- a column's multiplicities, its plan, its chain
 
@@ -54,11 +55,11 @@ newOf z xs ys = pick z xs ys
 -- the plan of column c, which ends where that of the next touched column starts
 pub record PlanOf (work : List ℕ) (m c : ℕ) (adding : Bool) (more less : List ℕ) : Type 0 where
   pub column : Counts m c more less
-  pub long : 8 * m + endAt m work c ≤ length work
-  pub next-low : 1 ≤ cell work (5 * m) (c - 1)
-  pub next-high : cell work (5 * m) (c - 1) ≤ m
-  pub order : cell work (4 * m) (c - 1) ≤ endAt m work c
-  pub entries : planPart m work (cell work (4 * m) (c - 1)) (endAt m work c) ≡ planFrom 1 (oldOf adding more less) (newOf adding more less)
+  pub long : planAt m + endAt m work c ≤ length work
+  pub next-low : 1 ≤ cell work (nextAt m) (c - 1)
+  pub next-high : cell work (nextAt m) (c - 1) ≤ m
+  pub order : cell work (startsAt m) (c - 1) ≤ endAt m work c
+  pub entries : planPart m work (cell work (startsAt m) (c - 1)) (endAt m work c) ≡ planFrom 1 (oldOf adding more less) (newOf adding more less)
 
 -- the chain of column c, which holds its rows before the batch
 pub record ChainOf (heads rows next : List ℕ) (m c : ℕ) (old : List ℕ) : Type 0 where

@@ -3,7 +3,7 @@
 use mathlib.Core.Path.{_≡_}
 use mathlib.Core.Bool.{Bool, true, false}
 use mathlib.Core.List.{List, [], _∷_, _++_}
-use Prim.Native.Nat.{ℕ, _+_, _*_, _≤_}
+use Prim.Native.Nat.{ℕ, _+_, _≤_}
 use lib.Dec.{leb}
 use lib.ListN.{length, take, drop}
 use Rattle.lists.specs.Lists.{all}
@@ -12,6 +12,7 @@ use Rattle.symbolic.specs.Factor.{factorOf, sizeSum}
 use Rattle.symbolic.specs.Batch.{touched, labelOf}
 use Rattle.symbolic.specs.Change.{Bag}
 use Rattle.workspace.specs.Regions.{IsZero}
+use Rattle.workspace.specs.Layout.{flagsAt}
 use Rattle.pool.specs.Chains.{chain}
 use Rattle.book.specs.Book as book
 use Rattle.tables.specs.Stored.{Stored, Sized, storedOf, isSoundFor}
@@ -19,7 +20,7 @@ use Rattle.updown.specs.Plans.{PlanIs}
 
 -- the places of the work table that planning may use
 abbrev pub planNeed : (m f : ℕ) → ℕ
-planNeed m f = 8 * m + 4 * f + 1024
+planNeed m f = flagsAt m f + 1024
 
 -- ---- batches, as they are lent
 

@@ -7,4 +7,3 @@ pub mod Turns
 pub mod Walks
 pub mod States
 pub mod Starts
-pub mod Clears

@@ -2,35 +2,37 @@
 -- are definitions.
 use mathlib.Core.Path.{_≡_}
 use mathlib.Core.Logic.{_≢_}
-use mathlib.Core.Bool.{Bool, true, false, _&&_, not}
+use mathlib.Core.Bool.{Bool, _&&_, not}
 use mathlib.Core.List.{List}
 use Prim.Native.Nat.{ℕ, _+_, _-_, _*_, _/_, _%_, _≤_, _<_}
 use lib.Dec.{ltb, eqb}
 use lib.ListN.{length, set}
 use Rattle.lists.specs.Lists.{pick, at}
 use Rattle.workspace.specs.Regions.{cell}
+use Rattle.updown.specs.Plans.{labelWeight, parentWeight, parentIn}
+use Rattle.workspace.specs.Layout.{marksAt, startsAt, childrenAt, nextAt, lostAt, linksAt, planAt, blockRows, flagCount}
 
 -- the work table has the regions of m rows and, past them, 64 flags
 pub record Room (m flags : ℕ) (work : List ℕ) : Type 0 where
   pub m-bound : m ≤ 4096
-  pub low : 8 * m ≤ flags
-  pub long : flags + 64 ≤ length work
+  pub low : planAt m ≤ flags
+  pub long : flags + flagCount ≤ length work
 
 -- the mark of a row, 0 for none
 abbrev pub markAt : (m : ℕ) (work : List ℕ) (row : ℕ) → ℕ
-markAt m w q = cell w (3 * m) (q - 1)
+markAt m w q = cell w (marksAt m) (q - 1)
 
 -- the flag of a row's block
 abbrev pub flagAt : (flags : ℕ) (work : List ℕ) (row : ℕ) → ℕ
-flagAt f w q = cell w f ((q - 1) / 64)
+flagAt f w q = cell w f ((q - 1) / blockRows)
 
 -- a row marked, with its block
 abbrev pub marked : (m flags : ℕ) (work : List ℕ) (row mark : ℕ) → List ℕ
-marked m f w q x = set (set w (3 * m + (q - 1)) x) (f + (q - 1) / 64) 1
+marked m f w q x = set (set w (marksAt m + (q - 1)) x) (f + (q - 1) / blockRows) 1
 
 -- a tree parent marked with at least a label
 abbrev pub raised : (m flags : ℕ) (work : List ℕ) (row label : ℕ) → List ℕ
-raised m f w q l = pick (ltb (markAt m w q / 4) l) (marked m f w q (4 * l + markAt m w q % 4)) w
+raised m f w q l = pick (ltb (markAt m w q / labelWeight) l) (marked m f w q (labelWeight * l + markAt m w q % labelWeight)) w
 
 -- a marked row past the first rows has the flag of its block
 abbrev pub Flagged : (m flags : ℕ) (work : List ℕ) (from : ℕ) → Type 0
@@ -45,29 +47,29 @@ pub record Next (m : ℕ) (work : List ℕ) (from row : ℕ) : Type 0 where
 
 -- where the plan of a column ends that is not the last: where that of the next touched column starts
 abbrev pub endAt : (m : ℕ) (work : List ℕ) (c : ℕ) → ℕ
-endAt m w c = cell w (4 * m) (cell w (5 * m) (c - 1) - 1)
+endAt m w c = cell w (startsAt m) (cell w (nextAt m) (c - 1) - 1)
 
 -- the other parent of a done column: the stored one when adding, the new one in its mark when removing
 abbrev pub otherAt : (parents work : List ℕ) (m c : ℕ) (adding : Bool) → ℕ
-otherAt ps w m c z = pick z (at ps c) (markAt m w c / 262144)
+otherAt ps w m c z = pick z (at ps c) (parentIn (markAt m w c))
 
 -- a column out of one queue and into that of its other parent, if that is another one
 abbrev pub passedOn : (m : ℕ) (work : List ℕ) (c j other : ℕ) → List ℕ
 passedOn m w c j o =
-    pick (not (eqb o j) && not (eqb o 0)) (set (set w (7 * m + (c - 1)) (cell w (6 * m) (o - 1))) (6 * m + (o - 1)) c) (set w (7 * m + (c - 1)) 0)
+    pick (not (eqb o j) && not (eqb o 0)) (set (set w (linksAt m + (c - 1)) (cell w (lostAt m) (o - 1))) (lostAt m + (o - 1)) c) (set w (linksAt m + (c - 1)) 0)
 
 -- a column into the queue of its tree parent
 abbrev pub queued : (m : ℕ) (work : List ℕ) (c up : ℕ) → List ℕ
-queued m w c q = set (set w (7 * m + (c - 1)) (cell w (5 * m) (q - 1))) (5 * m + (q - 1)) c
+queued m w c q = set (set w (linksAt m + (c - 1)) (cell w (childrenAt m) (q - 1))) (childrenAt m + (q - 1)) c
 
 -- a turn begun: the last touched column goes on to j, and j's plan starts
 abbrev pub begun : (m : ℕ) (work : List ℕ) (last j used : ℕ) → List ℕ
-begun m w l j u = set (pick (eqb l 0) w (set w (5 * m + (l - 1)) j)) (4 * m + (j - 1)) u
+begun m w l j u = set (pick (eqb l 0) w (set w (nextAt m + (l - 1)) j)) (startsAt m + (j - 1)) u
 
 -- the new parent of j kept in its mark
 abbrev pub kept : (m : ℕ) (work : List ℕ) (j parent : ℕ) → List ℕ
-kept m w j p = set w (3 * m + (j - 1)) (markAt m w j + 262144 * p)
+kept m w j p = set w (marksAt m + (j - 1)) (markAt m w j + parentWeight * p)
 
 -- one step up from j: its new parent is kept; its tree parent, if it has one, is marked with j's label, and j waits in its queue
 abbrev pub steppedUp : (m flags : ℕ) (work : List ℕ) (j parent up : ℕ) → List ℕ
-steppedUp m f w j p q = pick (eqb q 0) (kept m w j p) (queued m (raised m f (kept m w j p) q (markAt m w j / 4)) j q)
+steppedUp m f w j p q = pick (eqb q 0) (kept m w j p) (queued m (raised m f (kept m w j p) q (markAt m w j / labelWeight)) j q)

@@ -3,41 +3,37 @@
 use mathlib.Core.Path.{_≡_}
 use mathlib.Core.Logic.{_⊎_}
 use mathlib.Core.List.{List, [], _∷_}
-use Prim.Native.Nat.{ℕ, _+_, _-_, _*_, _/_, _%_, _≤_, _<_}
+use Prim.Native.Nat.{ℕ, _+_, _-_, _/_, _%_, _≤_, _<_}
 use lib.ListN.{length, getD}
 use Rattle.lists.specs.Lists.{Mem}
 use Rattle.symbolic.specs.Factor.{FactorColumn, columnAt, parentOf}
 use Rattle.symbolic.specs.Batch.{entriesOf}
 use Rattle.workspace.specs.Regions.{cell, region}
+use Rattle.workspace.specs.Layout.{marksAt, startsAt, nextAt, planAt}
+use Rattle.workspace.specs.Planned.{newKind}
 use Rattle.columns.specs.Plan.{planned, Suits, ofKind}
 
--- ---- places of the work table, by m: m places each for marks, plan starts, first children (after the walk: the next touched column); the plan
+-- ---- a mark: a bit for a column where a batch column starts, its label by one weight, its new parent by another
 
--- where the marks begin
-abbrev pub marksAt : (m : ℕ) → ℕ
-marksAt m = 3 * m
+-- in the mark of a column where a batch column starts
+abbrev pub startBit : ℕ
+startBit = 2
 
--- where the plan starts begin
-abbrev pub startsAt : (m : ℕ) → ℕ
-startsAt m = 4 * m
+-- by which a label counts
+abbrev pub labelWeight : ℕ
+labelWeight = 4
 
--- where the first children begin, after the walk the next touched columns
-abbrev pub nextAt : (m : ℕ) → ℕ
-nextAt m = 5 * m
-
--- where the plan begins
-abbrev pub planAt : (m : ℕ) → ℕ
-planAt m = 8 * m
-
--- ---- a mark: 2 for a column where a batch column starts, the label from 4 on, the new parent from 2^18 on
+-- by which a new parent counts
+abbrev pub parentWeight : ℕ
+parentWeight = 262144
 
 -- the label in a mark
 abbrev pub labelIn : (mark : ℕ) → ℕ
-labelIn x = x / 4 % 65536
+labelIn x = x / labelWeight % 65536
 
 -- the new parent in a mark
 abbrev pub parentIn : (mark : ℕ) → ℕ
-parentIn x = x / 262144
+parentIn x = x / parentWeight
 
 -- ---- the plan of column j: its entries stand from start to end
 
@@ -75,5 +71,5 @@ pub record PlanIs (m f free : ℕ) (L L′ : List FactorColumn) (label : ℕ →
   pub entries-is : entries ≡ entriesOf L′ columns
   pub room : used ≤ f
   -- the new entries of all columns together have free records
-  pub new-fit : ofKind 1 (region after (planAt m) used) ≤ free
+  pub new-fit : ofKind newKind (region after (planAt m) used) ≤ free
   pub clean : (k : ℕ) → (InPlan m used columns k → ⊥) → getD after k 0 ≡ getD before k 0

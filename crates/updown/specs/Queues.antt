@@ -5,16 +5,17 @@ use mathlib.Core.Path.{_≡_}
 use mathlib.Core.Logic.{_≢_}
 use mathlib.Core.Bool.{Bool}
 use mathlib.Core.List.{List}
-use Prim.Native.Nat.{ℕ, _+_, _-_, _*_, _≤_}
+use Prim.Native.Nat.{ℕ, _-_, _*_, _≤_}
 use lib.Dec.{eqb}
 use lib.ListN.{length}
 use Rattle.lists.specs.Lists.{pick, one, times}
 use Rattle.workspace.specs.Regions.{cell, region}
+use Rattle.workspace.specs.Layout.{childrenAt, linksAt}
 use Rattle.pool.specs.Chains.{Linked}
 
 -- for each column the next one in its queue
 abbrev pub links : (m : ℕ) (work : List ℕ) → List ℕ
-links m w = region w (7 * m) m
+links m w = region w (linksAt m) m
 
 -- just the columns that pass a test wait, each once
 pub record Queue (next : List ℕ) (head : ℕ) (waits : ℕ → Bool) : Type 0 where
@@ -24,8 +25,8 @@ pub record Queue (next : List ℕ) (head : ℕ) (waits : ℕ → Bool) : Type 0 
 
 -- the queues from one on, but for one that is being emptied
 pub record Queues (m : ℕ) (work : List ℕ) (from except : ℕ) (place : ℕ → ℕ) : Type 0 where
-  pub queue : (x : ℕ) → from ≤ x → x ≤ 2 * m → x ≢ except → Queue (links m work) (cell work (5 * m) (x - 1)) (λ c. eqb (place c) x)
-  pub idle : (c : ℕ) → 1 ≤ c → c ≤ m → place c ≡ 0 → cell work (7 * m) (c - 1) ≡ 0
+  pub queue : (x : ℕ) → from ≤ x → x ≤ 2 * m → x ≢ except → Queue (links m work) (cell work (childrenAt m) (x - 1)) (λ c. eqb (place c) x)
+  pub idle : (c : ℕ) → 1 ≤ c → c ≤ m → place c ≡ 0 → cell work (linksAt m) (c - 1) ≡ 0
 
 -- where each column waits once one has moved
 abbrev pub moved : (place : ℕ → ℕ) (c x : ℕ) → ℕ → ℕ

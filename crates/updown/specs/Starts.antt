@@ -8,11 +8,12 @@ use lib.ListN.{length, getD}
 use Rattle.lists.specs.Lists.{all}
 use Rattle.symbolic.specs.Columns.{Column, startingWith}
 use Rattle.workspace.specs.Regions.{Outside, IsZero, OnlyIn}
+use Rattle.updown.specs.Plans.{startBit, labelWeight}
+use Rattle.workspace.specs.Layout.{marksAt, flagCount}
 use Rattle.book.specs.Book as book
 use Rattle.updown.specs.Entries.{Listed, Booked}
 use Rattle.updown.specs.Marks.{Room, markAt, Flagged}
-use Rattle.updown.specs.Turns.{larger, smaller, done, Tallied}
-use Rattle.updown.specs.Plans.{firstOf}
+use Rattle.updown.specs.Turns.{larger, smaller, Tallied}
 use Rattle.symbolic.specs.Factor.{sizeSum}
 use Rattle.pool.specs.Chains.{chain, Linked}
 use Rattle.updown.specs.States.{startOf, Setting, Walking, Between, Halted}
@@ -22,11 +23,11 @@ use Rattle.updown.specs.States.{startOf, Setting, Walking, Between, Halt
 -- the starts of the first positions are marked, each with the largest position there, and nothing else
 pub record StartsTo (m flags : ℕ) (W : List Column) (before after : List ℕ) (positions : ℕ) : Type 0 where
   pub same-length : length after ≡ length before
-  pub start : (k : ℕ) → 1 ≤ k → k ≤ positions → k ≤ markAt m after (startOf W k) / 4
-  pub bit : (k : ℕ) → 1 ≤ k → k ≤ positions → markAt m after (startOf W k) % 4 ≡ 2
-  pub cause : (q : ℕ) → 1 ≤ q → q ≤ m → markAt m after q ≢ 0 → (k : ℕ) × (1 ≤ k) × (k ≤ positions) × (startOf W k ≡ q) × (markAt m after q ≡ 4 * k + 2)
+  pub start : (k : ℕ) → 1 ≤ k → k ≤ positions → k ≤ markAt m after (startOf W k) / labelWeight
+  pub bit : (k : ℕ) → 1 ≤ k → k ≤ positions → markAt m after (startOf W k) % labelWeight ≡ startBit
+  pub cause : (q : ℕ) → 1 ≤ q → q ≤ m → markAt m after q ≢ 0 → (k : ℕ) × (1 ≤ k) × (k ≤ positions) × (startOf W k ≡ q) × (markAt m after q ≡ labelWeight * k + startBit)
   pub flagged : Flagged m flags after 0
-  pub rest : (x : ℕ) → Outside (3 * m) m x → Outside flags 64 x → getD after x 0 ≡ getD before x 0
+  pub rest : (x : ℕ) → Outside (marksAt m) m x → Outside flags flagCount x → getD after x 0 ≡ getD before x 0
 
 -- a batch in a list, and a table without marks
 pub record CanMark (counts list : List ℕ) (m flags : ℕ) (work : List ℕ) (W : List Column) : Type 0 where
@@ -34,7 +35,7 @@ pub record CanMark (counts list : List ℕ) (m flags : ℕ) (work : List ℕ) (W
   pub fits : all (book.columnFits m) W ≡ true
   pub few : length W ≤ 64
   pub room : Room m flags work
-  pub bare : IsZero work (3 * m) m
+  pub bare : IsZero work (marksAt m) m
 
 -- what a caller shows: that the starts can be marked, for some batch
 pub record SomeMark (counts list : List ℕ) (m flags : ℕ) (work : List ℕ) : Type 0 where
@@ -56,7 +57,7 @@ pub record CanStart (m : ℕ) (R W : List Column) (adding : Bool) (work : List �
 -- all batch columns that start at j are counted, and nothing but the differences changed
 pub record Started (m : ℕ) (R W : List Column) (adding : Bool) (before after : List ℕ) (n j : ℕ) (place : ℕ → ℕ) : Type 0 where
   pub tallied : Tallied m R W adding after n j (λ i. startingWith j i (R ++ W)) place
-  pub only : OnlyIn 0 (3 * m) before after
+  pub only : OnlyIn 0 (marksAt m) before after
 
 -- what a caller shows: that listed columns that start at j can be counted, for some R and W
 pub record SomeStart (counts list : List ℕ) (m : ℕ) (work : List ℕ) (j : ℕ) : Type 0 where
@@ -81,7 +82,7 @@ pub record CanMarkBooked (heads rows next ids : List ℕ) (m flags : ℕ) (work 
   pub holds : BookHolds heads rows next ids m W
   pub few : length W ≤ 64
   pub room : Room m flags work
-  pub bare : IsZero work (3 * m) m
+  pub bare : IsZero work (marksAt m) m
 
 -- what a caller shows: that the starts can be marked, for some batch; nexts are not read, any that suit will do
 pub record SomeMarkBooked (heads rows ids : List ℕ) (m flags : ℕ) (work : List ℕ) : Type 0 where
@@ -133,4 +134,4 @@ pub record SomeEnter (heads parents rows counts next work row-counts row-list : 
 -- all columns have free records, or the walk stopped at one that has not, and the sizes exceed the records
 pub record Entered (next work₀ work : List ℕ) (m flags free : ℕ) (R W : List Column) (fits : Bool) (first last count entries used avail : ℕ) : Type 0 where
   pub made : fits ≡ true → Between next work₀ work m flags R W true free (suc m) first last count entries used avail
-  pub halted : fits ≡ false → (Halted m flags R W work₀ work last used (done m R W (suc last)) × (first ≡ firstOf (done m R W (suc last)))) × (length next < sizeSum (larger m R W))
+  pub halted : fits ≡ false → Halted m flags work₀ work used × (length next < sizeSum (larger m R W))

@@ -3,25 +3,27 @@
 use mathlib.Core.Path.{_≡_}
 use mathlib.Core.Logic.{_⊎_, _≢_}
 use mathlib.Core.Bool.{Bool, true, false}
-use mathlib.Core.List.{List, [], _∷_, _++_}
+use mathlib.Core.List.{List, _++_}
 use Prim.Native.Nat.{ℕ, suc, _+_, _-_, _*_, _/_, _%_, _≤_, _<_}
 use lib.Dec.{leb}
 use lib.ListN.{length, getD}
-use Rattle.lists.specs.Lists.{at, valuesAt, Mem, rises}
+use Rattle.lists.specs.Lists.{at, valuesAt}
 use Rattle.symbolic.specs.Columns.{Column, smallest, startingWith}
-use Rattle.symbolic.specs.Factor.{columnAt, parentOf, sizeOf, nonZero}
+use Rattle.symbolic.specs.Factor.{columnAt, sizeOf, nonZero}
 use Rattle.symbolic.specs.Batch.{atPosition, isTouched, entriesOf}
 use Rattle.workspace.specs.Regions.{cell, region, Outside}
+use Rattle.workspace.specs.Planned.{newKind}
+use Rattle.workspace.specs.Layout.{marksAt, startsAt, childrenAt, lostAt, planAt, flagCount}
 use Rattle.pool.specs.Chains.{chain, lastOf, Linked}
 use Rattle.columns.specs.Plan.{ofKind}
 use Rattle.differences.specs.Tally.{base, Tally}
 use Rattle.emission.specs.Plans.{planFrom}
 use Rattle.emission.specs.Emit as emit
 use Rattle.emission.specs.declared.Emission.{Emission}
-use Rattle.updown.specs.Plans.{InPlan, firstOf}
+use Rattle.updown.specs.Plans.{InPlan, firstOf, startBit, labelWeight}
 use Rattle.updown.specs.Marks.{Room, markAt, Flagged}
 use Rattle.updown.specs.Queues.{Queues}
-use Rattle.updown.specs.Turns.{larger, before, after, treeParent, otherParent, labelAt, done, standing, PlansTo, Tallied}
+use Rattle.updown.specs.Turns.{larger, before, after, treeParent, labelAt, done, standing, PlansTo, Tallied}
 use Rattle.updown.specs.Walks.{Columns, Parents, Turn}
 
 -- ---- the tables of L
@@ -44,10 +46,10 @@ pub record Numbers (next work : List ℕ) (m : ℕ) (R W : List Column) (adding 
   pub count-is : count ≡ length (done m R W j)
   pub entries-is : entries ≡ entriesOf (after adding m R W) (done m R W j)
   pub linked : Linked next avail (chain next avail)
-  pub taken : ofKind 1 (region work (8 * m) used) + length (chain next avail) ≡ free
+  pub taken : ofKind newKind (region work (planAt m) used) + length (chain next avail) ≡ free
   pub room : used + length (chain next avail) ≤ entriesOf (before adding m R W) (done m R W j) + free
   -- adding drops no row
-  pub grown : adding ≡ true → entriesOf (after adding m R W) (done m R W j) ≡ entriesOf (before adding m R W) (done m R W j) + ofKind 1 (region work (8 * m) used)
+  pub grown : adding ≡ true → entriesOf (after adding m R W) (done m R W j) ≡ entriesOf (before adding m R W) (done m R W j) + ofKind newKind (region work (planAt m) used)
 
 -- ---- marks
 
@@ -57,10 +59,10 @@ startOf W k = smallest (atPosition W k)
 
 -- the marks of the rows from j on: where batch columns start, and the tree parents of done columns, with the largest label so far
 pub record MarksHold (m : ℕ) (R W : List Column) (work : List ℕ) (j : ℕ) : Type 0 where
-  pub start : (k : ℕ) → 1 ≤ k → k ≤ length W → j ≤ startOf W k → k ≤ markAt m work (startOf W k) / 4
-  pub bit : (k : ℕ) → 1 ≤ k → k ≤ length W → j ≤ startOf W k → markAt m work (startOf W k) % 4 ≡ 2
-  pub child : (c : ℕ) → 1 ≤ c → c < j → isTouched (larger m R W) W c ≡ true → j ≤ treeParent m R W c → labelAt m R W c ≤ markAt m work (treeParent m R W c) / 4
-  pub bound : (q : ℕ) → j ≤ q → q ≤ m → markAt m work q / 4 ≤ labelAt m R W q
+  pub start : (k : ℕ) → 1 ≤ k → k ≤ length W → j ≤ startOf W k → k ≤ markAt m work (startOf W k) / labelWeight
+  pub bit : (k : ℕ) → 1 ≤ k → k ≤ length W → j ≤ startOf W k → markAt m work (startOf W k) % labelWeight ≡ startBit
+  pub child : (c : ℕ) → 1 ≤ c → c < j → isTouched (larger m R W) W c ≡ true → j ≤ treeParent m R W c → labelAt m R W c ≤ markAt m work (treeParent m R W c) / labelWeight
+  pub bound : (q : ℕ) → j ≤ q → q ≤ m → markAt m work q / labelWeight ≤ labelAt m R W q
   pub whole : (q : ℕ) → j ≤ q → q ≤ m → markAt m work q ≢ 0 → 4 ≤ markAt m work q
   pub cause : (q : ℕ) → j ≤ q → q ≤ m → markAt m work q ≢ 0 →
       ((k : ℕ) × (1 ≤ k) × (k ≤ length W) × (startOf W k ≡ q)) ⊎ ((c : ℕ) × (1 ≤ c) × (c < j) × (isTouched (larger m R W) W c ≡ true) × (treeParent m R W c ≡ q))
@@ -69,20 +71,20 @@ pub record MarksHold (m : ℕ) (R W : List Column) (work : List ℕ) (j : ℕ) :
 
 -- a place that the walk may have written before the turn of j
 pub data Busy (m flags used : ℕ) (columns : List ℕ) (j k : ℕ) : Type 0 where
-  differs : k < 3 * m → Busy m flags used columns j k
+  differs : k < marksAt m → Busy m flags used columns j k
   plans : InPlan m used columns k → Busy m flags used columns j k
-  marks : 3 * m + (j - 1) ≤ k → k < 4 * m → Busy m flags used columns j k
-  queues : 5 * m + (j - 1) ≤ k → k < 8 * m → Busy m flags used columns j k
-  flagged : flags ≤ k → k < flags + 64 → Busy m flags used columns j k
+  marks : marksAt m + (j - 1) ≤ k → k < startsAt m → Busy m flags used columns j k
+  queues : childrenAt m + (j - 1) ≤ k → k < planAt m → Busy m flags used columns j k
+  flagged : flags ≤ k → k < flags + flagCount → Busy m flags used columns j k
 
 -- the work table before the turn of j: plans of the done columns, marks and queues of the rows to come, no differences
 pub record Walking (m flags : ℕ) (R W : List Column) (adding : Bool) (work₀ work : List ℕ) (j used : ℕ) : Type 0 where
   pub low : 1 ≤ j
   pub high : j ≤ suc m
   pub room : Room m flags work
-  pub plan-room : 8 * m + used ≤ flags
+  pub plan-room : planAt m + used ≤ flags
   pub same-length : length work ≡ length work₀
-  pub zero : (k : ℕ) → k < flags + 64 → getD work₀ k 0 ≡ 0
+  pub zero : (k : ℕ) → k < flags + flagCount → getD work₀ k 0 ≡ 0
   pub plans : PlansTo m (before adding m R W) (after adding m R W) (labelAt m R W) work (done m R W j) 0 0 used
   pub marks : MarksHold m R W work j
   pub flagged : Flagged m flags work (j - 1)
@@ -96,45 +98,25 @@ pub record Begun (m flags : ℕ) (R W : List Column) (adding : Bool) (work₀ wo
   pub high : j ≤ m
   pub touched : isTouched (larger m R W) W j ≡ true
   pub room : Room m flags work
-  pub plan-room : 8 * m + used ≤ flags
+  pub plan-room : planAt m + used ≤ flags
   pub same-length : length work ≡ length work₀
-  pub zero : (k : ℕ) → k < flags + 64 → getD work₀ k 0 ≡ 0
+  pub zero : (k : ℕ) → k < flags + flagCount → getD work₀ k 0 ≡ 0
   pub plans : PlansTo m (before adding m R W) (after adding m R W) (labelAt m R W) work (done m R W j) 0 j used
-  pub starts : cell work (4 * m) (j - 1) ≡ used
+  pub starts : cell work (startsAt m) (j - 1) ≡ used
   pub marks : MarksHold m R W work j
   pub flagged : Flagged m flags work (j - 1)
   pub queues : Queues m work j 0 (standing m R W j)
   pub rest : (k : ℕ) → (Busy m flags used (done m R W (suc j)) j k → ⊥) → getD work k 0 ≡ getD work₀ k 0
 
--- ---- an addition that does not fit stops at column j
+-- ---- a walk that stops since no free record is left
 
--- a place that is not as lent: of some touched columns, of their parents to come, of the starts, of the plan so far
-pub data Dirty (m flags : ℕ) (R W : List Column) (j used : ℕ) (columns : List ℕ) (k : ℕ) : Type 0 where
-  own : (c : ℕ) → Mem c columns → (k ≡ 3 * m + (c - 1)) ⊎ ((k ≡ 4 * m + (c - 1)) ⊎ ((k ≡ 5 * m + (c - 1)) ⊎ (k ≡ 7 * m + (c - 1)))) → Dirty m flags R W j used columns k
-  parent : (c : ℕ) → Mem c columns → c < j → j < treeParent m R W c → (k ≡ 3 * m + (treeParent m R W c - 1)) ⊎ (k ≡ 5 * m + (treeParent m R W c - 1)) → Dirty m flags R W j used columns k
-  other : (c : ℕ) → Mem c columns → 0 < otherParent m R c → k ≡ 6 * m + (otherParent m R c - 1) → Dirty m flags R W j used columns k
-  start : (i : ℕ) → 1 ≤ i → i ≤ length W → k ≡ 3 * m + (startOf W i - 1) → Dirty m flags R W j used columns k
-  planned : 8 * m ≤ k → k < 8 * m + used → Dirty m flags R W j used columns k
-  flag : flags ≤ k → k < flags + 64 → Dirty m flags R W j used columns k
-
--- each of some touched columns leads to the next
-unfoldable pub Leads : (m : ℕ) (work : List ℕ) (columns : List ℕ) → Type 0
-Leads m w [] = Unit {0}
-Leads m w (c ∷ cs) = (cell w (5 * m) (c - 1) ≡ firstOf cs) × Leads m w cs
-
--- the touched columns up to j and where their marks lead: to the tree parent, but for j, which has not stepped up
-pub record Halted (m flags : ℕ) (R W : List Column) (work₀ work : List ℕ) (j used : ℕ) (columns : List ℕ) : Type 0 where
-  pub low : 1 ≤ j
-  pub high : j ≤ m
-  pub room : Room m flags work
-  pub plan-room : 8 * m + used ≤ flags
+-- beyond the first 8 m + used places, but for the flags, the work table is as lent, where it was zero
+pub record Halted (m flags : ℕ) (work₀ work : List ℕ) (used : ℕ) : Type 0 where
+  pub plan-room : planAt m + used ≤ flags
+  pub long : flags + flagCount ≤ length work
   pub same-length : length work ≡ length work₀
-  pub zero : (k : ℕ) → k < flags + 64 → getD work₀ k 0 ≡ 0
-  pub rising : rises 1 m columns ≡ true
-  pub leads : Leads m work columns
-  pub within : (c : ℕ) → Mem c columns → (1 ≤ c) × (c ≤ j)
-  pub marks : (c : ℕ) → Mem c columns → ((c < j) × (markAt m work c / 262144 ≡ treeParent m R W c)) ⊎ ((c ≡ j) × (markAt m work c / 262144 ≡ 0))
-  pub clean : (k : ℕ) → (Dirty m flags R W j used columns k → ⊥) → getD work k 0 ≡ getD work₀ k 0
+  pub zero : (k : ℕ) → k < flags + flagCount → getD work₀ k 0 ≡ 0
+  pub rest : (k : ℕ) → planAt m + used ≤ k → Outside flags flagCount k → getD work k 0 ≡ getD work₀ k 0
 
 -- ---- column j planned: its queues are empty, the differences cleared, and but for them only the queues and the plan changed
 
@@ -149,8 +131,8 @@ pub record Planned (next before-work after-work : List ℕ) (m : ℕ) (R W : Lis
   pub used-low : used ≤ e .used
   pub used-high : e .used ≤ length next
   pub same-length : length after-work ≡ length before-work
-  pub still : (k : ℕ) → 3 * m ≤ k → Outside (6 * m) (2 * m) k → k ≢ 5 * m + (j - 1) → Outside (8 * m + used) (e .used - used) k → getD after-work k 0 ≡ getD before-work k 0
-  pub fits : e .fits ≡ leb (ofKind 1 (planFrom 1 (columnAt (before adding m R W) j .counts) (columnAt (after adding m R W) j .counts))) (length (chain next avail))
+  pub still : (k : ℕ) → marksAt m ≤ k → Outside (lostAt m) (2 * m) k → k ≢ childrenAt m + (j - 1) → Outside (planAt m + used) (e .used - used) k → getD after-work k 0 ≡ getD before-work k 0
+  pub fits : e .fits ≡ leb (ofKind newKind (planFrom 1 (columnAt (before adding m R W) j .counts) (columnAt (after adding m R W) j .counts))) (length (chain next avail))
   pub plan : e .fits ≡ true → emit.Plan next m j used avail (columnAt (before adding m R W) j .counts) (columnAt (after adding m R W) j .counts) after-work e
 
 -- what a caller shows: tables that hold the factor and the turn of j with room for its plan, for some R and W
@@ -163,7 +145,7 @@ pub record SomePlanned (heads parents rows counts next work : List ℕ) (m n j u
   pub turn : Turn m R W adding work j used n 0 (standing m R W j)
   pub linked : Linked next avail (chain next avail)
   pub room : used + sizeOf (columnAt (before adding m R W) j) + length (chain next avail) ≤ length next
-  pub long : 8 * m + length next ≤ length work
+  pub long : planAt m + length next ≤ length work
 
 -- ---- the turn of j, from the batch columns counted to the next row
 
@@ -173,7 +155,7 @@ pub record Setting (heads parents rows counts next : List ℕ) (m flags : ℕ) (
   pub parents-hold : Parents parents m R W adding
   pub multiplicities : Multiplicities heads counts next m R W adding
   pub fitting : Fitting next m R W adding free
-  pub fit : 8 * m + length next ≤ flags
+  pub fit : planAt m + length next ≤ flags
   pub records : length next ≤ 1048576
   pub starts : (k : ℕ) → 1 ≤ k → k ≤ length W → (1 ≤ startOf W k) × (startOf W k ≤ m)
 
@@ -199,17 +181,6 @@ pub record Between (next work₀ work : List ℕ) (m flags : ℕ) (R W : List Co
 
 -- it fits exactly if there are free records for the new rows of j, and then the walk goes on
 pub record Turned (next work₀ work : List ℕ) (m flags : ℕ) (R W : List Column) (adding : Bool) (free j avail₀ : ℕ) (fits : Bool) (first last count entries used avail : ℕ) : Type 0 where
-  pub fits-is : fits ≡ leb (ofKind 1 (planFrom 1 (columnAt (before adding m R W) j .counts) (columnAt (after adding m R W) j .counts))) (length (chain next avail₀))
+  pub fits-is : fits ≡ leb (ofKind newKind (planFrom 1 (columnAt (before adding m R W) j .counts) (columnAt (after adding m R W) j .counts))) (length (chain next avail₀))
   pub onward : fits ≡ true → Between next work₀ work m flags R W adding free (suc j) first last count entries used avail
-  pub halted : adding ≡ true → fits ≡ false → (Halted m flags R W work₀ work j used (done m R W (suc j)) × (first ≡ firstOf (done m R W (suc j)))) × (last ≡ j)
-
--- ---- the walk, from the marked starts to the end
-
--- what a caller shows: tables that hold the factor and a work table where the starts are marked, for some R and W
-pub record SomeWalk (heads parents rows counts next work : List ℕ) (m flags : ℕ) (adding : Bool) (avail : ℕ) : Type 0 where
-  pub R : List Column
-  pub W : List Column
-  pub work₀ : List ℕ
-  pub setting : Setting heads parents rows counts next m flags R W adding (length (chain next avail))
-  pub walking : Walking m flags R W adding work₀ work 1 0
-  pub linked : Linked next avail (chain next avail)
+  pub halted : fits ≡ false → Halted m flags work₀ work used

@@ -1,13 +1,12 @@
 -- The walk of a batch W beside the columns R, in the tree of R ++ W, and the turn of column j in it: which queue a done column waits in, what of j's
 -- multiplicities is counted so far, the plans of done columns. Adding goes from R to R ++ W, removing back. Assumes nothing: these are definitions.
 use mathlib.Core.Path.{_≡_}
-use mathlib.Core.Logic.{_⊎_}
 use mathlib.Core.Bool.{Bool, true, false, _&&_, _||_, not}
 use mathlib.Core.List.{List, [], _∷_, _++_}
-use Prim.Native.Nat.{ℕ, suc, _+_, _-_, _*_, _≤_, _<_}
+use Prim.Native.Nat.{ℕ, _+_, _-_, _≤_, _<_}
 use lib.Dec.{ltb, leb, eqb}
 use Rattle.lists.specs.Lists.{pick}
-use Rattle.symbolic.specs.Columns.{Column, startingWith}
+use Rattle.symbolic.specs.Columns.{Column}
 use Rattle.symbolic.specs.Factor.{FactorColumn, factorOf, columnAt, multiplicity, parentOf}
 use Rattle.symbolic.specs.Batch.{isTouched, touchedFrom, labelOf}
 use Rattle.symbolic.specs.Steps.{countSoFar}

@@ -2,15 +2,16 @@
 -- turn of column j, while a queue is emptied and between; a promise holds for all columns R and W that the tables suit. Assumes nothing.
 use mathlib.Core.Path.{_≡_}
 use mathlib.Core.Logic.{_⊎_, _≢_}
-use mathlib.Core.Bool.{Bool, true, false}
+use mathlib.Core.Bool.{Bool, true}
 use mathlib.Core.List.{List, _++_}
-use Prim.Native.Nat.{ℕ, suc, _+_, _-_, _*_, _≤_, _<_}
+use Prim.Native.Nat.{ℕ, suc, _+_, _-_, _*_, _≤_}
 use lib.Dec.{eqb}
 use lib.ListN.{length, getD}
 use Rattle.lists.specs.Lists.{at}
 use Rattle.symbolic.specs.Columns.{Column, startingWith}
 use Rattle.symbolic.specs.Factor.{columnAt, parentOf}
 use Rattle.workspace.specs.Regions.{cell, Outside}
+use Rattle.workspace.specs.Layout.{marksAt, startsAt, childrenAt, lostAt, planAt}
 use Rattle.updown.specs.Queues.{links, Queue, Queues}
 use Rattle.updown.specs.Children.{ChainOf}
 use Rattle.updown.specs.Turns.{before, after, labelAt, done, standing, isHere, PlansTo, Tallied}
@@ -37,9 +38,9 @@ pub record Parents (parents : List ℕ) (m : ℕ) (R W : List Column) (adding : 
 pub record Turn (m : ℕ) (R W : List Column) (adding : Bool) (work : List ℕ) (j used n except : ℕ) (place : ℕ → ℕ) : Type 0 where
   pub low : 1 ≤ j
   pub high : j ≤ m
-  pub long : 8 * m + used ≤ length work
+  pub long : planAt m + used ≤ length work
   pub plans : PlansTo m (before adding m R W) (after adding m R W) (labelAt m R W) work (done m R W j) 0 j used
-  pub starts : cell work (4 * m) (j - 1) ≡ used
+  pub starts : cell work (startsAt m) (j - 1) ≡ used
   pub queues : Queues m work j except place
   pub places : (c : ℕ) → 1 ≤ c → c ≤ m → (place c ≡ standing m R W j c) ⊎ ((isHere m j (standing m R W j c) ≡ true) × (place c ≡ standing m R W (suc j) c))
   pub tallied : Tallied m R W adding work n j (λ i. startingWith j i (R ++ W)) place
@@ -47,11 +48,11 @@ pub record Turn (m : ℕ) (R W : List Column) (adding : Bool) (work : List ℕ) 
 -- queue h is emptied, from cur on
 pub record Drain (m : ℕ) (work : List ℕ) (h cur : ℕ) (place : ℕ → ℕ) : Type 0 where
   pub here : Queue (links m work) cur (λ c. eqb (place c) h)
-  pub empty : cell work (5 * m) (h - 1) ≡ 0
+  pub empty : cell work (childrenAt m) (h - 1) ≡ 0
 
 -- what the queues' turns leave: all but the differences, the queues of other parents and the links, and the head of j's own queue
 abbrev pub Still : (m j : ℕ) (before after : List ℕ) → Type 0
-Still m j w w′ = (k : ℕ) → 3 * m ≤ k → Outside (6 * m) (2 * m) k → k ≢ 5 * m + (j - 1) → getD w′ k 0 ≡ getD w k 0
+Still m j w w′ = (k : ℕ) → marksAt m ≤ k → Outside (lostAt m) (2 * m) k → k ≢ childrenAt m + (j - 1) → getD w′ k 0 ≡ getD w k 0
 
 -- queue h was emptied: nobody waits there, and nobody more anywhere in j's queues
 pub record Emptied (m : ℕ) (R W : List Column) (adding : Bool) (before after : List ℕ) (j used n h : ℕ) (place₀ : ℕ → ℕ) : Type 0 where

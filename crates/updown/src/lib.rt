@@ -8,7 +8,6 @@ ghost use Rattle.symbolic.specs.Columns.{Column};
 ghost use Rattle.book.specs.Book.{tablesOf};
 ghost use Rattle.updown.specs.Entries.{CanAdd, SomeAdd, AddPlanned, CanRemove, SomeRemove, RemovePlanned};
 
-mod clears;
 mod marks;
 mod queues;
 mod starts;
@@ -16,6 +15,16 @@ mod turns;
 mod walks;
 
 use pool::Rec;
+use workspace::FLAGS;
+use workspace::PLAN;
+use workspace::RECORD_PLACES;
+
+// A mark: a bit where a batch column starts, the label by one weight, the new parent by another.
+pub const START_BIT: u32 = 2;
+
+pub const LABEL_WEIGHT: u32 = 4;
+
+pub const PARENT_WEIGHT: u32 = 262144;
 
 // What was planned: whether it fits, the first touched column, their number, the entries after the batch, and the places of the plan.
 pub struct Plan {
@@ -43,7 +52,7 @@ pub fn plan_add(
     ensures { λ p. ⌜ ((R W : List Column) → CanAdd (storedOf (now (heads .entry)) (now (parents .entry)) (now (rows .entry)) (now (counts .entry)) (now (next .entry)) (free .0)) (now («row_counts» .entry)) (now («row_list» .entry)) (now (work .entry)) R W → AddPlanned (storedOf (now (heads .entry)) (now (parents .entry)) (now (rows .entry)) (now (counts .entry)) (now (next .entry)) (free .0)) R W (now (work .entry)) (now (work .exit)) (p .fits) (p .first) (p .count) (p .entries) (p .used)) ⌝ }
 {
     let m = heads.len();
-    let flags = 8 * m + 4 * next.len();
+    let flags = PLAN * m + RECORD_PLACES * next.len();
     starts::mark_listed(work, row_counts, row_list, m, flags);
     let walk = walks::walk_add(
         heads,
@@ -58,8 +67,8 @@ pub fn plan_add(
         flags,
         free,
     );
+    workspace::clear(work, flags, FLAGS);
     if walk.fits {
-        workspace::clear(work, flags, 64);
         return Plan {
             fits: true,
             first: walk.first,
@@ -68,10 +77,7 @@ pub fn plan_add(
             used: walk.used as u32,
         };
     }
-    clears::clear_turns(parents, work, m, walk.first, walk.last);
-    clears::clear_starts(work, row_counts, row_list, m);
-    workspace::clear(work, 8 * m, walk.used);
-    workspace::clear(work, flags, 64);
+    workspace::clear(work, 0, PLAN * m + walk.used);
     Plan {
         fits: false,
         first: 0,
@@ -98,7 +104,7 @@ pub fn plan_remove(
     ensures { λ p. ⌜ ((R W : List Column) → CanRemove (storedOf (now (heads .entry)) (now (parents .entry)) (now (rows .entry)) (now (counts .entry)) (now (next .entry)) 0) (tablesOf (now («book_heads» .entry)) (now («book_rows» .entry)) (now («book_next» .entry))) (now (ids .entry)) (now (work .entry)) R W → RemovePlanned (storedOf (now (heads .entry)) (now (parents .entry)) (now (rows .entry)) (now (counts .entry)) (now (next .entry)) 0) R W (now (work .entry)) (now (work .exit)) (p .fits) (p .first) (p .count) (p .entries) (p .used)) ⌝ }
 {
     let m = heads.len();
-    let flags = 8 * m + 4 * next.len();
+    let flags = PLAN * m + RECORD_PLACES * next.len();
     starts::mark_booked(book_heads, book_rows, work, ids, m, flags);
     let walk = walks::walk_remove(
         heads,
@@ -114,7 +120,7 @@ pub fn plan_remove(
         m,
         flags,
     );
-    workspace::clear(work, flags, 64);
+    workspace::clear(work, flags, FLAGS);
     Plan {
         fits: true,
         first: walk.first,

@@ -2,15 +2,20 @@
 ghost use mathlib.Core.Path.{_≡_};
 ghost use Prim.Native.Nat.{_+_, _*_, _≤_};
 ghost use Rattle.updown.specs.Marks.{Room, marked, raised, Flagged, Next};
+ghost use Rattle.updown.specs.Plans.{startBit, labelWeight};
+use crate::LABEL_WEIGHT;
+use crate::START_BIT;
+use workspace::BLOCK;
+use workspace::MARKS;
 
 // Marks a row where the batch column at position k starts; positions come rising.
 pub fn mark_start(work: &mut [u32], m: usize, flags: usize, row: u32, k: u32)
     requires { ⌜ Room m flags (now work) × (1 ≤ row) × (row ≤ m) × (k ≤ 64) ⌝ }
-    ensures { λ r. ⌜ now (work .exit) ≡ marked m flags (now (work .entry)) row (4 * k + 2) ⌝ }
+    ensures { λ r. ⌜ now (work .exit) ≡ marked m flags (now (work .entry)) row (labelWeight * k + startBit) ⌝ }
 {
     let i = (row - 1) as usize;
-    work[3 * m + i] = 4 * k + 2;
-    work[flags + i / 64] = 1;
+    work[MARKS * m + i] = LABEL_WEIGHT * k + START_BIT;
+    work[flags + i / BLOCK] = 1;
 }
 
 // Marks a tree parent with at least a child's label.
@@ -19,10 +24,10 @@ pub fn mark_parent(work: &mut [u32], m: usize, flags: usize, row: u32, label: u3
     ensures { λ r. ⌜ now (work .exit) ≡ raised m flags (now (work .entry)) row label ⌝ }
 {
     let i = (row - 1) as usize;
-    let x = work[3 * m + i];
-    if x / 4 < label {
-        work[3 * m + i] = 4 * label + x % 4;
-        work[flags + i / 64] = 1;
+    let x = work[MARKS * m + i];
+    if x / LABEL_WEIGHT < label {
+        work[MARKS * m + i] = LABEL_WEIGHT * label + x % LABEL_WEIGHT;
+        work[flags + i / BLOCK] = 1;
     }
 }
 
@@ -33,10 +38,10 @@ pub fn next_marked(work: &[u32], m: usize, flags: usize, from: usize) -> u32
 {
     let mut i = from;
     while i < m {
-        if work[flags + i / 64] == 0 {
-            i = i / 64 * 64 + 64;
+        if work[flags + i / BLOCK] == 0 {
+            i = i / BLOCK * BLOCK + BLOCK;
         } else {
-            if work[3 * m + i] != 0 {
+            if work[MARKS * m + i] != 0 {
                 return (i + 1) as u32;
             }
             i += 1;

@@ -10,15 +10,25 @@ ghost use Rattle.updown.specs.Marks.{endAt, otherAt, passedOn};
 ghost use Rattle.updown.specs.Children.{Steady, Bumps, PlanOf, ChainOf, oldOf, keptRow, wholeRow, SomePlan, SomeColumn};
 ghost use Rattle.symbolic.specs.Columns.{Column};
 ghost use Rattle.updown.specs.Walks.{Columns, Parents, Turn, Emptied, SomeTurn, SomeTurnUp};
+ghost use Rattle.workspace.specs.Layout.{nextAt, linksAt, planAt};
+use crate::PARENT_WEIGHT;
 use pool::Rec;
+use workspace::CHILDREN;
+use workspace::GONE;
+use workspace::LINKS;
+use workspace::LOST;
+use workspace::MARKS;
+use workspace::NEW;
+use workspace::NEXT;
+use workspace::STARTS;
 
 // Where the plan of a column before the last touched one ends: where the plan of the next touched one starts.
 fn plan_end(work: &[u32], m: usize, c: u32) -> usize
-    requires { ⌜ (8 * m ≤ length (now work)) × (m ≤ 4096) × (1 ≤ c) × (c ≤ m) × (1 ≤ cell (now work) (5 * m) (c - 1)) × (cell (now work) (5 * m) (c - 1) ≤ m) ⌝ }
+    requires { ⌜ (planAt m ≤ length (now work)) × (m ≤ 4096) × (1 ≤ c) × (c ≤ m) × (1 ≤ cell (now work) (nextAt m) (c - 1)) × (cell (now work) (nextAt m) (c - 1) ≤ m) ⌝ }
     ensures { λ r. ⌜ r ≡ endAt m (now (work .entry)) c ⌝ }
 {
-    let next = work[5 * m + (c - 1) as usize];
-    work[4 * m + (next - 1) as usize] as usize
+    let next = work[NEXT * m + (c - 1) as usize];
+    work[STARTS * m + (next - 1) as usize] as usize
 }
 
 // The second record of a column.
@@ -32,14 +42,14 @@ fn second(heads: &[u32], next: &[u32], c: u32) -> Rec
 
 // The parent of a done column without the batch: its old one when adding, its new one when removing.
 fn other_parent(parents: &[u16], work: &[u32], m: usize, c: u32, adding: bool) -> u32
-    requires { ⌜ (8 * m ≤ length (now work)) × (m ≤ 4096) × (1 ≤ c) × (c ≤ m) × (length (now parents) ≡ m) ⌝ }
+    requires { ⌜ (planAt m ≤ length (now work)) × (m ≤ 4096) × (1 ≤ c) × (c ≤ m) × (length (now parents) ≡ m) ⌝ }
     ensures { λ r. ⌜ r ≡ otherAt (now (parents .entry)) (now (work .entry)) m c adding ⌝ }
 {
     let i = (c - 1) as usize;
     if adding {
         return parents[i] as u32;
     }
-    work[3 * m + i] / 262144
+    work[MARKS * m + i] / PARENT_WEIGHT
 }
 
 // B. Counts the rows that a column kept as a child has with the batch alone: its new rows up when adding, its gone rows down when removing. Gives the number
@@ -48,13 +58,13 @@ fn count_kept(work: &mut [u32], m: usize, n: usize, c: u32, adding: bool) -> usi
     requires { ⌜ Steady m (now work) n × SomePlan (now work) m c adding ⌝ }
     ensures { λ r. ⌜ ((more less : List ℕ) → PlanOf (now (work .entry)) m c adding more less → Bumps m (now (work .entry)) (now (work .exit)) r adding (keptRow more less)) ⌝ }
 {
-    let from = work[4 * m + (c - 1) as usize] as usize;
+    let from = work[STARTS * m + (c - 1) as usize] as usize;
     let to = plan_end(work, m, c);
     if adding {
-        let g = differences::gather_plan(work, m, from, to, 1);
+        let g = differences::gather_plan(work, m, from, to, NEW);
         return differences::count_rows(work, m, n, g, true);
     }
-    let k = differences::gather_plan(work, m, from, to, 2);
+    let k = differences::gather_plan(work, m, from, to, GONE);
     differences::count_rows(work, m, n, k, false)
 }
 
@@ -74,7 +84,7 @@ fn count_with(
 {
     let r = second(heads, next, c);
     if adding {
-        let from = work[4 * m + (c - 1) as usize] as usize;
+        let from = work[STARTS * m + (c - 1) as usize] as usize;
         let to = plan_end(work, m, c);
         let g = differences::gather_grown(rows, next, work, m, r, from, to);
         return differences::count_rows(work, m, n, g, true);
@@ -102,7 +112,7 @@ fn count_without(
         let g = differences::gather_chain(rows, next, work, m, r);
         return differences::count_rows(work, m, n, g, false);
     }
-    let from = work[4 * m + (c - 1) as usize] as usize;
+    let from = work[STARTS * m + (c - 1) as usize] as usize;
     let to = plan_end(work, m, c);
     let k = differences::gather_pruned(rows, next, work, m, r, from, to);
     differences::count_rows(work, m, n, k, true)
@@ -131,10 +141,10 @@ fn count_child(
 
 // Takes a column out of the queue of its tree parent, and puts it into that of its other parent, if that is another one. Gives the next in the queue.
 fn pass_on(work: &mut [u32], m: usize, c: u32, j: u32, other: u32) -> u32
-    requires { ⌜ (8 * m ≤ length (now work)) × (m ≤ 4096) × (1 ≤ c) × (c ≤ m) × (other ≤ m) ⌝ }
-    ensures { λ r. ⌜ (r ≡ cell (now (work .entry)) (7 * m) (c - 1)) × (now (work .exit) ≡ passedOn m (now (work .entry)) c j other) ⌝ }
+    requires { ⌜ (planAt m ≤ length (now work)) × (m ≤ 4096) × (1 ≤ c) × (c ≤ m) × (other ≤ m) ⌝ }
+    ensures { λ r. ⌜ (r ≡ cell (now (work .entry)) (linksAt m) (c - 1)) × (now (work .exit) ≡ passedOn m (now (work .entry)) c j other) ⌝ }
 {
-    let i = 7 * m + (c - 1) as usize;
+    let i = LINKS * m + (c - 1) as usize;
     let after = work[i];
     if other == j {
         work[i] = 0;
@@ -144,7 +154,7 @@ fn pass_on(work: &mut [u32], m: usize, c: u32, j: u32, other: u32) -> u32
         work[i] = 0;
         return after;
     }
-    let q = 6 * m + (other - 1) as usize;
+    let q = LOST * m + (other - 1) as usize;
     work[i] = work[q];
     work[q] = c;
     after
@@ -165,7 +175,7 @@ pub fn count_children(
     requires { ⌜ SomeTurnUp (now heads) (now parents) (now rows) (now next) (now work) m j n adding ⌝ }
     ensures { λ r. ⌜ ((R W : List Column) (used : ℕ) (place : ℕ → ℕ) → Columns (now (heads .entry)) (now (rows .entry)) (now (next .entry)) m R W adding → Parents (now (parents .entry)) m R W adding → Turn m R W adding (now (work .entry)) j used n 0 place → Emptied m R W adding (now (work .entry)) (now (work .exit)) j used r j place) ⌝ }
 {
-    let head = 5 * m + (j - 1) as usize;
+    let head = CHILDREN * m + (j - 1) as usize;
     let mut c = work[head];
     work[head] = 0;
     let mut l = n;
@@ -191,13 +201,13 @@ pub fn count_lost(
     requires { ⌜ SomeTurn (now heads) (now rows) (now next) (now work) m j n adding ⌝ }
     ensures { λ r. ⌜ ((R W : List Column) (used : ℕ) (place : ℕ → ℕ) → Columns (now (heads .entry)) (now (rows .entry)) (now (next .entry)) m R W adding → Turn m R W adding (now (work .entry)) j used n 0 place → Emptied m R W adding (now (work .entry)) (now (work .exit)) j used r (m + j) place) ⌝ }
 {
-    let head = 6 * m + (j - 1) as usize;
+    let head = LOST * m + (j - 1) as usize;
     let mut c = work[head];
     work[head] = 0;
     let mut l = n;
     while c != 0 {
         l = count_without(heads, rows, next, work, m, l, c, adding);
-        let i = 7 * m + (c - 1) as usize;
+        let i = LINKS * m + (c - 1) as usize;
         c = work[i];
         work[i] = 0;
     }

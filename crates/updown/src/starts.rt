@@ -9,8 +9,14 @@ ghost use Rattle.symbolic.specs.Columns.{Column};
 ghost use Rattle.updown.specs.States.{startOf};
 ghost use Rattle.updown.specs.Entries.{Listed};
 ghost use Rattle.updown.specs.Starts.{StartsTo, CanMark, SomeMark, CanStart, Started, SomeStart, BookHolds, CanMarkBooked, SomeMarkBooked, SomeStartBooked};
+ghost use Rattle.workspace.specs.Layout.{startsAt};
+ghost use Rattle.updown.specs.Plans.{startBit, labelWeight};
+use crate::LABEL_WEIGHT;
+use crate::START_BIT;
 use crate::marks;
 use book::Id;
+use workspace::BUFFER;
+use workspace::MARKS;
 
 // Marks where the columns start whose rows stand one after another in a list.
 pub fn mark_listed(work: &mut [u32], row_counts: &[u32], row_list: &[u32], m: usize, flags: usize)
@@ -89,8 +95,8 @@ fn count_booked(
         let id = ids[k];
         let row = book::smallest_row(book_heads, book_rows, Id(id));
         if row.0 == j {
-            let a = 2 * m;
-            let e = 3 * m;
+            let a = BUFFER * m;
+            let e = MARKS * m;
             let g = book::copy_rows(book_heads, book_rows, book_next, &mut work[a..e], Id(id));
             n = differences::count_rows(work, m, n, g as usize, false);
             k += 1;
@@ -109,10 +115,10 @@ pub fn start_listed(
     m: usize,
     j: u32,
 ) -> usize
-    requires { ⌜ SomeStart (now «row_counts») (now «row_list») m (now work) j × (4 * m ≤ length (now work)) ⌝ }
-    ensures { λ r. ⌜ ((R W : List Column) (place : ℕ → ℕ) → Listed (now («row_counts» .entry)) (now («row_list» .entry)) W → CanStart m R W true (now (work .entry)) j place → ((i : ℕ) → 1 ≤ i → i ≤ length W → startOf W i ≡ j → markAt m (now (work .entry)) j % 4 ≡ 2) → Started m R W true (now (work .entry)) (now (work .exit)) r j place) ⌝ }
+    requires { ⌜ SomeStart (now «row_counts») (now «row_list») m (now work) j × (startsAt m ≤ length (now work)) ⌝ }
+    ensures { λ r. ⌜ ((R W : List Column) (place : ℕ → ℕ) → Listed (now («row_counts» .entry)) (now («row_list» .entry)) W → CanStart m R W true (now (work .entry)) j place → ((i : ℕ) → 1 ≤ i → i ≤ length W → startOf W i ≡ j → markAt m (now (work .entry)) j % labelWeight ≡ startBit) → Started m R W true (now (work .entry)) (now (work .exit)) r j place) ⌝ }
 {
-    if work[3 * m + (j - 1) as usize] % 4 == 2 {
+    if work[MARKS * m + (j - 1) as usize] % LABEL_WEIGHT == START_BIT {
         return count_listed(work, row_counts, row_list, m, j);
     }
     0
@@ -128,10 +134,10 @@ pub fn start_booked(
     m: usize,
     j: u32,
 ) -> usize
-    requires { ⌜ SomeStartBooked (now «book_heads») (now «book_rows») (now «book_next») (now ids) m (now work) j × (4 * m ≤ length (now work)) ⌝ }
-    ensures { λ r. ⌜ ((R W : List Column) (place : ℕ → ℕ) → BookHolds (now («book_heads» .entry)) (now («book_rows» .entry)) (now («book_next» .entry)) (now (ids .entry)) m W → CanStart m R W false (now (work .entry)) j place → ((i : ℕ) → 1 ≤ i → i ≤ length W → startOf W i ≡ j → markAt m (now (work .entry)) j % 4 ≡ 2) → Started m R W false (now (work .entry)) (now (work .exit)) r j place) ⌝ }
+    requires { ⌜ SomeStartBooked (now «book_heads») (now «book_rows») (now «book_next») (now ids) m (now work) j × (startsAt m ≤ length (now work)) ⌝ }
+    ensures { λ r. ⌜ ((R W : List Column) (place : ℕ → ℕ) → BookHolds (now («book_heads» .entry)) (now («book_rows» .entry)) (now («book_next» .entry)) (now (ids .entry)) m W → CanStart m R W false (now (work .entry)) j place → ((i : ℕ) → 1 ≤ i → i ≤ length W → startOf W i ≡ j → markAt m (now (work .entry)) j % labelWeight ≡ startBit) → Started m R W false (now (work .entry)) (now (work .exit)) r j place) ⌝ }
 {
-    if work[3 * m + (j - 1) as usize] % 4 == 2 {
+    if work[MARKS * m + (j - 1) as usize] % LABEL_WEIGHT == START_BIT {
         return count_booked(book_heads, book_rows, book_next, work, ids, m, j);
     }
     0

@@ -12,11 +12,19 @@ ghost use Rattle.pool.specs.Chains.{chain};
 ghost use Rattle.updown.specs.Turns.{before, standing};
 ghost use Rattle.updown.specs.States.{Multiplicities, Planned, SomePlanned, Setting, Turning, SomeTurning, Turned};
 ghost use Rattle.updown.specs.Walks.{Columns, Parents, Turn};
+ghost use Rattle.workspace.specs.Layout.{planAt};
+use crate::LABEL_WEIGHT;
+use crate::PARENT_WEIGHT;
 use crate::marks;
 use crate::queues;
 use book::Row;
 use emission::Emission;
 use pool::Rec;
+use workspace::CHILDREN;
+use workspace::LINKS;
+use workspace::MARKS;
+use workspace::NEXT;
+use workspace::STARTS;
 
 // How far a walk came: whether all fits, the first and the last touched column, their number, the entries, the places of the plan, the free records left.
 pub struct Walk {
@@ -31,15 +39,15 @@ pub struct Walk {
 
 // Begins the turn of j after the last touched column: the list of touched columns goes on to j, and j's plan starts at used.
 pub fn begin(work: &mut [u32], m: usize, last: u32, j: u32, used: usize)
-    requires { ⌜ (8 * m ≤ length (now work)) × (m ≤ 4096) × (last ≤ m) × (1 ≤ j) × (j ≤ m) × (used ≤ 1048576) ⌝ }
+    requires { ⌜ (planAt m ≤ length (now work)) × (m ≤ 4096) × (last ≤ m) × (1 ≤ j) × (j ≤ m) × (used ≤ 1048576) ⌝ }
     ensures { λ _. ⌜ now (work .exit) ≡ begun m (now (work .entry)) last j used ⌝ }
 {
     if last == 0 {
-        work[4 * m + (j - 1) as usize] = used as u32;
+        work[STARTS * m + (j - 1) as usize] = used as u32;
         return;
     }
-    work[5 * m + (last - 1) as usize] = j;
-    work[4 * m + (j - 1) as usize] = used as u32;
+    work[NEXT * m + (last - 1) as usize] = j;
+    work[STARTS * m + (j - 1) as usize] = used as u32;
 }
 
 // B, C and D for column j, then its plan, from place used on, with free records from avail on.
@@ -83,14 +91,14 @@ fn step_up(work: &mut [u32], m: usize, flags: usize, j: u32, parent: u32, up: u3
     ensures { λ _. ⌜ now (work .exit) ≡ steppedUp m flags (now (work .entry)) j parent up ⌝ }
 {
     let i = (j - 1) as usize;
-    let x = work[3 * m + i];
-    work[3 * m + i] = x + 262144 * parent;
+    let x = work[MARKS * m + i];
+    work[MARKS * m + i] = x + PARENT_WEIGHT * parent;
     if up == 0 {
         return;
     }
-    marks::mark_parent(work, m, flags, up, x / 4);
-    let q = 5 * m + (up - 1) as usize;
-    work[7 * m + i] = work[q];
+    marks::mark_parent(work, m, flags, up, x / LABEL_WEIGHT);
+    let q = CHILDREN * m + (up - 1) as usize;
+    work[LINKS * m + i] = work[q];
     work[q] = j;
 }
 
@@ -123,16 +131,15 @@ fn advance(walk: Walk, j: u32, e: Emission) -> Walk
     }
 }
 
-// The numbers of a walk that ends at j, since no free record is left.
-fn stopped(walk: Walk, j: u32, e: Emission) -> Walk
-    ensures { λ r. ⌜ (r .fits ≡ e .fits) × (r .first ≡ pick (eqb (walk .first) 0) j (walk .first)) × (r .last ≡ j) × (r .used ≡ e .used) ⌝ }
+// The numbers of a walk that ends, since no free record is left.
+fn stopped(walk: Walk, e: Emission) -> Walk
+    ensures { λ r. ⌜ (r .fits ≡ e .fits) × (r .used ≡ e .used) ⌝ }
 {
     let avail = e.avail;
-    let first = first_of(walk.first, j);
     Walk {
         fits: e.fits,
-        first: first,
-        last: j,
+        first: walk.first,
+        last: walk.last,
         count: walk.count,
         entries: walk.entries,
         used: e.used,
@@ -180,5 +187,5 @@ pub fn turn(
         step_up(work, m, flags, j, parent, up);
         return advance(walk, j, e);
     }
-    stopped(walk, j, e)
+    stopped(walk, e)
 }

@@ -7,16 +7,16 @@ use native.Mathlib.Omega.{arith}
 use Rattle.workspace.specs.Layout.{
   workNeed,
   difference,
-  rowList,
-  mergeBuffer,
-  marks,
-  planStart,
-  firstChild,
-  firstLost,
-  link,
-  plan,
+  rowsAt,
+  bufferAt,
+  marksAt,
+  startsAt,
+  childrenAt,
+  lostAt,
+  linksAt,
+  planAt,
   spare,
-  small,
+  flagsAt,
   readThrough,
   counters,
   childHead,
@@ -25,39 +25,40 @@ use Rattle.workspace.specs.Layout.{
   stashStart,
   factorMarks,
   rowStash,
+  small,
   bookMarks,
   columnNext,
 }
 
 -- a batch: field by field, the end of a region is the start of the next
 pub record BatchRegions (m n f c : ℕ) : Type 0 where
-  pub difference-end : difference + m ≡ rowList m
-  pub row-list-end : rowList m + m ≡ mergeBuffer m
-  pub merge-buffer-end : mergeBuffer m + m ≡ marks m
-  pub marks-end : marks m + m ≡ planStart m
-  pub plan-start-end : planStart m + m ≡ firstChild m
-  pub first-child-end : firstChild m + m ≡ firstLost m
-  pub first-lost-end : firstLost m + m ≡ link m
-  pub link-end : link m + m ≡ plan m
-  pub plan-end : plan m + f ≡ spare m f
-  pub spare-end : spare m f + 3 * f ≡ small m f
-  pub small-end : small m f + 1024 ≡ readThrough m f
+  pub difference-end : difference + m ≡ rowsAt m
+  pub rows-end : rowsAt m + m ≡ bufferAt m
+  pub buffer-end : bufferAt m + m ≡ marksAt m
+  pub marks-end : marksAt m + m ≡ startsAt m
+  pub starts-end : startsAt m + m ≡ childrenAt m
+  pub children-end : childrenAt m + m ≡ lostAt m
+  pub lost-end : lostAt m + m ≡ linksAt m
+  pub links-end : linksAt m + m ≡ planAt m
+  pub plan-end : planAt m + f ≡ spare m f
+  pub spare-end : spare m f + 3 * f ≡ flagsAt m f
+  pub flags-end : flagsAt m f + 1024 ≡ readThrough m f
   pub read-through-end : readThrough m f + (c + n) ≡ workNeed m n f c
 
 pub batch-regions : (m n f c : ℕ) → BatchRegions m n f c
 batch-regions m n f c =
     record {
       difference-end = omega arith;
-      row-list-end = omega arith;
-      merge-buffer-end = omega arith;
+      rows-end = omega arith;
+      buffer-end = omega arith;
       marks-end = omega arith;
-      plan-start-end = omega arith;
-      first-child-end = omega arith;
-      first-lost-end = omega arith;
-      link-end = omega arith;
+      starts-end = omega arith;
+      children-end = omega arith;
+      lost-end = omega arith;
+      links-end = omega arith;
       plan-end = omega arith;
       spare-end = omega arith;
-      small-end = omega arith;
+      flags-end = omega arith;
       read-through-end = omega arith;
     }
 
@@ -69,7 +70,8 @@ pub record ReadRegions (m n f c : ℕ) : Type 0 where
   pub column-head-end : columnHead m + m ≡ stashStart m
   pub stash-start-end : stashStart m + (m + 1) ≤ factorMarks m
   pub factor-marks-end : factorMarks m + f ≡ rowStash m f
-  pub row-stash-end : rowStash m f + f ≤ bookMarks m f
+  pub row-stash-end : rowStash m f + f ≤ small m f
+  pub small-end : small m f + 1024 ≡ bookMarks m f
   pub book-marks-end : bookMarks m f + c ≡ columnNext m f c
   pub column-next-end : columnNext m f c + n ≡ workNeed m n f c
 
@@ -83,6 +85,7 @@ read-regions m n f c h =
       stash-start-end = omega arith;
       factor-marks-end = omega arith;
       row-stash-end = omega arith;
+      small-end = omega arith;
       book-marks-end = omega arith;
       column-next-end = omega arith;
     }

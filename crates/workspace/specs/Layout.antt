@@ -14,44 +14,56 @@ abbrev pub difference : ℕ
 difference = 0
 
 -- the touched rows, rising
-abbrev pub rowList : (m : ℕ) → ℕ
-rowList m = m
+abbrev pub rowsAt : (m : ℕ) → ℕ
+rowsAt m = m
 
--- the row list while it is merged with a child's
-abbrev pub mergeBuffer : (m : ℕ) → ℕ
-mergeBuffer m = 2 * m
+-- rows gathered to be counted; those of them that were not touched are then merged into the touched rows
+abbrev pub bufferAt : (m : ℕ) → ℕ
+bufferAt m = 2 * m
 
--- per column: mark, label and new parent, packed
-abbrev pub marks : (m : ℕ) → ℕ
-marks m = 3 * m
+-- per column: its mark, with label and new parent
+abbrev pub marksAt : (m : ℕ) → ℕ
+marksAt m = 3 * m
 
 -- per column: where its planned entries begin
-abbrev pub planStart : (m : ℕ) → ℕ
-planStart m = 4 * m
+abbrev pub startsAt : (m : ℕ) → ℕ
+startsAt m = 4 * m
 
--- per column: its first touched child, the head of a queue
-abbrev pub firstChild : (m : ℕ) → ℕ
-firstChild m = 5 * m
+-- per column, until its turn: its first touched child, the head of a queue
+abbrev pub childrenAt : (m : ℕ) → ℕ
+childrenAt m = 5 * m
 
--- per column: its first lost child, the head of a queue
-abbrev pub firstLost : (m : ℕ) → ℕ
-firstLost m = 6 * m
+-- the same places after its turn: the next touched column
+abbrev pub nextAt : (m : ℕ) → ℕ
+nextAt m = childrenAt m
+
+-- per column: its first lost child (removing: gained), the head of a queue
+abbrev pub lostAt : (m : ℕ) → ℕ
+lostAt m = 6 * m
 
 -- per column: the next in the one queue that it is in
-abbrev pub link : (m : ℕ) → ℕ
-link m = 7 * m
+abbrev pub linksAt : (m : ℕ) → ℕ
+linksAt m = 7 * m
 
 -- the planned entries, F places
-abbrev pub plan : (m : ℕ) → ℕ
-plan m = 8 * m
+abbrev pub planAt : (m : ℕ) → ℕ
+planAt m = 8 * m
 
 -- free in the base, 3F places
 abbrev pub spare : (m f : ℕ) → ℕ
 spare m f = 8 * m + f
 
--- counts of marked columns by block of 64, smallest rows of the batch, rows copied out: 1,024 places
-abbrev pub small : (m f : ℕ) → ℕ
-small m f = 8 * m + 4 * f
+-- per block of rows: whether one of them was marked, flagCount places of 1,024
+abbrev pub flagsAt : (m f : ℕ) → ℕ
+flagsAt m f = 8 * m + 4 * f
+
+-- rows of a block
+abbrev pub blockRows : ℕ
+blockRows = 64
+
+-- blocks of 4,096 rows, a flag for each
+abbrev pub flagCount : ℕ
+flagCount = 64
 
 -- left to the read-through, C + n places
 abbrev pub readThrough : (m f : ℕ) → ℕ
@@ -86,6 +98,10 @@ factorMarks m = 8 * m
 -- the rows met, column by column, F places
 abbrev pub rowStash : (m f : ℕ) → ℕ
 rowStash m f = 8 * m + f
+
+-- the rows of one book column, copied out, 256 places of 1,024
+abbrev pub small : (m f : ℕ) → ℕ
+small m f = 8 * m + 4 * f
 
 -- per record of the book: met or not, C places
 abbrev pub bookMarks : (m f : ℕ) → ℕ

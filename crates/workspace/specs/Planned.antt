@@ -19,7 +19,23 @@ multiplicityOf x = x / 4096 % 262144
 abbrev pub kindOf : (entry : ℕ) → ℕ
 kindOf x = x / 1073741824
 
--- what one place can hold
+-- ---- kinds
+
+-- the row stays, with another multiplicity
+abbrev pub changedKind : ℕ
+changedKind = 0
+
+-- the row comes
+abbrev pub newKind : ℕ
+newKind = 1
+
+-- the row goes
+abbrev pub goneKind : ℕ
+goneKind = 2
+
+-- ---- what one place can hold
+
+-- a row, a multiplicity and a kind that it can hold
 pub record FitsEntry (row multiplicity kind : ℕ) : Type 0 where
   pub row-low : 1 ≤ row
   pub row-high : row ≤ 4096

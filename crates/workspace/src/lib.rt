@@ -8,6 +8,39 @@ ghost use Rattle.workspace.specs.Regions.{cleared};
 ghost use Rattle.workspace.specs.Layout.{workNeed};
 ghost use Rattle.workspace.specs.Planned.{packed, FitsEntry, rowOf, multiplicityOf, kindOf};
 
+// Where the regions of a batch start, in multiples of m; specs/Layout.antt has them all. NEXT and CHILDREN are the same places, after a column's turn and
+// until then.
+pub const BUFFER: usize = 2;
+
+pub const MARKS: usize = 3;
+
+pub const STARTS: usize = 4;
+
+pub const CHILDREN: usize = 5;
+
+pub const NEXT: usize = 5;
+
+pub const LOST: usize = 6;
+
+pub const LINKS: usize = 7;
+
+pub const PLAN: usize = 8;
+
+// Places of the work table for each record, from the plan on: the flags of a batch follow them.
+pub const RECORD_PLACES: usize = 4;
+
+// Rows that share a flag, and flags.
+pub const BLOCK: usize = 64;
+
+pub const FLAGS: usize = 64;
+
+// Kinds of a planned entry.
+pub const CHANGED: u32 = 0;
+
+pub const NEW: u32 = 1;
+
+pub const GONE: u32 = 2;
+
 // How many places of the work table the sizes m, n, f and c need: W of document 01. It is summed in 64 bits, so that no sizes are too large for it.
 pub fn work_need(m: u32, n: u32, f: u32, c: u32) -> usize
     ensures { λ r. ⌜ r ≡ workNeed m n f c ⌝ }

@@ -3,7 +3,7 @@
 use mathlib.Core.Path.{refl, _∙_}
 use borrow.Author.Needs.{needs}
 use Rattle.tables.specs.Tables.{tablesOf}
-use Rattle.calls.specs.Calls.{Call, adding}
+use Rattle.calls.specs.Calls.{Change, adding}
 use Rattle.calls.specs.Steps.{World}
 use Rattle.batch.specs.Outcome.{cutWorld}
 use Rattle.batch.specs.Parts.{Judged}
@@ -29,19 +29,19 @@ wrote c = c .before .before .before .before .before .before .before .before .bef
 abbrev at-write : tie.After-write-add-arg10 → tie.Else1
 at-write c = c .before .before .before .before .before .before .before .before .before .before
 
--- ---- the world and the call
+-- ---- the world and the change
 
 abbrev worldAt : tie.Start → World
 worldAt s =
     cutWorld (tablesOf (s .args .heads .now) (s .args .parents .now) (s .args .rows .now) (s .args .counts .now) (s .args .next .now) (s .args .book-heads .now) (s .args .book-rows .now) (s .args .book-next .now))
     (s .args .free .0) (s .args .book-free .0)
 
-abbrev callAt : tie.Start → Call
-callAt s = adding (s .args .ids .now) (s .args .row-counts .now) (s .args .row-list .now) (s .args .work .now) (s .args .touched .now) (s .args .labels .now)
+abbrev changeAt : tie.Start → Change
+changeAt s = adding (s .args .ids .now) (s .args .row-counts .now) (s .args .row-list .now)
 
 -- the verdict
-verdict-at : (c : tie.After-judge-add) → Judged (worldAt (entry c)) (callAt (entry c)) (entry c .args .work .now) (c .judge-add .last .1 .1 .1 .1 .1 .1 .1 .0) (c .judge-add .result)
-verdict-at c = let s = entry c in c .judge-add .ensures (s .args .book-rows .now) (s .args .touched .now) (s .args .labels .now) (s .pre .find)
+verdict-at : (c : tie.After-judge-add) → Judged (worldAt (entry c)) (changeAt (entry c)) (entry c .args .work .now) (c .judge-add .last .1 .1 .1 .1 .1 .1 .1 .0) (c .judge-add .result)
+verdict-at c = let s = entry c in c .judge-add .ensures (s .args .book-rows .now) (s .pre .find)
 
 judge-add-requires : tie.Need-judge-add-requires
 judge-add-requires c κs = let s = entry-at c in record { book-rows = s .args .book-rows .now; can = s .pre .find }
@@ -73,7 +73,7 @@ same-length-7 c = judged (c .before .before) .judge-add .kept .1 .1 .1 .1 .1 .1 
 returns : tie.Need-returns
 returns c =
     let x = judged (c .before .before) in
-    batch-refused (verdict-at x) (c .before .if1 .taken) refl (c .refusing .ensures)
+    batch-refused (verdict-at x) (c .before .if1 .taken) (entry x .args .touched .now) (entry x .args .labels .now) (c .refusing .ensures)
 
 write-add-requires : tie.Need-write-add-requires
 write-add-requires c κs =
@@ -121,7 +121,7 @@ returns-2 c =
     let x = judged (e .before) in
     let s = entry x in
     let j = verdict-at x in
-    batch-taken refl j (e .if1 .left) refl (y .write-add .ensures (s .args .work .now) (judged-can j (e .if1 .left) (s .pre))) (c .accepting .ensures)
+    batch-taken j (e .if1 .left) (y .write-add .ensures (s .args .work .now) (judged-can j (e .if1 .left) (s .pre))) (c .accepting .ensures)
 
 pub add-spec : {M : Type 1} → statement M
 add-spec =

@@ -3,7 +3,7 @@
 use mathlib.Core.Path.{refl, _∙_}
 use borrow.Author.Needs.{needs}
 use Rattle.tables.specs.Tables.{tablesOf}
-use Rattle.calls.specs.Calls.{Call, removing}
+use Rattle.calls.specs.Calls.{Change, removing}
 use Rattle.calls.specs.Steps.{World}
 use Rattle.batch.specs.Outcome.{cutWorld}
 use Rattle.batch.specs.Parts.{Judged}
@@ -29,19 +29,19 @@ wrote c = c .before .before .before .before .before .before .before .before .bef
 abbrev at-write : tie.After-write-remove-arg10 → tie.Else1
 at-write c = c .before .before .before .before .before .before .before .before .before .before
 
--- ---- the world and the call
+-- ---- the world and the change
 
 abbrev worldAt : tie.Start → World
 worldAt s =
     cutWorld (tablesOf (s .args .heads .now) (s .args .parents .now) (s .args .rows .now) (s .args .counts .now) (s .args .next .now) (s .args .book-heads .now) (s .args .book-rows .now) (s .args .book-next .now))
     (s .args .free .0) (s .args .book-free .0)
 
-abbrev callAt : tie.Start → Call
-callAt s = removing (s .args .ids .now) (s .args .work .now) (s .args .touched .now) (s .args .labels .now)
+abbrev changeAt : tie.Start → Change
+changeAt s = removing (s .args .ids .now)
 
 -- the verdict
-verdict-at : (c : tie.After-judge-remove) → Judged (worldAt (entry c)) (callAt (entry c)) (entry c .args .work .now) (c .judge-remove .last .1 .1 .1 .1 .1 .1 .1 .1 .0) (c .judge-remove .result)
-verdict-at c = let s = entry c in c .judge-remove .ensures (s .args .free .0) (s .args .book-free .0) (s .args .touched .now) (s .args .labels .now) (s .pre .find)
+verdict-at : (c : tie.After-judge-remove) → Judged (worldAt (entry c)) (changeAt (entry c)) (entry c .args .work .now) (c .judge-remove .last .1 .1 .1 .1 .1 .1 .1 .1 .0) (c .judge-remove .result)
+verdict-at c = let s = entry c in c .judge-remove .ensures (s .args .free .0) (s .args .book-free .0) (s .pre .find)
 
 judge-remove-requires : tie.Need-judge-remove-requires
 judge-remove-requires c κs = let s = entry-at c in record { free = s .args .free .0; book-free = s .args .book-free .0; can = s .pre .find }
@@ -76,7 +76,7 @@ same-length-8 c = judged (c .before .before) .judge-remove .kept .1 .1 .1 .1 .1 
 returns : tie.Need-returns
 returns c =
     let x = judged (c .before .before) in
-    batch-refused (verdict-at x) (c .before .if1 .taken) refl (c .refusing .ensures)
+    batch-refused (verdict-at x) (c .before .if1 .taken) (entry x .args .touched .now) (entry x .args .labels .now) (c .refusing .ensures)
 
 write-remove-requires : tie.Need-write-remove-requires
 write-remove-requires c κs =
@@ -124,7 +124,7 @@ returns-2 c =
     let x = judged (e .before) in
     let s = entry x in
     let j = verdict-at x in
-    batch-taken refl j (e .if1 .left) refl (y .write-remove .ensures (s .args .work .now) (judged-can j (e .if1 .left) (s .pre))) (c .accepting .ensures)
+    batch-taken j (e .if1 .left) (y .write-remove .ensures (s .args .work .now) (judged-can j (e .if1 .left) (s .pre))) (c .accepting .ensures)
 
 pub remove-spec : {M : Type 1} → statement M
 remove-spec =

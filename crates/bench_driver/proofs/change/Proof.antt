@@ -1,7 +1,8 @@
 -- `change` keeps the premise of the next batch, by the laws of the crate continuing. Assumes nothing.
 use borrow.Author.Needs.{needs}
 use Rattle.tables.specs.Tables.{Tables, tablesOf}
-use Rattle.continuing.proofs.Continuing.{add-can, remove-can}
+use Rattle.continuing.proofs.Continuing.{change-can}
+use Rattle.calls.specs.Calls.{adding, removing}
 use Rattle.factor.specs.Entries.{worldOf}
 use Rattle.factor.specs.Batches.{changedAnswer}
 use Rattle.bench_driver.proofs.change.Statement.{statement}
@@ -59,8 +60,8 @@ returns c =
     let u : tie.After-add-unchecked = added c in
     let s : tie.Start = adding-from (u .before) in
     let t : Tables = tablesOf (s .args .heads .now) (u .add-unchecked .last .1 .1 .0) (u .add-unchecked .last .1 .1 .1 .0) (u .add-unchecked .last .1 .1 .1 .1 .0) (u .add-unchecked .last .1 .1 .1 .1 .1 .0) (u .add-unchecked .last .1 .1 .1 .1 .1 .1 .0) (u .add-unchecked .last .1 .1 .1 .1 .1 .1 .1 .0) (u .add-unchecked .last .1 .1 .1 .1 .1 .1 .1 .1 .0) in
-    add-can (s .pre) (u .add-unchecked .last .1 .1 .1 .1 .1 .1 .1 .1 .1 .0) (u .add-unchecked .last .1 .1 .1 .1 .1 .1 .1 .1 .1 .1 .0) (u .add-unchecked .last .1 .1 .1 .1 .1 .1 .1 .1 .1 .1 .1 .0) (worldOf (u .add-unchecked .result .factor) t)
-    (u .add-unchecked .kept .1 .1 .1 .1 .1 .1 .1 .1 .1 .1 .0) (u .add-unchecked .kept .1 .1 .1 .1 .1 .1 .1 .1 .1 .1 .1 .0) (s .args .ids .now) (s .args .row-counts .now) (s .args .row-list .now) (changedAnswer (u .add-unchecked .result)) (u .add-unchecked .ensures)
+    change-can (s .pre) (u .add-unchecked .last .1 .1 .1 .1 .1 .1 .1 .1 .1 .0) (u .add-unchecked .last .1 .1 .1 .1 .1 .1 .1 .1 .1 .1 .0) (u .add-unchecked .last .1 .1 .1 .1 .1 .1 .1 .1 .1 .1 .1 .0) (worldOf (u .add-unchecked .result .factor) t)
+    (u .add-unchecked .kept .1 .1 .1 .1 .1 .1 .1 .1 .1 .1 .0) (u .add-unchecked .kept .1 .1 .1 .1 .1 .1 .1 .1 .1 .1 .1 .0) (adding (s .args .ids .now) (s .args .row-counts .now) (s .args .row-list .now)) (changedAnswer (u .add-unchecked .result)) (u .add-unchecked .ensures)
 
 remove-unchecked-requires : tie.Need-remove-unchecked-requires
 remove-unchecked-requires c κs = removing-from c .pre
@@ -100,8 +101,8 @@ returns-2 c =
     let u : tie.After-remove-unchecked = removed c in
     let s : tie.Start = removing-from (u .before) in
     let t : Tables = tablesOf (s .args .heads .now) (u .remove-unchecked .last .1 .1 .0) (u .remove-unchecked .last .1 .1 .1 .0) (u .remove-unchecked .last .1 .1 .1 .1 .0) (u .remove-unchecked .last .1 .1 .1 .1 .1 .0) (u .remove-unchecked .last .1 .1 .1 .1 .1 .1 .0) (u .remove-unchecked .last .1 .1 .1 .1 .1 .1 .1 .0) (u .remove-unchecked .last .1 .1 .1 .1 .1 .1 .1 .1 .0) in
-    remove-can (s .pre) (u .remove-unchecked .last .1 .1 .1 .1 .1 .1 .1 .1 .1 .0) (u .remove-unchecked .last .1 .1 .1 .1 .1 .1 .1 .1 .1 .1 .0) (u .remove-unchecked .last .1 .1 .1 .1 .1 .1 .1 .1 .1 .1 .1 .0) (worldOf (u .remove-unchecked .result .factor) t)
-    (u .remove-unchecked .kept .1 .1 .1 .1 .1 .1 .1 .1 .1 .1 .0) (u .remove-unchecked .kept .1 .1 .1 .1 .1 .1 .1 .1 .1 .1 .1 .0) (s .args .ids .now) (changedAnswer (u .remove-unchecked .result)) (u .remove-unchecked .ensures)
+    change-can (s .pre) (u .remove-unchecked .last .1 .1 .1 .1 .1 .1 .1 .1 .1 .0) (u .remove-unchecked .last .1 .1 .1 .1 .1 .1 .1 .1 .1 .1 .0) (u .remove-unchecked .last .1 .1 .1 .1 .1 .1 .1 .1 .1 .1 .1 .0) (worldOf (u .remove-unchecked .result .factor) t)
+    (u .remove-unchecked .kept .1 .1 .1 .1 .1 .1 .1 .1 .1 .1 .0) (u .remove-unchecked .kept .1 .1 .1 .1 .1 .1 .1 .1 .1 .1 .1 .0) (removing (s .args .ids .now)) (changedAnswer (u .remove-unchecked .result)) (u .remove-unchecked .ensures)
 
 pub change-spec : {M : Type 1} → statement M
 change-spec =

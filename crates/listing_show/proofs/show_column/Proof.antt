@@ -8,7 +8,7 @@ use lib.ListN.{length, take}
 use Rattle.symbolic.specs.Columns.{Register}
 use Rattle.symbolic.specs.Factor.{factorFor, columnAt, parentOf, sizeOf}
 use Rattle.tables.specs.Tables.{Tables, registerOf, tablesOf}
-use Rattle.calls.specs.Report.{columnList}
+use Rattle.calls.specs.Questions.{columnList}
 use Rattle.factor.specs.Entries.{stateOf}
 use Rattle.listing_text.specs.Text.{showHead, showPairs, Written}
 use Rattle.listing_show.proofs.Asking.{entries-places, entries-most, parent-answered, column-answered, column-listed}
@@ -40,7 +40,7 @@ register s =
 parent-is : (c : tie.After-parent-unchecked) → c .parent-unchecked .result .value ≡ parentOf (factorFor (register (start c))) (start c .args .j)
 parent-is c =
     let s = start c in
-    parent-answered (register s) (s .args .j) (s .pre .low) (s .pre .high) (stateOf (s .args .factor) .limits) (c .parent-unchecked .result) (c .parent-unchecked .ensures)
+    parent-answered (register s) (s .args .j) (s .pre .low) (s .pre .high) (c .parent-unchecked .result) (c .parent-unchecked .ensures)
 
 parent-known : (c : tie.After-parent-unchecked) → c .parent-unchecked .result .value < 2 ^ 32
 parent-known c = omega (arith, c .parent-unchecked .ok)
@@ -58,12 +58,12 @@ column c =
     let room : length (columnList r j) ≤ length (s .args .list .now) =
     omega (arith, entries-places r j (s .pre .low) (s .pre .high), entries-most r j (s .pre .low) (s .pre .high), s .pre .few, s .pre .entries) in
     let v : c .column-unchecked .result .value ≡ sizeOf (columnAt (factorFor r) j) =
-    column-answered r j (s .pre .low) (s .pre .high) (stateOf (s .args .factor) .limits) (c .column-unchecked .result) (s .args .list .now) room (c .column-unchecked .ensures .0) in
+    column-answered r j (s .pre .low) (s .pre .high) (c .column-unchecked .result) (s .args .list .now) room (c .column-unchecked .ensures .0) in
     record {
       value = v;
       few = omega (arith, v, entries-most r j (s .pre .low) (s .pre .high), s .pre .few);
       listed =
-          column-listed r j (s .pre .low) (s .pre .high) (stateOf (s .args .factor) .limits) (c .column-unchecked .result) (s .args .list .now) room
+          column-listed r j (s .pre .low) (s .pre .high) (c .column-unchecked .result) (s .args .list .now) room
           (c .column-unchecked .last .1 .1 .1 .1 .1 .1 .1 .1 .1 .0) (c .column-unchecked .ensures .1) (c .column-unchecked .result .value) v;
     }
 

@@ -10,7 +10,7 @@ use borrow.Rule.Slice.PartAt.{part-to-end}
 use Rattle.lists.specs.Lists.{at, over}
 use Rattle.pool.specs.Chains.{chain}
 use Rattle.calls.specs.Refusals.{accepted, rowRefusal, roomFor}
-use Rattle.calls.specs.Report.{columnList}
+use Rattle.calls.specs.Questions.{columnList}
 use Rattle.questions.proofs.Replies.{row-out, row-in, room-out, room-in, part-written}
 use Rattle.questions.proofs.Reading.{read-size, read-entries, read-places, chain-short, can-copy}
 use Rattle.questions.proofs.Answers.{column-row, column-room, column-answer}

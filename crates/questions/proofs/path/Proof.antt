@@ -6,7 +6,7 @@ use borrow.Author.Needs.{needs}
 use borrow.Rule.Slice.PartAt.{part-to-end}
 use lib.ListN.{length, length-drop}
 use Rattle.calls.specs.Refusals.{accepted, rowRefusal, roomFor}
-use Rattle.calls.specs.Report.{pathList}
+use Rattle.calls.specs.Questions.{pathList}
 use Rattle.questions.proofs.Replies.{row-out, row-in, room-out, room-in, part-written}
 use Rattle.questions.proofs.Following.{path-short}
 use Rattle.questions.proofs.Answers.{path-row, path-room, path-answer}

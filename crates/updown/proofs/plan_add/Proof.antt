@@ -1,19 +1,29 @@
-use Rattle.updown.proofs.Adding.{add-mark, add-parents, add-enter, add-made, add-planned, add-halted, add-stopped, add-clear, add-rooms, add-last, add-refused}
-use lib.ListN.{length}
-use Prim.Native.Nat.{ℕ, _+_, _*_}
+-- `updown::plan_add` meets its contract: the starts are marked, the walk goes, the flags are cleared, and all else where the plan does not fit. Assumes
+-- nothing.
+use mathlib.Core.Path.{refl}
 use mathlib.Core.Bool.{true, false}
-use mathlib.Core.Path.{_≡_, refl, sym, ap, _∙_}
 use native.Mathlib.Omega.{arith}
 use borrow.Author.Needs.{needs}
+use Rattle.updown.proofs.Adding.{add-mark, add-enter, add-long, add-used, add-planned, add-room, add-refused}
 use Rattle.updown.proofs.plan_add.Statement.{statement}
 use Rattle.updown.proofs.plan_add.Tie as tie
-use Rattle.updown.proofs.plan_add.Reads as reads
-use Rattle.updown.proofs.plan_add.Lts as lts
-use Rattle.updown.proofs.clears.clear_starts.Reads as clear-starts-reads
-use Rattle.updown.proofs.clears.clear_turns.Reads as clear-turns-reads
-use Rattle.updown.proofs.starts.mark_listed.Reads as mark-listed-reads
-use Rattle.updown.proofs.walks.walk_add.Reads as walk-add-reads
-use Rattle.workspace.proofs.clear.Reads as clear-reads
+
+-- ---- places: the starts marked, the walk gone, the flags cleared
+
+abbrev start : tie.After-mark-listed-arg → tie.Start
+start c = c .before .before .before .before .before .before .before .before .before
+
+abbrev marked : tie.After-walk-add-arg → tie.After-mark-listed
+marked c = c .before .before .before
+
+abbrev walked : tie.After-clear-arg → tie.After-walk-add
+walked c = c .before .before .before
+
+abbrev fitting : tie.After-struct-known → tie.After-clear
+fitting c = c .before .before .before .before
+
+abbrev refused : tie.After-struct-known2 → tie.After-clear
+refused c = c .before .before .before .before .before
 
 mul-flags : tie.Need-mul-flags
 mul-flags c = search needs
@@ -25,43 +35,57 @@ add-flags : tie.Need-add-flags
 add-flags c = search needs
 
 mark-listed-requires : tie.Need-mark-listed-requires
-mark-listed-requires c κs = let s = c .before .before .before .before .before .before .before .before .before .pre in record { W = s .W; can = add-mark (s .can) }
+mark-listed-requires c κs = let s = start c .pre in record { W = s .W; can = add-mark (s .can) }
 
 walk-add-requires : tie.Need-walk-add-requires
-walk-add-requires c κs = let s = c .before .before .before .before .before .before .before .before .before .before .before .before .before .pre in record { R = s .R; W = s .W; work₀ = c .before .before .before .before .before .before .before .before .before .before .before .before .before .args .work .now; can = add-enter (s .can) (c .before .before .before .mark-listed .ensures (s .W) (add-mark (s .can))) }
+walk-add-requires c κs =
+    let t = start (marked c .before) in
+    record { R = t .pre .R; W = t .pre .W; work₀ = t .args .work .now; can = add-enter (t .pre .can) (marked c .mark-listed .ensures) }
 
 clear-requires : tie.Need-clear-requires
-clear-requires c κs = let s = c .before .before .before .before .before .before .before .before .before .before .before .before .before .before .before .before .before .before .pre in add-made (s .can) (c .before .before .before .before .walk-add .ensures (s .R) (s .W) (c .before .before .before .before .before .before .before .before .before .before .before .before .before .before .before .before .before .before .args .work .now) (add-enter (s .can) (c .before .before .before .before .before .before .before .before .mark-listed .ensures (s .W) (add-mark (s .can))))) (c .before .if1 .taken) .0
+clear-requires c κs =
+    let w = walked c in
+    let k = marked (w .before) in add-long (start (k .before) .pre .can) (k .mark-listed .ensures) (w .walk-add .ensures)
 
-cast-t25 : tie.Need-cast-t25
-cast-t25 c = let s = c .before .before .before .before .before .before .before .before .before .before .before .before .before .before .before .before .before .before .before .before .before .before .pre in let f = add-made (s .can) (c .before .before .before .before .before .before .before .before .walk-add .ensures (s .R) (s .W) (c .before .before .before .before .before .before .before .before .before .before .before .before .before .before .before .before .before .before .before .before .before .before .args .work .now) (add-enter (s .can) (c .before .before .before .before .before .before .before .before .before .before .before .before .mark-listed .ensures (s .W) (add-mark (s .can))))) (c .before .before .before .before .before .if1 .taken) in omega arith
+cast-t24 : tie.Need-cast-t24
+cast-t24 c =
+    let w = walked (fitting c .before) in
+    let k = marked (w .before) in
+    let h = add-used (start (k .before) .pre .can) (k .mark-listed .ensures) (w .walk-add .ensures) (c .before .if1 .taken) in omega arith
 
 same-length : tie.Need-same-length
 same-length c = search needs
 
 returns : tie.Need-returns
-returns c = λ R W can. add-planned can (c .before .before .before .before .before .before .before .before .walk-add .ensures (R) (W) (c .before .before .before .before .before .before .before .before .before .before .before .before .before .before .before .before .before .before .before .before .before .before .args .work .now) (add-enter (can) (c .before .before .before .before .before .before .before .before .before .before .before .before .mark-listed .ensures (W) (add-mark (can))))) (c .before .before .before .before .before .if1 .taken) (c .before .before .before .clear .ensures) true refl
-
-clear-turns-requires : tie.Need-clear-turns-requires
-clear-turns-requires c κs = let s = c .before .before .before .before .before .before .before .before .before .before .before .before .before .before .before .before .before .before .pre in add-halted (s .can) (c .before .before .before .before .walk-add .ensures (s .R) (s .W) (c .before .before .before .before .before .before .before .before .before .before .before .before .before .before .before .before .before .before .args .work .now) (add-enter (s .can) (c .before .before .before .before .before .before .before .before .mark-listed .ensures (s .W) (add-mark (s .can))))) (c .before .if1 .left)
-
-clear-starts-requires : tie.Need-clear-starts-requires
-clear-starts-requires c κs = let s = c .before .before .before .before .before .before .before .before .before .before .before .before .before .before .before .before .before .before .before .before .before .before .pre in record { W = s .W; can = add-clear (s .can) (c .before .before .before .before .before .before .before .before .walk-add .ensures (s .R) (s .W) (c .before .before .before .before .before .before .before .before .before .before .before .before .before .before .before .before .before .before .before .before .before .before .args .work .now) (add-enter (s .can) (c .before .before .before .before .before .before .before .before .before .before .before .before .mark-listed .ensures (s .W) (add-mark (s .can))))) (c .before .before .before .before .before .if1 .left) (c .before .before .before .clear-turns .ensures (8 * length (c .before .before .before .before .before .before .before .before .before .before .before .before .before .before .before .before .before .before .before .before .before .before .args .heads .now) + 4 * length (c .before .before .before .before .before .before .before .before .before .before .before .before .before .before .before .before .before .before .before .before .before .before .args .next .now)) (s .R) (s .W) (c .before .before .before .before .before .before .before .before .before .before .before .before .before .before .before .before .before .before .before .before .before .before .args .work .now) (c .before .before .before .before .before .before .before .before .walk-add .result .used) (add-parents (s .can)) (add-stopped (s .can) (c .before .before .before .before .before .before .before .before .walk-add .ensures (s .R) (s .W) (c .before .before .before .before .before .before .before .before .before .before .before .before .before .before .before .before .before .before .before .before .before .before .args .work .now) (add-enter (s .can) (c .before .before .before .before .before .before .before .before .before .before .before .before .mark-listed .ensures (s .W) (add-mark (s .can))))) (c .before .before .before .before .before .if1 .left) .0) (add-stopped (s .can) (c .before .before .before .before .before .before .before .before .walk-add .ensures (s .R) (s .W) (c .before .before .before .before .before .before .before .before .before .before .before .before .before .before .before .before .before .before .before .before .before .before .args .work .now) (add-enter (s .can) (c .before .before .before .before .before .before .before .before .before .before .before .before .mark-listed .ensures (s .W) (add-mark (s .can))))) (c .before .before .before .before .before .if1 .left) .1)) }
+returns c =
+    let w = walked (fitting c .before) in
+    let k = marked (w .before) in λ R W can. add-planned can (k .mark-listed .ensures) (w .walk-add .ensures) (fitting c .clear .ensures) (c .before .if1 .taken) true refl
 
 mul-clear : tie.Need-mul-clear
-mul-clear c = let s = c .before .before .before .before .before .before .before .before .before .before .before .before .before .before .before .before .before .before .before .before .before .before .before .before .before .before .pre in omega (arith, s .can .can .m-bound)
+mul-clear c = omega (arith, start (marked (walked (c .before .before .before .before .before) .before) .before) .pre .can .can .m-bound)
+
+add-clear : tie.Need-add-clear
+add-clear c =
+    let w = walked (refused c .before) in
+    let k = marked (w .before) in
+    let s = start (k .before) .pre in
+    let h = add-room (s .can) (k .mark-listed .ensures) (w .walk-add .ensures) (refused c .clear .ensures) (c .before .before .if1 .left) in
+    omega (arith, s .can .can .m-bound, s .can .can .f-bound)
 
 clear-requires-2 : tie.Need-clear-requires-2
-clear-requires-2 c κs = let s = c .before .before .before .before .before .before .before .before .before .before .before .before .before .before .before .before .before .before .before .before .before .before .before .before .before .before .pre in add-rooms (s .can) (c .before .before .before .before .before .before .before .before .before .before .before .before .walk-add .ensures (s .R) (s .W) (c .before .before .before .before .before .before .before .before .before .before .before .before .before .before .before .before .before .before .before .before .before .before .before .before .before .before .args .work .now) (add-enter (s .can) (c .before .before .before .before .before .before .before .before .before .before .before .before .before .before .before .before .mark-listed .ensures (s .W) (add-mark (s .can))))) (c .before .before .before .before .before .before .before .before .before .if1 .left) (c .before .before .before .before .before .before .before .clear-turns .ensures (8 * length (c .before .before .before .before .before .before .before .before .before .before .before .before .before .before .before .before .before .before .before .before .before .before .before .before .before .before .args .heads .now) + 4 * length (c .before .before .before .before .before .before .before .before .before .before .before .before .before .before .before .before .before .before .before .before .before .before .before .before .before .before .args .next .now)) (s .R) (s .W) (c .before .before .before .before .before .before .before .before .before .before .before .before .before .before .before .before .before .before .before .before .before .before .before .before .before .before .args .work .now) (c .before .before .before .before .before .before .before .before .before .before .before .before .walk-add .result .used) (add-parents (s .can)) (add-stopped (s .can) (c .before .before .before .before .before .before .before .before .before .before .before .before .walk-add .ensures (s .R) (s .W) (c .before .before .before .before .before .before .before .before .before .before .before .before .before .before .before .before .before .before .before .before .before .before .before .before .before .before .args .work .now) (add-enter (s .can) (c .before .before .before .before .before .before .before .before .before .before .before .before .before .before .before .before .mark-listed .ensures (s .W) (add-mark (s .can))))) (c .before .before .before .before .before .before .before .before .before .if1 .left) .0) (add-stopped (s .can) (c .before .before .before .before .before .before .before .before .before .before .before .before .walk-add .ensures (s .R) (s .W) (c .before .before .before .before .before .before .before .before .before .before .before .before .before .before .before .before .before .before .before .before .before .before .before .before .before .before .args .work .now) (add-enter (s .can) (c .before .before .before .before .before .before .before .before .before .before .before .before .before .before .before .before .mark-listed .ensures (s .W) (add-mark (s .can))))) (c .before .before .before .before .before .before .before .before .before .if1 .left) .1)) (c .before .before .before .clear-starts .ensures (s .W) (add-clear (s .can) (c .before .before .before .before .before .before .before .before .before .before .before .before .walk-add .ensures (s .R) (s .W) (c .before .before .before .before .before .before .before .before .before .before .before .before .before .before .before .before .before .before .before .before .before .before .before .before .before .before .args .work .now) (add-enter (s .can) (c .before .before .before .before .before .before .before .before .before .before .before .before .before .before .before .before .mark-listed .ensures (s .W) (add-mark (s .can))))) (c .before .before .before .before .before .before .before .before .before .if1 .left) (c .before .before .before .before .before .before .before .clear-turns .ensures (8 * length (c .before .before .before .before .before .before .before .before .before .before .before .before .before .before .before .before .before .before .before .before .before .before .before .before .before .before .args .heads .now) + 4 * length (c .before .before .before .before .before .before .before .before .before .before .before .before .before .before .before .before .before .before .before .before .before .before .before .before .before .before .args .next .now)) (s .R) (s .W) (c .before .before .before .before .before .before .before .before .before .before .before .before .before .before .before .before .before .before .before .before .before .before .before .before .before .before .args .work .now) (c .before .before .before .before .before .before .before .before .before .before .before .before .walk-add .result .used) (add-parents (s .can)) (add-stopped (s .can) (c .before .before .before .before .before .before .before .before .before .before .before .before .walk-add .ensures (s .R) (s .W) (c .before .before .before .before .before .before .before .before .before .before .before .before .before .before .before .before .before .before .before .before .before .before .before .before .before .before .args .work .now) (add-enter (s .can) (c .before .before .before .before .before .before .before .before .before .before .before .before .before .before .before .before .mark-listed .ensures (s .W) (add-mark (s .can))))) (c .before .before .before .before .before .before .before .before .before .if1 .left) .0) (add-stopped (s .can) (c .before .before .before .before .before .before .before .before .before .before .before .before .walk-add .ensures (s .R) (s .W) (c .before .before .before .before .before .before .before .before .before .before .before .before .before .before .before .before .before .before .before .before .before .before .before .before .before .before .args .work .now) (add-enter (s .can) (c .before .before .before .before .before .before .before .before .before .before .before .before .before .before .before .before .mark-listed .ensures (s .W) (add-mark (s .can))))) (c .before .before .before .before .before .before .before .before .before .if1 .left) .1)))) .0
-
-clear-requires-3 : tie.Need-clear-requires-3
-clear-requires-3 c κs = let s = c .before .before .before .before .before .before .before .before .before .before .before .before .before .before .before .before .before .before .before .before .before .before .before .before .before .before .before .before .before .before .pre in add-last (s .can) (c .before .before .before .before .before .before .before .before .before .before .before .before .before .before .before .before .walk-add .ensures (s .R) (s .W) (c .before .before .before .before .before .before .before .before .before .before .before .before .before .before .before .before .before .before .before .before .before .before .before .before .before .before .before .before .before .before .args .work .now) (add-enter (s .can) (c .before .before .before .before .before .before .before .before .before .before .before .before .before .before .before .before .before .before .before .before .mark-listed .ensures (s .W) (add-mark (s .can))))) (c .before .before .before .before .before .before .before .before .before .before .before .before .before .if1 .left) (c .before .before .before .before .before .before .before .before .before .before .before .clear-turns .ensures (8 * length (c .before .before .before .before .before .before .before .before .before .before .before .before .before .before .before .before .before .before .before .before .before .before .before .before .before .before .before .before .before .before .args .heads .now) + 4 * length (c .before .before .before .before .before .before .before .before .before .before .before .before .before .before .before .before .before .before .before .before .before .before .before .before .before .before .before .before .before .before .args .next .now)) (s .R) (s .W) (c .before .before .before .before .before .before .before .before .before .before .before .before .before .before .before .before .before .before .before .before .before .before .before .before .before .before .before .before .before .before .args .work .now) (c .before .before .before .before .before .before .before .before .before .before .before .before .before .before .before .before .walk-add .result .used) (add-parents (s .can)) (add-stopped (s .can) (c .before .before .before .before .before .before .before .before .before .before .before .before .before .before .before .before .walk-add .ensures (s .R) (s .W) (c .before .before .before .before .before .before .before .before .before .before .before .before .before .before .before .before .before .before .before .before .before .before .before .before .before .before .before .before .before .before .args .work .now) (add-enter (s .can) (c .before .before .before .before .before .before .before .before .before .before .before .before .before .before .before .before .before .before .before .before .mark-listed .ensures (s .W) (add-mark (s .can))))) (c .before .before .before .before .before .before .before .before .before .before .before .before .before .if1 .left) .0) (add-stopped (s .can) (c .before .before .before .before .before .before .before .before .before .before .before .before .before .before .before .before .walk-add .ensures (s .R) (s .W) (c .before .before .before .before .before .before .before .before .before .before .before .before .before .before .before .before .before .before .before .before .before .before .before .before .before .before .before .before .before .before .args .work .now) (add-enter (s .can) (c .before .before .before .before .before .before .before .before .before .before .before .before .before .before .before .before .before .before .before .before .mark-listed .ensures (s .W) (add-mark (s .can))))) (c .before .before .before .before .before .before .before .before .before .before .before .before .before .if1 .left) .1)) (c .before .before .before .before .before .before .before .clear-starts .ensures (s .W) (add-clear (s .can) (c .before .before .before .before .before .before .before .before .before .before .before .before .before .before .before .before .walk-add .ensures (s .R) (s .W) (c .before .before .before .before .before .before .before .before .before .before .before .before .before .before .before .before .before .before .before .before .before .before .before .before .before .before .before .before .before .before .args .work .now) (add-enter (s .can) (c .before .before .before .before .before .before .before .before .before .before .before .before .before .before .before .before .before .before .before .before .mark-listed .ensures (s .W) (add-mark (s .can))))) (c .before .before .before .before .before .before .before .before .before .before .before .before .before .if1 .left) (c .before .before .before .before .before .before .before .before .before .before .before .clear-turns .ensures (8 * length (c .before .before .before .before .before .before .before .before .before .before .before .before .before .before .before .before .before .before .before .before .before .before .before .before .before .before .before .before .before .before .args .heads .now) + 4 * length (c .before .before .before .before .before .before .before .before .before .before .before .before .before .before .before .before .before .before .before .before .before .before .before .before .before .before .before .before .before .before .args .next .now)) (s .R) (s .W) (c .before .before .before .before .before .before .before .before .before .before .before .before .before .before .before .before .before .before .before .before .before .before .before .before .before .before .before .before .before .before .args .work .now) (c .before .before .before .before .before .before .before .before .before .before .before .before .before .before .before .before .walk-add .result .used) (add-parents (s .can)) (add-stopped (s .can) (c .before .before .before .before .before .before .before .before .before .before .before .before .before .before .before .before .walk-add .ensures (s .R) (s .W) (c .before .before .before .before .before .before .before .before .before .before .before .before .before .before .before .before .before .before .before .before .before .before .before .before .before .before .before .before .before .before .args .work .now) (add-enter (s .can) (c .before .before .before .before .before .before .before .before .before .before .before .before .before .before .before .before .before .before .before .before .mark-listed .ensures (s .W) (add-mark (s .can))))) (c .before .before .before .before .before .before .before .before .before .before .before .before .before .if1 .left) .0) (add-stopped (s .can) (c .before .before .before .before .before .before .before .before .before .before .before .before .before .before .before .before .walk-add .ensures (s .R) (s .W) (c .before .before .before .before .before .before .before .before .before .before .before .before .before .before .before .before .before .before .before .before .before .before .before .before .before .before .before .before .before .before .args .work .now) (add-enter (s .can) (c .before .before .before .before .before .before .before .before .before .before .before .before .before .before .before .before .before .before .before .before .mark-listed .ensures (s .W) (add-mark (s .can))))) (c .before .before .before .before .before .before .before .before .before .before .before .before .before .if1 .left) .1)))) (c .before .before .before .clear2 .ensures)
+clear-requires-2 c κs =
+    let w = walked (refused c .before) in
+    let k = marked (w .before) in add-room (start (k .before) .pre .can) (k .mark-listed .ensures) (w .walk-add .ensures) (refused c .clear .ensures) (c .before .before .if1 .left) .0
 
 same-length-2 : tie.Need-same-length-2
 same-length-2 c = search needs
 
 returns-2 : tie.Need-returns-2
-returns-2 c = λ R W can. add-refused can (c .before .before .before .before .before .before .before .before .before .before .before .before .before .before .before .before .before .before .before .walk-add .ensures (R) (W) (c .before .before .before .before .before .before .before .before .before .before .before .before .before .before .before .before .before .before .before .before .before .before .before .before .before .before .before .before .before .before .before .before .before .args .work .now) (add-enter (can) (c .before .before .before .before .before .before .before .before .before .before .before .before .before .before .before .before .before .before .before .before .before .before .before .mark-listed .ensures (W) (add-mark (can))))) (c .before .before .before .before .before .before .before .before .before .before .before .before .before .before .before .before .if1 .left) (c .before .before .before .before .before .before .before .before .before .before .before .before .before .before .clear-turns .ensures (8 * length (c .before .before .before .before .before .before .before .before .before .before .before .before .before .before .before .before .before .before .before .before .before .before .before .before .before .before .before .before .before .before .before .before .before .args .heads .now) + 4 * length (c .before .before .before .before .before .before .before .before .before .before .before .before .before .before .before .before .before .before .before .before .before .before .before .before .before .before .before .before .before .before .before .before .before .args .next .now)) (R) (W) (c .before .before .before .before .before .before .before .before .before .before .before .before .before .before .before .before .before .before .before .before .before .before .before .before .before .before .before .before .before .before .before .before .before .args .work .now) (c .before .before .before .before .before .before .before .before .before .before .before .before .before .before .before .before .before .before .before .walk-add .result .used) (add-parents (can)) (add-stopped (can) (c .before .before .before .before .before .before .before .before .before .before .before .before .before .before .before .before .before .before .before .walk-add .ensures (R) (W) (c .before .before .before .before .before .before .before .before .before .before .before .before .before .before .before .before .before .before .before .before .before .before .before .before .before .before .before .before .before .before .before .before .before .args .work .now) (add-enter (can) (c .before .before .before .before .before .before .before .before .before .before .before .before .before .before .before .before .before .before .before .before .before .before .before .mark-listed .ensures (W) (add-mark (can))))) (c .before .before .before .before .before .before .before .before .before .before .before .before .before .before .before .before .if1 .left) .0) (add-stopped (can) (c .before .before .before .before .before .before .before .before .before .before .before .before .before .before .before .before .before .before .before .walk-add .ensures (R) (W) (c .before .before .before .before .before .before .before .before .before .before .before .before .before .before .before .before .before .before .before .before .before .before .before .before .before .before .before .before .before .before .before .before .before .args .work .now) (add-enter (can) (c .before .before .before .before .before .before .before .before .before .before .before .before .before .before .before .before .before .before .before .before .before .before .before .mark-listed .ensures (W) (add-mark (can))))) (c .before .before .before .before .before .before .before .before .before .before .before .before .before .before .before .before .if1 .left) .1)) (c .before .before .before .before .before .before .before .before .before .before .clear-starts .ensures (W) (add-clear (can) (c .before .before .before .before .before .before .before .before .before .before .before .before .before .before .before .before .before .before .before .walk-add .ensures (R) (W) (c .before .before .before .before .before .before .before .before .before .before .before .before .before .before .before .before .before .before .before .before .before .before .before .before .before .before .before .before .before .before .before .before .before .args .work .now) (add-enter (can) (c .before .before .before .before .before .before .before .before .before .before .before .before .before .before .before .before .before .before .before .before .before .before .before .mark-listed .ensures (W) (add-mark (can))))) (c .before .before .before .before .before .before .before .before .before .before .before .before .before .before .before .before .if1 .left) (c .before .before .before .before .before .before .before .before .before .before .before .before .before .before .clear-turns .ensures (8 * length (c .before .before .before .before .before .before .before .before .before .before .before .before .before .before .before .before .before .before .before .before .before .before .before .before .before .before .before .before .before .before .before .before .before .args .heads .now) + 4 * length (c .before .before .before .before .before .before .before .before .before .before .before .before .before .before .before .before .before .before .before .before .before .before .before .before .before .before .before .before .before .before .before .before .before .args .next .now)) (R) (W) (c .before .before .before .before .before .before .before .before .before .before .before .before .before .before .before .before .before .before .before .before .before .before .before .before .before .before .before .before .before .before .before .before .before .args .work .now) (c .before .before .before .before .before .before .before .before .before .before .before .before .before .before .before .before .before .before .before .walk-add .result .used) (add-parents (can)) (add-stopped (can) (c .before .before .before .before .before .before .before .before .before .before .before .before .before .before .before .before .before .before .before .walk-add .ensures (R) (W) (c .before .before .before .before .before .before .before .before .before .before .before .before .before .before .before .before .before .before .before .before .before .before .before .before .before .before .before .before .before .before .before .before .before .args .work .now) (add-enter (can) (c .before .before .before .before .before .before .before .before .before .before .before .before .before .before .before .before .before .before .before .before .before .before .before .mark-listed .ensures (W) (add-mark (can))))) (c .before .before .before .before .before .before .before .before .before .before .before .before .before .before .before .before .if1 .left) .0) (add-stopped (can) (c .before .before .before .before .before .before .before .before .before .before .before .before .before .before .before .before .before .before .before .walk-add .ensures (R) (W) (c .before .before .before .before .before .before .before .before .before .before .before .before .before .before .before .before .before .before .before .before .before .before .before .before .before .before .before .before .before .before .before .before .before .args .work .now) (add-enter (can) (c .before .before .before .before .before .before .before .before .before .before .before .before .before .before .before .before .before .before .before .before .before .before .before .mark-listed .ensures (W) (add-mark (can))))) (c .before .before .before .before .before .before .before .before .before .before .before .before .before .before .before .before .if1 .left) .1)))) (c .before .before .before .before .before .before .clear2 .ensures) (c .before .before .clear3 .ensures) false refl
+returns-2 c =
+    let r = c .before .before .before in
+    let w = walked (refused r .before) in
+    let k = marked (w .before) in
+    λ R W can. add-refused can (k .mark-listed .ensures) (w .walk-add .ensures) (refused r .clear .ensures) (r .before .before .if1 .left) (c .before .before .clear2 .ensures) false refl
 
 pub plan-add-spec : {M : Type 1} → statement M
 plan-add-spec =
@@ -73,13 +97,11 @@ plan-add-spec =
     mark-listed-requires
     walk-add-requires
     clear-requires
-    cast-t25
+    cast-t24
     same-length
     returns
-    clear-turns-requires
-    clear-starts-requires
     mul-clear
+    add-clear
     clear-requires-2
-    clear-requires-3
     same-length-2
     returns-2)

@@ -1,17 +1,12 @@
 use Rattle.updown.proofs.Preparing.{remove-mark, remove-leave, remove-planned}
 use lib.ListN.{length}
-use Prim.Native.Nat.{ℕ, suc}
+use Prim.Native.Nat.{suc}
 use mathlib.Core.Bool.{true}
-use mathlib.Core.Path.{_≡_, refl, sym, ap, _∙_}
+use mathlib.Core.Path.{refl}
 use native.Mathlib.Omega.{arith}
 use borrow.Author.Needs.{needs}
 use Rattle.updown.proofs.plan_remove.Statement.{statement}
 use Rattle.updown.proofs.plan_remove.Tie as tie
-use Rattle.updown.proofs.plan_remove.Reads as reads
-use Rattle.updown.proofs.plan_remove.Lts as lts
-use Rattle.updown.proofs.starts.mark_booked.Reads as mark-booked-reads
-use Rattle.updown.proofs.walks.walk_remove.Reads as walk-remove-reads
-use Rattle.workspace.proofs.clear.Reads as clear-reads
 
 mul-flags : tie.Need-mul-flags
 mul-flags c = search needs

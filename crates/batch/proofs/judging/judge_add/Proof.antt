@@ -1,7 +1,7 @@
 -- `judging::judge_add` meets its contract: what it finds and what it plans are the call's verdict, by the laws of Adding.antt. Assumes nothing.
 use mathlib.Core.Path.{_≡_, sym, ap, _∙_}
 use mathlib.Core.Bool.{true}
-use mathlib.Core.List.{List, []}
+use mathlib.Core.List.{List}
 use Prim.Native.Nat.{ℕ}
 use native.Mathlib.Omega.{arith}
 use borrow.Author.Needs.{needs}
@@ -9,9 +9,10 @@ use borrow.Author.Tests.{eq-eqb, ne-eqb}
 use lib.ListN.{length}
 use Rattle.tables.specs.Tables.{Tables, tablesOf}
 use Rattle.calls.specs.Refusals.{isAccepted, batchOf}
+use Rattle.calls.specs.Steps.{bookedIn}
 use Rattle.refusals.specs.Found.{addFound}
 use Rattle.batch.specs.Outcome.{cutWorld, CanFind}
-use Rattle.batch.specs.Parts.{bookWhole, registerIn, verdictNumber}
+use Rattle.batch.specs.Parts.{bookWhole, verdictNumber}
 use Rattle.batch.specs.declared.Verdict.{Verdict}
 use Rattle.batch.proofs.Cut.{sizes-are, book-sound}
 use Rattle.batch.proofs.Adding.{add-refused, add-can, add-planned, add-full}
@@ -56,10 +57,10 @@ refused-requires : tie.Need-refused-requires
 refused-requires c κs = search needs
 
 returns : tie.Need-returns
-returns c br a b can =
+returns c br can =
     let x = searched (c .before .before) in
     let s = entry (x .before) in
-    add-refused can (s .args .ids .now) (s .args .row-counts .now) (s .args .row-list .now) a b
+    add-refused can (s .args .ids .now) (s .args .row-counts .now) (s .args .row-list .now)
     (ap verdictNumber (c .refused .ensures) ∙ x .find-add .ensures br (book-sound can))
     (ap (λ (v : Verdict). isAccepted (verdictNumber v)) (c .refused .ensures) ∙ ne-eqb (x .find-add .result .number) 0 (c .before .if1 .taken))
 
@@ -68,9 +69,9 @@ plan-add-requires c κs =
     let s = at-plan (c .before) in
     let br : List ℕ = s .pre .book-rows in
     record {
-      R = registerIn (cutWorld (tablesAt s br) (s .args .free .0) (s .args .book-free .0)) .columns;
+      R = bookedIn (cutWorld (tablesAt s br) (s .args .free .0) (s .args .book-free .0)) .columns;
       W = batchOf (s .args .ids .now) (s .args .row-counts .now) (s .args .row-list .now);
-      can = add-can (s .pre .can) (s .args .ids .now) (s .args .row-counts .now) (s .args .row-list .now) [] [] (accepted-at (c .before) br (s .pre .can));
+      can = add-can (s .pre .can) (s .args .ids .now) (s .args .row-counts .now) (s .args .row-list .now) (accepted-at (c .before) br (s .pre .can));
     }
 
 planned-requires : tie.Need-planned-requires
@@ -80,7 +81,7 @@ same-length : tie.Need-same-length
 same-length c = search needs
 
 returns-2 : tie.Need-returns-2
-returns-2 c br a b can =
+returns-2 c br can =
     let p = plans (c .before .before) in
     let no = p .before .before in
     let s = at-plan no in
@@ -88,9 +89,9 @@ returns-2 c br a b can =
     let ns = s .args .row-counts .now in
     let rs = s .args .row-list .now in
     let ok = accepted-at no br can in
-    let u = registerIn (cutWorld (tablesAt s br) (s .args .free .0) (s .args .book-free .0)) .columns in
+    let u = bookedIn (cutWorld (tablesAt s br) (s .args .free .0) (s .args .book-free .0)) .columns in
     let e = c .planned .ensures in
-    add-planned can ids ns rs a b ok (p .plan-add .ensures u (batchOf ids ns rs) (add-can can ids ns rs a b ok)) (c .before .if2 .taken)
+    add-planned can ids ns rs ok (p .plan-add .ensures u (batchOf ids ns rs) (add-can can ids ns rs ok)) (c .before .if2 .taken)
     (ap verdictNumber e) (ap (λ (v : Verdict). v .first) e) (ap (λ (v : Verdict). v .count) e) (ap (λ (v : Verdict). v .entries) e) (ap (λ (v : Verdict). v .used) e)
 
 refused-requires-2 : tie.Need-refused-requires-2
@@ -100,7 +101,7 @@ same-length-2 : tie.Need-same-length-2
 same-length-2 c = search needs
 
 returns-3 : tie.Need-returns-3
-returns-3 c br a b can =
+returns-3 c br can =
     let p = plans (c .before .before) in
     let no = p .before .before in
     let s = at-plan no in
@@ -108,8 +109,8 @@ returns-3 c br a b can =
     let ns = s .args .row-counts .now in
     let rs = s .args .row-list .now in
     let ok = accepted-at no br can in
-    let u = registerIn (cutWorld (tablesAt s br) (s .args .free .0) (s .args .book-free .0)) .columns in
-    add-full can ids ns rs a b ok (p .plan-add .ensures u (batchOf ids ns rs) (add-can can ids ns rs a b ok)) (c .before .if2 .left) (ap verdictNumber (c .refused2 .ensures))
+    let u = bookedIn (cutWorld (tablesAt s br) (s .args .free .0) (s .args .book-free .0)) .columns in
+    add-full can ids ns rs ok (p .plan-add .ensures u (batchOf ids ns rs) (add-can can ids ns rs ok)) (c .before .if2 .left) (ap verdictNumber (c .refused2 .ensures))
 
 pub judge-add-spec : {M : Type 1} → statement M
 judge-add-spec =

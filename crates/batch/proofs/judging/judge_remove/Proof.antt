@@ -1,7 +1,6 @@
 -- `judging::judge_remove` meets its contract: what it finds and what it plans are the call's verdict, by the laws of Removing.antt. Assumes nothing.
 use mathlib.Core.Path.{_≡_, sym, ap, _∙_}
 use mathlib.Core.Bool.{true}
-use mathlib.Core.List.{[]}
 use Prim.Native.Nat.{ℕ}
 use borrow.Author.Needs.{needs}
 use borrow.Author.Tests.{eq-eqb, ne-eqb}
@@ -9,9 +8,10 @@ use lib.ListN.{length}
 use Rattle.symbolic.specs.Change.{without, columnsOf}
 use Rattle.tables.specs.Tables.{Tables, tablesOf}
 use Rattle.calls.specs.Refusals.{isAccepted}
+use Rattle.calls.specs.Steps.{bookedIn}
 use Rattle.refusals.specs.Found.{removeFound}
 use Rattle.batch.specs.Outcome.{cutWorld}
-use Rattle.batch.specs.Parts.{bookWhole, registerIn, verdictNumber}
+use Rattle.batch.specs.Parts.{bookWhole, verdictNumber}
 use Rattle.batch.specs.declared.Verdict.{Verdict}
 use Rattle.batch.proofs.Removing.{remove-refused, remove-can, remove-planned}
 use Rattle.batch.proofs.judging.judge_remove.Statement.{statement}
@@ -46,21 +46,21 @@ refused-requires : tie.Need-refused-requires
 refused-requires c κs = search needs
 
 returns : tie.Need-returns
-returns c f g a b can =
+returns c f g can =
     let x = c .before .before .before in
     let s = entry x in
-    remove-refused can (s .args .ids .now) a b
+    remove-refused can (s .args .ids .now)
     (ap verdictNumber (c .refused .ensures) ∙ x .find-remove .ensures (length (s .args .heads .now)) (s .args .book-rows .now) (s .args .book-next .now) g)
     (ap (λ (v : Verdict). isAccepted (verdictNumber v)) (c .refused .ensures) ∙ ne-eqb (x .find-remove .result .number) 0 (c .before .if1 .taken))
 
 plan-remove-requires : tie.Need-plan-remove-requires
 plan-remove-requires c κs =
     let s = at-plan (c .before) in
-    let cs = registerIn (cutWorld (tablesAt s) (s .pre .free) (s .pre .book-free)) .columns in
+    let cs = bookedIn (cutWorld (tablesAt s) (s .pre .free) (s .pre .book-free)) .columns in
     record {
       R = without (s .args .ids .now) cs;
       W = columnsOf (s .args .ids .now) cs;
-      can = remove-can (s .pre .can) (s .args .ids .now) [] [] (accepted-at (c .before) (s .pre .book-free)) 0 0;
+      can = remove-can (s .pre .can) (s .args .ids .now) (accepted-at (c .before) (s .pre .book-free)) 0 0;
     }
 
 planned-requires : tie.Need-planned-requires
@@ -70,15 +70,15 @@ same-length : tie.Need-same-length
 same-length c = search needs
 
 returns-2 : tie.Need-returns-2
-returns-2 c f g a b can =
+returns-2 c f g can =
     let p = plans c in
     let no = p .before .before in
     let s = at-plan no in
     let ids = s .args .ids .now in
     let ok = accepted-at no g in
-    let cs = registerIn (cutWorld (tablesAt s) f g) .columns in
+    let cs = bookedIn (cutWorld (tablesAt s) f g) .columns in
     let e = c .planned .ensures in
-    remove-planned can ids a b ok (p .plan-remove .ensures (without ids cs) (columnsOf ids cs) (remove-can can ids a b ok 0 0))
+    remove-planned can ids ok (p .plan-remove .ensures (without ids cs) (columnsOf ids cs) (remove-can can ids ok 0 0))
     (ap verdictNumber e) (ap (λ (v : Verdict). v .first) e) (ap (λ (v : Verdict). v .count) e) (ap (λ (v : Verdict). v .entries) e) (ap (λ (v : Verdict). v .used) e)
 
 pub judge-remove-spec : {M : Type 1} → statement M

@@ -2,10 +2,10 @@
 use mathlib.Core.Path.{refl, _∙_}
 use borrow.Author.Needs.{needs}
 use Rattle.tables.specs.Tables.{Tables, State, tablesOf}
-use Rattle.batch.specs.Outcome.{batchLists}
+use Rattle.calls.specs.Calls.{adding, reportLists}
 use Rattle.factor.specs.Entries.{stateOf, worldOf}
 use Rattle.factor.specs.Batches.{changedAnswer}
-use Rattle.factor.proofs.Changing.{admits-add, change-refused, admitted-can, add-changed}
+use Rattle.factor.proofs.Changing.{admits-change, change-refused, admitted-can, changed-whole}
 use Rattle.factor.proofs.Factor.add.Statement.{statement}
 use Rattle.factor.proofs.Factor.add.Tie as tie
 
@@ -76,8 +76,8 @@ returns c =
     let d : tie.After-admit = c .before .before .before .before in
     let h : tie.After-short-lists = listed d in
     let s : tie.Start = entry h in
-    change-refused (s .args .self) (tablesAt s) (admits-add (stateAt s) (tablesAt s) (s .args .work .now) (s .args .touched .now) (s .args .labels .now) (h .short-lists .ensures) (s .args .ids .now) (s .args .row-counts .now) (s .args .row-list .now)) (d .admit .ensures)
-    (c .before .if1 .taken) (batchLists (d .admit .last .1 .1 .1 .1 .1 .1 .1 .1 .1 .0) (s .args .touched .now) (s .args .labels .now)) refl (c .unchanged .ensures)
+    change-refused (s .args .self) (tablesAt s) (admits-change (stateAt s) (tablesAt s) (s .args .work .now) (s .args .touched .now) (s .args .labels .now) (h .short-lists .ensures) (adding (s .args .ids .now) (s .args .row-counts .now) (s .args .row-list .now))) (d .admit .ensures)
+    (c .before .if1 .taken) (reportLists (d .admit .last .1 .1 .1 .1 .1 .1 .1 .1 .1 .0) (s .args .touched .now) (s .args .labels .now)) refl (c .unchanged .ensures)
 
 add-unchecked-requires : tie.Need-add-unchecked-requires
 add-unchecked-requires c κs =
@@ -125,8 +125,8 @@ returns-2 c =
     let h : tie.After-short-lists = listed d in
     let s : tie.Start = entry h in
     let t : Tables = tablesOf (s .args .heads .now) (u .add-unchecked .last .1 .1 .0) (u .add-unchecked .last .1 .1 .1 .0) (u .add-unchecked .last .1 .1 .1 .1 .0) (u .add-unchecked .last .1 .1 .1 .1 .1 .0) (u .add-unchecked .last .1 .1 .1 .1 .1 .1 .0) (u .add-unchecked .last .1 .1 .1 .1 .1 .1 .1 .0) (u .add-unchecked .last .1 .1 .1 .1 .1 .1 .1 .1 .0) in
-    add-changed (stateAt s) (tablesAt s) (s .args .work .now) (s .args .touched .now) (s .args .labels .now) (h .short-lists .ensures) (d .admit .ensures) (e .if1 .left)
-    (changedAnswer (u .add-unchecked .result)) (batchLists (u .add-unchecked .last .1 .1 .1 .1 .1 .1 .1 .1 .1 .0) (u .add-unchecked .last .1 .1 .1 .1 .1 .1 .1 .1 .1 .1 .0) (u .add-unchecked .last .1 .1 .1 .1 .1 .1 .1 .1 .1 .1 .1 .0)) (worldOf (u .add-unchecked .result .factor) t) (s .args .ids .now) (s .args .row-counts .now) (s .args .row-list .now) (u .add-unchecked .ensures)
+    changed-whole (stateAt s) (tablesAt s) (s .args .work .now) (s .args .touched .now) (s .args .labels .now) (h .short-lists .ensures) (d .admit .ensures) (e .if1 .left) (adding (s .args .ids .now) (s .args .row-counts .now) (s .args .row-list .now))
+    (changedAnswer (u .add-unchecked .result)) (reportLists (u .add-unchecked .last .1 .1 .1 .1 .1 .1 .1 .1 .1 .0) (u .add-unchecked .last .1 .1 .1 .1 .1 .1 .1 .1 .1 .1 .0) (u .add-unchecked .last .1 .1 .1 .1 .1 .1 .1 .1 .1 .1 .1 .0)) (worldOf (u .add-unchecked .result .factor) t) (u .add-unchecked .ensures)
 
 pub add-spec : {M : Type 1} → statement M
 add-spec =

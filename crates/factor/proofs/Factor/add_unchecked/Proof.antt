@@ -5,8 +5,7 @@ use borrow.Author.Needs.{needs}
 use lib.ListN.{take}
 use Rattle.tables.specs.Tables.{Tables, State, tablesOf}
 use Rattle.tables.proofs.Tables.{Long}
-use Rattle.calls.specs.Calls.{adding}
-use Rattle.batch.specs.Outcome.{batchLists}
+use Rattle.calls.specs.Calls.{adding, reportLists}
 use Rattle.factor.specs.Entries.{stateOf}
 use Rattle.factor.proofs.Cutting.{Cut, cut}
 use Rattle.factor.proofs.Batching.{change-long, change-can, change-step, joined-length}
@@ -134,8 +133,8 @@ returns c =
     let d : tie.After-add = ran c in
     let s : tie.Start = lent (d .before) in
     let t : Tables = tablesOf (take (s .args .self .m) (s .args .heads .now)) (d .add .last .1 .0) (d .add .last .1 .1 .0) (d .add .last .1 .1 .1 .0) (d .add .last .1 .1 .1 .1 .0) (d .add .last .1 .1 .1 .1 .1 .0) (d .add .last .1 .1 .1 .1 .1 .1 .0) (d .add .last .1 .1 .1 .1 .1 .1 .1 .0) in
-    change-step (s .args .self) (tablesAt s) (s .pre) (adding (s .args .ids .now) (s .args .row-counts .now) (s .args .row-list .now) (s .args .work .now) (s .args .touched .now) (s .args .labels .now)) refl t (d .add .result)
-    (batchLists (d .add .last .1 .1 .1 .1 .1 .1 .1 .1 .0) (d .add .last .1 .1 .1 .1 .1 .1 .1 .1 .1 .0) (d .add .last .1 .1 .1 .1 .1 .1 .1 .1 .1 .1 .0)) refl (d .add .ensures) (c .changed .ensures)
+    change-step (s .args .self) (tablesAt s) (s .pre) (adding (s .args .ids .now) (s .args .row-counts .now) (s .args .row-list .now)) (reportLists (s .args .work .now) (s .args .touched .now) (s .args .labels .now)) t (d .add .result)
+    (reportLists (d .add .last .1 .1 .1 .1 .1 .1 .1 .1 .0) (d .add .last .1 .1 .1 .1 .1 .1 .1 .1 .1 .0) (d .add .last .1 .1 .1 .1 .1 .1 .1 .1 .1 .1 .0)) refl (d .add .ensures) (c .changed .ensures)
 
 pub add-unchecked-spec : {M : Type 1} → statement M
 add-unchecked-spec =

@@ -48,7 +48,7 @@ returns c =
     let d : tie.After-column = c .before .before in
     let s : tie.Start = entry (d .before .before .before .before .before) in
     let u = usable-columns (s .pre) in
-    (d .column .ensures .0 (stateAt s .limits) (registerOf (stateAt s) (tablesAt s)) u, d .column .ensures .1 (stateAt s .limits) (registerOf (stateAt s) (tablesAt s)) u)
+    (d .column .ensures .0 (registerOf (stateAt s) (tablesAt s)) u, d .column .ensures .1 (registerOf (stateAt s) (tablesAt s)) u)
 
 pub column-unchecked-spec : {M : Type 1} → statement M
 column-unchecked-spec =

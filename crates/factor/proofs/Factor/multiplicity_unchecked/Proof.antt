@@ -43,7 +43,7 @@ multiplicity-requires c κs = usable-ask (entry (c .before .before .before) .pre
 returns : tie.Need-returns
 returns c =
     let s : tie.Start = entry (c .before .before .before .before) in
-    c .multiplicity .ensures (stateAt s .limits) (registerOf (stateAt s) (tablesAt s)) (usable-columns (s .pre))
+    c .multiplicity .ensures (registerOf (stateAt s) (tablesAt s)) (usable-columns (s .pre))
 
 pub multiplicity-unchecked-spec : {M : Type 1} → statement M
 multiplicity-unchecked-spec =

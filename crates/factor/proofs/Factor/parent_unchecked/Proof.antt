@@ -31,7 +31,7 @@ parent-requires c κs = usable-follow (entry c .pre)
 returns : tie.Need-returns
 returns c =
     let s : tie.Start = entry (c .before) in
-    c .parent .ensures (stateAt s .limits) (registerOf (stateAt s) (tablesAt s)) (usable-parents (s .pre))
+    c .parent .ensures (registerOf (stateAt s) (tablesAt s)) (usable-parents (s .pre))
 
 pub parent-unchecked-spec : {M : Type 1} → statement M
 parent-unchecked-spec =

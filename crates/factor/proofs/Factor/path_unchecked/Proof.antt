@@ -36,7 +36,7 @@ returns c =
     let d : tie.After-path = c .before .before in
     let s : tie.Start = entry (d .before .before) in
     let u = usable-parents (s .pre) in
-    (d .path .ensures .0 (stateAt s .limits) (registerOf (stateAt s) (tablesAt s)) u, d .path .ensures .1 (stateAt s .limits) (registerOf (stateAt s) (tablesAt s)) u)
+    (d .path .ensures .0 (registerOf (stateAt s) (tablesAt s)) u, d .path .ensures .1 (registerOf (stateAt s) (tablesAt s)) u)
 
 pub path-unchecked-spec : {M : Type 1} → statement M
 path-unchecked-spec =

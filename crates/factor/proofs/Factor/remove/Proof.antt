@@ -2,10 +2,10 @@
 use mathlib.Core.Path.{refl, _∙_}
 use borrow.Author.Needs.{needs}
 use Rattle.tables.specs.Tables.{Tables, State, tablesOf}
-use Rattle.batch.specs.Outcome.{batchLists}
+use Rattle.calls.specs.Calls.{removing, reportLists}
 use Rattle.factor.specs.Entries.{stateOf, worldOf}
 use Rattle.factor.specs.Batches.{changedAnswer}
-use Rattle.factor.proofs.Changing.{admits-remove, change-refused, admitted-can, remove-changed}
+use Rattle.factor.proofs.Changing.{admits-change, change-refused, admitted-can, changed-whole}
 use Rattle.factor.proofs.Factor.remove.Statement.{statement}
 use Rattle.factor.proofs.Factor.remove.Tie as tie
 
@@ -76,8 +76,8 @@ returns c =
     let d : tie.After-admit = c .before .before .before .before in
     let h : tie.After-short-lists = listed d in
     let s : tie.Start = entry h in
-    change-refused (s .args .self) (tablesAt s) (admits-remove (stateAt s) (tablesAt s) (s .args .work .now) (s .args .touched .now) (s .args .labels .now) (h .short-lists .ensures) (s .args .ids .now)) (d .admit .ensures)
-    (c .before .if1 .taken) (batchLists (d .admit .last .1 .1 .1 .1 .1 .1 .1 .1 .1 .0) (s .args .touched .now) (s .args .labels .now)) refl (c .unchanged .ensures)
+    change-refused (s .args .self) (tablesAt s) (admits-change (stateAt s) (tablesAt s) (s .args .work .now) (s .args .touched .now) (s .args .labels .now) (h .short-lists .ensures) (removing (s .args .ids .now))) (d .admit .ensures)
+    (c .before .if1 .taken) (reportLists (d .admit .last .1 .1 .1 .1 .1 .1 .1 .1 .1 .0) (s .args .touched .now) (s .args .labels .now)) refl (c .unchanged .ensures)
 
 remove-unchecked-requires : tie.Need-remove-unchecked-requires
 remove-unchecked-requires c κs =
@@ -125,8 +125,8 @@ returns-2 c =
     let h : tie.After-short-lists = listed d in
     let s : tie.Start = entry h in
     let t : Tables = tablesOf (s .args .heads .now) (u .remove-unchecked .last .1 .1 .0) (u .remove-unchecked .last .1 .1 .1 .0) (u .remove-unchecked .last .1 .1 .1 .1 .0) (u .remove-unchecked .last .1 .1 .1 .1 .1 .0) (u .remove-unchecked .last .1 .1 .1 .1 .1 .1 .0) (u .remove-unchecked .last .1 .1 .1 .1 .1 .1 .1 .0) (u .remove-unchecked .last .1 .1 .1 .1 .1 .1 .1 .1 .0) in
-    remove-changed (stateAt s) (tablesAt s) (s .args .work .now) (s .args .touched .now) (s .args .labels .now) (h .short-lists .ensures) (d .admit .ensures) (e .if1 .left)
-    (changedAnswer (u .remove-unchecked .result)) (batchLists (u .remove-unchecked .last .1 .1 .1 .1 .1 .1 .1 .1 .1 .0) (u .remove-unchecked .last .1 .1 .1 .1 .1 .1 .1 .1 .1 .1 .0) (u .remove-unchecked .last .1 .1 .1 .1 .1 .1 .1 .1 .1 .1 .1 .0)) (worldOf (u .remove-unchecked .result .factor) t) (s .args .ids .now) (u .remove-unchecked .ensures)
+    changed-whole (stateAt s) (tablesAt s) (s .args .work .now) (s .args .touched .now) (s .args .labels .now) (h .short-lists .ensures) (d .admit .ensures) (e .if1 .left) (removing (s .args .ids .now))
+    (changedAnswer (u .remove-unchecked .result)) (reportLists (u .remove-unchecked .last .1 .1 .1 .1 .1 .1 .1 .1 .1 .0) (u .remove-unchecked .last .1 .1 .1 .1 .1 .1 .1 .1 .1 .1 .0) (u .remove-unchecked .last .1 .1 .1 .1 .1 .1 .1 .1 .1 .1 .1 .0)) (worldOf (u .remove-unchecked .result .factor) t) (u .remove-unchecked .ensures)
 
 pub remove-spec : {M : Type 1} → statement M
 remove-spec =

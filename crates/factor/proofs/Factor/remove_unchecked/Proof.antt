@@ -5,8 +5,7 @@ use borrow.Author.Needs.{needs}
 use lib.ListN.{take}
 use Rattle.tables.specs.Tables.{Tables, State, tablesOf}
 use Rattle.tables.proofs.Tables.{Long}
-use Rattle.calls.specs.Calls.{removing}
-use Rattle.batch.specs.Outcome.{batchLists}
+use Rattle.calls.specs.Calls.{removing, reportLists}
 use Rattle.factor.specs.Entries.{stateOf}
 use Rattle.factor.proofs.Cutting.{Cut, cut}
 use Rattle.factor.proofs.Batching.{change-long, change-can, change-step, joined-length}
@@ -134,8 +133,8 @@ returns c =
     let d : tie.After-remove = ran c in
     let s : tie.Start = lent (d .before) in
     let t : Tables = tablesOf (take (s .args .self .m) (s .args .heads .now)) (d .remove .last .1 .0) (d .remove .last .1 .1 .0) (d .remove .last .1 .1 .1 .0) (d .remove .last .1 .1 .1 .1 .0) (d .remove .last .1 .1 .1 .1 .1 .0) (d .remove .last .1 .1 .1 .1 .1 .1 .0) (d .remove .last .1 .1 .1 .1 .1 .1 .1 .0) in
-    change-step (s .args .self) (tablesAt s) (s .pre) (removing (s .args .ids .now) (s .args .work .now) (s .args .touched .now) (s .args .labels .now)) refl t (d .remove .result)
-    (batchLists (d .remove .last .1 .1 .1 .1 .1 .1 .1 .1 .0) (d .remove .last .1 .1 .1 .1 .1 .1 .1 .1 .1 .0) (d .remove .last .1 .1 .1 .1 .1 .1 .1 .1 .1 .1 .0)) refl (d .remove .ensures) (c .changed .ensures)
+    change-step (s .args .self) (tablesAt s) (s .pre) (removing (s .args .ids .now)) (reportLists (s .args .work .now) (s .args .touched .now) (s .args .labels .now)) t (d .remove .result)
+    (reportLists (d .remove .last .1 .1 .1 .1 .1 .1 .1 .1 .0) (d .remove .last .1 .1 .1 .1 .1 .1 .1 .1 .1 .0) (d .remove .last .1 .1 .1 .1 .1 .1 .1 .1 .1 .1 .0)) refl (d .remove .ensures) (c .changed .ensures)
 
 pub remove-unchecked-spec : {M : Type 1} → statement M
 remove-unchecked-spec =

@@ -10,9 +10,14 @@ use Rattle.factor.specs.Entries.{stateOf}
 use Rattle.factor.specs.Batches.{CanChange}
 use Rattle.listing_text.proofs.Printing.{no-room}
 use Rattle.listing_answers.specs.Listing.{Memory, memoryOf}
-use Rattle.listing_answers.proofs.Changes.{ready-none, ready-some, closed-adds, open-adds}
+use Rattle.calls.specs.Calls.{Change, adding}
+use Rattle.listing_answers.proofs.Changes.{ready-none, ready-some, closed-changes, open-changes}
 use Rattle.listing_answers.proofs.changing.add_line.Statement.{statement}
 use Rattle.listing_answers.proofs.changing.add_line.Tie as tie
+
+-- the addition
+abbrev change : tie.Start → Change
+change s = adding (s .args .id ∷ []) (s .args .count ∷ []) (take (s .args .count) (s .args .list .now))
 
 abbrev entry : tie.Else1 → tie.Start
 entry c = c .before .before .before .before .before .before .before .before .before .before .before .before .before .before .before
@@ -48,8 +53,8 @@ returns c =
     let o = c .before .before in
     let t = o .before .before in
     let s = entry-then t in
-    closed-adds (s .args .factor) (tables s) (s .args .work .now) (s .args .touched .now) (s .args .labels .now) (s .args .out .now) (o .no-line .last .0) (o .no-line .result)
-    (o .no-line .ensures) (ready-none (memory s) (s .pre .1 .1) (t .if1 .taken)) (s .args .id ∷ []) (s .args .count ∷ []) (take (s .args .count) (s .args .list .now))
+    closed-changes (s .args .factor) (tables s) (s .args .work .now) (s .args .touched .now) (s .args .labels .now) (s .args .out .now) (o .no-line .last .0) (o .no-line .result)
+    (o .no-line .ensures) (ready-none (memory s) (s .pre .1 .1) (t .if1 .taken)) (change s)
 
 slice-aggregate-add-unchecked : tie.Need-slice-aggregate-add-unchecked
 slice-aggregate-add-unchecked c = search needs
@@ -107,10 +112,10 @@ returns-2 c =
     let x = called o in
     let l = x .add-unchecked .last in
     let s = entry (chosen x) in
-    open-adds (s .args .factor) (tables s) (s .args .work .now) (s .args .touched .now) (s .args .labels .now) (can (chosen x)) (x .add-unchecked .result)
+    open-changes (s .args .factor) (tables s) (s .args .work .now) (s .args .touched .now) (s .args .labels .now) (can (chosen x)) (x .add-unchecked .result)
     (tablesOf (s .args .heads .now) (l .1 .1 .0) (l .1 .1 .1 .0) (l .1 .1 .1 .1 .0) (l .1 .1 .1 .1 .1 .0) (l .1 .1 .1 .1 .1 .1 .0) (l .1 .1 .1 .1 .1 .1 .1 .0) (l .1 .1 .1 .1 .1 .1 .1 .1 .0))
     (l .1 .1 .1 .1 .1 .1 .1 .1 .1 .0) (l .1 .1 .1 .1 .1 .1 .1 .1 .1 .1 .0) (l .1 .1 .1 .1 .1 .1 .1 .1 .1 .1 .1 .0) (s .args .out .now) (o .changed-line .last .0) (o .changed-line .result) (o .changed-line .ensures)
-    (x .add-unchecked .kept .1 .1 .1 .1 .1 .1 .1 .1 .1 .1 .0) (x .add-unchecked .kept .1 .1 .1 .1 .1 .1 .1 .1 .1 .1 .1 .0) (s .args .id ∷ []) (s .args .count ∷ []) (take (s .args .count) (s .args .list .now)) (x .add-unchecked .ensures)
+    (x .add-unchecked .kept .1 .1 .1 .1 .1 .1 .1 .1 .1 .1 .0) (x .add-unchecked .kept .1 .1 .1 .1 .1 .1 .1 .1 .1 .1 .1 .0) (change s) (x .add-unchecked .ensures)
 
 pub add-line-spec : {M : Type 1} → statement M
 add-line-spec =

@@ -8,7 +8,8 @@ use Rattle.factor.specs.Entries.{stateOf}
 use Rattle.factor.specs.Batches.{CanChange}
 use Rattle.listing_text.proofs.Printing.{no-room}
 use Rattle.listing_answers.specs.Listing.{Memory, memoryOf}
-use Rattle.listing_answers.proofs.Changes.{ready-none, ready-some, closed-removes, open-removes}
+use Rattle.calls.specs.Calls.{removing}
+use Rattle.listing_answers.proofs.Changes.{ready-none, ready-some, closed-changes, open-changes}
 use Rattle.listing_answers.proofs.changing.drop_line.Statement.{statement}
 use Rattle.listing_answers.proofs.changing.drop_line.Tie as tie
 
@@ -46,8 +47,8 @@ returns c =
     let o = c .before .before in
     let t = o .before .before in
     let s = entry-then t in
-    closed-removes (s .args .factor) (tables s) (s .args .work .now) (s .args .touched .now) (s .args .labels .now) (s .args .out .now) (o .no-line .last .0) (o .no-line .result)
-    (o .no-line .ensures) (ready-none (memory s) (s .pre .1) (t .if1 .taken)) (s .args .id ∷ [])
+    closed-changes (s .args .factor) (tables s) (s .args .work .now) (s .args .touched .now) (s .args .labels .now) (s .args .out .now) (o .no-line .last .0) (o .no-line .result)
+    (o .no-line .ensures) (ready-none (memory s) (s .pre .1) (t .if1 .taken)) (removing (s .args .id ∷ []))
 
 slice-aggregate-remove-unchecked : tie.Need-slice-aggregate-remove-unchecked
 slice-aggregate-remove-unchecked c = search needs
@@ -97,10 +98,10 @@ returns-2 c =
     let x = called o in
     let l = x .remove-unchecked .last in
     let s = entry (chosen x) in
-    open-removes (s .args .factor) (tables s) (s .args .work .now) (s .args .touched .now) (s .args .labels .now) (can (chosen x)) (x .remove-unchecked .result)
+    open-changes (s .args .factor) (tables s) (s .args .work .now) (s .args .touched .now) (s .args .labels .now) (can (chosen x)) (x .remove-unchecked .result)
     (tablesOf (s .args .heads .now) (l .1 .1 .0) (l .1 .1 .1 .0) (l .1 .1 .1 .1 .0) (l .1 .1 .1 .1 .1 .0) (l .1 .1 .1 .1 .1 .1 .0) (l .1 .1 .1 .1 .1 .1 .1 .0) (l .1 .1 .1 .1 .1 .1 .1 .1 .0))
     (l .1 .1 .1 .1 .1 .1 .1 .1 .1 .0) (l .1 .1 .1 .1 .1 .1 .1 .1 .1 .1 .0) (l .1 .1 .1 .1 .1 .1 .1 .1 .1 .1 .1 .0) (s .args .out .now) (o .changed-line .last .0) (o .changed-line .result) (o .changed-line .ensures)
-    (x .remove-unchecked .kept .1 .1 .1 .1 .1 .1 .1 .1 .1 .1 .0) (x .remove-unchecked .kept .1 .1 .1 .1 .1 .1 .1 .1 .1 .1 .1 .0) (s .args .id ∷ []) (x .remove-unchecked .ensures)
+    (x .remove-unchecked .kept .1 .1 .1 .1 .1 .1 .1 .1 .1 .1 .0) (x .remove-unchecked .kept .1 .1 .1 .1 .1 .1 .1 .1 .1 .1 .1 .0) (removing (s .args .id ∷ [])) (x .remove-unchecked .ensures)
 
 pub drop-line-spec : {M : Type 1} → statement M
 drop-line-spec =

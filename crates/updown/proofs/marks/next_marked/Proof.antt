@@ -1,11 +1,9 @@
 use mathlib.Core.Path.{refl}
 use Rattle.updown.proofs.Marking.{Passing, passing-start, passing-block, passing-row, passing-found, passing-none}
-use Prim.Native.Nat.{ℕ, _+_, _-_, _*_, _/_, _≤_, _<_}
+use Prim.Native.Nat.{_-_}
 use native.Mathlib.Omega.{arith}
 use Rattle.updown.proofs.marks.next_marked.Statement.{statement}
 use Rattle.updown.proofs.marks.next_marked.Tie as tie
-use Rattle.updown.proofs.marks.next_marked.Reads as reads
-use Rattle.updown.proofs.marks.next_marked.Lts as lts
 
 abbrev Inv-loop : tie.InvT-loop
 Inv-loop work m flags from i₀ i = Passing m work from i

@@ -1,13 +1,7 @@
 use Rattle.updown.proofs.Bringing.{child-kept, child-gained}
-use mathlib.Core.Path.{_≡_, refl, sym, ap}
-use native.Mathlib.Omega.{arith}
 use borrow.Author.Needs.{needs}
 use Rattle.updown.proofs.queues.count_child.Statement.{statement}
 use Rattle.updown.proofs.queues.count_child.Tie as tie
-use Rattle.updown.proofs.queues.count_child.Reads as reads
-use Rattle.updown.proofs.queues.count_child.Lts as lts
-use Rattle.updown.proofs.queues.count_kept.Reads as count-kept-reads
-use Rattle.updown.proofs.queues.count_with.Reads as count-with-reads
 
 count-kept-requires : tie.Need-count-kept-requires
 count-kept-requires c κs = search needs

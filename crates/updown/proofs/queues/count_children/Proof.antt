@@ -7,18 +7,13 @@ use Rattle.updown.specs.Queues.{links}
 use Rattle.pool.specs.Chains.{chain}
 use Rattle.symbolic.specs.Columns.{Column}
 use lib.ListN.{length, set}
-use Prim.Native.Nat.{ℕ, _+_, _-_, _*_, _≤_, _<_}
+use Prim.Native.Nat.{ℕ, _+_, _-_, _*_}
 use mathlib.Core.List.{List}
-use mathlib.Core.Logic.{inl, inr}
-use mathlib.Core.Path.{_≡_, refl, sym, ap}
+use mathlib.Core.Logic.{inl}
+use mathlib.Core.Path.{refl}
 use native.Mathlib.Omega.{arith}
 use Rattle.updown.proofs.queues.count_children.Statement.{statement}
 use Rattle.updown.proofs.queues.count_children.Tie as tie
-use Rattle.updown.proofs.queues.count_children.Reads as reads
-use Rattle.updown.proofs.queues.count_children.Lts as lts
-use Rattle.updown.proofs.queues.count_child.Reads as count-child-reads
-use Rattle.updown.proofs.queues.other_parent.Reads as other-parent-reads
-use Rattle.updown.proofs.queues.pass_on.Reads as pass-on-reads
 
 abbrev Inv-loop : tie.InvT-loop
 Inv-loop heads parents rows next work₀ m n j adding head c₀ l₀ work c l = (R W : List Column) (used : ℕ) (place : ℕ → ℕ) → Columns heads rows next m R W adding → Parents parents m R W adding → Turn m R W adding work₀ j used n j place → Drain m work₀ j c₀ place → Emptying m R W adding work₀ work j used l j c place

@@ -1,15 +1,8 @@
 use Rattle.updown.proofs.Bringing.{plan-read, kept-up, kept-down}
 use Rattle.updown.proofs.Children.{can-gather, can-count}
-use mathlib.Core.Path.{_≡_, refl, sym, ap}
-use native.Mathlib.Omega.{arith}
 use borrow.Author.Needs.{needs}
 use Rattle.updown.proofs.queues.count_kept.Statement.{statement}
 use Rattle.updown.proofs.queues.count_kept.Tie as tie
-use Rattle.updown.proofs.queues.count_kept.Reads as reads
-use Rattle.updown.proofs.queues.count_kept.Lts as lts
-use Rattle.differences.proofs.count_rows.Reads as count-rows-reads
-use Rattle.differences.proofs.gather_plan.Reads as gather-plan-reads
-use Rattle.updown.proofs.queues.plan_end.Reads as plan-end-reads
 
 mul-from : tie.Need-mul-from
 mul-from c = search needs

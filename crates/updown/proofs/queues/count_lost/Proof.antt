@@ -4,16 +4,13 @@ use Rattle.updown.specs.Queues.{links}
 use Rattle.pool.specs.Chains.{chain}
 use Rattle.symbolic.specs.Columns.{Column}
 use lib.ListN.{length, set, length-set}
-use Prim.Native.Nat.{ℕ, _+_, _-_, _*_, _≤_, _<_}
+use Prim.Native.Nat.{ℕ, _+_, _-_, _*_}
 use mathlib.Core.List.{List}
-use mathlib.Core.Logic.{inl, inr}
-use mathlib.Core.Path.{_≡_, refl, sym, ap, _∙_}
+use mathlib.Core.Logic.{inr}
+use mathlib.Core.Path.{refl, _∙_}
 use native.Mathlib.Omega.{arith}
 use Rattle.updown.proofs.queues.count_lost.Statement.{statement}
 use Rattle.updown.proofs.queues.count_lost.Tie as tie
-use Rattle.updown.proofs.queues.count_lost.Reads as reads
-use Rattle.updown.proofs.queues.count_lost.Lts as lts
-use Rattle.updown.proofs.queues.count_without.Reads as count-without-reads
 
 abbrev Inv-loop : tie.InvT-loop
 Inv-loop heads rows next work₀ m n j adding head c₀ l₀ work c l = (R W : List Column) (used : ℕ) (place : ℕ → ℕ) → Columns heads rows next m R W adding → Turn m R W adding work₀ j used n (m + j) place → Drain m work₀ (m + j) c₀ place → Emptying m R W adding work₀ work j used l (m + j) c place

@@ -1,17 +1,8 @@
 use Rattle.updown.proofs.Bringing.{column-head, column-rises, grow-read, grown-up, chain-down}
 use Rattle.updown.proofs.Children.{can-gather, can-count}
-use mathlib.Core.Path.{_≡_, refl, sym, ap}
-use native.Mathlib.Omega.{arith}
 use borrow.Author.Needs.{needs}
 use Rattle.updown.proofs.queues.count_with.Statement.{statement}
 use Rattle.updown.proofs.queues.count_with.Tie as tie
-use Rattle.updown.proofs.queues.count_with.Reads as reads
-use Rattle.updown.proofs.queues.count_with.Lts as lts
-use Rattle.differences.proofs.count_rows.Reads as count-rows-reads
-use Rattle.differences.proofs.gather_chain.Reads as gather-chain-reads
-use Rattle.differences.proofs.gather_grown.Reads as gather-grown-reads
-use Rattle.updown.proofs.queues.plan_end.Reads as plan-end-reads
-use Rattle.updown.proofs.queues.second.Reads as second-reads
 
 second-requires : tie.Need-second-requires
 second-requires c κs = column-head (c .before .before .before .before .pre .1 .plan .column) (c .before .before .before .before .args .adding) (c .before .before .before .before .pre .1 .column)

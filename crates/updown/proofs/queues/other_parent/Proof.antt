@@ -1,13 +1,9 @@
-use mathlib.Core.Path.{_≡_, refl, sym, ap}
-use Prim.Native.Nat.{ℕ, _+_, _-_, _*_, _/_, _≤_, _<_}
-use borrow.Author.Tests.{lt-ltb, le-ltb}
-use lib.ListN.{length-set}
+use mathlib.Core.Path.{refl}
+use Prim.Native.Nat.{_-_}
 use native.Mathlib.Omega.{arith}
 use borrow.Author.Needs.{needs}
 use Rattle.updown.proofs.queues.other_parent.Statement.{statement}
 use Rattle.updown.proofs.queues.other_parent.Tie as tie
-use Rattle.updown.proofs.queues.other_parent.Reads as reads
-use Rattle.updown.proofs.queues.other_parent.Lts as lts
 
 sub-i : tie.Need-sub-i
 sub-i c = search needs

@@ -1,12 +1,10 @@
 use borrow.Author.Tests.{eq-eqb, ne-eqb}
 use lib.ListN.{length-set}
-use mathlib.Core.Path.{_≡_, refl, sym, ap}
+use mathlib.Core.Path.{refl}
 use native.Mathlib.Omega.{arith}
 use borrow.Author.Needs.{needs}
 use Rattle.updown.proofs.queues.pass_on.Statement.{statement}
 use Rattle.updown.proofs.queues.pass_on.Tie as tie
-use Rattle.updown.proofs.queues.pass_on.Reads as reads
-use Rattle.updown.proofs.queues.pass_on.Lts as lts
 
 mul-i : tie.Need-mul-i
 mul-i c = search needs

@@ -1,14 +1,9 @@
 use lib.ListN.{getD}
-use mathlib.Core.Path.{_≡_, refl, sym, ap}
-use Prim.Native.Nat.{ℕ, _+_, _-_, _*_, _/_, _≤_, _<_}
-use borrow.Author.Tests.{lt-ltb, le-ltb}
-use lib.ListN.{length-set}
+use Prim.Native.Nat.{_+_, _-_, _*_}
 use native.Mathlib.Omega.{arith}
 use borrow.Author.Needs.{needs}
 use Rattle.updown.proofs.queues.plan_end.Statement.{statement}
 use Rattle.updown.proofs.queues.plan_end.Tie as tie
-use Rattle.updown.proofs.queues.plan_end.Reads as reads
-use Rattle.updown.proofs.queues.plan_end.Lts as lts
 
 mul-next : tie.Need-mul-next
 mul-next c = search needs

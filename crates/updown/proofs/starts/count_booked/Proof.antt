@@ -1,20 +1,15 @@
 use Rattle.updown.proofs.Booking.{booked-size, booked-first, booked-copy, part-length, booked-steady, booked-gathered, booked-here, booked-past}
 use Rattle.updown.proofs.Listing.{Counting, counting-start, counting-end}
 use Rattle.updown.proofs.Children.{can-count}
-use Rattle.updown.specs.Starts.{StartsTo, CanStart, BookHolds, CanMarkBooked}
+use Rattle.updown.specs.Starts.{CanStart, BookHolds}
 use Rattle.symbolic.specs.Columns.{Column}
-use lib.ListN.{length, getD}
-use Prim.Native.Nat.{ℕ, _+_, _-_, _*_, _≤_, _<_}
+use lib.ListN.{length}
+use Prim.Native.Nat.{ℕ, _-_, _≤_}
 use mathlib.Core.List.{List}
 use mathlib.Core.Bool.{false}
-use mathlib.Core.Path.{_≡_, refl, sym, ap, _∙_}
 use native.Mathlib.Omega.{arith}
 use Rattle.updown.proofs.starts.count_booked.Statement.{statement}
 use Rattle.updown.proofs.starts.count_booked.Tie as tie
-use Rattle.updown.proofs.starts.count_booked.Reads as reads
-use Rattle.updown.proofs.starts.count_booked.Lts as lts
-use Rattle.book.proofs.copy_rows.Reads as copy-rows-reads
-use Rattle.differences.proofs.count_rows.Reads as count-rows-reads
 
 abbrev Inv-loop : tie.InvT-loop
 Inv-loop book-heads book-rows book-next work₀ ids m j n₀ k₀ work n k = (k ≤ length ids) × ((R W : List Column) (place : ℕ → ℕ) → BookHolds book-heads book-rows book-next ids m W → CanStart m R W false work₀ j place → Counting m R W false work₀ work n j k place)

@@ -1,20 +1,15 @@
 use Rattle.updown.proofs.Listing.{Reading, Counting, reading-start, reading-end, reading-next, counting-start, counting-steady, counting-end, listed-first, listed-gather, listed-here, listed-past}
 use Rattle.updown.proofs.Children.{can-count}
-use Rattle.updown.specs.Starts.{StartsTo, CanMark, CanStart, Started}
+use Rattle.updown.specs.Starts.{CanStart}
 use Rattle.updown.specs.Entries.{Listed}
 use Rattle.symbolic.specs.Columns.{Column}
-use lib.ListN.{length, getD}
-use Prim.Native.Nat.{ℕ, _+_, _-_, _*_, _≤_, _<_}
+use lib.ListN.{length}
+use Prim.Native.Nat.{ℕ, _-_, _≤_}
 use mathlib.Core.List.{List}
 use mathlib.Core.Bool.{true}
-use mathlib.Core.Path.{_≡_, refl, sym, ap, _∙_}
 use native.Mathlib.Omega.{arith}
 use Rattle.updown.proofs.starts.count_listed.Statement.{statement}
 use Rattle.updown.proofs.starts.count_listed.Tie as tie
-use Rattle.updown.proofs.starts.count_listed.Reads as reads
-use Rattle.updown.proofs.starts.count_listed.Lts as lts
-use Rattle.differences.proofs.count_rows.Reads as count-rows-reads
-use Rattle.differences.proofs.gather_rows.Reads as gather-rows-reads
 
 abbrev Inv-loop : tie.InvT-loop
 Inv-loop work₀ row-counts row-list m j n₀ k₀ at₀ work n k at = (k ≤ length row-counts) × ((R W : List Column) (place : ℕ → ℕ) → Listed row-counts row-list W → CanStart m R W true work₀ j place → Reading row-counts row-list W k at × Counting m R W true work₀ work n j k place)

@@ -1,18 +1,13 @@
 use Rattle.updown.proofs.Booking.{booked-first, marking-booked, marking-booked-next, marking-booked-end}
 use Rattle.updown.proofs.Listing.{starts-none}
-use Rattle.updown.specs.Starts.{StartsTo, CanStart, BookHolds, CanMarkBooked}
+use Rattle.updown.specs.Starts.{StartsTo, CanMarkBooked}
 use Rattle.symbolic.specs.Columns.{Column}
-use lib.ListN.{length, getD}
-use Prim.Native.Nat.{ℕ, _+_, _-_, _*_, _≤_, _<_}
+use lib.ListN.{length}
+use Prim.Native.Nat.{ℕ, _-_, _≤_}
 use mathlib.Core.List.{List}
-use mathlib.Core.Bool.{false}
-use mathlib.Core.Path.{_≡_, refl, sym, ap, _∙_}
 use native.Mathlib.Omega.{arith}
 use Rattle.updown.proofs.starts.mark_booked.Statement.{statement}
 use Rattle.updown.proofs.starts.mark_booked.Tie as tie
-use Rattle.updown.proofs.starts.mark_booked.Reads as reads
-use Rattle.updown.proofs.starts.mark_booked.Lts as lts
-use Rattle.updown.proofs.marks.mark_start.Reads as mark-start-reads
 
 abbrev Inv-loop : tie.InvT-loop
 Inv-loop book-heads book-rows work₀ ids m flags k₀ work k = (k ≤ length ids) × ((next : List ℕ) (W : List Column) → CanMarkBooked book-heads book-rows next ids m flags work₀ W → StartsTo m flags W work₀ work k)

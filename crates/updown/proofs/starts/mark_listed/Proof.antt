@@ -1,17 +1,13 @@
 use Rattle.updown.proofs.Listing.{marking-end}
 use Rattle.updown.proofs.Listing.{Reading, reading-start, reading-end, reading-next, starts-none, marking-row, marking-next}
-use Rattle.updown.specs.Starts.{StartsTo, CanMark, CanStart, Started}
+use Rattle.updown.specs.Starts.{StartsTo, CanMark}
 use Rattle.symbolic.specs.Columns.{Column}
-use lib.ListN.{length, getD}
-use Prim.Native.Nat.{ℕ, _+_, _-_, _*_, _≤_, _<_}
+use lib.ListN.{length}
+use Prim.Native.Nat.{_-_, _≤_}
 use mathlib.Core.List.{List}
-use mathlib.Core.Path.{_≡_, refl, sym, ap, _∙_}
 use native.Mathlib.Omega.{arith}
 use Rattle.updown.proofs.starts.mark_listed.Statement.{statement}
 use Rattle.updown.proofs.starts.mark_listed.Tie as tie
-use Rattle.updown.proofs.starts.mark_listed.Reads as reads
-use Rattle.updown.proofs.starts.mark_listed.Lts as lts
-use Rattle.updown.proofs.marks.mark_start.Reads as mark-start-reads
 
 abbrev Inv-loop : tie.InvT-loop
 Inv-loop work₀ row-counts row-list m flags k₀ at₀ work k at = (k ≤ length row-counts) × ((W : List Column) → CanMark row-counts row-list m flags work₀ W → Reading row-counts row-list W k at × StartsTo m flags W work₀ work k)

@@ -2,9 +2,6 @@ use Rattle.updown.proofs.Seeking.{started-none}
 use borrow.Author.Needs.{needs}
 use Rattle.updown.proofs.starts.start_booked.Statement.{statement}
 use Rattle.updown.proofs.starts.start_booked.Tie as tie
-use Rattle.updown.proofs.starts.start_booked.Reads as reads
-use Rattle.updown.proofs.starts.start_booked.Lts as lts
-use Rattle.updown.proofs.starts.count_booked.Reads as count-booked-reads
 
 mul-if1 : tie.Need-mul-if1
 mul-if1 c = search needs

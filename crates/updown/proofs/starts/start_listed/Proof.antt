@@ -2,9 +2,6 @@ use Rattle.updown.proofs.Seeking.{started-none}
 use borrow.Author.Needs.{needs}
 use Rattle.updown.proofs.starts.start_listed.Statement.{statement}
 use Rattle.updown.proofs.starts.start_listed.Tie as tie
-use Rattle.updown.proofs.starts.start_listed.Reads as reads
-use Rattle.updown.proofs.starts.start_listed.Lts as lts
-use Rattle.updown.proofs.starts.count_listed.Reads as count-listed-reads
 
 mul-if1 : tie.Need-mul-if1
 mul-if1 c = search needs

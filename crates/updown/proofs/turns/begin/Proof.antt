@@ -1,13 +1,10 @@
-use lib.ListN.{length, length-set}
-use Prim.Native.Nat.{ℕ, _+_, _-_, _*_, _/_, _≤_, _<_}
+use lib.ListN.{length-set}
 use borrow.Author.Tests.{eq-eqb, ne-eqb}
-use mathlib.Core.Path.{_≡_, refl, sym, ap}
+use mathlib.Core.Path.{refl}
 use native.Mathlib.Omega.{arith}
 use borrow.Author.Needs.{needs}
 use Rattle.updown.proofs.turns.begin.Statement.{statement}
 use Rattle.updown.proofs.turns.begin.Tie as tie
-use Rattle.updown.proofs.turns.begin.Reads as reads
-use Rattle.updown.proofs.turns.begin.Lts as lts
 
 cast-work : tie.Need-cast-work
 cast-work c = search needs

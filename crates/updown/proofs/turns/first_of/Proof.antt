@@ -1,11 +1,7 @@
-use mathlib.Core.Bool.{true≢false}
 use borrow.Author.Tests.{eq-eqb, ne-eqb}
-use mathlib.Core.Path.{_≡_, refl, sym, ap, _∙_}
-use native.Mathlib.Omega.{arith}
+use mathlib.Core.Path.{refl}
 use Rattle.updown.proofs.turns.first_of.Statement.{statement}
 use Rattle.updown.proofs.turns.first_of.Tie as tie
-use Rattle.updown.proofs.turns.first_of.Reads as reads
-use Rattle.updown.proofs.turns.first_of.Lts as lts
 
 returns : tie.Need-returns
 returns c = rw (eq-eqb (c .before .args .first) 0 (c .if1 .taken)) refl

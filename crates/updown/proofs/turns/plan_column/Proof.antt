@@ -1,17 +1,8 @@
 use Rattle.updown.proofs.Columning.{emit-ready, planned}
-use lib.ListN.{length, length-set}
-use Prim.Native.Nat.{ℕ, _+_, _-_, _*_, _/_, _≤_, _<_}
-use borrow.Author.Tests.{eq-eqb, ne-eqb}
-use mathlib.Core.Path.{_≡_, refl, sym, ap}
 use native.Mathlib.Omega.{arith}
 use borrow.Author.Needs.{needs}
 use Rattle.updown.proofs.turns.plan_column.Statement.{statement}
 use Rattle.updown.proofs.turns.plan_column.Tie as tie
-use Rattle.updown.proofs.turns.plan_column.Reads as reads
-use Rattle.updown.proofs.turns.plan_column.Lts as lts
-use Rattle.emission.proofs.emit.Reads as emit-reads
-use Rattle.updown.proofs.queues.count_children.Reads as count-children-reads
-use Rattle.updown.proofs.queues.count_lost.Reads as count-lost-reads
 
 count-children-requires : tie.Need-count-children-requires
 count-children-requires c κs = search needs

@@ -1,14 +1,10 @@
-use lib.ListN.{length, length-set}
-use Prim.Native.Nat.{ℕ, _+_, _-_, _*_, _/_, _≤_, _<_}
+use lib.ListN.{length-set}
 use borrow.Author.Tests.{eq-eqb, ne-eqb}
-use mathlib.Core.Path.{_≡_, refl, sym, ap}
+use mathlib.Core.Path.{refl}
 use native.Mathlib.Omega.{arith}
 use borrow.Author.Needs.{needs}
 use Rattle.updown.proofs.turns.step_up.Statement.{statement}
 use Rattle.updown.proofs.turns.step_up.Tie as tie
-use Rattle.updown.proofs.turns.step_up.Reads as reads
-use Rattle.updown.proofs.turns.step_up.Lts as lts
-use Rattle.updown.proofs.marks.mark_parent.Reads as mark-parent-reads
 
 sub-i : tie.Need-sub-i
 sub-i c = search needs

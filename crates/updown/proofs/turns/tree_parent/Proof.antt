@@ -1,13 +1,9 @@
-use lib.ListN.{length, length-set}
-use Prim.Native.Nat.{ℕ, _+_, _-_, _*_, _/_, _≤_, _<_}
-use borrow.Author.Tests.{eq-eqb, ne-eqb}
-use mathlib.Core.Path.{_≡_, refl, sym, ap}
+use Prim.Native.Nat.{_-_}
+use mathlib.Core.Path.{refl}
 use native.Mathlib.Omega.{arith}
 use borrow.Author.Needs.{needs}
 use Rattle.updown.proofs.turns.tree_parent.Statement.{statement}
 use Rattle.updown.proofs.turns.tree_parent.Tie as tie
-use Rattle.updown.proofs.turns.tree_parent.Reads as reads
-use Rattle.updown.proofs.turns.tree_parent.Lts as lts
 
 returns : tie.Need-returns
 returns c = search needs

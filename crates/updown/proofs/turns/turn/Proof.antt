@@ -1,19 +1,10 @@
 use Rattle.updown.proofs.Turned.{turned-halted}
 use Rattle.updown.proofs.Turned.{turning-turn, turning-room, turning-ready, turning-small, turning-step, turned-on}
 use mathlib.Core.Bool.{true≢false}
-use borrow.Author.Tests.{eq-eqb, ne-eqb}
-use mathlib.Core.Path.{_≡_, refl, sym, ap, _∙_}
-use native.Mathlib.Omega.{arith}
+use mathlib.Core.Path.{sym, _∙_}
 use borrow.Author.Needs.{needs}
 use Rattle.updown.proofs.turns.turn.Statement.{statement}
 use Rattle.updown.proofs.turns.turn.Tie as tie
-use Rattle.updown.proofs.turns.turn.Reads as reads
-use Rattle.updown.proofs.turns.turn.Lts as lts
-use Rattle.updown.proofs.turns.advance.Reads as advance-reads
-use Rattle.updown.proofs.turns.plan_column.Reads as plan-column-reads
-use Rattle.updown.proofs.turns.step_up.Reads as step-up-reads
-use Rattle.updown.proofs.turns.stopped.Reads as stopped-reads
-use Rattle.updown.proofs.turns.tree_parent.Reads as tree-parent-reads
 
 plan-column-requires : tie.Need-plan-column-requires
 plan-column-requires c κs = turning-ready (c .before .before .before .before .before .before .before .before .pre .setting) (c .before .before .before .before .before .before .before .before .pre .turning)
@@ -31,7 +22,7 @@ same-length : tie.Need-same-length
 same-length c = search needs
 
 returns : tie.Need-returns
-returns c = λ R W free work₀ S T. record { fits-is = c .advance .ensures .0 ∙ (c .before .before .before .before .before .before .before .before .before .plan-column .ensures R W (S .columns) (S .parents-hold) (S .multiplicities) (turning-turn S T) (turning-room S T)) .fits; onward = λ x. turned-on S T (c .before .before .before .before .before .before .before .before .before .plan-column .ensures R W (S .columns) (S .parents-hold) (S .multiplicities) (turning-turn S T) (turning-room S T)) (c .before .before .before .before .before .before .if1 .taken) _ (c .before .before .before .before .before .tree-parent .ensures) (c .before .before .before .step-up .ensures) (c .advance .ensures .1) (c .advance .ensures .2) (c .advance .ensures .3) (c .advance .ensures .4) (c .advance .ensures .5) (c .advance .ensures .6); halted = λ z x. absurd (true≢false (sym (c .before .before .before .before .before .before .if1 .taken) ∙ sym (c .advance .ensures .0) ∙ x)) }
+returns c = λ R W free work₀ S T. record { fits-is = c .advance .ensures .0 ∙ (c .before .before .before .before .before .before .before .before .before .plan-column .ensures R W (S .columns) (S .parents-hold) (S .multiplicities) (turning-turn S T) (turning-room S T)) .fits; onward = λ x. turned-on S T (c .before .before .before .before .before .before .before .before .before .plan-column .ensures R W (S .columns) (S .parents-hold) (S .multiplicities) (turning-turn S T) (turning-room S T)) (c .before .before .before .before .before .before .if1 .taken) _ (c .before .before .before .before .before .tree-parent .ensures) (c .before .before .before .step-up .ensures) (c .advance .ensures .1) (c .advance .ensures .2) (c .advance .ensures .3) (c .advance .ensures .4) (c .advance .ensures .5) (c .advance .ensures .6); halted = λ x. absurd (true≢false (sym (c .before .before .before .before .before .before .if1 .taken) ∙ sym (c .advance .ensures .0) ∙ x)) }
 
 stopped-requires : tie.Need-stopped-requires
 stopped-requires c κs = search needs
@@ -40,7 +31,7 @@ same-length-2 : tie.Need-same-length-2
 same-length-2 c = search needs
 
 returns-2 : tie.Need-returns-2
-returns-2 c = λ R W free work₀ S T. record { fits-is = c .stopped .ensures .0 ∙ (c .before .before .before .before .plan-column .ensures R W (S .columns) (S .parents-hold) (S .multiplicities) (turning-turn S T) (turning-room S T)) .fits; onward = λ x. absurd (true≢false (sym x ∙ c .stopped .ensures .0 ∙ c .before .if1 .left)); halted = λ z x. turned-halted S T (c .before .before .before .before .plan-column .ensures R W (S .columns) (S .parents-hold) (S .multiplicities) (turning-turn S T) (turning-room S T)) (c .stopped .ensures .1) (c .stopped .ensures .2) (c .stopped .ensures .3) z }
+returns-2 c = λ R W free work₀ S T. record { fits-is = c .stopped .ensures .0 ∙ (c .before .before .before .before .plan-column .ensures R W (S .columns) (S .parents-hold) (S .multiplicities) (turning-turn S T) (turning-room S T)) .fits; onward = λ x. absurd (true≢false (sym x ∙ c .stopped .ensures .0 ∙ c .before .if1 .left)); halted = λ x. turned-halted S T (c .before .before .before .before .plan-column .ensures R W (S .columns) (S .parents-hold) (S .multiplicities) (turning-turn S T) (turning-room S T)) (c .stopped .ensures .1) }
 
 pub turn-spec : {M : Type 1} → statement M
 turn-spec =

@@ -8,17 +8,11 @@ use Rattle.symbolic.specs.Columns.{Column}
 use lib.ListN.{length}
 use Prim.Native.Nat.{ℕ}
 use mathlib.Core.List.{List}
-use mathlib.Core.Bool.{true, false, not}
-use mathlib.Core.Path.{_≡_, refl, sym, ap, _∙_}
+use mathlib.Core.Bool.{true}
+use mathlib.Core.Path.{_≡_, refl, sym, _∙_}
 use native.Mathlib.Omega.{arith}
 use Rattle.updown.proofs.walks.walk_add.Statement.{statement}
 use Rattle.updown.proofs.walks.walk_add.Tie as tie
-use Rattle.updown.proofs.walks.walk_add.Reads as reads
-use Rattle.updown.proofs.walks.walk_add.Lts as lts
-use Rattle.updown.proofs.turns.begin.Reads as begin-reads
-use Rattle.updown.proofs.marks.next_marked.Reads as next-marked-reads
-use Rattle.updown.proofs.starts.start_listed.Reads as start-listed-reads
-use Rattle.updown.proofs.turns.turn.Reads as turn-reads
 
 abbrev Inv-loop : tie.InvT-loop
 Inv-loop heads parents rows counts next work₀ row-counts row-list m flags walk₀ j₀ work walk j = (walk .fits ≡ true) × ((R W : List Column) (lent : List ℕ) → CanEnter heads parents rows counts next lent work₀ row-counts row-list m flags (walk₀ .avail .0) R W → Seeking next lent work m flags R W true (length (chain next (walk₀ .avail .0))) j (walk .first) (walk .last) (walk .count) (walk .entries) (walk .used) (walk .avail .0))
@@ -52,7 +46,7 @@ turn-requires : tie.Need-turn-requires Inv-loop μ-loop
 turn-requires c κs = enter-turning (start (c .before .before .before .before .before .before .before .before .before .before) .pre .can) (hand (c .before .before .before .before .before .before .before .before .before .before)) (c .before .before .before .before .before .before .before .before .before .loop-test .taken) (c .before .before .before .before .before .before .before .begin .ensures) (c .before .before .before .start-listed .ensures)
 
 same-length : tie.Need-same-length Inv-loop μ-loop
-same-length c = enter-stops (start (c .before .before .before .before .before .before .before .before .before .before .before .before .before .before .before) .pre .can) (hand (c .before .before .before .before .before .before .before .before .before .before .before .before .before .before .before)) (c .before .before .before .before .before .before .before .before .before .before .before .before .before .before .loop-test .taken) (c .before .before .before .before .before .before .before .before .before .before .before .before .begin .ensures) (c .before .before .before .before .before .before .before .before .start-listed .ensures) (c .before .before .before .before .turn .ensures) (not-true (c .before .before .before .before .turn .result .fits) (c .if1 .taken)) .halted (not-true (c .before .before .before .before .turn .result .fits) (c .if1 .taken)) .0 .0 .same-length ∙ sym ((start (c .before .before .before .before .before .before .before .before .before .before .before .before .before .before .before) .pre .can) .walking .same-length)
+same-length c = enter-stops (start (c .before .before .before .before .before .before .before .before .before .before .before .before .before .before .before) .pre .can) (hand (c .before .before .before .before .before .before .before .before .before .before .before .before .before .before .before)) (c .before .before .before .before .before .before .before .before .before .before .before .before .before .before .loop-test .taken) (c .before .before .before .before .before .before .before .before .before .before .before .before .begin .ensures) (c .before .before .before .before .before .before .before .before .start-listed .ensures) (c .before .before .before .before .turn .ensures) (not-true (c .before .before .before .before .turn .result .fits) (c .if1 .taken)) .halted (not-true (c .before .before .before .before .turn .result .fits) (c .if1 .taken)) .0 .same-length ∙ sym ((start (c .before .before .before .before .before .before .before .before .before .before .before .before .before .before .before) .pre .can) .walking .same-length)
 
 returns : tie.Need-returns Inv-loop μ-loop
 returns c = λ R W lent can. enter-stops can (c .before .before .before .before .before .before .before .before .before .before .before .before .before .before .before .loop .inv .1 R W lent can) (c .before .before .before .before .before .before .before .before .before .before .before .before .before .before .loop-test .taken) (c .before .before .before .before .before .before .before .before .before .before .before .before .begin .ensures) (c .before .before .before .before .before .before .before .before .start-listed .ensures) (c .before .before .before .before .turn .ensures) (not-true (c .before .before .before .before .turn .result .fits) (c .if1 .taken))

@@ -5,16 +5,10 @@ use Rattle.symbolic.specs.Columns.{Column}
 use Prim.Native.Nat.{ℕ}
 use mathlib.Core.List.{List}
 use mathlib.Core.Bool.{false}
-use mathlib.Core.Path.{_≡_, refl, sym, ap, _∙_}
+use mathlib.Core.Path.{sym, _∙_}
 use native.Mathlib.Omega.{arith}
 use Rattle.updown.proofs.walks.walk_remove.Statement.{statement}
 use Rattle.updown.proofs.walks.walk_remove.Tie as tie
-use Rattle.updown.proofs.walks.walk_remove.Reads as reads
-use Rattle.updown.proofs.walks.walk_remove.Lts as lts
-use Rattle.updown.proofs.turns.begin.Reads as begin-reads
-use Rattle.updown.proofs.marks.next_marked.Reads as next-marked-reads
-use Rattle.updown.proofs.starts.start_booked.Reads as start-booked-reads
-use Rattle.updown.proofs.turns.turn.Reads as turn-reads
 
 abbrev Inv-loop : tie.InvT-loop
 Inv-loop heads parents rows counts next book-heads book-rows book-next work₀ ids m flags walk₀ j₀ work walk j =

@@ -1,0 +1,153 @@
+-- A batch written: an accepted batch has what the writing of its plan asks (`write-can`), and columns so written with a book changed by it
+-- (`BookAfter`) are the change's world and report (`batch-written`). Adding and removing differ only in the book's change: Booking.antt. Assumes nothing.
+use mathlib.Core.Path.{_≡_, refl, sym, ap, _∙_, subst}
+use mathlib.Core.Bool.{Bool, true, false, false≢true}
+use mathlib.Core.List.{List, [], _∷_, _++_}
+use Prim.Native.Nat.{ℕ, _≤_}
+use native.Mathlib.Omega.{arith}
+use lib.ListN.{length, drop, drop-of-length-le}
+use Rattle.lists.specs.Lists.{among, rises, over}
+use Rattle.lists.proofs.Tests.{both-and}
+use Rattle.symbolic.specs.Columns.{Column, Register}
+use Rattle.symbolic.specs.Factor.{factorOf, factorFor, columnAt}
+use Rattle.symbolic.specs.Change.{Bag}
+use Rattle.book.specs.Book as book
+use Rattle.tables.specs.Stored.{Stored, Sized, isSoundFor}
+use Rattle.tables.specs.Stays.{ColumnStays, EntriesKeep, Beyond}
+use Rattle.tables.specs.Tables.{Tables, storedIn, bookIn, isSound}
+use Rattle.tables.proofs.Stored.{sound-bag}
+use Rattle.calls.specs.Refusals.{isAccepted}
+use Rattle.calls.specs.Calls.{Change}
+use Rattle.calls.specs.Changes.{effect, touchedBy, labelled}
+use Rattle.calls.specs.Steps.{bookedIn, Exchanged}
+use Rattle.calls.proofs.Changes.{rows-stay, touched-rise, untouched-same}
+use Rattle.updown.specs.Plans.{PlanIs}
+use Rattle.commit.specs.Writes.{labelsFor, CanWrite, Written}
+use Rattle.batch.specs.Outcome.{cutLimits, cutWorld, CanFind, CanBatch}
+use Rattle.batch.specs.Parts.{storedWhole, bookWhole, numberFor, CanWriteBatch, BatchWritten}
+use Rattle.batch.proofs.Cut as cut
+
+-- the labels of a plan are the report's
+labels-same : (f : ℕ → ℕ) (js : List ℕ) → labelsFor f js ≡ labelled f js
+unfolding labelsFor labelled
+labels-same f [] = refl
+labels-same f (j ∷ js) = ap (λ (ls : List ℕ). f j ∷ ls) (labels-same f js)
+
+-- ---- the book's change, of any batch
+
+-- a sound book with columns cs; the columns of all but some ids stay
+pub record BookAfter (m : ℕ) (b : book.Book) (cs : List Column) (ids : List ℕ) (after : book.Book) : Type 0 where
+  pub sized : book.Sized after
+  pub sound : book.isSound m after ≡ true
+  pub same-heads : length (after .heads) ≡ length (b .heads)
+  pub same-records : length (after .next) ≡ length (b .next)
+  pub columns : Bag (book.columnsIn after) cs
+  pub others : (i : ℕ) → 1 ≤ i → i ≤ length (b .heads) → among i ids ≡ false → book.ColumnStays b after i
+
+-- ---- tables that are cut to their sizes, before and after
+
+-- a fact of two whole things, read of the cut ones
+both-read : {A : Type 0} (P : A → A → Type 0) {a a′ b b′ : A} → a ≡ b → a′ ≡ b′ → P b b′ → P a a′
+both-read P {a} {a′} {b} {b′} e e′ h = subst (λ x. P x a′) (sym e) (subst (λ x. P b x) (sym e′) h)
+
+-- beyond the size there is nothing
+beyond-at : {n : ℕ} {xs ys : List ℕ} → length xs ≡ n → length ys ≡ n → Beyond n xs ys
+beyond-at {n} {xs} {ys} p q =
+    let l : length xs ≤ n = omega arith in
+    let h : length ys ≤ n = omega arith in
+    record { same-length = q ∙ sym p; same-tail = drop-of-length-le ys h ∙ sym (drop-of-length-le xs l) }
+
+beyond-cut : {xs ys : List ℕ} → length ys ≡ length xs → Beyond (length xs) xs ys
+beyond-cut q = beyond-at refl q
+
+-- ---- the plan's writing
+
+module _ {t : Tables} {f g : ℕ} {k : Change} {w w′ a b : List ℕ} {first used : ℕ}
+    (c : CanWriteBatch (cutWorld t f g) k w w′ a b first used) where
+  abbrev r : Register
+  r = bookedIn (cutWorld t f g)
+
+  abbrev find : CanFind (cutWorld t f g) w
+  find = c .can .find
+
+  pub write-can :
+      CanWrite (storedWhole t f) (bookedIn (cutWorld t f g) .columns) (effect (bookedIn (cutWorld t f g)) k .register .columns)
+      (effect (bookedIn (cutWorld t f g)) k .label) (touchedBy (bookedIn (cutWorld t f g)) k)
+      w w′ a b first (c .count) (c .entries) used
+  write-can =
+      record {
+        sized = cut.stored-sized find;
+        sound = cut.stored-sound find;
+        m-bound = cut.sizes-are find .m-high;
+        free = c .plan .room;
+        free-enough = c .plan .room-fits;
+        plan = subst (λ (n : ℕ).
+            PlanIs (r .m) (length (t .next)) (c .plan .room) (factorFor r) (factorOf n (effect r k .register .columns)) (effect r k .label) (touchedBy r k) w w′ first (c .count) (c .entries) used)
+            (rows-stay r k) (c .plan .plan);
+        zero = cut.work-zero find;
+        long = cut.work-long find;
+        rising = touched-rise r k;
+        off = λ j p q h. sym
+            (subst (λ (n : ℕ). columnAt (factorOf n (effect r k .register .columns)) j ≡ columnAt (factorFor r) j) (rows-stay r k)
+            (untouched-same (cutLimits t) r (cut.columns-distinct find) j p q k (c .accepted) h));
+        touched-long = c .can .touched-long;
+        labels-long = c .can .labels-long;
+      }
+
+  -- ---- columns written and a book changed
+
+  module _ {t′ : Tables} {f′ g′ : ℕ} {w″ a′ b′ : List ℕ} (same-next : length (t′ .next) ≡ length (t .next))
+      (x : Written (storedWhole t f) (effect (bookedIn (cutWorld t f g)) k .register .columns)
+      (effect (bookedIn (cutWorld t f g)) k .label) (touchedBy (bookedIn (cutWorld t f g)) k) w a b (storedWhole t′ f′) w″ a′ b′)
+      (y : BookAfter (length (t .heads)) (bookWhole t g) (effect (bookedIn (cutWorld t f g)) k .register .columns) (effect (bookedIn (cutWorld t f g)) k .ids) (bookWhole t′ g′)) where
+    abbrev same-heads : length (t′ .heads) ≡ length (t .heads)
+    same-heads = ap length (x .heads)
+
+    stored-after : storedIn (cutWorld t′ f′ g′ .state) t′ ≡ storedWhole t′ f′
+    stored-after = cut.stored-whole t′ f′ g′ (x .sized)
+
+    book-after : bookIn (cutWorld t′ f′ g′ .state) t′ ≡ bookWhole t′ g′
+    book-after = cut.book-whole t′ f′ g′ (y .sized)
+
+    columns-after : Bag (bookedIn (cutWorld t′ f′ g′) .columns) (effect (bookedIn (cutWorld t f g)) k .register .columns)
+    columns-after = subst (λ (d : book.Book). Bag (book.columnsIn d) (effect r k .register .columns)) (sym book-after) (y .columns)
+
+    sound-after : isSound (cutWorld t′ f′ g′ .state) t′ ≡ true
+    sound-after =
+        let p : book.isSound (length (t′ .heads)) (bookIn (cutWorld t′ f′ g′ .state) t′) ≡ true =
+        subst (λ (d : book.Book). book.isSound (length (t′ .heads)) d ≡ true) (sym book-after)
+        (subst (λ (n : ℕ). book.isSound n (bookWhole t′ g′) ≡ true) (sym same-heads) (y .sound)) in
+        let q : isSoundFor (bookedIn (cutWorld t′ f′ g′) .columns) (storedIn (cutWorld t′ f′ g′ .state) t′) ≡ true =
+        subst (λ (s : Stored). isSoundFor (bookedIn (cutWorld t′ f′ g′) .columns) s ≡ true) (sym stored-after)
+        (sound-bag (bookedIn (cutWorld t′ f′ g′) .columns) (effect r k .register .columns) (storedWhole t′ f′) columns-after ∙ x .sound) in
+        both-and p q
+
+    pub batch-exchanged : Exchanged (cutWorld t f g) k (cutWorld t′ f′ g′)
+    batch-exchanged =
+        record {
+          limits = λ i. record { m = same-heads i; n = y .same-heads i; f = same-next i; c = y .same-records i };
+          sound = sound-after;
+          columns = columns-after;
+          others = λ j p q h. both-read (λ (s s′ : Stored). ColumnStays s s′ j) (cut.stored-cut find) stored-after (x .others j p q h);
+          entries = λ j p q i o d e h n. both-read (λ (s s′ : Stored). EntriesKeep s s′ j) (cut.stored-cut find) stored-after (x .keep j p q) i o d e h;
+          book = λ i p q h. both-read (λ (d d′ : book.Book). book.ColumnStays d d′ i) (cut.book-cut find) book-after (y .others i p q h);
+          tails = record {
+            heads = beyond-cut same-heads;
+            parents = beyond-at (find .parents) (x .sized .parents-long ∙ same-heads);
+            rows = beyond-at (find .rows) (x .sized .rows-long ∙ same-next);
+            counts = beyond-at (find .counts) (x .sized .counts-long ∙ same-next);
+            next = beyond-cut same-next;
+            bookHeads = beyond-cut (y .same-heads);
+            bookRows = beyond-at (find .book-rows) (y .sized ∙ y .same-records);
+            bookNext = beyond-cut (y .same-records);
+          };
+        }
+
+    pub batch-written : BatchWritten (cutWorld t f g) k w a b (cutWorld t′ f′ g′) w″ a′ b′
+    batch-written =
+        record {
+          exchanged = batch-exchanged;
+          work-is = x .work-is;
+          touched-is = x .touched-is;
+          labels-is = x .labels-is ∙ ap (λ (ls : List ℕ). over ls b) (labels-same (effect r k .label) (touchedBy r k));
+        }

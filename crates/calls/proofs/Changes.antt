@@ -1,0 +1,101 @@
+-- What a change does to a register: what an addition and a removal touch (`touched-adding`, `touched-removing`), that touched columns rise, and, where the
+-- change is accepted and the columns fit and have distinct ids: a removal's batch and what stays are what there was (`removal-bag`), the columns after it fit,
+-- and a column that is not touched is the same before and after (`untouched-same`). Assumes nothing.
+use mathlib.Core.Path.{_≡_, refl, sym, ap, _∙_, subst}
+use mathlib.Core.Logic.{inl, inr}
+use mathlib.Core.Bool.{Bool, true, false, true≢false}
+use mathlib.Core.List.{List, _++_}
+use Prim.Native.Nat.{ℕ, _≤_}
+use lib.ListN.{length}
+use Rattle.lists.specs.Lists.{all, among, noRepeats, rises}
+use Rattle.lists.proofs.Tests.{refute}
+use Rattle.lists.proofs.Member.{mem-left, mem-right, mem-either, all-at, all-make}
+use Rattle.symbolic.specs.Columns.{Column, Register, live}
+use Rattle.symbolic.specs.Factor.{FactorColumn, factorOf, factorFor, columnAt}
+use Rattle.symbolic.specs.Batch.{isTouched, touched, exchanged}
+use Rattle.symbolic.specs.Change.{idsOf, without, columnsOf, added, removed, Bag}
+use Rattle.symbolic.proofs.Build.{factor-length}
+use Rattle.symbolic.proofs.Bags.{bag-mem}
+use Rattle.symbolic.proofs.Exchange.{exchanged-entering, exchanged-leaving, exchanged-rises}
+use Rattle.symbolic.proofs.Theorems.{locality, order-free, removal-splits, touched-is}
+use Rattle.book.specs.Book.{columnFits}
+use Rattle.tables.specs.Tables.{Limits}
+use Rattle.calls.specs.Refusals.{isAccepted, batchOf}
+use Rattle.calls.specs.Calls.{Change, adding, removing}
+use Rattle.calls.specs.Changes.{Effect, effect, touchedBy}
+use Rattle.calls.proofs.Refusals.{add-facts, RemoveFits, remove-facts}
+
+-- ---- what a change touches
+
+module _ (r : Register) where
+  -- "in the tree after the call when adding"
+  pub touched-adding : (is ns rs : List ℕ) → touchedBy r (adding is ns rs) ≡ touched (factorFor (added r (batchOf is ns rs))) (batchOf is ns rs)
+  touched-adding is ns rs = exchanged-entering (factorFor r) (factorFor (added r (batchOf is ns rs))) (batchOf is ns rs)
+
+  -- "before it when removing"
+  pub touched-removing : (is : List ℕ) → touchedBy r (removing is) ≡ touched (factorFor r) (columnsOf is (r .columns))
+  touched-removing is =
+      exchanged-leaving (factorFor r) (factorFor (removed r is)) (columnsOf is (r .columns))
+      (factor-length (r .m) (live r) ∙ sym (factor-length (r .m) (live (removed r is))))
+
+  -- no change alters m
+  pub rows-stay : (c : Change) → effect r c .register .m ≡ r .m
+  rows-stay (adding is ns rs) = refl
+  rows-stay (removing is) = refl
+
+  pub touched-rise : (c : Change) → rises 1 (r .m) (touchedBy r c) ≡ true
+  touched-rise c =
+      let x : Effect = effect r c in
+      subst (λ (n : ℕ). rises 1 (r .m) (exchanged (factorFor r) (factorOf n (live (x .register))) (x .leave) (x .enter)) ≡ true) (sym (rows-stay c))
+      (exchanged-rises (r .m) (live r) (live (x .register)) (x .leave) (x .enter))
+
+-- ---- lists of columns that pass a test
+
+module _ {A : Type 0} (f : A → Bool) where
+  pub all-append : (xs ys : List A) → all f xs ≡ true → all f ys ≡ true → all f (xs ++ ys) ≡ true
+  all-append xs ys h k = all-make f (xs ++ ys) (λ x m. elim (mem-either xs m) [ inl n ↦ all-at f n h | inr n ↦ all-at f n k ])
+
+  pub append-all : (xs ys : List A) → all f (xs ++ ys) ≡ true → (all f xs ≡ true) × (all f ys ≡ true)
+  append-all xs ys h = (all-make f xs (λ x m. all-at f (mem-left ys m) h), all-make f ys (λ x m. all-at f (mem-right xs m) h))
+
+-- ---- a removal
+
+-- the columns that stay, and the batch
+pub removal-bag : (l : Limits) (r : Register) (is : List ℕ) → noRepeats (idsOf (r .columns)) ≡ true → RemoveFits l r is →
+    Bag (r .columns) (without is (r .columns) ++ columnsOf is (r .columns))
+removal-bag l r is u f = removal-splits (r .columns) is u (f .once) (f .live)
+
+-- both are columns that there were
+pub removal-fits : (f : Column → Bool) (l : Limits) (r : Register) (is : List ℕ) → noRepeats (idsOf (r .columns)) ≡ true → RemoveFits l r is →
+    all f (r .columns) ≡ true → (all f (without is (r .columns)) ≡ true) × (all f (columnsOf is (r .columns)) ≡ true)
+removal-fits f l r is u g h =
+    let R : List Column = without is (r .columns) in
+    let W : List Column = columnsOf is (r .columns) in
+    append-all f R W (all-make f (R ++ W) (λ c m. all-at f (bag-mem (r .columns) (R ++ W) (removal-bag l r is u g) m) h))
+
+-- ---- an accepted change
+
+-- a column that the report leaves out is on no path
+untouched : (m : ℕ) (cs batch : List Column) (j : ℕ) → 1 ≤ j → j ≤ m → among j (touched (factorOf m cs) batch) ≡ false → isTouched (factorOf m cs) batch j ≡ false
+untouched m cs batch j a b h =
+    refute (isTouched (factorOf m cs) batch j) (λ e. true≢false (sym (touched-is m cs batch j .1 (a, b, e)) ∙ h))
+
+-- the factor of a removal's register, with the batch at its end
+pub removal-factor : (l : Limits) (r : Register) (is : List ℕ) → noRepeats (idsOf (r .columns)) ≡ true → RemoveFits l r is →
+    factorFor r ≡ factorOf (r .m) (without is (r .columns) ++ columnsOf is (r .columns))
+removal-factor l r is u f = order-free (r .m) (r .columns) (without is (r .columns) ++ columnsOf is (r .columns)) (removal-bag l r is u f)
+
+-- "alters no column off its paths", of the definition itself
+module _ (l : Limits) (r : Register) (u : noRepeats (idsOf (r .columns)) ≡ true) (j : ℕ) (a : 1 ≤ j) (b : j ≤ r .m) where
+  pub untouched-same : (c : Change) → isAccepted (effect r c .refusal l) ≡ true → among j (touchedBy r c) ≡ false →
+      columnAt (factorFor (effect r c .register)) j ≡ columnAt (factorFor r) j
+  untouched-same (adding is ns rs) h t =
+      sym (locality (r .m) (r .columns) (batchOf is ns rs) j a b
+      (untouched (r .m) (r .columns ++ batchOf is ns rs) (batchOf is ns rs) j a b (ap (λ (js : List ℕ). among j js) (sym (touched-adding r is ns rs)) ∙ t)))
+  untouched-same (removing is) h t =
+      let R : List Column = without is (r .columns) in
+      let W : List Column = columnsOf is (r .columns) in
+      let e : factorFor r ≡ factorOf (r .m) (R ++ W) = removal-factor l r is u (remove-facts l r is h) in
+      let q : among j (touched (factorFor r) W) ≡ false = ap (λ (js : List ℕ). among j js) (sym (touched-removing r is)) ∙ t in
+      locality (r .m) R W j a b (untouched (r .m) (R ++ W) W j a b (ap (λ (fs : List FactorColumn). among j (touched fs W)) (sym e) ∙ q)) ∙
+      ap (λ (fs : List FactorColumn). columnAt fs j) (sym e)

@@ -1,0 +1,159 @@
+-- What an accepted change must leave in record and tables (`Exchanged`): that an addition or a removal so keeps the record of every entry that stands before
+-- and after it (`exchanged-keeps`); and all of it as one test on given worlds, with the law that a change that passes it meets it (`exchange-passed`). The
+-- limits and the columns are compared apart: they are equal as they stand. How a stored example is held to the promise. Assumes nothing.
+use mathlib.Core.Path.{_≡_, refl, sym, ap, _∙_, subst}
+use mathlib.Core.Logic.{inl, inr}
+use mathlib.Core.Bool.{Bool, true, false, _&&_, _||_, true≢false}
+use mathlib.Core.List.{List}
+use Prim.Native.Nat.{ℕ, _≤_}
+use native.Mathlib.Omega.{arith}
+use Rattle.lists.specs.Lists.{Mem, first, later, all, among, at, valuesAt, sumOf, upFrom}
+use Rattle.lists.proofs.Tests.{and-both, or-either}
+use Rattle.lists.proofs.Member.{all-at}
+use Rattle.lists.proofs.Rising.{up-from, rises-in}
+use Rattle.symbolic.specs.Columns.{Column, live}
+use Rattle.symbolic.specs.Factor.{FactorColumn, factorOf, factorFor, inPattern}
+use Rattle.symbolic.specs.Change.{removed, Bag}
+use Rattle.symbolic.proofs.Patterns.{pattern-within-rows}
+use Rattle.symbolic.proofs.Theorems.{order-free}
+use Rattle.tables.specs.Stored.{recordsOf, holdsFrom}
+use Rattle.tables.specs.Tables.{Tables, Limits, State, longEnough, storedIn, bookIn, registerOf, isSound}
+use Rattle.tables.specs.Stays.{EntriesKeep, TailsStay}
+use Rattle.tables.proofs.Stored.{stored-column, stands-is}
+use Rattle.tables.proofs.Tables.{tails-long, sound-factor}
+use Rattle.tables.proofs.Stays.{staysTest, keepsTest, stays-passed, keeps-passed, beyondTest, beyond-passed, bookTest, book-passed}
+use Rattle.calls.specs.Calls.{Change, adding, removing}
+use Rattle.calls.specs.Changes.{effect, touchedBy}
+use Rattle.calls.specs.Steps.{World, bookedIn, Exchanged}
+
+-- what a list has for one of some numbers is among what it has for them
+values-mem : (xs : List ℕ) {y : ℕ} {rs : List ℕ} → Mem y rs → Mem (at xs y) (valuesAt xs rs)
+unfolding valuesAt
+values-mem xs first = first
+values-mem xs (later n) = later (values-mem xs n)
+
+-- ---- entries that stand before and after
+
+module _ {u : World} {c : Change} {v : World} (x : Exchanged u c v) where
+  abbrev m : ℕ
+  m = u .state .limits .m
+
+  -- a record of a sound world holds a row of its column's pattern
+  stands-before : (s : State) (t : Tables) → longEnough (s .limits) t ≡ true → isSound s t ≡ true → (cs : List Column) → factorFor (registerOf s t) ≡ factorOf (s .limits .m) cs →
+      (j : ℕ) → 1 ≤ j → j ≤ s .limits .m → {y : ℕ} → Mem y (recordsOf (storedIn s t) j) → inPattern (factorOf (s .limits .m) cs) (at (storedIn s t .rows) y) j ≡ true
+  stands-before s t long sound cs e j a b {y} n =
+      let f : holdsFrom (storedIn s t) (factorOf (s .limits .m) cs) 1 (s .limits .m) ≡ true =
+      ap (λ (fs : List FactorColumn). holdsFrom (storedIn s t) fs 1 (s .limits .m)) (sym e) ∙ sound-factor s t long sound in
+      let i : ℕ = at (storedIn s t .rows) y in
+      let k : Mem i (valuesAt (storedIn s t .rows) (recordsOf (storedIn s t) j)) = values-mem (storedIn s t .rows) n in
+      let p : (1 ≤ i) × (i ≤ s .limits .m) =
+      rises-in 1 (s .limits .m) (subst (λ (l : List ℕ). Mem i l) (stored-column (s .limits .m) cs (storedIn s t) f j a b .rows) k) (pattern-within-rows (s .limits .m) cs j a b) in
+      stands-is (s .limits .m) cs (storedIn s t) f i j (p .0) (p .1) a b .0 k
+
+  -- "An entry that stands in a column before and after a batch keeps its record": it stands for the columns that stay too
+  pub exchanged-keeps : longEnough (u .state .limits) (u .tables) ≡ true → isSound (u .state) (u .tables) ≡ true → (j : ℕ) → 1 ≤ j → j ≤ u .state .limits .m →
+      EntriesKeep (storedIn (u .state) (u .tables)) (storedIn (v .state) (v .tables)) j
+  exchanged-keeps long sound j a b y z p q e = x .entries j a b y z p q e (stays c refl)
+    where
+      stays : (d : Change) → c ≡ d → inPattern (factorOf (u .state .limits .m) (effect (bookedIn u) c .stay)) (at (storedIn (u .state) (u .tables) .rows) y) j ≡ true
+      stays (adding is ns rs) h =
+          subst (λ (k : Change). inPattern (factorOf m (effect (bookedIn u) k .stay)) (at (storedIn (u .state) (u .tables) .rows) y) j ≡ true) (sym h)
+          (stands-before (u .state) (u .tables) long sound (live (bookedIn u)) refl j a b p)
+      stays (removing is) h =
+          let w : List Column = live (removed (bookedIn u) is) in
+          let bag : Bag (bookedIn v .columns) w =
+          subst (λ (k : Change). Bag (bookedIn v .columns) (effect (bookedIn u) k .register .columns)) h (x .columns) in
+          let f : factorFor (bookedIn v) ≡ factorOf (v .state .limits .m) w = order-free (v .state .limits .m) (live (bookedIn v)) w bag in
+          let g : inPattern (factorOf (v .state .limits .m) w) (at (storedIn (v .state) (v .tables) .rows) z) j ≡ true =
+          stands-before (v .state) (v .tables) (ap (λ (l : Limits). longEnough l (v .tables)) (x .limits) ∙ tails-long (u .state .limits) (u .tables) (v .tables) (x .tails) long) (x .sound) w f j a
+          (subst (λ (l : Limits). j ≤ l .m) (sym (x .limits)) b) q in
+          subst (λ (k : Change). inPattern (factorOf m (effect (bookedIn u) k .stay)) (at (storedIn (u .state) (u .tables) .rows) y) j ≡ true) (sym h)
+          (subst (λ (i : ℕ). inPattern (factorOf m w) i j ≡ true) (sym e) (subst (λ (l : Limits). inPattern (factorOf (l .m) w) (at (storedIn (v .state) (v .tables) .rows) z) j ≡ true) (x .limits) g))
+
+-- ---- the places beyond the sizes
+
+abbrev pub tailsTest : Limits → (before after : Tables) → Bool
+tailsTest l t u =
+    beyondTest (l .m) (t .heads) (u .heads) && (beyondTest (l .m) (t .parents) (u .parents) && (beyondTest (l .f) (t .rows) (u .rows) &&
+    (beyondTest (l .f) (t .counts) (u .counts) && (beyondTest (l .f) (t .next) (u .next) && (beyondTest (l .n) (t .bookHeads) (u .bookHeads) &&
+    (beyondTest (l .c) (t .bookRows) (u .bookRows) && beyondTest (l .c) (t .bookNext) (u .bookNext)))))))
+
+pub tails-passed : (l : Limits) (t u : Tables) → tailsTest l t u ≡ true → TailsStay l t u
+tails-passed l t u z =
+    let a : Bool = beyondTest (l .m) (t .heads) (u .heads) in
+    let b : Bool = beyondTest (l .m) (t .parents) (u .parents) in
+    let c : Bool = beyondTest (l .f) (t .rows) (u .rows) in
+    let d : Bool = beyondTest (l .f) (t .counts) (u .counts) in
+    let e : Bool = beyondTest (l .f) (t .next) (u .next) in
+    let f : Bool = beyondTest (l .n) (t .bookHeads) (u .bookHeads) in
+    let g : Bool = beyondTest (l .c) (t .bookRows) (u .bookRows) in
+    let h : Bool = beyondTest (l .c) (t .bookNext) (u .bookNext) in
+    let p : (a ≡ true) × ((b && (c && (d && (e && (f && (g && h)))))) ≡ true) = and-both a (b && (c && (d && (e && (f && (g && h)))))) z in
+    let q : (b ≡ true) × ((c && (d && (e && (f && (g && h))))) ≡ true) = and-both b (c && (d && (e && (f && (g && h))))) (p .1) in
+    let r : (c ≡ true) × ((d && (e && (f && (g && h)))) ≡ true) = and-both c (d && (e && (f && (g && h)))) (q .1) in
+    let s : (d ≡ true) × ((e && (f && (g && h))) ≡ true) = and-both d (e && (f && (g && h))) (r .1) in
+    let v : (e ≡ true) × ((f && (g && h)) ≡ true) = and-both e (f && (g && h)) (s .1) in
+    let w : (f ≡ true) × ((g && h) ≡ true) = and-both f (g && h) (v .1) in
+    let x : (g ≡ true) × (h ≡ true) = and-both g h (w .1) in
+    record {
+      heads = beyond-passed (l .m) (t .heads) (u .heads) (p .0);
+      parents = beyond-passed (l .m) (t .parents) (u .parents) (q .0);
+      rows = beyond-passed (l .f) (t .rows) (u .rows) (r .0);
+      counts = beyond-passed (l .f) (t .counts) (u .counts) (s .0);
+      next = beyond-passed (l .f) (t .next) (u .next) (v .0);
+      bookHeads = beyond-passed (l .n) (t .bookHeads) (u .bookHeads) (w .0);
+      bookRows = beyond-passed (l .c) (t .bookRows) (u .bookRows) (x .0);
+      bookNext = beyond-passed (l .c) (t .bookNext) (u .bookNext) (x .1);
+    }
+
+-- ---- all of it
+
+module _ (u : World) (k : Change) (v : World) where
+  abbrev pub othersTest : (j : ℕ) → Bool
+  othersTest j =
+      among j (touchedBy (bookedIn u) k) || staysTest (storedIn (u .state) (u .tables)) (storedIn (v .state) (v .tables)) j
+
+  abbrev pub entriesTest : (j : ℕ) → Bool
+  entriesTest j = keepsTest (storedIn (u .state) (u .tables)) (storedIn (v .state) (v .tables)) j
+
+  abbrev pub idsTest : (i : ℕ) → Bool
+  idsTest i = among i (effect (bookedIn u) k .ids) || bookTest (bookIn (u .state) (u .tables)) (bookIn (v .state) (v .tables)) i
+
+  abbrev pub exchangeTest : Bool
+  exchangeTest =
+      isSound (v .state) (v .tables) && (all othersTest (upFrom 1 (u .state .limits .m)) && (all entriesTest (upFrom 1 (u .state .limits .m)) &&
+      (all idsTest (upFrom 1 (u .state .limits .n)) && tailsTest (u .state .limits) (u .tables) (v .tables))))
+
+  -- from a test that lets some pass, one that those pass that are not among them
+  either : (a b : Bool) → (a || b) ≡ true → a ≡ false → b ≡ true
+  either a b h e = elim (or-either a b h) [ inl q ↦ absurd (true≢false (sym q ∙ e)) | inr q ↦ q ]
+
+  at-number : (f : ℕ → Bool) (n : ℕ) → all f (upFrom 1 n) ≡ true → (i : ℕ) → 1 ≤ i → i ≤ n → f i ≡ true
+  at-number f n h i a b = all-at f (up-from 1 n i a (omega arith)) h
+
+  pub exchange-passed : v .state .limits ≡ u .state .limits →
+      bookedIn v .columns ≡ effect (bookedIn u) k .register .columns → exchangeTest ≡ true → Exchanged u k v
+  exchange-passed l c z =
+      let m : ℕ = u .state .limits .m in
+      let n : ℕ = u .state .limits .n in
+      let A : Bool = isSound (v .state) (v .tables) in
+      let B : Bool = all othersTest (upFrom 1 m) in
+      let C : Bool = all entriesTest (upFrom 1 m) in
+      let D : Bool = all idsTest (upFrom 1 n) in
+      let E : Bool = tailsTest (u .state .limits) (u .tables) (v .tables) in
+      let p : (A ≡ true) × ((B && (C && (D && E))) ≡ true) = and-both A (B && (C && (D && E))) z in
+      let q : (B ≡ true) × ((C && (D && E)) ≡ true) = and-both B (C && (D && E)) (p .1) in
+      let r : (C ≡ true) × ((D && E) ≡ true) = and-both C (D && E) (q .1) in
+      let s : (D ≡ true) × (E ≡ true) = and-both D E (r .1) in
+      record {
+        limits = l;
+        sound = p .0;
+        columns = λ f. ap (λ (cs : List Column). sumOf f cs) c;
+        others = λ j a b t. stays-passed (storedIn (u .state) (u .tables)) (storedIn (v .state) (v .tables)) j
+            (either (among j (touchedBy (bookedIn u) k)) (staysTest (storedIn (u .state) (u .tables)) (storedIn (v .state) (v .tables)) j)
+            (at-number othersTest m (q .0) j a b) t);
+        entries = λ j a b x y p q e h. keeps-passed (storedIn (u .state) (u .tables)) (storedIn (v .state) (v .tables)) j (at-number entriesTest m (r .0) j a b) x y p q e;
+        book = λ i a b t. book-passed (bookIn (u .state) (u .tables)) (bookIn (v .state) (v .tables)) i
+            (either (among i (effect (bookedIn u) k .ids)) (bookTest (bookIn (u .state) (u .tables)) (bookIn (v .state) (v .tables)) i) (at-number idsTest n (s .0) i a b) t);
+        tails = tails-passed (u .state .limits) (u .tables) (v .tables) (s .1);
+      }

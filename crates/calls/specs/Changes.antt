@@ -1,0 +1,84 @@
+-- What a change does, from the register alone: whether it is refused, which columns that count leave, enter and stay, the labels, the ids whose booked columns it
+-- may alter, and the register after it. All that it reports follows: the touched columns, their labels, the entries and the grade.
+-- Every change is an exchange: of the live columns some leave and others enter; an addition lets none leave, a removal lets none enter.
+-- Assumes nothing: these are definitions.
+use mathlib.Core.List.{List, [], _∷_}
+use Prim.Native.Nat.{ℕ}
+use Rattle.symbolic.specs.Columns.{Column, Register, counted, live}
+use Rattle.symbolic.specs.Factor.{factorFor}
+use Rattle.symbolic.specs.Batch.{exchanged, labelOf, entriesOf, gradeOf}
+use Rattle.symbolic.specs.Change.{columnsOf, added, removed}
+use Rattle.tables.specs.Tables.{Limits}
+use Rattle.calls.specs.Refusals.{Refusal, batchOf, addRefusal, removeRefusal}
+use Rattle.calls.specs.Calls.{Change, adding, removing, Entry, opening, changing, checking, asking}
+
+-- a change of a register
+pub record Effect : Type 0 where
+  -- 7 to 16, by the sizes
+  pub refusal : Limits → Refusal
+  -- the columns that count and leave, enter, stay: live before are those that leave or stay, live after those that enter or stay
+  pub leave : List Column
+  pub enter : List Column
+  pub stay : List Column
+  -- the label of a touched column
+  pub label : ℕ → ℕ
+  -- the ids whose booked columns it may alter
+  pub ids : List ℕ
+  -- the register after it
+  pub register : Register
+
+-- EACH CHANGE: "each id enters with as many of the rows not yet used as its count says"; "every id in the batch leaves". Labels are read "in the tree after
+-- the call when adding, before it when removing"
+abbrev pub effect : Register → Change → Effect
+effect r (adding is ns rs) =
+    record {
+      refusal = λ l. addRefusal l r is ns rs;
+      leave = [];
+      enter = counted (added r (batchOf is ns rs)) (batchOf is ns rs);
+      stay = live r;
+      label = labelOf (factorFor (added r (batchOf is ns rs))) (counted (added r (batchOf is ns rs)) (batchOf is ns rs));
+      ids = is;
+      register = added r (batchOf is ns rs);
+    }
+effect r (removing is) =
+    record {
+      refusal = λ l. removeRefusal l r is;
+      leave = counted r (columnsOf is (r .columns));
+      enter = [];
+      stay = live (removed r is);
+      label = labelOf (factorFor r) (counted r (columnsOf is (r .columns)));
+      ids = is;
+      register = removed r is;
+    }
+
+-- ---- what it reports
+
+-- "the touched columns ascending"
+abbrev pub touchedBy : Register → Change → List ℕ
+touchedBy r c = exchanged (factorFor r) (factorFor (effect r c .register)) (effect r c .leave) (effect r c .enter)
+
+-- a label for each of some columns, in their order
+unfoldable pub labelled : (label : ℕ → ℕ) → (columns : List ℕ) → List ℕ
+labelled f [] = []
+labelled f (j ∷ js) = f j ∷ labelled f js
+
+-- "a label for each"
+abbrev pub labelsBy : Register → Change → List ℕ
+labelsBy r c = labelled (effect r c .label) (touchedBy r c)
+
+-- "the sum of the sizes of the touched columns' patterns after the call"
+abbrev pub entriesBy : Register → Change → ℕ
+entriesBy r c = entriesOf (factorFor (effect r c .register)) (touchedBy r c)
+
+-- "It also gives a grade": that of its entries
+abbrev pub gradeBy : Register → Change → ℕ
+gradeBy r c = gradeOf (entriesBy r c)
+
+-- ---- the plain register
+
+-- the register after an accepted call: "Accepted opening: the new m, no column"; "a check or a question: nothing changes"
+abbrev pub registerAfter : Register → Entry → Register
+registerAfter r (opening l) = record { m = l .m; columns = [] }
+registerAfter r (changing c) = effect r c .register
+registerAfter r checking = r
+registerAfter r (asking q p) = r

@@ -1,0 +1,174 @@
+// Check and questions for hosts. Row numbers cross as plain numbers.
+ghost use Rattle.tables.specs.Tables.{tablesOf};
+ghost use Rattle.questions.specs.Asked.{replyOf};
+ghost use Rattle.calls.specs.Calls.{callOf, workOnly, workAndList};
+ghost use Rattle.calls.specs.Calls.Entry.{checking, asking};
+ghost use Rattle.calls.specs.Calls.Question.{askMultiplicity, askParent, askPath, askColumn};
+ghost use Rattle.calls.specs.Steps.{Transition};
+ghost use Rattle.factor.specs.Entries.{worldOf};
+use book::Row;
+use factor::Factor;
+use questions::Reply;
+
+// Whether the tables are sound: 0, 6 for no, or 1 to 5.
+#[no_mangle]
+pub extern "C" fn nigvalds_check(
+    factor: Factor,
+    heads: &[u32],
+    parents: &[u16],
+    rows: &[u16],
+    counts: &[u16],
+    next: &[u32],
+    book_heads: &[u32],
+    book_rows: &[u16],
+    book_next: &[u32],
+    work: &mut [u32],
+) -> Reply
+    ensures { λ r. ⌜ Transition (worldOf factor (tablesOf (now (heads .entry)) (now (parents .entry)) (now (rows .entry)) (now (counts .entry)) (now (next .entry)) (now («book_heads» .entry)) (now («book_rows» .entry)) (now («book_next» .entry)))) (callOf checking (workOnly (now (work .entry)))) (replyOf r) (workOnly (now (work .exit))) (worldOf factor (tablesOf (now (heads .entry)) (now (parents .entry)) (now (rows .entry)) (now (counts .entry)) (now (next .entry)) (now («book_heads» .entry)) (now («book_rows» .entry)) (now («book_next» .entry)))) ⌝ }
+{
+    factor.check(
+        heads,
+        parents,
+        rows,
+        counts,
+        next,
+        book_heads,
+        book_rows,
+        book_next,
+        work,
+    )
+}
+
+// The multiplicity of row i in column j, 0 when absent.
+#[no_mangle]
+pub extern "C" fn nigvalds_multiplicity(
+    factor: Factor,
+    heads: &[u32],
+    parents: &[u16],
+    rows: &[u16],
+    counts: &[u16],
+    next: &[u32],
+    book_heads: &[u32],
+    book_rows: &[u16],
+    book_next: &[u32],
+    work: &mut [u32],
+    i: u32,
+    j: u32,
+) -> Reply
+    ensures { λ r. ⌜ Transition (worldOf factor (tablesOf (now (heads .entry)) (now (parents .entry)) (now (rows .entry)) (now (counts .entry)) (now (next .entry)) (now («book_heads» .entry)) (now («book_rows» .entry)) (now («book_next» .entry)))) (callOf (asking (askMultiplicity i j) 0) (workOnly (now (work .entry)))) (replyOf r) (workOnly (now (work .exit))) (worldOf factor (tablesOf (now (heads .entry)) (now (parents .entry)) (now (rows .entry)) (now (counts .entry)) (now (next .entry)) (now («book_heads» .entry)) (now («book_rows» .entry)) (now («book_next» .entry)))) ⌝ }
+{
+    factor.multiplicity(
+        heads,
+        parents,
+        rows,
+        counts,
+        next,
+        book_heads,
+        book_rows,
+        book_next,
+        work,
+        Row(i),
+        Row(j),
+    )
+}
+
+// The parent of j, 0 for a root.
+#[no_mangle]
+pub extern "C" fn nigvalds_parent(
+    factor: Factor,
+    heads: &[u32],
+    parents: &[u16],
+    rows: &[u16],
+    counts: &[u16],
+    next: &[u32],
+    book_heads: &[u32],
+    book_rows: &[u16],
+    book_next: &[u32],
+    work: &mut [u32],
+    j: u32,
+) -> Reply
+    ensures { λ r. ⌜ Transition (worldOf factor (tablesOf (now (heads .entry)) (now (parents .entry)) (now (rows .entry)) (now (counts .entry)) (now (next .entry)) (now («book_heads» .entry)) (now («book_rows» .entry)) (now («book_next» .entry)))) (callOf (asking (askParent j) 0) (workOnly (now (work .entry)))) (replyOf r) (workOnly (now (work .exit))) (worldOf factor (tablesOf (now (heads .entry)) (now (parents .entry)) (now (rows .entry)) (now (counts .entry)) (now (next .entry)) (now («book_heads» .entry)) (now («book_rows» .entry)) (now («book_next» .entry)))) ⌝ }
+{
+    factor.parent(
+        heads,
+        parents,
+        rows,
+        counts,
+        next,
+        book_heads,
+        book_rows,
+        book_next,
+        work,
+        Row(j),
+    )
+}
+
+// The path of j, a row to a place from the given place of the list on, and its length.
+#[no_mangle]
+pub extern "C" fn nigvalds_path(
+    factor: Factor,
+    heads: &[u32],
+    parents: &[u16],
+    rows: &[u16],
+    counts: &[u16],
+    next: &[u32],
+    book_heads: &[u32],
+    book_rows: &[u16],
+    book_next: &[u32],
+    work: &mut [u32],
+    list: &mut [u32],
+    j: u32,
+    place: usize,
+) -> Reply
+    ensures { λ r. ⌜ Transition (worldOf factor (tablesOf (now (heads .entry)) (now (parents .entry)) (now (rows .entry)) (now (counts .entry)) (now (next .entry)) (now («book_heads» .entry)) (now («book_rows» .entry)) (now («book_next» .entry)))) (callOf (asking (askPath j) place) (workAndList (now (work .entry)) (now (list .entry)))) (replyOf r) (workAndList (now (work .exit)) (now (list .exit))) (worldOf factor (tablesOf (now (heads .entry)) (now (parents .entry)) (now (rows .entry)) (now (counts .entry)) (now (next .entry)) (now («book_heads» .entry)) (now («book_rows» .entry)) (now («book_next» .entry)))) ⌝ }
+{
+    factor.path(
+        heads,
+        parents,
+        rows,
+        counts,
+        next,
+        book_heads,
+        book_rows,
+        book_next,
+        work,
+        list,
+        Row(j),
+        place,
+    )
+}
+
+// Column j, row then multiplicity from the given place of the list on, and its number of entries.
+#[no_mangle]
+pub extern "C" fn nigvalds_column(
+    factor: Factor,
+    heads: &[u32],
+    parents: &[u16],
+    rows: &[u16],
+    counts: &[u16],
+    next: &[u32],
+    book_heads: &[u32],
+    book_rows: &[u16],
+    book_next: &[u32],
+    work: &mut [u32],
+    list: &mut [u32],
+    j: u32,
+    place: usize,
+) -> Reply
+    ensures { λ r. ⌜ Transition (worldOf factor (tablesOf (now (heads .entry)) (now (parents .entry)) (now (rows .entry)) (now (counts .entry)) (now (next .entry)) (now («book_heads» .entry)) (now («book_rows» .entry)) (now («book_next» .entry)))) (callOf (asking (askColumn j) place) (workAndList (now (work .entry)) (now (list .entry)))) (replyOf r) (workAndList (now (work .exit)) (now (list .exit))) (worldOf factor (tablesOf (now (heads .entry)) (now (parents .entry)) (now (rows .entry)) (now (counts .entry)) (now (next .entry)) (now («book_heads» .entry)) (now («book_rows» .entry)) (now («book_next» .entry)))) ⌝ }
+{
+    factor.column(
+        heads,
+        parents,
+        rows,
+        counts,
+        next,
+        book_heads,
+        book_rows,
+        book_next,
+        work,
+        list,
+        Row(j),
+        place,
+    )
+}
