@@ -1,5 +1,5 @@
--- The book's columns after an addition and a removal, for crates above: the same columns and one more, in some order (added-bag, removed-bag), or
--- without the id (removed-columns); and the free records that are left (added-room, removed-room), so that a batch whose rows fit in all can be
+-- The book's columns after an addition and a removal, for crates above: the same columns and one more, in some order (added-bag), or
+-- without the id (removed-columns); and the free records that are left (added-room), so that a batch whose rows fit in all can be
 -- added column by column. Assumes nothing.
 use mathlib.Core.Path.{_≡_, sym, ap, _∙_}
 use mathlib.Core.List.{List, [], _∷_, _++_}
@@ -11,7 +11,7 @@ use Rattle.lists.proofs.Sum.{sum-append}
 use Rattle.symbolic.specs.Columns.{Column}
 use Rattle.symbolic.specs.Change.{without, Bag}
 use Rattle.pool.specs.Chains.{chain}
-use Rattle.book.specs.Book.{Book, columnFor, columnsIn}
+use Rattle.book.specs.Book.{Book, columnsIn}
 use Rattle.book.specs.Entries.{CanAdd, Added, CanRemove, Removed}
 use Rattle.book.proofs.Columns.{Differ, differ-without, differ-sum}
 use Rattle.book.proofs.Sound.{book-full}
@@ -65,15 +65,5 @@ module _ {b after : Book} {id : ℕ} (q : CanRemove b id) (r : Removed b id afte
         same-column = λ l p h d. sym (stays-column (r .others l p (omega (arith, r .same-heads)) d));
       }
 
-  -- the columns left and the id's
-  pub removed-bag : Bag (columnsIn b) (columnsIn after ++ (columnFor b id ∷ []))
-  removed-bag f = differ-sum removed-differ f ∙ sym (sum-one f (columnsIn after) (columnFor b id))
-
   pub removed-columns : columnsIn after ≡ without (id ∷ []) (columnsIn b)
   removed-columns = differ-without removed-differ
-
-  -- so many free records more
-  pub removed-room : length (chain (after .next) (after .free)) ≡ length (chain (b .next) (b .free)) + length (columnFor b id .rows)
-  removed-room =
-      omega
-      (arith, differ-sum removed-differ (λ c. length (c .rows)), book-full (q .has .m) b (q .has .sound), book-full (q .has .m) after (r .sound (q .has .m) (q .has .sound)), r .same-records)

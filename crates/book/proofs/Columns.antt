@@ -1,4 +1,4 @@
--- The book as a list of columns, in this order: the list at one id; its ids rise, so none comes twice; an id is booked exactly if it is among
+-- The book as a list of columns, in this order: the list at one id, and where its column starts; its ids rise, so none comes twice; an id is booked exactly if it is among
 -- them; its members are the booked ids' columns, no more than ids, and columnOf finds them; two books that differ at one id; the sum of the lengths.
 -- Assumes nothing.
 use mathlib.Core.Path.{_≡_, refl, sym, ap, subst, _∙_}
@@ -11,18 +11,19 @@ use lib.Dec.{leb, eqb}
 use lib.ListN.{length, getD, drop, List·getD-eq-default}
 use lib.Seq.{drop-cons, drop-length}
 use borrow.Author.Tests.{le-leb, eq-eqb, ne-eqb, eqb-true, eqb-false, not-true, not-false}
-use Rattle.lists.specs.Lists.{Mem, first, later, at, among, noRepeats, rises, sumOf}
+use Rattle.lists.specs.Lists.{Mem, first, later, at, valuesAt, among, noRepeats, rises, sumOf}
 use Rattle.lists.proofs.Tests.{cases, eq-or-ne, lt-or-le, and-both, both-and, both-ways, refute}
 use Rattle.lists.proofs.Member.{among-mem, mem-among}
 use Rattle.lists.proofs.Rising.{rises-in, rises-weaken}
 use Rattle.lists.proofs.Place.{values-length}
 use Rattle.symbolic.specs.Columns.{Column}
 use Rattle.symbolic.specs.Change.{idsOf, without, columnOf}
-use Rattle.pool.specs.Chains.{chain}
+use Rattle.pool.specs.Chains.{chainFrom, chain}
 use Rattle.pool.specs.Whole.{chains}
-use Rattle.pool.proofs.Chains.{chain-nil}
+use Rattle.pool.proofs.Chains.{chain-in, chain-nil}
 use Rattle.pool.proofs.Whole.{chains-nil, chains-length}
 use Rattle.book.specs.Book.{Book, isBooked, columnFor, columnsFrom, columnsIn}
+use Rattle.book.specs.Entries.{StartsAt}
 
 -- ---- the list at one id
 
@@ -37,6 +38,21 @@ columns-booked b i n e = rw e refl
 pub columns-absent : (b : Book) (i n : ℕ) → isBooked (b .heads) i ≡ false → columnsFrom b i (suc n) ≡ columnsFrom b (suc i) n
 unfolding columnsFrom
 columns-absent b i n e = rw e refl
+
+-- its smallest row is the row at its head, 0 where that is 0
+module _ (hs rs : List ℕ) (i : ℕ) where
+  pub start-none : at hs i ≡ 0 → StartsAt hs rs i 0
+  unfolding valuesAt
+  start-none e next z = rw (e, chain-nil (length next) next) refl
+
+  pub start-head : at hs i ≢ 0 → at hs i ≤ length rs → StartsAt hs rs i (at rs (at hs i))
+  unfolding valuesAt
+  start-head e l next z =
+      let h : ℕ = at hs i in
+      let q : length next ≡ suc (length next - 1) = omega arith in
+      let c : chain next h ≡ h ∷ chainFrom (length next - 1) next (at next h) =
+      ap (λ (n : ℕ). chainFrom n next h) q ∙ chain-in (length next - 1) next h (omega arith) (omega arith) in
+      sym (ap (λ (xs : List ℕ). getD (valuesAt rs xs) 0 0) c)
 
 -- a booked id is one of the book's
 pub booked-within : (hs : List ℕ) (l : ℕ) → 1 ≤ l → isBooked hs l ≡ true → l ≤ length hs

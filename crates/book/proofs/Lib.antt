@@ -6,6 +6,6 @@ pub mod Staying
 pub mod Adding
 pub mod Removing
 pub mod Changed
-pub mod Testing
+pub mod Walks
 pub mod Through
 pub mod Opened

@@ -4,8 +4,8 @@
 use mathlib.Core.Path.{_≡_, refl, sym, ap, subst, _∙_}
 use mathlib.Core.Logic.{inl, inr, _≢_}
 use mathlib.Core.Bool.{true, false, true≢false}
-use mathlib.Core.List.{List, []}
-use Prim.Native.Nat.{ℕ, zero, suc, _+_, _≤_, _<_}
+use mathlib.Core.List.{List}
+use Prim.Native.Nat.{ℕ, suc, _+_, _≤_, _<_}
 use native.Mathlib.Omega.{arith}
 use lib.Dec.{eqb}
 use lib.ListN.{length, getD, take}
@@ -15,15 +15,16 @@ use Rattle.pool.specs.declared.Walk.{Walk}
 use Rattle.pool.specs.declared.Walk.the-variants.{Ended, Cut}
 use Rattle.pool.specs.Chains.{chain}
 use Rattle.pool.specs.Whole.{isWhole}
-use Rattle.pool.specs.Walks.{Walked, NoMarks}
+use Rattle.pool.specs.Walks.{Walked, WalkedWith, NoMarks}
 use Rattle.pool.proofs.Whole.{whole-pool, pool-whole}
 use Rattle.pool.proofs.Walking.{walking-start, walked-cut, walked-ended}
 use Rattle.pool.proofs.Reading.{Reading, reading-start, reading-next, reading-free-cut, reading-place-cut, reading-places}
 use Rattle.book.specs.Book.{bookOf, tablesOf, isBooked, columnFor, columnFits, isSound}
-use Rattle.book.specs.Walks.{WalkedWith, FreeWalked, ColumnWalked}
+use Rattle.book.specs.Walks.{FreeWalked, ColumnWalked}
 use Rattle.book.proofs.Columns.{head-at, booked-within, booked-some, some-booked}
 use Rattle.book.proofs.Sound.{Sound, sound-of, of-sound, values-zero, zero-values}
-use Rattle.book.proofs.Testing.{chainFits, ended-walked, cut-unwalked}
+use Rattle.pool.proofs.Testing.{ended-walked, cut-unwalked}
+use Rattle.book.proofs.Walks.{chainFits}
 
 -- the test of the chain at a place is that of its id's column
 pub column-walked : (hs rs : List ℕ) {ns ms₀ ms : List ℕ} (i m : ℕ) {n : ℕ} {a : Walk} → WalkedWith (chainFits rs ns m (getD hs i 0)) ns ms₀ ms n (getD hs i 0) a → ColumnWalked hs rs ns ms₀ ms i n m a

@@ -8,7 +8,7 @@ use Prim.Native.Nat.{ℕ, zero, suc}
 use lib.Dec.{eqb}
 use lib.ListN.{length}
 use Rattle.lists.specs.Lists.{pick, isIn, all, at, valuesAt, rises, allZero}
-use Rattle.symbolic.specs.Columns.{Column}
+use Rattle.symbolic.specs.Columns.{Column, Register}
 use Rattle.pool.specs.Chains.{chain}
 use Rattle.pool.specs.Whole.{isWhole}
 
@@ -51,6 +51,10 @@ columnsFrom b i (suc n) = pick (isBooked (b .heads) i) (columnFor b i ∷ column
 -- THE BOOK as a list of columns, by rising id
 abbrev pub columnsIn : Book → List Column
 columnsIn b = columnsFrom b 1 (length (b .heads))
+
+-- the register that a book holds, for rows 1 to m
+abbrev pub registerIn : (m : ℕ) → Book → Register
+registerIn m b = record { m = m; columns = columnsIn b }
 
 -- "book rows are within 1 to m, rise strictly, and are at most 256 a column"; a booked column has at least one
 abbrev pub columnFits : (m : ℕ) → Column → Bool

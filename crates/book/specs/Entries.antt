@@ -6,9 +6,9 @@ use mathlib.Core.Logic.{_≢_}
 use mathlib.Core.Bool.{true, false}
 use mathlib.Core.List.{List}
 use Prim.Native.Nat.{ℕ, _≤_, _<_}
-use lib.Dec.{eqb}
 use lib.ListN.{length, replicate}
-use Rattle.lists.specs.Lists.{pick, at}
+use Rattle.lists.specs.Lists.{at}
+use Rattle.symbolic.specs.Columns.{smallest}
 use Rattle.pool.specs.Chains.{chain}
 use Rattle.pool.specs.Opening.{openedNexts, freeHead}
 use Rattle.book.specs.Book.{Book, bookOf, tablesOf, Sized, isBooked, columnFor, columnFits, isSound, ColumnStays}
@@ -63,12 +63,12 @@ pub record CanCopy (heads rows next : List ℕ) (id room : ℕ) : Type 0 where
   pub has : HasId (bookOf heads rows next free) id
   pub fits : length (columnFor (tablesOf heads rows next) id .rows) ≤ room
 
--- THE SMALLEST ROW of an id's column, read at its head; 0 where the id is not booked
-abbrev pub firstRow : (heads rows : List ℕ) → (id : ℕ) → ℕ
-firstRow hs rs i = pick (eqb (at hs i) 0) 0 (at rs (at hs i))
-
--- an id whose head is 0 or a record
+-- THE SMALLEST ROW: an id whose head is 0 or a record
 pub record HasHead (heads rows : List ℕ) (id : ℕ) : Type 0 where
   pub low : 1 ≤ id
   pub high : id ≤ length heads
   pub within : at heads id ≤ length rows
+
+-- a row is the smallest of the id's column, 0 where the id is not booked; nexts are not read, so it is so for any that suit
+abbrev pub StartsAt : (heads rows : List ℕ) → (id row : ℕ) → Type 0
+StartsAt hs rs i r = (next : List ℕ) → length rs ≡ length next → r ≡ smallest (columnFor (tablesOf hs rs next) i)

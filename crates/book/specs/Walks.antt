@@ -2,13 +2,12 @@
 -- The test of the free chain is that its rows are 0, that of an id's chain that its column fits.
 -- Assumes nothing: these are definitions.
 use mathlib.Core.Path.{_≡_}
-use mathlib.Core.Bool.{Bool, true, _&&_}
 use mathlib.Core.List.{List}
-use Prim.Native.Nat.{ℕ, suc, _+_, _≤_}
+use Prim.Native.Nat.{ℕ, suc, _≤_}
 use lib.ListN.{length, getD}
 use Rattle.lists.specs.Lists.{valuesAt, allZero}
 use Rattle.pool.specs.Chains.{chain}
-use Rattle.pool.specs.Walks.{markAll, walks, walkAnswer}
+use Rattle.pool.specs.Walks.{WalkedWith}
 use Rattle.pool.specs.declared.Walk.{Walk}
 use Rattle.book.specs.Book.{tablesOf, columnFor, columnFits}
 
@@ -17,11 +16,6 @@ pub record CanWalk (rows next marks : List ℕ) (met : ℕ) : Type 0 where
   pub sized : length rows ≡ length next
   pub long : length next ≤ length marks
   pub within : met ≤ length next
-
--- the chain from a head walks, and passes a test
-pub record WalkedWith (test : Bool) (next marks₀ marks : List ℕ) (met head : ℕ) (a : Walk) : Type 0 where
-  pub answer : a ≡ walkAnswer (walks next marks₀ met head && test) (met + length (chain next head))
-  pub marked : walks next marks₀ met head && test ≡ true → marks ≡ markAll marks₀ (chain next head)
 
 -- "free records are zero"
 abbrev pub FreeWalked : (rows next marks₀ marks : List ℕ) → (free : ℕ) → Walk → Type 0

@@ -6,13 +6,13 @@ ghost use mathlib.Core.Logic.{_≢_};
 ghost use Prim.Native.Nat.{_≤_, _<_};
 ghost use lib.Dec.{leb};
 ghost use lib.ListN.{length, getD, replicate};
-ghost use Rattle.lists.specs.Lists.{at, over};
+ghost use Rattle.lists.specs.Lists.{over};
 ghost use Rattle.pool.specs.Chains.{chain, Linked};
 ghost use Rattle.pool.specs.Walks.{NoMarks};
 ghost use Rattle.book.specs.Book.{bookOf, tablesOf, isBooked, columnFor, isSound};
 ghost use Rattle.book.specs.Records.{HasChain, CanWrite, RowsWritten, Cleared};
 ghost use Rattle.book.specs.Walks.{CanWalk, FreeWalked, ColumnWalked};
-ghost use Rattle.book.specs.Entries.{opened, CanAdd, Added, CanRemove, Removed, CanCopy, firstRow, HasHead};
+ghost use Rattle.book.specs.Entries.{opened, CanAdd, Added, CanRemove, Removed, CanCopy, HasHead, StartsAt};
 use pool::Rec;
 use pool::Visit;
 use pool::Walk;
@@ -179,27 +179,18 @@ pub fn is_booked(heads: &[u32], id: Id) -> bool
     heads[(k - 1) as usize] != 0
 }
 
-// The smallest row of a booked id's column.
-pub fn lowest_row(heads: &[u32], rows: &[u16], id: Id) -> Row
-    requires { ⌜ (1 ≤ id .0) × (id .0 ≤ length (now heads)) × (1 ≤ at (now heads) (id .0)) × (at (now heads) (id .0) ≤ length (now rows)) ⌝ }
-    ensures { λ r. ⌜ r .0 ≡ at (now (rows .entry)) (at (now (heads .entry)) (id .0)) ⌝ }
-{
-    let k = id.0;
-    let h = heads[(k - 1) as usize];
-    Row(rows[(h - 1) as usize] as u32)
-}
-
 // The smallest row of an id's column, or row 0 where the id is not booked.
-pub fn first_row(heads: &[u32], rows: &[u16], id: Id) -> Row
+pub fn smallest_row(heads: &[u32], rows: &[u16], id: Id) -> Row
     requires { ⌜ HasHead (now heads) (now rows) (id .0) ⌝ }
-    ensures { λ r. ⌜ r .0 ≡ firstRow (now (heads .entry)) (now (rows .entry)) (id .0) ⌝ }
+    ensures { λ r. ⌜ StartsAt (now (heads .entry)) (now (rows .entry)) (id .0) (r .0) ⌝ }
 {
     let k = id.0;
     let r = heads[(k - 1) as usize];
     if r == 0 {
         return Row(0);
     }
-    Row(rows[(r - 1) as usize] as u32)
+    let row = rows[(r - 1) as usize] as u32;
+    Row(row)
 }
 
 // Writes the rows of an id's column to the front of list, and gives their number.

@@ -1,12 +1,9 @@
 -- Commits of the stored columns, for callers: from CanCommit what `commit_column` asks (`commit-ready`), and from what it gives Committed (`committed`);
--- then one column after another (`Commits`: start, one more, what a column that comes holds), and with the parents written what each column then holds
--- and that the others stay.
--- Assumes nothing.
+-- then one column after another (`Commits`: start, one more, what a column that comes holds). Assumes nothing.
 use mathlib.Core.Path.{_≡_, refl, sym, ap, _∙_, subst}
 use mathlib.Core.Logic.{inl, inr, _≢_}
-use mathlib.Core.Bool.{true}
 use mathlib.Core.List.{List, [], _∷_, _++_}
-use Prim.Native.Nat.{ℕ, zero, suc, _+_, _-_, _≤_}
+use Prim.Native.Nat.{ℕ, suc, _+_, _-_, _≤_}
 use native.Mathlib.Omega.{arith}
 use lib.ListN.{length, getD, List·getD-append}
 use Rattle.lists.specs.Lists.{Mem, at, times}
@@ -16,16 +13,15 @@ use Rattle.pool.specs.Chains.{chain, Linked}
 use Rattle.pool.proofs.Chains.{linked-low}
 use Rattle.pool.proofs.Whole.{pool-linked}
 use Rattle.pool.proofs.Changes.{changed-chain, changed-free, pool-beside, PoolAfter, pool-changed, pool-kept}
-use Rattle.symbolic.specs.Factor.{FactorColumn}
-use Rattle.tables.specs.Stored.{Stored, recordsOf, holdsColumn}
-use Rattle.tables.specs.Stays.{ColumnStays, EntriesKeep}
+use Rattle.tables.specs.Stored.{Stored, recordsOf}
+use Rattle.tables.specs.Stays.{EntriesKeep}
 use Rattle.columns.specs.Search.{countOf}
 use Rattle.columns.specs.Plan.{planned, ofKind}
 use Rattle.columns.specs.Commit.{HoldsFrom, Holds, ZeroAt, CanCommitChain, CommitReady, CommittedChain, Ready, CanCommit, ChainStays, Committed}
-use Rattle.columns.proofs.Searching.{Here, here, chain-none}
+use Rattle.columns.proofs.Search.{Here, here, chain-none}
 use Rattle.columns.proofs.Holding.{First, holds-first, holds-count}
-use Rattle.columns.proofs.Plans.{at-cut}
-use Rattle.columns.proofs.Stored.{column-holds, holds-column, free-zero, zero-free, held-count, stays-self, stays-trans, stays-holds, keep-stays, stays-keep}
+use Rattle.columns.proofs.Plan.{at-cut}
+use Rattle.columns.proofs.Stored.{free-zero, zero-free, held-count, stays-self, stays-trans, stays-holds, keep-stays, stays-keep}
 
 -- ---- one column: what is asked
 
@@ -130,14 +126,6 @@ module _ {s : Stored} {j : ℕ} {ns plan : List ℕ} (c : CanCommit s j ns plan)
         free-left = omega (arith, d .free-left, ap length same-free);
       }
 
--- its multiplicities are those of a factor column; with the parent it is that column
-abbrev pub withParents : Stored → (parents : List ℕ) → Stored
-withParents s ps = record { heads = s .heads; parents = ps; rows = s .rows; counts = s .counts; next = s .next; free = s .free }
-
-pub committed-column : {s : Stored} {j : ℕ} {ns plan : List ℕ} {after : Stored} → Committed s j ns plan after → (f : FactorColumn) → planned ns plan ≡ f .counts →
-    (parents : List ℕ) → at parents j ≡ f .parent → holdsColumn (withParents after parents) j f ≡ true
-committed-column {s} {j} {ns} {plan} {after} c f q parents p = holds-column (withParents after parents) j f (subst (λ (ms : List ℕ). Holds after j ms) q (c .holds)) p
-
 -- ---- one column after another
 
 -- from s to now the columns touched, which came one after another, got the multiplicities new; taken records left the free chain, given ones came
@@ -199,25 +187,3 @@ module _ {s now : Stored} {new : ℕ → List ℕ} {touched : List ℕ} {taken g
             stays-trans (k .others l a b (omega (arith, many l))) (stays l a b d);
         free-left = omega (arith, c .free-left, k .free-left);
       }
-
-  -- ---- with the parents written: columns touched hold their factor column, the others hold theirs and stay
-
-  module _ (parents : List ℕ) (l : ℕ) (f : FactorColumn) (p : at parents l ≡ f .parent) where
-    pub commits-column : 1 ≤ times l touched → new l ≡ f .counts → holdsColumn (withParents now parents) l f ≡ true
-    commits-column n q = holds-column (withParents now parents) l f (subst (λ (ms : List ℕ). Holds now l ms) q (k .holds l n)) p
-
-    module _ (low : 1 ≤ l) (high : l ≤ length (s .heads)) (n : times l touched ≡ 0) (h : holdsColumn s l f ≡ true) where
-      pub commits-other : holdsColumn (withParents now parents) l f ≡ true
-      commits-other = holds-column (withParents now parents) l f (commits-holds l low high n (column-holds s l f h .0)) p
-
-      pub commits-stays : ColumnStays s (withParents now parents) l
-      commits-stays =
-          let c : ChainStays s now l = k .others l low high n in
-          record {
-            head = ap (λ (hs : List ℕ). at hs l) (k .heads);
-            parent = p ∙ sym (column-holds s l f h .1);
-            records = c .records;
-            row = c .row;
-            count = c .count;
-            next = c .next;
-          }

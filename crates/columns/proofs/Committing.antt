@@ -19,7 +19,7 @@ use Rattle.columns.specs.Apply.{recordBefore, CanApply}
 use Rattle.columns.specs.Commit.{HoldsFrom, CanCommitChain, Rewritten}
 use Rattle.columns.proofs.Holding.{Next, absent, present, Cut, holds-append, holds-next, holds-cut}
 use Rattle.columns.proofs.Surgery.{Base, rewritten-once, rewritten-low}
-use Rattle.columns.proofs.Plans.{Entry, suits-next, at-cut, planned-next, kind-here}
+use Rattle.columns.proofs.Plan.{Entry, suits-next, at-cut, planned-next, kind-here}
 
 -- ---- the multiplicities, cut where the loop stands
 

@@ -11,7 +11,7 @@ use Rattle.lists.specs.Lists.{at, over}
 use Rattle.lists.proofs.Place.{over-push, over-length}
 use Rattle.pool.specs.Chains.{chain, Linked}
 use Rattle.columns.specs.Search.{entriesAt, CanCopy}
-use Rattle.columns.proofs.Searching.{Here, here, chain-none}
+use Rattle.columns.proofs.Search.{Here, here, chain-none}
 
 -- ---- entries
 

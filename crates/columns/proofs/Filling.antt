@@ -1,6 +1,6 @@
 -- A table filled from the front with the values of a list as long as itself: the loop's invariant (`Filling`), one value more, the end. Then the values of
 -- fresh columns, place by place. Assumes nothing.
-use mathlib.Core.Path.{_≡_, refl, sym, ap, _∙_}
+use mathlib.Core.Path.{_≡_, ap, _∙_}
 use mathlib.Core.List.{List, _++_}
 use Prim.Native.Nat.{ℕ, _+_, _-_, _≤_, _<_}
 use native.Mathlib.Omega.{arith}

@@ -1,5 +1,5 @@
 -- What records hold, in this order: HoldsFrom put together (nil, skip, cons, append) and taken apart (`holds-next`); where a search for a row stops cuts
--- records and multiplicities in two (`holds-cut`); the first record (`holds-first`); lengths, rising rows, a row's multiplicity (`holds-count`); rows of
+-- records and multiplicities in two (`holds-cut`); the first record (`holds-first`); rising rows, a row's multiplicity (`holds-count`); rows of
 -- records; entries as pairs; other tables with the same entries (`holds-frame`, `holds-put`).
 -- Assumes nothing.
 use mathlib.Core.Path.{_≡_, refl, sym, ap, _∙_, subst}
@@ -14,13 +14,13 @@ use borrow.Author.Tests.{le-leb, lt-leb, eq-eqb, ne-eqb}
 use Rattle.lists.specs.Lists.{Mem, first, later, at, put, valuesAt, times, rises, pairsOf}
 use Rattle.lists.proofs.Tests.{zero-or-pos, eq-or-ne, and-both}
 use Rattle.lists.proofs.Rising.{rises-in}
-use Rattle.lists.proofs.Place.{values-append, values-length, values-frame, values-put}
+use Rattle.lists.proofs.Place.{values-append, values-frame, values-put}
 use Rattle.symbolic.specs.Factor.{patternFrom, nonZero}
 use Rattle.symbolic.proofs.Patterns.{pattern-append, counts-append, pattern-rises, pattern-find}
 use Rattle.pool.specs.Chains.{lastOf}
 use Rattle.columns.specs.Search.{lastBelow, countOf, entriesAt}
 use Rattle.columns.specs.Commit.{HoldsFrom}
-use Rattle.columns.proofs.Searching.{above-none}
+use Rattle.columns.proofs.Search.{above-none}
 
 -- the first of rows a on: without a multiplicity, or the first record's
 pub data Next (xs cs : List ℕ) (a n : ℕ) (ns rs : List ℕ) : Type 0 where
@@ -197,9 +197,6 @@ module _ {xs cs : List ℕ} where
   holds-first a (n ∷ ns) r rs h = first-further a n ns r rs (r ∷ rs) refl (λ k. holds-first (suc a) ns r rs k) (holds-next a n ns (r ∷ rs) h)
 
   -- ---- what is read of it
-
-  pub holds-length : {a : ℕ} {ns rs : List ℕ} → HoldsFrom xs cs a ns rs → length rs ≡ length (nonZero ns)
-  holds-length {a} {ns} {rs} h = sym (values-length cs rs) ∙ ap length (h .counts)
 
   pub holds-rises : {a : ℕ} {ns rs : List ℕ} (b : ℕ) → a + length ns ≤ suc b → HoldsFrom xs cs a ns rs → rises a b (valuesAt xs rs) ≡ true
   holds-rises {a} {ns} {rs} b l h = rw (h .rows) (pattern-rises a ns b l)

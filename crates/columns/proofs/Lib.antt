@@ -1,7 +1,7 @@
-pub mod Searching
+pub mod Search
 pub mod Holding
 pub mod Surgery
-pub mod Plans
+pub mod Plan
 pub mod Committing
 pub mod Turns
 pub mod Copying

@@ -1,27 +1,26 @@
 -- The stored columns, for callers: what a column holds, as a test and as facts (`column-holds`, `holds-column`, all columns at once); what is read of a
--- held column (`held-count`, `held-multiplicity`, `held-pairs`) and what may be read of it; a chain that stays, and what it keeps.
+-- held column (`held-count`) and what may be read of it; a chain that stays, and what it keeps.
 -- Assumes nothing.
 use mathlib.Core.Path.{_≡_, refl, sym, _∙_, subst}
-use mathlib.Core.Logic.{inl, inr}
 use mathlib.Core.Bool.{Bool, true, _&&_}
 use mathlib.Core.List.{List, [], _∷_}
-use Prim.Native.Nat.{ℕ, zero, suc, _+_, _*_, _-_, _≤_, _<_}
+use Prim.Native.Nat.{ℕ, _+_, _-_, _≤_}
 use native.Mathlib.Omega.{arith}
 use lib.Dec.{eqb}
 use lib.ListN.{length}
 use borrow.Author.Tests.{eqb-true, eq-eqb}
-use Rattle.lists.specs.Lists.{Mem, at, valuesAt, allZero, same, times, pairsOf}
-use Rattle.lists.proofs.Tests.{cases, eq-or-ne, and-both, both-and}
+use Rattle.lists.specs.Lists.{Mem, at, valuesAt, allZero, same, times}
+use Rattle.lists.proofs.Tests.{and-both, both-and}
 use Rattle.lists.proofs.Member.{same-eq, same-self, zero-at}
 use Rattle.lists.proofs.Times.{times-self, times-cons, times-mem}
-use Rattle.symbolic.specs.Factor.{FactorColumn, columnAt, multiplicity, patternFrom, nonZero, patternOf, multiplicitiesOf}
+use Rattle.symbolic.specs.Factor.{FactorColumn, patternOf, multiplicitiesOf}
 use Rattle.pool.specs.Chains.{chain}
 use Rattle.pool.proofs.Whole.{pool-linked}
-use Rattle.tables.specs.Stored.{Stored, recordsOf, holdsColumn, holdsFrom, freeZero}
+use Rattle.tables.specs.Stored.{Stored, recordsOf, holdsColumn, freeZero}
 use Rattle.tables.specs.Stays.{ColumnStays, EntriesKeep}
-use Rattle.columns.specs.Search.{countOf, entriesAt, CanSearch, CanRead, CanCount, CanCopy}
+use Rattle.columns.specs.Search.{countOf, CanSearch, CanRead}
 use Rattle.columns.specs.Commit.{HoldsFrom, Holds, ZeroAt, Ready, ChainStays}
-use Rattle.columns.proofs.Holding.{values-mem, holds-length, holds-rises, holds-count, holds-pairs, holds-frame, rises-once}
+use Rattle.columns.proofs.Holding.{values-mem, holds-rises, holds-count, holds-frame, rises-once}
 
 -- ---- what a column holds, as a test and as facts
 
@@ -44,22 +43,6 @@ holds-column s j f h p =
     let b : same (valuesAt (s .counts) (recordsOf s j)) (multiplicitiesOf f) ≡ true = rw (h .counts) (same-self (multiplicitiesOf f)) in
     both-and (both-and a b) (eq-eqb (at (s .parents) j) (f .parent) p)
 
--- n columns from j on
-pub columns-at : (s : Stored) (fs : List FactorColumn) (j n : ℕ) → holdsFrom s fs j n ≡ true → (l : ℕ) → j ≤ l → l < j + n → holdsColumn s l (columnAt fs l) ≡ true
-unfolding holdsFrom
-columns-at s fs j zero h l a b = absurd (omega arith)
-columns-at s fs j (suc n) h l a b =
-    let t : (holdsColumn s j (columnAt fs j) ≡ true) × (holdsFrom s fs (suc j) n ≡ true) = and-both (holdsColumn s j (columnAt fs j)) (holdsFrom s fs (suc j) n) h in
-    elim (eq-or-ne j l) [
-      | inl e ↦ subst (λ (x : ℕ). holdsColumn s x (columnAt fs x) ≡ true) e (t .0)
-      | inr e ↦ columns-at s fs (suc j) n (t .1) l (omega arith) (omega arith)
-    ]
-
-pub at-columns : (s : Stored) (fs : List FactorColumn) (j n : ℕ) → ((l : ℕ) → j ≤ l → l < j + n → holdsColumn s l (columnAt fs l) ≡ true) → holdsFrom s fs j n ≡ true
-unfolding holdsFrom
-at-columns s fs j zero h = refl
-at-columns s fs j (suc n) h = both-and (h j (omega arith) (omega arith)) (at-columns s fs (suc j) n (λ l a b. h l (omega arith) (omega arith)))
-
 -- free records are zero
 pub free-zero : (s : Stored) → freeZero s ≡ true → ZeroAt (s .rows) (s .counts) (chain (s .next) (s .free))
 free-zero s h x n =
@@ -78,26 +61,10 @@ zero-free s h =
 
 -- ---- what is read of a held column
 
-some-short : (ns : List ℕ) → length (nonZero ns) ≤ length ns
-unfolding nonZero
-some-short [] = omega arith
-some-short (n ∷ ns) = elim (cases (eqb n 0)) [ inl e ↦ rw e (omega (arith, some-short ns)) | inr e ↦ rw e (omega (arith, some-short ns)) ]
-
 module _ (s : Stored) (j : ℕ) {ns : List ℕ} (h : Holds s j ns) where
-  pub held-short : length (recordsOf s j) ≤ length ns
-  held-short = omega (arith, holds-length h, some-short ns)
-
   -- the multiplicity of a row; past the last row both are 0
   pub held-count : (i : ℕ) → 1 ≤ i → countOf (s .rows) (s .counts) (recordsOf s j) i ≡ at ns i
   held-count i a = let q : 1 + (i - 1) ≡ i = omega arith in rw q at (holds-count 1 ns (recordsOf s j) (i - 1) h)
-
-  -- row and multiplicity of each record
-  pub held-pairs : entriesAt (s .rows) (s .counts) (recordsOf s j) ≡ pairsOf (patternFrom 1 ns) (nonZero ns)
-  held-pairs = holds-pairs h
-
-pub held-multiplicity : (s : Stored) (fs : List FactorColumn) (i j : ℕ) → 1 ≤ i → holdsColumn s j (columnAt fs j) ≡ true →
-    countOf (s .rows) (s .counts) (recordsOf s j) i ≡ multiplicity fs i j
-held-multiplicity s fs i j a h = held-count s j (column-holds s j (columnAt fs j) h .0) i a
 
 -- ---- what may be read of it
 
@@ -107,13 +74,6 @@ module _ {s : Stored} {j : ℕ} (r : Ready s) (low : 1 ≤ j) (high : j ≤ leng
 
   pub can-read : CanRead (s .rows) (s .counts) (s .next) (at (s .heads) j)
   can-read = record { linked = pool-linked (r .pool) j low high; rows-long = r .sized .rows-long; counts-long = r .sized .counts-long }
-
-  module _ {ns : List ℕ} (h : Holds s j ns) (narrow : length ns < 65536) where
-    pub can-count-held : CanCount (s .rows) (s .counts) (s .next) (at (s .heads) j)
-    can-count-held = record { read = can-read; rising = holds-rises 65535 (omega arith) h }
-
-    pub can-copy-held : (list : List ℕ) → 2 * length (recordsOf s j) ≤ length list → CanCopy (s .rows) (s .counts) (s .next) list (at (s .heads) j)
-    can-copy-held list fits = record { read = can-read; fits = fits; narrow = omega (arith, held-short s j h) }
 
 -- ---- a chain that stays
 

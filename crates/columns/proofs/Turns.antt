@@ -4,7 +4,7 @@
 use mathlib.Core.Path.{_≡_, refl, sym, ap, _∙_, subst}
 use mathlib.Core.Logic.{_≢_}
 use mathlib.Core.List.{List, [], _∷_, _++_, append-assoc, append-nil}
-use Prim.Native.Nat.{ℕ, zero, suc, _+_, _-_, _≤_, _<_}
+use Prim.Native.Nat.{ℕ, suc, _+_, _-_, _≤_, _<_}
 use native.Mathlib.Omega.{arith}
 use native.Mathlib.Numerals.{add-one}
 use lib.ListN.{length, getD, drop, length-append, drop-of-length-le}
@@ -19,10 +19,10 @@ use Rattle.pool.proofs.Chains.{Step, linked-step, linked-some}
 use Rattle.columns.specs.Plan.{changed, new, gone, planned, Suits, ofKind}
 use Rattle.columns.specs.Apply.{CanApply, Applied, recounted, inserted, unlinked, CanBegin, Begun, first-planned, first-stays}
 use Rattle.columns.specs.Commit.{HoldsFrom, CanCommitChain, Rewritten, CommittedChain}
-use Rattle.columns.proofs.Searching.{Here, here}
+use Rattle.columns.proofs.Search.{Here, here}
 use Rattle.columns.proofs.Holding.{Next, absent, present, First, holds-nil, holds-skip, holds-cons, holds-append, holds-next, holds-first, holds-row, holds-rises, rises-once, holds-count-put, holds-put}
 use Rattle.columns.proofs.Surgery.{rewritten-once, rewritten-low, rewritten-recount, rewritten-insert, rewritten-unlink, rewritten-start}
-use Rattle.columns.proofs.Plans.{Entry, suits-next, suits-above, at-cut, planned-none, planned-below, kind-none, kind-here, kind-other}
+use Rattle.columns.proofs.Plan.{Entry, suits-next, suits-above, at-cut, planned-none, planned-below, kind-none, kind-here, kind-other}
 use Rattle.columns.proofs.Committing.{Numbers, numbers-next, Committing, Moved, base, committing-moved, committing-can, Found, moved-found, front-low, ahead-low}
 
 module _ {rows₀ counts₀ next₀ : List ℕ} {head free₀ : ℕ} {ns plan : List ℕ} (can : CanCommitChain rows₀ counts₀ next₀ head free₀ ns plan) where

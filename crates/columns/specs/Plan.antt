@@ -1,5 +1,5 @@
 -- A column's plan: packed entries of row, new multiplicity and kind, rising by row, only for what changes. What a plan makes of a column's
--- multiplicities, and when it suits them. Laws: proofs/Plans.antt.
+-- multiplicities, and when it suits them. Laws: proofs/Plan.antt.
 -- Assumes nothing: these are definitions.
 use mathlib.Core.Path.{_≡_}
 use mathlib.Core.List.{List, [], _∷_}

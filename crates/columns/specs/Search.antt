@@ -1,5 +1,5 @@
 -- Reading one stored column: the first record at or above a row, the last below one, a row's multiplicity, the entries as pairs; and what a chain must
--- have to be read. Laws: proofs/Searching.antt, proofs/Copying.antt, and for the multiplicities that a column holds proofs/Holding.antt.
+-- have to be read. Laws: proofs/Search.antt, proofs/Copying.antt, and for the multiplicities that a column holds proofs/Holding.antt.
 -- Assumes nothing: these are definitions.
 use mathlib.Core.Path.{_≡_}
 use mathlib.Core.Bool.{true}

@@ -4,4 +4,4 @@ pub mod Linking
 pub mod Children
 pub mod Parts
 pub mod Starting
-pub mod Giving
+pub mod Given

@@ -13,8 +13,9 @@ use Rattle.lists.specs.Lists.{at, put}
 use Rattle.lists.proofs.Tests.{eq-or-ne}
 use Rattle.workspace.specs.Regions.{cell, region, Outside, IsZero}
 use Rattle.workspace.proofs.Regions.{region-length, region-cell, store-region, store-leaves-region}
-use Rattle.book.specs.Entries.{firstRow, HasHead}
-use Rattle.counting.specs.Counting.{linkedIn, CanLink, ListedIn, OnlyTwo, CanList, Listed}
+use Rattle.book.specs.Book.{tablesOf}
+use Rattle.book.specs.Entries.{HasHead, StartsAt}
+use Rattle.counting.specs.Counting.{linkedIn, CanLink, ListedIn, OnlyTwo, startIn, CanList, Listed}
 use Rattle.counting.proofs.Numbers.{Lists, lists-start, lists-skip, lists-more}
 
 -- ---- the table as two lists
@@ -89,35 +90,37 @@ listed-start w a m b l f long z =
 pub record Linking (heads rows work₀ : List ℕ) (a m b : ℕ) (work : List ℕ) (i : ℕ) : Type 0 where
   pub high : i ≤ length heads
   pub only : OnlyTwo a m b (length heads) work₀ work
-  pub lists : ListedIn work a m b (length heads) (firstRow heads rows) i
+  pub lists : (next : List ℕ) → length rows ≡ length next → ListedIn work a m b (length heads) (startIn (tablesOf heads rows next)) i
 
 module _ {heads rows w₀ : List ℕ} {a m b : ℕ} (pre : CanList heads rows w₀ a m b) where
   pub linking-start : Linking heads rows w₀ a m b w₀ 0
   linking-start =
-      record { high = omega arith; only = two-refl; lists = listed-start w₀ a m b (length heads) (firstRow heads rows) (omega (arith, pre .apart, pre .long)) (pre .empty) }
+      record { high = omega arith; only = two-refl; lists = λ next z. listed-start w₀ a m b (length heads) (startIn (tablesOf heads rows next)) (omega (arith, pre .apart, pre .long)) (pre .empty) }
 
   module _ {w : List ℕ} {i : ℕ} (s : Linking heads rows w₀ a m b w i) where
     pub linking-has : i < length heads → HasHead heads rows (i + 1)
     linking-has h = record { low = omega arith; high = omega arith; within = pre .heads-in (i + 1) (omega arith) (omega arith) }
 
-    pub linking-can : (v : ℕ) → i < length heads → v ≡ firstRow heads rows (i + 1) → CanLink w a b v (i + 1)
+    pub linking-can : (v : ℕ) → i < length heads → StartsAt heads rows (i + 1) v → CanLink w a b v (i + 1)
     linking-can v h e =
         record {
           low = omega arith;
-          head-in = λ p. omega (arith, pre .rows-in (i + 1) (omega arith) (omega arith), pre .apart, pre .long, s .only .same-length);
+          head-in = λ p. omega (arith, e (pre .next) (pre .sized), pre .rows-in (i + 1) (omega arith) (omega arith), pre .apart, pre .long, s .only .same-length);
           next-in = omega (arith, pre .long, s .only .same-length);
         }
 
-    pub linking-next : (v : ℕ) {x : List ℕ} → i < length heads → v ≡ firstRow heads rows (i + 1) → x ≡ linkedIn w a b v (i + 1) → Linking heads rows w₀ a m b x (i + 1)
+    pub linking-next : (v : ℕ) {x : List ℕ} → i < length heads → StartsAt heads rows (i + 1) v → x ≡ linkedIn w a b v (i + 1) → Linking heads rows w₀ a m b x (i + 1)
     linking-next v h e y =
-        let q : v ≤ m = omega (arith, pre .rows-in (i + 1) (omega arith) (omega arith)) in
+        let q : v ≤ m = omega (arith, e (pre .next) (pre .sized), pre .rows-in (i + 1) (omega arith) (omega arith)) in
         rw y (record {
           high = omega arith;
           only = two-trans (s .only) (link-only w a m b (length heads) v (i + 1) (omega arith) (omega arith) q);
-          lists = link-listed w a m b (length heads) (firstRow heads rows) i v (i + 1) (pre .apart) (omega (arith, pre .long, s .only .same-length)) (add-one i) (omega arith) (sym e) q (s .lists);
+          lists = λ next z.
+              link-listed w a m b (length heads) (startIn (tablesOf heads rows next)) i v (i + 1) (pre .apart) (omega (arith, pre .long, s .only .same-length)) (add-one i) (omega arith) (sym (e next z)) q
+              (s .lists next z);
         })
 
     pub linking-end : length heads ≤ i → Listed heads rows w₀ w a m b
     linking-end h =
         let e : i ≡ length heads = omega (arith, s .high) in
-        record { only = s .only; lists = subst (ListedIn w a m b (length heads) (firstRow heads rows)) e (s .lists) }
+        record { only = s .only; lists = λ next z. subst (ListedIn w a m b (length heads) (startIn (tablesOf heads rows next))) e (s .lists next z) }

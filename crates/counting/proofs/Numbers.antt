@@ -1,4 +1,4 @@
--- Numbers listed by a value, and what they bring: members, length, one number more; the lists in two tables, heads and nexts, when a number is put at
+-- Numbers listed by a value, and what they bring: members, one number more; the lists in two tables, heads and nexts, when a number is put at
 -- a front (lists-more) or has no list (lists-skip); how often a row stands in what the numbers of a value bring, as a count. Assumes nothing.
 use mathlib.Core.Path.{_≡_, refl, sym, ap, subst, _∙_}
 use mathlib.Core.Logic.{inl, inr, _≢_}
@@ -45,15 +45,6 @@ numbered-in f v (suc n) x h =
           (t .0, omega arith, t .2)
     ]
 
-pub numbered-length : (f : ℕ → ℕ) (v n : ℕ) → length (numbered f v n) ≤ n
-unfolding numbered
-numbered-length f v zero = omega arith
-numbered-length f v (suc n) =
-    elim (eq-or-ne (f (suc n)) v) [
-      | inl e ↦ omega (arith, ap length (numbered-some f v n e), numbered-length f v n)
-      | inr e ↦ omega (arith, ap length (numbered-none f v n e), numbered-length f v n)
-    ]
-
 -- ---- the lists, in a table of nexts and one of heads
 
 abbrev pub Lists : (nexts heads : List ℕ) → (value : ℕ → ℕ) → (n : ℕ) → Type 0
@@ -90,10 +81,6 @@ lists-more ns hs f n u room e low high l v p q =
 pub gathered-nil : (g : ℕ → List ℕ) → gathered g [] ≡ []
 unfolding gathered
 gathered-nil g = refl
-
-pub gathered-cons : (g : ℕ → List ℕ) (c : ℕ) (cs : List ℕ) → gathered g (c ∷ cs) ≡ g c ++ gathered g cs
-unfolding gathered
-gathered-cons g c cs = refl
 
 pub gathered-more : (g : ℕ → List ℕ) (cs : List ℕ) (c : ℕ) → gathered g (cs ++ (c ∷ [])) ≡ gathered g cs ++ g c
 unfolding gathered

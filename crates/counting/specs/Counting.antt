@@ -8,7 +8,8 @@ use lib.ListN.{length, getD, set}
 use Rattle.lists.specs.Lists.{pick, at, put, sumOf}
 use Rattle.workspace.specs.Regions.{cell, region, Outside, IsZero}
 use Rattle.pool.specs.Chains.{Linked}
-use Rattle.book.specs.Entries.{firstRow}
+use Rattle.symbolic.specs.Columns.{smallest}
+use Rattle.book.specs.Book.{Book, tablesOf, columnFor}
 
 -- ---- numbers by a value
 
@@ -54,11 +55,17 @@ pub record OnlyTwo (a n b l : ℕ) (before after : List ℕ) : Type 0 where
   pub same-length : length after ≡ length before
   pub outside : (k : ℕ) → Outside a n k → Outside b l k → getD after k 0 ≡ getD before k 0
 
--- ids to be listed by smallest row
+-- where the column under an id starts: its smallest row, 0 where it has none
+abbrev pub startIn : Book → (id : ℕ) → ℕ
+startIn b i = smallest (columnFor b i)
+
+-- ids to be listed by smallest row; nexts are not read, any that suit will do
 pub record CanList (heads rows work : List ℕ) (a m b : ℕ) : Type 0 where
+  pub next : List ℕ
+  pub sized : length rows ≡ length next
   pub few : length heads < 4294967295
   pub heads-in : (i : ℕ) → 1 ≤ i → i ≤ length heads → at heads i ≤ length rows
-  pub rows-in : (i : ℕ) → 1 ≤ i → i ≤ length heads → firstRow heads rows i ≤ m
+  pub rows-in : (i : ℕ) → 1 ≤ i → i ≤ length heads → startIn (tablesOf heads rows next) i ≤ m
   pub apart : a + m ≤ b
   pub long : b + length heads ≤ length work
   pub empty : IsZero work a m
@@ -66,7 +73,7 @@ pub record CanList (heads rows work : List ℕ) (a m b : ℕ) : Type 0 where
 -- each row of 1 to m has the list of the ids whose column starts there, and only the two regions of these lists changed
 pub record Listed (heads rows work₀ work : List ℕ) (a m b : ℕ) : Type 0 where
   pub only : OnlyTwo a m b (length heads) work₀ work
-  pub lists : ListedIn work a m b (length heads) (firstRow heads rows) (length heads)
+  pub lists : (next : List ℕ) → length rows ≡ length next → ListedIn work a m b (length heads) (startIn (tablesOf heads rows next)) (length heads)
 
 -- ---- counting rows that stand in the work table, whose first places are the counters
 

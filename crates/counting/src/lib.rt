@@ -1,7 +1,7 @@
 // Counting what the definition gives for a column of L, in the work table: the booked ids listed by smallest row, the children of a column listed, and the
 // rows that the diagonal, the children and the columns that start there bring, one more in the counter of each. The counters are the first m places.
 ghost use mathlib.Core.Path.{_≡_};
-ghost use Prim.Native.Nat.{_+_, _-_, _*_, _≤_, _<_};
+ghost use Prim.Native.Nat.{_+_, _-_, _*_, _<_};
 ghost use lib.ListN.{length};
 ghost use Rattle.workspace.specs.Regions.{region};
 ghost use Rattle.counting.specs.Counting.{linkedIn, CanLink, CanList, Listed, gathered, tallied, CanTally};
@@ -49,7 +49,7 @@ pub fn link_columns(
     let mut i: usize = 0;
     while i < book_heads.len() {
         let k = (i + 1) as u32;
-        let first = book::first_row(book_heads, book_rows, Id(k));
+        let first = book::smallest_row(book_heads, book_rows, Id(k));
         link(work, a, b, first, k);
         i += 1;
     }

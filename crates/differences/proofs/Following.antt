@@ -4,14 +4,14 @@
 use mathlib.Core.Path.{_≡_, refl, sym, ap, _∙_}
 use mathlib.Core.Logic.{_≢_}
 use mathlib.Core.List.{List, [], _∷_, _++_, append-assoc, append-nil}
-use Prim.Native.Nat.{ℕ, _+_, _-_, _*_, _<_}
+use Prim.Native.Nat.{ℕ, _+_, _*_, _<_}
 use native.Mathlib.Omega.{arith}
 use lib.ListN.{length, set, length-append}
 use Rattle.lists.specs.Lists.{among, at, valuesAt}
 use Rattle.pool.specs.Chains.{chain, Linked}
 use Rattle.differences.specs.Gather.{CanGather, ChainRises, Gathered, Gathering}
 use Rattle.differences.proofs.Chain.{Onward, chain-onward, chain-over}
-use Rattle.differences.proofs.Gathering.{gathering-start, gathering-push, gathering-done, list-room}
+use Rattle.differences.proofs.Gather.{gathering-start, gathering-push, gathering-done, list-room}
 
 pub values-front : (xs : List ℕ) (q : ℕ) (qs : List ℕ) → valuesAt xs (q ∷ qs) ≡ at xs q ∷ valuesAt xs qs
 unfolding valuesAt

@@ -21,7 +21,7 @@ use Rattle.differences.specs.Gather.{rowsIn, rowsOfKind, planPart, CanGa
 use Rattle.differences.proofs.Rows.{Front, rises-front, rises-nil, rises-cons, rises-within, rises-join, rises-left, rises-right, rises-once, among-sum}
 use Rattle.differences.proofs.Chain.{Onward, chain-onward, chain-over}
 use Rattle.differences.proofs.Parts.{part-join, rows-append, kind-append, kind-row, kind-rises, part-above}
-use Rattle.differences.proofs.Gathering.{gathering-start, gathering-push, gathering-done, gathering-cell, gathering-part, gathering-trans, list-room}
+use Rattle.differences.proofs.Gather.{gathering-start, gathering-push, gathering-done, gathering-cell, gathering-part, gathering-trans, list-room}
 use Rattle.differences.proofs.Following.{values-front, values-none}
 
 -- no row is above 4,096, so a part passed up to 4,097 is passed whole

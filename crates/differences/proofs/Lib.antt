@@ -1,11 +1,11 @@
 pub mod Rows
 pub mod Chain
 pub mod Parts
-pub mod Gathering
+pub mod Gather
 pub mod Passing
 pub mod Following
 pub mod Growing
 pub mod Pruning
 pub mod Bumping
 pub mod Merging
-pub mod Counting
+pub mod Count

@@ -3,9 +3,9 @@
 -- Assumes nothing.
 use mathlib.Core.Path.{_≡_, refl, sym, ap, subst, _∙_}
 use mathlib.Core.Logic.{inl, inr}
-use mathlib.Core.Bool.{true, false, false≢true}
+use mathlib.Core.Bool.{true, false≢true}
 use mathlib.Core.List.{List, [], _∷_, _++_, append-assoc, append-nil}
-use Prim.Native.Nat.{ℕ, _+_, _-_, _*_, _≤_, _<_}
+use Prim.Native.Nat.{ℕ, _+_, _*_, _≤_, _<_}
 use native.Mathlib.Omega.{arith}
 use lib.ListN.{length, set, length-append}
 use borrow.Author.Tests.{eq-eqb, ne-eqb}
@@ -17,7 +17,7 @@ use Rattle.workspace.proofs.Regions.{only-refl, region-length}
 use Rattle.differences.specs.Gather.{rowsIn, rowsOfKind, planPart, Gathering, Passed, CanReach, Reached}
 use Rattle.differences.proofs.Rows.{only-member}
 use Rattle.differences.proofs.Parts.{part-none, part-next, part-join, part-front, rows-append, rows-one, kind-append, kind-cons, kind-skip, kind-nil}
-use Rattle.differences.proofs.Gathering.{gathering-push, gathering-cell}
+use Rattle.differences.proofs.Gather.{gathering-push, gathering-cell}
 
 -- the entries before place a are passed
 pub record Passing (m : ℕ) (w : List ℕ) (from to bound a : ℕ) : Type 0 where

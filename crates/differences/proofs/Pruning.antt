@@ -20,7 +20,7 @@ use Rattle.differences.specs.Gather.{rowsIn, rowsOfKind, planPart, CanGa
 use Rattle.differences.proofs.Rows.{Front, rises-front, rises-nil, rises-cons, rises-right}
 use Rattle.differences.proofs.Chain.{Onward, chain-onward, chain-over}
 use Rattle.differences.proofs.Parts.{part-none, part-join, part-front, rows-append, rows-cons, kind-append, kind-cons, kind-skip, kind-row, no-rows, no-kind}
-use Rattle.differences.proofs.Gathering.{gathering-start, gathering-push, gathering-done, gathering-cell, gathering-part, list-room}
+use Rattle.differences.proofs.Gather.{gathering-start, gathering-push, gathering-done, gathering-cell, gathering-part, list-room}
 use Rattle.differences.proofs.Following.{values-front, values-none}
 
 -- ---- a list without some rows

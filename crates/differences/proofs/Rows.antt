@@ -1,15 +1,15 @@
 -- Rising lists of rows, by what a walk does with them: take the first, bound them anew, join two or cut one in two, know that no row is twice and none
--- above the last. Then members: the only one, those of a list that has another's and one more, a count that is a test.
+-- above the last. Then members: the only one, those of a list that has another's and one more.
 -- What lists has of rising lists (members within the bounds, weaker bounds, lengths) is not repeated. Assumes nothing.
 use mathlib.Core.Path.{_≡_, refl}
 use mathlib.Core.Logic.{inl, inr, _≢_}
-use mathlib.Core.Bool.{Bool, true, false, _&&_, _||_}
+use mathlib.Core.Bool.{true, false, _&&_, _||_}
 use mathlib.Core.List.{List, [], _∷_, _++_}
-use Prim.Native.Nat.{ℕ, suc, _+_, _-_, _≤_, _<_}
+use Prim.Native.Nat.{ℕ, suc, _+_, _≤_, _<_}
 use native.Mathlib.Omega.{arith}
 use lib.Dec.{leb}
 use borrow.Author.Tests.{leb-true, le-leb}
-use Rattle.lists.specs.Lists.{one, Mem, first, later, among, times, rises}
+use Rattle.lists.specs.Lists.{Mem, first, later, among, times, rises}
 use Rattle.lists.proofs.Tests.{eq-or-ne, zero-or-pos, and-both, both-and, both-ways}
 use Rattle.lists.proofs.Member.{mem-left, mem-right, mem-either, among-mem, mem-among}
 use Rattle.lists.proofs.Times.{times-nil, times-self, times-other, times-mem, among-none, among-some}
@@ -124,8 +124,3 @@ upto-last {x} a b y xs h n =
       | inl k ↦ let l : x < y = rises-apart a b h k first in omega arith
       | inr k ↦ omega (arith, only-member k)
     ]
-
--- as often as one test says
-pub test-times : (x : ℕ) (xs : List ℕ) (b : Bool) → times x xs ≡ one b → among x xs ≡ b
-test-times x xs true e = among-some x xs (omega arith)
-test-times x xs false e = among-none x xs (omega arith)

@@ -1,7 +1,6 @@
 pub mod Plans
-pub mod PlanRows
 pub mod Left
-pub mod Walking
+pub mod Walks
 pub mod Clearing
 pub mod Turning
 pub mod Planning

@@ -1,5 +1,5 @@
 -- Laws of the plan from old to new multiplicities: one entry, whose kind says what it does; from a row on, and whole, it suits the old multiplicities
--- (`plan-suits`) and makes them the new ones (`plan-becomes`); entries of one kind counted. Which rows it has of a kind: PlanRows.antt.
+-- (`plan-suits`) and makes them the new ones (`plan-becomes`); entries of one kind counted.
 -- Assumes nothing.
 use mathlib.Core.Path.{_≡_, refl, sym, ap, subst, _∙_}
 use mathlib.Core.Logic.{inl, inr, _≢_}

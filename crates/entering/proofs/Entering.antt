@@ -6,12 +6,11 @@ use mathlib.Core.Bool.{true, false, not, true≢false}
 use mathlib.Core.List.{List, [], _∷_, _++_, append-nil}
 use Prim.Native.Nat.{ℕ, suc, _+_, _-_, _≤_, _<_}
 use native.Mathlib.Omega.{arith}
-use lib.Dec.{eqb}
 use lib.ListN.{length, getD, take, drop, length-drop, drop-of-length-le}
 use lib.Seq.{drop-cons, drop-drop, length-take-le}
-use borrow.Author.Tests.{eq-eqb, not-true}
+use borrow.Author.Tests.{not-true}
 use Rattle.lists.specs.Lists.{Mem, all, among, noRepeats, sumOf}
-use Rattle.lists.proofs.Tests.{and-both, or-left}
+use Rattle.lists.proofs.Tests.{and-both}
 use Rattle.lists.proofs.Member.{place-mem, mem-among}
 use Rattle.lists.proofs.Sum.{sum-append}
 use Rattle.symbolic.specs.Columns.{Column}
@@ -30,10 +29,6 @@ book-self b l = record { head = refl; records = refl; rows = refl }
 
 pub book-joins : {a b c : Book} {l : ℕ} → ColumnStays a b l → ColumnStays b c l → ColumnStays a c l
 book-joins s t = record { head = t .head ∙ s .head; records = t .records ∙ s .records; rows = t .rows ∙ s .rows }
-
-pub not-first : (x : ℕ) (xs : List ℕ) (l : ℕ) → among l (x ∷ xs) ≡ false → l ≢ x
-unfolding among
-not-first x xs l h e = true≢false (sym (or-left (eqb l x) (among l xs) (eq-eqb l x e)) ∙ h)
 
 -- an id past the first is another one
 pub later-differs : (x : ℕ) (xs : List ℕ) (k : ℕ) → noRepeats (x ∷ xs) ≡ true → k < length xs → getD xs k 0 ≢ x

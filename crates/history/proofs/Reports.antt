@@ -83,9 +83,9 @@ held-factor r v h =
     let s : Stored = storedIn (v .state) (v .tables) in
     same-factor (r .m) (λ j i. startingWith j i (live r)) (multiplicity (factorFor r)) (heldCount v) (parentOf (factorFor r)) (heldParent v)
     (λ i j a b x y.
-        let f : FactorColumn = columnAt (factorFor r) j in
-        ap (λ (rs : List ℕ). valueFor rs (valuesAt (s .counts) (recordsOf s j)) i) (stored-column (r .m) (live r) s h j x y .rows) ∙
-        ap (λ (cs : List ℕ). valueFor (patternOf f) cs i) (stored-column (r .m) (live r) s h j x y .counts) ∙ value-pattern 1 (f .counts) i a)
+    let f : FactorColumn = columnAt (factorFor r) j in
+    ap (λ (rs : List ℕ). valueFor rs (valuesAt (s .counts) (recordsOf s j)) i) (stored-column (r .m) (live r) s h j x y .rows) ∙
+    ap (λ (cs : List ℕ). valueFor (patternOf f) cs i) (stored-column (r .m) (live r) s h j x y .counts) ∙ value-pattern 1 (f .counts) i a)
     (λ j x y. stored-column (r .m) (live r) s h j x y .parent) (defined (r .m) (live r))
 
 -- ---- paths
@@ -104,9 +104,13 @@ module _ (r : Register) (M : ℕ → ℕ → ℕ) (P : ℕ → ℕ) (h : IsFacto
 
   touched-on : (cs : List Column) (j : ℕ) → j ≤ r .m → isTouched (factorFor r) cs j ≡ true → OnPathOf (r .m) P cs j
   touched-on cs j b t =
-      let u : (c : Column) × Mem c cs × (1 ≤ smallest c) × (smallest c ≤ r .m) × OnPath (parentOf (factorFor r)) (smallest c) j = touched-by (r .m) (live r) cs j b t in
-      (u .0, u .1, u .2, u .3,
-      path-same (r .m) (parentOf (factorFor r)) P (λ k x y. sym (parents-agree k x y)) (λ k x y z. defined (r .m) (live r) .parent-in k x y z .1) (u .2) (u .3) (u .4))
+      let u : (c : Column) × Mem c cs × (1 ≤ smallest c) × (smallest c ≤ r .m) × OnPath (parentOf (factorFor r)) (smallest c) j = touched-by (r .m) (live r) cs j b t in (
+        u .0,
+        u .1,
+        u .2,
+        u .3,
+        path-same (r .m) (parentOf (factorFor r)) P (λ k x y. sym (parents-agree k x y)) (λ k x y z. defined (r .m) (live r) .parent-in k x y z .1) (u .2) (u .3) (u .4),
+      )
 
   on-touched : (cs : List Column) (j : ℕ) → OnPathOf (r .m) P cs j → isTouched (factorFor r) cs j ≡ true
   on-touched cs j u =
@@ -148,5 +152,9 @@ reports-exactly r c M N P Q h k j a b = (to, from)
     from : OnPathOf (r .m) P (effect r c .leave) j ⊎ OnPathOf (r .m) Q (effect r c .enter) j → Mem j (touchedBy r c)
     from (inl u) = among-mem j (touchedBy r c) (members .1 (a, b, or-left left right (on-touched r M P h (effect r c .leave) j u)))
     from (inr u) =
-        among-mem j (touchedBy r c) (members .1 (a, b, or-right left right
-        (on-touched (effect r c .register) N Q k (effect r c .enter) j (subst (λ (m : ℕ). OnPathOf m Q (effect r c .enter) j) (sym m-same) u))))
+        among-mem j (touchedBy r c) (members .1 (
+          a,
+          b,
+          or-right left right
+              (on-touched (effect r c .register) N Q k (effect r c .enter) j (subst (λ (m : ℕ). OnPathOf m Q (effect r c .enter) j) (sym m-same) u)),
+        ))

@@ -2,15 +2,15 @@
 -- or the piece's end the line is whole. A longer line is cut at the list's end, and is too long all the same. Assumes nothing.
 use mathlib.Core.Path.{_≡_, refl, sym, ap, _∙_}
 use mathlib.Core.Logic.{inl, inr, _≢_}
-use mathlib.Core.Bool.{Bool, true, false}
+use mathlib.Core.Bool.{true, false}
 use mathlib.Core.List.{List, [], _∷_, _++_, append-assoc, append-nil}
 use Prim.Native.Nat.{ℕ, suc, _+_, _≤_, _<_}
 use native.Mathlib.Omega.{arith}
 use native.Mathlib.Numerals.{add-one}
 use lib.Dec.{eqb}
-use lib.ListN.{length, length-drop, getD, take, drop, set, length-append, length-set, drop-of-length-le}
-use lib.Seq.{length-take-le, take-all, take-take, take-suc-set, take-append-le, drop-cons}
-use borrow.Author.Tests.{eq-eqb, ne-eqb}
+use lib.ListN.{length, length-drop, getD, take, drop, set, length-set, drop-of-length-le}
+use lib.Seq.{length-take-le, take-all, take-suc-set, take-append-le, drop-cons}
+use borrow.Author.Tests.{ne-eqb}
 use Rattle.lists.specs.Lists.{one}
 use Rattle.lists.proofs.Tests.{cases}
 use Rattle.listing_lines.specs.Lines.{beforeNewline, hasNewline, Growing, Grown}

@@ -1,11 +1,11 @@
 -- How many of 1 to n pass a test: finding one, comparing two tests, a test that differs at one number. Assumes nothing.
-use mathlib.Core.Path.{_≡_, refl, sym, ap, _∙_}
-use mathlib.Core.Logic.{_⊎_, inl, inr, _≢_}
+use mathlib.Core.Path.{_≡_, refl, ap}
+use mathlib.Core.Logic.{inl, inr, _≢_}
 use mathlib.Core.Bool.{Bool, true, false}
 use Prim.Native.Nat.{ℕ, zero, suc, _+_, _≤_, _<_}
 use native.Mathlib.Omega.{arith}
-use Rattle.lists.specs.Lists.{pick, one, count}
-use Rattle.lists.proofs.Tests.{cases, eq-or-ne, one-pos, pos-one, one-le}
+use Rattle.lists.specs.Lists.{one, count}
+use Rattle.lists.proofs.Tests.{cases, eq-or-ne, pos-one, one-le}
 
 pub count-ext : (f g : ℕ → Bool) (n : ℕ) → ((c : ℕ) → 1 ≤ c → c ≤ n → f c ≡ g c) → count f n ≡ count g n
 unfolding count

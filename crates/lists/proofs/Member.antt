@@ -1,11 +1,11 @@
 -- Members of a list, of any type, the places where they stand, and the tests all, any, among, noRepeats and same that speak of them. Assumes nothing.
-use mathlib.Core.Path.{_≡_, refl, sym, ap, _∙_, subst}
-use mathlib.Core.Logic.{_⊎_, inl, inr, _≢_}
-use mathlib.Core.Bool.{Bool, true, false, _&&_, _||_, not, true≢false, false≢true}
+use mathlib.Core.Path.{_≡_, refl, ap, subst}
+use mathlib.Core.Logic.{_⊎_, inl, inr}
+use mathlib.Core.Bool.{Bool, true, false≢true}
 use mathlib.Core.List.{List, [], _∷_, _++_}
-use Prim.Native.Nat.{ℕ, zero, suc, _+_, _≤_, _<_}
+use Prim.Native.Nat.{ℕ, zero, suc, _<_}
 use native.Mathlib.Omega.{arith}
-use lib.Dec.{ltb, leb, eqb}
+use lib.Dec.{eqb}
 use lib.ListN.{length, getD}
 use borrow.Author.Tests.{eqb-true, eq-eqb}
 use Rattle.lists.specs.Lists.{Mem, first, later, all, any, among, same, allZero}
@@ -103,8 +103,3 @@ pub zero-at : {x : ℕ} {xs : List ℕ} → Mem x xs → allZero xs ≡ true →
 unfolding allZero
 zero-at {x} (first {xs}) h = eqb-true x 0 (and-both (eqb x 0) (allZero xs) h .0)
 zero-at (later {x = y} {xs = xs} m) h = zero-at m (and-both (eqb y 0) (allZero xs) h .1)
-
-pub zero-make : (xs : List ℕ) → ((x : ℕ) → Mem x xs → x ≡ 0) → allZero xs ≡ true
-unfolding allZero
-zero-make [] h = refl
-zero-make (x ∷ xs) h = both-and (eq-eqb x 0 (h x first)) (zero-make xs (λ y m. h y (later m)))

@@ -1,10 +1,10 @@
 -- A list written front to back over another: one value more, and the whole. A loop's invariant is `list ≡ over (take i new) old`. Assumes nothing.
 use mathlib.Core.Path.{_≡_, refl, sym, ap, _∙_}
 use mathlib.Core.List.{List, [], _∷_, _++_, append-nil}
-use Prim.Native.Nat.{ℕ, zero, suc, _+_, _≤_, _<_}
+use Prim.Native.Nat.{ℕ, _+_, _≤_, _<_}
 use native.Mathlib.Omega.{arith}
 use native.Mathlib.Numerals.{add-one}
-use lib.ListN.{length, getD, take, drop, set, drop-of-length-le}
+use lib.ListN.{length, getD, take, set, drop-of-length-le}
 use lib.Seq.{take-suc, take-all, length-take-le}
 use Rattle.lists.specs.Lists.{over}
 use Rattle.lists.proofs.Place.{over-push, over-length}

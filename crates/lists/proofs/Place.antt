@@ -2,19 +2,13 @@
 use mathlib.Core.Path.{_≡_, refl, sym, ap, subst, _∙_}
 use mathlib.Core.Logic.{_≢_}
 use mathlib.Core.List.{List, [], _∷_, _++_, append-assoc}
-use Prim.Native.Nat.{ℕ, zero, suc, _+_, _-_, _≤_, _<_}
+use Prim.Native.Nat.{ℕ, suc, _+_, _-_, _≤_, _<_}
 use native.Mathlib.Omega.{arith}
 use native.Mathlib.Numerals.{add-one}
 use lib.ListN.{length, getD, take, drop, set, length-append, length-drop, length-set}
 use lib.Seq.{getD-set-same, getD-set-other, set-getD, drop-cons, set-at, take-suc}
 use Rattle.lists.specs.Lists.{at, put, valuesAt, over, times}
 use Rattle.lists.proofs.Times.{times-self, times-cons, differs}
-
--- a place within the list has the same value whatever stands for the places past it
-pub getD-any : {A : Type 0} (xs : List A) (k : ℕ) (d e : A) → k < length xs → getD xs k d ≡ getD xs k e
-getD-any [] k d e h = absurd (omega arith)
-getD-any (x ∷ xs) zero d e h = refl
-getD-any (x ∷ xs) (suc k) d e h = getD-any xs k d e (omega arith)
 
 -- ---- a value put at a number
 

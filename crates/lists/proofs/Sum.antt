@@ -1,12 +1,12 @@
 -- Sums over a list, of any type: of two lists in a row, of tests, of two functions, by places. Assumes nothing.
-use mathlib.Core.Path.{_≡_, refl, sym, ap, _∙_}
-use mathlib.Core.Logic.{_⊎_, inl, inr}
-use mathlib.Core.Bool.{Bool, true, false}
+use mathlib.Core.Path.{_≡_, refl, ap}
+use mathlib.Core.Logic.{inl, inr}
+use mathlib.Core.Bool.{Bool, true}
 use mathlib.Core.List.{List, [], _∷_, _++_}
-use Prim.Native.Nat.{ℕ, zero, suc, _+_, _-_, _≤_, _<_}
+use Prim.Native.Nat.{ℕ, suc, _+_, _-_, _≤_, _<_}
 use native.Mathlib.Omega.{arith}
 use lib.ListN.{length, getD}
-use Rattle.lists.specs.Lists.{pick, one, Mem, first, later, sumOf, upFrom}
+use Rattle.lists.specs.Lists.{one, Mem, first, later, sumOf, upFrom}
 use Rattle.lists.proofs.Tests.{cases, pos-one}
 use Rattle.lists.proofs.Rising.{from-up}
 

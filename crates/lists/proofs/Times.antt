@@ -1,17 +1,16 @@
 -- How often a number stands in a list. Separation of lists is linear arithmetic on these counts, for omega. Assumes nothing.
-use mathlib.Core.Bool.{Bool, true, false, _&&_, _||_, not, true≢false}
+use mathlib.Core.Bool.{true, false, not, true≢false}
 use mathlib.Core.Path.{_≡_, refl, sym, ap, subst, _∙_}
-use mathlib.Core.Logic.{_⊎_, inl, inr, _≢_}
+use mathlib.Core.Logic.{inl, inr, _≢_}
 use mathlib.Core.List.{List, [], _∷_, _++_}
-use Prim.Native.Nat.{ℕ, zero, suc, _+_, _-_, _≤_, _<_}
+use Prim.Native.Nat.{ℕ, _+_, _≤_}
 use native.Mathlib.Omega.{arith}
 use borrow.Author.Tests.{eq-eqb, ne-eqb, not-true}
-use lib.Dec.{eqb}
 use lib.ListN.{length}
-use Rattle.lists.specs.Lists.{pick, one, Mem, first, later, among, noRepeats, count, times, allZero, valuesAt}
-use Rattle.lists.proofs.Tests.{cases, eq-or-ne, zero-or-pos, and-both, both-and}
+use Rattle.lists.specs.Lists.{one, Mem, first, later, among, noRepeats, count, times}
+use Rattle.lists.proofs.Tests.{cases, eq-or-ne, zero-or-pos, and-both}
 use Rattle.lists.proofs.Member.{among-mem, mem-among}
-use Rattle.lists.proofs.Count.{count-cut, count-le, count-full, count-at}
+use Rattle.lists.proofs.Count.{count-cut, count-le, count-at}
 
 pub times-nil : (x : ℕ) → times x [] ≡ 0
 unfolding times
@@ -101,9 +100,3 @@ among-count n (r ∷ rs) once within =
 
 pub once-length : (n : ℕ) (rs : List ℕ) → ((x : ℕ) → times x rs ≤ 1) → UpTo n rs → length rs ≤ n
 once-length n rs once within = omega (arith, among-count n rs once within, count-le (λ x. among x rs) n)
-
-pub once-full : (n : ℕ) (rs : List ℕ) → ((x : ℕ) → times x rs ≤ 1) → UpTo n rs → length rs ≡ n → (x : ℕ) → 1 ≤ x → x ≤ n → times x rs ≡ 1
-once-full n rs once within e x a b =
-    let l : count (λ x. true) n ≤ count (λ x. among x rs) n = omega (arith, among-count n rs once within, count-le (λ x. true) n) in
-    let t : among x rs ≡ true = count-full (λ x. among x rs) (λ x. true) n (λ c p q h. refl) l x a b refl in
-    omega (arith, once x, mem-times (among-mem x rs t))

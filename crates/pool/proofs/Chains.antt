@@ -1,16 +1,16 @@
--- Laws of chains, in this order: the list `chainFrom` at its first record and its end; what a linked list of records has (range, first
--- record, end, the part after a record) and how it stays or changes where the `next` table changes; a head has one linked list only, it
+-- Laws of chains, in this order: the list `chainFrom` at its first record and its end; what a linked list of records has (range, end,
+-- the part after a record) and how it stays or changes where the `next` table changes; a head has one linked list only, it
 -- repeats nothing and has no more records than the pool (so Linked gives `chain ns h ≡ rs` with no bound to show); the test `ends` is Linked.
 -- Assumes nothing.
 use mathlib.Core.Path.{_≡_, refl, sym, ap, subst, _∙_}
 use mathlib.Core.Logic.{inl, inr, _≢_}
-use mathlib.Core.Bool.{Bool, true, false}
+use mathlib.Core.Bool.{true}
 use mathlib.Core.List.{List, [], _∷_, _++_}
-use Prim.Native.Nat.{ℕ, zero, suc, _+_, _≤_, _<_}
+use Prim.Native.Nat.{ℕ, zero, suc, _≤_}
 use native.Mathlib.Omega.{arith}
 use lib.ListN.{length, length-append}
-use borrow.Author.Tests.{le-leb, lt-leb, eq-eqb, eqb-true}
-use Rattle.lists.specs.Lists.{pick, isIn, at, times}
+use borrow.Author.Tests.{le-leb, eq-eqb, eqb-true}
+use Rattle.lists.specs.Lists.{isIn, at, times}
 use Rattle.lists.proofs.Tests.{cases, eq-or-ne, zero-or-pos, in-range}
 use Rattle.lists.proofs.Member.{split-mem}
 use Rattle.lists.proofs.Times.{times-nil, times-self, times-other, times-cons, times-mem, UpTo, once-length}
@@ -26,20 +26,6 @@ pub chain-nil : (n : ℕ) (ns : List ℕ) → chainFrom n ns 0 ≡ []
 unfolding chainFrom
 chain-nil zero ns = refl
 chain-nil (suc n) ns = refl
-
-pub chain-out : (n : ℕ) (ns : List ℕ) (r : ℕ) → length ns < r → chainFrom n ns r ≡ []
-unfolding chainFrom
-chain-out zero ns r h = refl
-chain-out (suc n) ns r h = rw (le-leb 1 r (omega arith), lt-leb r (length ns) h) refl
-
-pick-length : (b : Bool) (r : ℕ) (rs : List ℕ) (n : ℕ) → length rs ≤ n → length (pick b (r ∷ rs) []) ≤ suc n
-pick-length true r rs n h = omega arith
-pick-length false r rs n h = omega arith
-
-pub chain-length : (n : ℕ) (ns : List ℕ) (h : ℕ) → length (chainFrom n ns h) ≤ n
-unfolding chainFrom
-chain-length zero ns h = omega arith
-chain-length (suc n) ns h = pick-length (isIn 1 (length ns) h) h (chainFrom n ns (at ns h)) n (chain-length n ns (at ns h))
 
 pub ends-next : (ns : List ℕ) (r : ℕ) (rs : List ℕ) → endsAfter ns r (r ∷ rs) ≡ endsAfter ns (at ns r) rs
 unfolding lastOf
@@ -61,11 +47,6 @@ linked-nil ns = refl
 pub linked-cons : (ns : List ℕ) (h : ℕ) (rs : List ℕ) → 1 ≤ h → h ≤ length ns → Linked ns (at ns h) rs → Linked ns h (h ∷ rs)
 unfolding Linked
 linked-cons ns h rs p q l = (refl, p, q, l)
-
--- its first record is the head
-pub linked-first : (ns : List ℕ) (h r : ℕ) (rs : List ℕ) → Linked ns h (r ∷ rs) → h ≡ r
-unfolding Linked
-linked-first ns h r rs l = l .0
 
 -- every record of it is of the pool
 pub linked-in : (ns : List ℕ) (h : ℕ) (rs : List ℕ) → Linked ns h rs → UpTo (length ns) rs

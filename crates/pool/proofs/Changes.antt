@@ -5,7 +5,7 @@
 -- Assumes nothing.
 use mathlib.Core.Path.{_≡_, refl, sym, ap, subst, _∙_}
 use mathlib.Core.Logic.{_≢_}
-use mathlib.Core.List.{List, [], _∷_, _++_, append-assoc}
+use mathlib.Core.List.{List, [], _∷_, _++_}
 use Prim.Native.Nat.{ℕ, suc, _+_, _-_, _≤_}
 use native.Mathlib.Omega.{arith}
 use lib.ListN.{length, take, drop, length-append}
@@ -13,10 +13,10 @@ use lib.Seq.{split-at, set-split}
 use Rattle.lists.specs.Lists.{at, put, times}
 use Rattle.lists.proofs.Times.{times-nil, times-self, times-cons, times-append, times-mid, apart, differs}
 use Rattle.lists.proofs.Place.{put-length, put-same, at-put-same, at-put-other}
-use Rattle.pool.specs.Chains.{chain, lastOf, Linked}
+use Rattle.pool.specs.Chains.{chain, Linked}
 use Rattle.pool.specs.Whole.{AllLinked, Pool}
 use Rattle.pool.specs.Changes.{insertAfter, unlinkAfter, Beside, Changed}
-use Rattle.pool.proofs.Chains.{last-split, linked-nil, linked-cons, After, linked-after, linked-frame, linked-tail, linked-once, linked-chain, linked-self, one-stays}
+use Rattle.pool.proofs.Chains.{linked-nil, linked-cons, After, linked-after, linked-frame, linked-tail, linked-once, linked-chain, linked-self, one-stays}
 use Rattle.pool.proofs.Whole.{chains-mid, chains-mid-length, all-cons, all-parts, all-split, all-join, Stays, all-stay, pool-linked, pool-once, pool-other}
 
 -- ---- a record that stands in the middle stands nowhere else
@@ -64,16 +64,6 @@ changed-cut ns f ds p fs l =
       frame = λ x low n. at-put-other ns p x 0 (w .low) low (elsewhere x p ds fs (omega (arith, ap (times x) whole)));
     }
 
--- the same for a list whose last record is p
-pub changed-cut-last : (ns : List ℕ) (h f r : ℕ) (rs : List ℕ) (p : ℕ) (fs : List ℕ) → h ≡ 0 → lastOf r rs ≡ p → Linked ns f ((r ∷ rs) ++ fs) → Changed ns (put ns p 0) h f f (at ns p) (r ∷ rs) fs
-changed-cut-last ns h f r rs p fs z e l =
-    let t : (ds : List ℕ) × (r ∷ rs ≡ ds ++ (lastOf r rs ∷ [])) = last-split r rs in
-    let q : r ∷ rs ≡ t .0 ++ (p ∷ []) = t .1 ∙ ap (λ (x : ℕ). t .0 ++ (x ∷ [])) e in
-    let k : (r ∷ rs) ++ fs ≡ t .0 ++ (p ∷ fs) = ap (λ (x : List ℕ). x ++ fs) q ∙ append-assoc (t .0) (p ∷ []) fs in
-    let c : Changed ns (put ns p 0) 0 f f (at ns p) (t .0 ++ (p ∷ [])) fs = changed-cut ns f (t .0) p fs (subst (λ (x : List ℕ). Linked ns f x) k l) in
-    let d : Changed ns (put ns p 0) h f f (at ns p) (t .0 ++ (p ∷ [])) fs = subst (λ (x : ℕ). Changed ns (put ns p 0) x f f (at ns p) (t .0 ++ (p ∷ [])) fs) (sym z) c in
-    subst (λ (x : List ℕ). Changed ns (put ns p 0) h f f (at ns p) x fs) (sym q) d
-
 -- ---- join: a whole chain, with p as its last record, given back before the free chain
 
 pub changed-join : {ns : List ℕ} {h f : ℕ} (ds : List ℕ) (p : ℕ) (fs : List ℕ) → Beside ns h f (ds ++ (p ∷ [])) fs → Changed ns (put ns p f) h f 0 h [] (ds ++ (p ∷ fs))
@@ -90,14 +80,6 @@ changed-join {ns} {h} {f} ds p fs b =
       size = omega (arith, ap length mine, ap length free, length-append ds (p ∷ fs), length-append ds (p ∷ []));
       frame = λ x low n. at-put-other ns p x f (w .low) low (elsewhere x p ds [] (omega (arith, ap (times x) mine)));
     }
-
--- the same for a list whose last record is p
-pub changed-join-last : {ns : List ℕ} {h f : ℕ} (r : ℕ) (rs : List ℕ) (p : ℕ) (fs : List ℕ) → lastOf r rs ≡ p → Beside ns h f (r ∷ rs) fs → Changed ns (put ns p f) h f 0 h [] ((r ∷ rs) ++ fs)
-changed-join-last {ns} {h} {f} r rs p fs e b =
-    let t : (ds : List ℕ) × (r ∷ rs ≡ ds ++ (lastOf r rs ∷ [])) = last-split r rs in
-    let q : r ∷ rs ≡ t .0 ++ (p ∷ []) = t .1 ∙ ap (λ (x : ℕ). t .0 ++ (x ∷ [])) e in
-    let k : (r ∷ rs) ++ fs ≡ t .0 ++ (p ∷ fs) = ap (λ (x : List ℕ). x ++ fs) q ∙ append-assoc (t .0) (p ∷ []) fs in
-    subst (λ (x : List ℕ). Changed ns (put ns p f) h f 0 h [] x) (sym k) (changed-join (t .0) p fs (subst (λ (x : List ℕ). Beside ns h f x fs) q b))
 
 -- ---- insert: the first free record q taken in after p
 

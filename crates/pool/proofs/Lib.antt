@@ -3,6 +3,7 @@ pub mod Whole
 pub mod Changes
 pub mod Marks
 pub mod Walking
+pub mod Testing
 pub mod Reading
 pub mod Counting
 pub mod Opening

@@ -1,11 +1,11 @@
--- Laws of marks, in this order: the marks of a list of records (markAll) record by record and list after list, their length, and what stands
--- at a number after them; the test `fresh` record by record and list after list; what it says of each record (Fresh); with no marks at first
+-- Laws of marks, in this order: the marks of a list of records (markAll) record by record and list after list, and their length;
+-- the test `fresh` record by record and list after list; what it says of each record (Fresh); with no marks at first
 -- it is noRepeats (fresh-repeats). Assumes nothing.
-use mathlib.Core.Path.{_≡_, refl, sym, ap, subst, _∙_}
-use mathlib.Core.Logic.{inl, inr, _≢_}
+use mathlib.Core.Path.{_≡_, refl, sym, ap, _∙_}
+use mathlib.Core.Logic.{inl, inr}
 use mathlib.Core.Bool.{Bool, true, _&&_}
 use mathlib.Core.List.{List, [], _∷_, _++_}
-use Prim.Native.Nat.{ℕ, _+_, _≤_}
+use Prim.Native.Nat.{ℕ, _≤_}
 use native.Mathlib.Omega.{arith}
 use lib.Dec.{eqb}
 use lib.ListN.{length}
@@ -41,28 +41,6 @@ mark-length ms (r ∷ rs) = mark-length (put ms r 1) rs ∙ put-length ms r 1
 within-rest : (ms : List ℕ) (r : ℕ) (rs : List ℕ) → UpTo (length ms) (r ∷ rs) → UpTo (length (put ms r 1)) rs
 within-rest ms r rs within x n =
     let w : (1 ≤ x) × (x ≤ length ms) = within x (omega (arith, times-cons x r rs)) in (w .0, omega (arith, put-length ms r 1, w .1))
-
-pub mark-out : (ms rs : List ℕ) (x : ℕ) → UpTo (length ms) rs → 1 ≤ x → times x rs ≡ 0 → at (markAll ms rs) x ≡ at ms x
-unfolding markAll
-mark-out ms [] x within low n = refl
-mark-out ms (r ∷ rs) x within low n =
-    let w : (1 ≤ r) × (r ≤ length ms) = within r (omega (arith, times-self r rs)) in
-    let d : x ≢ r = λ e. (let t : times r (r ∷ rs) ≡ 0 = rw e at n in omega (arith, times-self r rs)) in
-    mark-out (put ms r 1) rs x (within-rest ms r rs within) low (omega (arith, times-cons x r rs)) ∙ at-put-other ms r x 1 (w .0) low d
-
-pub mark-in : (ms rs : List ℕ) (x : ℕ) → UpTo (length ms) rs → 1 ≤ times x rs → at (markAll ms rs) x ≡ 1
-unfolding markAll
-mark-in ms [] x within n = absurd (omega (arith, times-nil x))
-mark-in ms (r ∷ rs) x within n =
-    elim (zero-or-pos (times x rs)) [
-      | inr p ↦ mark-in (put ms r 1) rs x (within-rest ms r rs within) p
-      | inl z ↦ elim (eq-or-ne x r) [
-        | inl e ↦
-            let w : (1 ≤ x) × (x ≤ length ms) = within x n in
-            mark-out (put ms r 1) rs x (within-rest ms r rs within) (w .0) z ∙ subst (λ (y : ℕ). at (put ms y 1) x ≡ 1) e (at-put-same ms x 1 (w .0) (w .1))
-        | inr e ↦ absurd (omega (arith, times-other x r rs e))
-      ]
-    ]
 
 -- ---- records without a mark
 

@@ -5,14 +5,14 @@
 use mathlib.Core.Path.{_≡_, refl, sym, ap, subst, _∙_}
 use mathlib.Core.Bool.{true, false, true≢false}
 use mathlib.Core.List.{List, [], _∷_, _++_, append-nil}
-use Prim.Native.Nat.{ℕ, zero, suc, _+_, _≤_, _<_}
+use Prim.Native.Nat.{ℕ, suc, _+_, _≤_, _<_}
 use native.Mathlib.Omega.{arith}
 use native.Mathlib.Numerals.{add-one}
 use lib.Dec.{eqb}
 use lib.ListN.{length, getD, take, drop, length-append}
 use lib.Seq.{take-suc, split-at, take-all}
 use borrow.Author.Tests.{le-leb, eqb-true, eq-eqb}
-use Rattle.lists.specs.Lists.{at, times, noRepeats}
+use Rattle.lists.specs.Lists.{times, noRepeats}
 use Rattle.lists.proofs.Tests.{both-and, both-ways, refute}
 use Rattle.lists.proofs.Times.{once-of, of-once, UpTo}
 use Rattle.pool.specs.declared.Walk.{Walk}

@@ -1,6 +1,6 @@
 -- Laws of a whole pool, in this order: the records of all chains, of lists of heads joined and of one head or two at their numbers; AllLinked
 -- likewise, and where the `next` table changes; what a pool gives of each chain: it is linked, it shares no record with the free chain or
--- with another, it has no more records than the pool, and each record of the pool stands once; the test `isWhole` and the record Pool say
+-- with another; the test `isWhole` and the record Pool say
 -- the same (whole-pool, pool-whole). Assumes nothing.
 use mathlib.Core.Path.{_≡_, refl, sym, ap, _∙_}
 use mathlib.Core.Logic.{_⊎_, inl, inr, _≢_}
@@ -13,7 +13,7 @@ use lib.ListN.{length, getD, length-append}
 use borrow.Author.Tests.{eq-eqb, eqb-true}
 use Rattle.lists.specs.Lists.{at, times, all, noRepeats}
 use Rattle.lists.proofs.Tests.{and-both, both-and}
-use Rattle.lists.proofs.Times.{times-nil, times-append, once-of, of-once, UpTo, once-full}
+use Rattle.lists.proofs.Times.{times-nil, times-append, once-of, of-once, UpTo}
 use Rattle.pool.specs.Chains.{chain, ends, Linked}
 use Rattle.pool.specs.Whole.{chains, isWhole, AllLinked, Pool}
 use Rattle.pool.proofs.Chains.{chain-linked, linked-ends, linked-in, one-stays}
@@ -62,11 +62,6 @@ place-two ns (y ∷ hs) zero zero x p q d = absurd (d refl)
 place-two ns (y ∷ hs) zero (suc i) x p q d = omega (arith, chains-times ns y hs x, place-times ns hs i x (omega arith))
 place-two ns (y ∷ hs) (suc j) zero x p q d = omega (arith, chains-times ns y hs x, place-times ns hs j x (omega arith))
 place-two ns (y ∷ hs) (suc j) (suc i) x p q d = omega (arith, chains-times ns y hs x, place-two ns hs j i x (omega arith) (omega arith) (λ e. d (ap suc e)))
-
-place-length : (ns hs : List ℕ) (j : ℕ) → j < length hs → length (chain ns (getD hs j 0)) ≤ length (chains ns hs)
-place-length ns [] j h = absurd (omega arith)
-place-length ns (y ∷ hs) zero h = omega (arith, chains-length ns y hs)
-place-length ns (y ∷ hs) (suc j) h = omega (arith, chains-length ns y hs, place-length ns hs j (omega arith))
 
 place-linked : (ns hs : List ℕ) (j : ℕ) → j < length hs → AllLinked ns hs → Linked ns (getD hs j 0) (chain ns (getD hs j 0))
 unfolding AllLinked
@@ -134,14 +129,6 @@ all-stay ns₀ ns (h ∷ hs) e same l =
 -- ---- what a pool gives of its chains
 
 module _ {ns hs : List ℕ} {f : ℕ} (p : Pool ns hs f) where
-  -- each record of the pool stands once
-  pub pool-in : UpTo (length ns) (chains ns (f ∷ hs))
-  pool-in = all-in ns (f ∷ hs) (all-cons ns f hs (p .unused) (p .linked))
-
-  pub pool-each : (x : ℕ) → 1 ≤ x → x ≤ length ns → times x (chains ns hs) + times x (chain ns f) ≡ 1
-  pool-each x low high =
-      omega (arith, chains-times ns f hs x, once-full (length ns) (chains ns (f ∷ hs)) (λ y. omega (arith, p .once y, chains-times ns f hs y)) pool-in (omega (arith, p .size, chains-length ns f hs)) x low high)
-
   module _ (k : ℕ) (low : 1 ≤ k) (high : k ≤ length hs) where
     pub pool-linked : Linked ns (at hs k) (chain ns (at hs k))
     pool-linked = all-at ns hs k low high (p .linked)
@@ -149,9 +136,6 @@ module _ {ns hs : List ℕ} {f : ℕ} (p : Pool ns hs f) where
     -- it shares no record with the free chain
     pub pool-once : (x : ℕ) → times x (chain ns (at hs k)) + times x (chain ns f) ≤ 1
     pool-once x = omega (arith, p .once x, place-times ns hs (k - 1) x (omega arith))
-
-    pub pool-size : length (chain ns (at hs k)) + length (chain ns f) ≤ length ns
-    pool-size = omega (arith, p .size, place-length ns hs (k - 1) (omega arith))
 
     -- nor with another
     pub pool-apart : (l : ℕ) → 1 ≤ l → l ≤ length hs → l ≢ k → (x : ℕ) → times x (chain ns (at hs l)) + times x (chain ns (at hs k)) + times x (chain ns f) ≤ 1

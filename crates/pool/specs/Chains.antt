@@ -1,8 +1,8 @@
 -- Chains of records in one `next` table. A record's number is from 1; 0 is none. What a table has of record k stands at place k − 1, and a pool has as
 -- many records as its `next` table has places. Assumes nothing: these are definitions.
 use mathlib.Core.Path.{_≡_}
-use mathlib.Core.Bool.{Bool, true, false}
-use mathlib.Core.List.{List, [], _∷_, _++_}
+use mathlib.Core.Bool.{Bool}
+use mathlib.Core.List.{List, [], _∷_}
 use Prim.Native.Nat.{ℕ, zero, suc, _≤_}
 use lib.Dec.{eqb}
 use lib.ListN.{length}

@@ -1,6 +1,6 @@
 -- One chain and the free chain changed: a record cut off or joined on, inserted or unlinked; what of the pool stays. Assumes nothing.
 use mathlib.Core.Path.{_≡_}
-use mathlib.Core.List.{List, [], _∷_, _++_}
+use mathlib.Core.List.{List}
 use Prim.Native.Nat.{ℕ, _+_, _≤_}
 use lib.ListN.{length}
 use Rattle.lists.specs.Lists.{at, put, times}

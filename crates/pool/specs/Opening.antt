@@ -1,5 +1,4 @@
 -- A pool as it is opened: the first records are chains of one, the rest "rise" in the free chain. Assumes nothing: these are definitions.
-use mathlib.Core.Bool.{Bool, true, false}
 use mathlib.Core.List.{List, [], _∷_, _++_}
 use Prim.Native.Nat.{ℕ, suc, _+_, _-_}
 use lib.Dec.{ltb}

@@ -2,9 +2,9 @@
 use mathlib.Core.Path.{_≡_}
 use mathlib.Core.Bool.{Bool, true, false, _&&_}
 use mathlib.Core.List.{List, [], _∷_}
-use Prim.Native.Nat.{ℕ, _+_, _-_, _≤_, _<_}
+use Prim.Native.Nat.{ℕ, _+_, _≤_}
 use lib.Dec.{ltb, leb, eqb}
-use lib.ListN.{length, set}
+use lib.ListN.{length}
 use Rattle.lists.specs.Lists.{pick, at, put}
 use Rattle.pool.specs.Chains.{chain, ends}
 use Rattle.pool.specs.declared.Visit.{Visit}
@@ -49,6 +49,11 @@ walkAnswer false n = Cut
 pub record Walked (next marks₀ marks : List ℕ) (met head : ℕ) (a : Walk) : Type 0 where
   pub answer : a ≡ walkAnswer (walks next marks₀ met head) (met + length (chain next head))
   pub marked : walks next marks₀ met head ≡ true → marks ≡ markAll marks₀ (chain next head)
+
+-- after the walk of a chain with a test besides: that it walks and passes
+pub record WalkedWith (test : Bool) (next marks₀ marks : List ℕ) (met head : ℕ) (a : Walk) : Type 0 where
+  pub answer : a ≡ walkAnswer (walks next marks₀ met head && test) (met + length (chain next head))
+  pub marked : walks next marks₀ met head && test ≡ true → marks ≡ markAll marks₀ (chain next head)
 
 -- marks for every record, all zero
 pub record NoMarks (next marks : List ℕ) : Type 0 where

@@ -1,7 +1,7 @@
 -- A whole pool: chains from heads and one free chain that "lie in range, end, share no record and together .. hold each record once".
 -- As a test, for any contents, and as a record of facts; proofs/Whole.antt shows that they say the same. Assumes nothing: these are definitions.
 use mathlib.Core.Path.{_≡_}
-use mathlib.Core.Bool.{Bool, true, false, _&&_}
+use mathlib.Core.Bool.{Bool, _&&_}
 use mathlib.Core.List.{List, [], _∷_, _++_}
 use Prim.Native.Nat.{ℕ, _+_, _≤_}
 use lib.Dec.{eqb}

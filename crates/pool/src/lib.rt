@@ -1,12 +1,11 @@
-// Records linked by one `next` table, with chains from heads and one free chain. For any contents of the table it is decided whether each record stands
-// once, in a chain or free; a record taken, given back, inserted or unlinked leaves every other chain.
+// Records linked by one `next` table, with chains from heads and one free chain. For any contents of the table a walk meets records one by one and marks
+// them, so that it ends; a record taken, given back, inserted or unlinked leaves every other chain.
 ghost use mathlib.Core.Path.{_≡_};
 ghost use Prim.Native.Nat.{_≤_, _<_, min};
 ghost use lib.ListN.{length};
 ghost use Rattle.lists.specs.Lists.{at, put};
 ghost use Rattle.pool.specs.Chains.{chain, Linked};
-ghost use Rattle.pool.specs.Whole.{isWhole};
-ghost use Rattle.pool.specs.Walks.{Visited, Walked, NoMarks};
+ghost use Rattle.pool.specs.Walks.{Visited};
 ghost use Rattle.pool.specs.Changes.{Has, insertAfter, unlinkAfter};
 ghost use Rattle.pool.specs.Opening.{freeHead, openedNexts};
 
@@ -44,51 +43,6 @@ pub fn meet(next: &[u32], marks: &mut [u32], met: usize, r: Rec) -> Visit
     }
     marks[i] = 1;
     Visit::Next(Rec(after))
-}
-
-// Walks the chain from head with marks, after met records.
-pub fn walk_chain(next: &[u32], marks: &mut [u32], met: usize, head: Rec) -> Walk
-    requires { ⌜ (length (now next) ≤ length (now marks)) × (met ≤ length (now next)) ⌝ }
-    ensures { λ a. ⌜ Walked (now (next .entry)) (now (marks .entry)) (now (marks .exit)) met (head .0) a ⌝ }
-{
-    let mut r = head;
-    let mut n = met;
-    while r.0 != 0 {
-        match meet(next, marks, n, r) {
-            Visit::Broken => {
-                return Walk::Cut;
-            }
-            Visit::Next(after) => {
-                r = after;
-                n += 1;
-            }
-        }
-    }
-    Walk::Ended(n)
-}
-
-// Whether every record stands once, in the chain of a head or in the free chain.
-pub fn read_through(next: &[u32], heads: &[u32], free: Rec, marks: &mut [u32]) -> bool
-    requires { ⌜ NoMarks (now next) (now marks) ⌝ }
-    ensures { λ a. ⌜ a ≡ isWhole (now (next .entry)) (now (heads .entry)) (free .0) ⌝ }
-{
-    let Walk::Ended(first) = walk_chain(next, marks, 0, free) else {
-        return false;
-    };
-    let mut n = first;
-    let mut h: usize = 0;
-    while h < heads.len() {
-        match walk_chain(next, marks, n, Rec(heads[h])) {
-            Walk::Cut => {
-                return false;
-            }
-            Walk::Ended(met) => {
-                n = met;
-                h += 1;
-            }
-        }
-    }
-    n == next.len()
 }
 
 // The number of records in the chain from head, counted up to a bound.

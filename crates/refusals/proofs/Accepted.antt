@@ -28,7 +28,8 @@ use Rattle.calls.specs.Refusals.{isAccepted, orElse, unless, inRegister, rowsRe
 use Rattle.calls.proofs.Choices.{or-both, unless-holds, or-assoc}
 use Rattle.calls.proofs.Refusals.{ColumnsFit, columns-facts, IdsFit, ids-facts}
 use Rattle.refusals.specs.Offsets.{offsetOf, columnLent}
-use Rattle.refusals.specs.Found.{registerIn, addFound, removeFound}
+use Rattle.book.specs.Book.{registerIn}
+use Rattle.refusals.specs.Found.{addFound, removeFound}
 use Rattle.refusals.proofs.Finding.{rows-few}
 use Rattle.refusals.proofs.Offsets.{offset-first, offset-rises, batch-length, batch-at}
 

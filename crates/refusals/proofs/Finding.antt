@@ -23,7 +23,8 @@ use Rattle.calls.specs.Refusals as calls
 use Rattle.calls.proofs.Choices.{or-first, or-second, unless-true, unless-false}
 use Rattle.calls.proofs.Refusals.{ColumnsFit, columns-facts}
 use Rattle.refusals.specs.declared.Refusal.{Refusal}
-use Rattle.refusals.specs.Found.{found, registerIn, addFound, removeFound}
+use Rattle.book.specs.Book.{registerIn}
+use Rattle.refusals.specs.Found.{found, addFound, removeFound}
 use Rattle.refusals.proofs.Tests.{is-out, is-in, unless-accepted}
 
 -- ---- a refusal that is found, or not

@@ -20,7 +20,7 @@ use Rattle.book.proofs.Columns.{ids-booked}
 use Rattle.calls.specs.Refusals.{Refusal, refusal, accepted, isAccepted, orElse, unless, inRegister, rowsRefusal, columnsRefusal, idsRefusal}
 use Rattle.calls.proofs.Choices.{or-both, unless-holds, or-first, or-assoc}
 use Rattle.refusals.specs.Parts.{placed, IsNumber, before, idRefusal, countRefusal, columnRefusal, leavingRefusal}
-use Rattle.refusals.specs.Found.{registerIn}
+use Rattle.book.specs.Book.{registerIn}
 use Rattle.refusals.proofs.Tests.{unless-accepted}
 use Rattle.refusals.proofs.Parts.{placed-none}
 

@@ -8,8 +8,7 @@ use Prim.Native.Nat.{ℕ}
 use lib.Dec.{leb, eqb}
 use lib.ListN.{length}
 use Rattle.lists.specs.Lists.{isIn}
-use Rattle.symbolic.specs.Columns.{Register}
-use Rattle.book.specs.Book.{Book, bookOf, columnsIn, isSound}
+use Rattle.book.specs.Book.{Book, bookOf, columnsIn, registerIn, isSound}
 use Rattle.calls.specs.Refusals as calls
 use Rattle.calls.specs.Refusals.{orElse, unless, columnsRefusal, idsRefusal, rowSum, batchOf}
 use Rattle.refusals.specs.declared.Refusal.{Refusal}
@@ -17,10 +16,6 @@ use Rattle.refusals.specs.declared.Refusal.{Refusal}
 -- a found refusal, as the definitions have it
 abbrev pub found : Refusal → calls.Refusal
 found x = record { number = x .number; position = x .position }
-
--- the register that a book holds
-abbrev pub registerIn : (m : ℕ) → Book → Register
-registerIn m b = record { m = m; columns = columnsIn b }
 
 -- 7 to 15 of an addition: all but the room in the factor
 abbrev pub addFound : (m : ℕ) → Book → (ids counts rows : List ℕ) → calls.Refusal

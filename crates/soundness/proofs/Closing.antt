@@ -5,7 +5,7 @@ use mathlib.Core.Path.{_≡_, refl, sym, ap, subst, _∙_}
 use mathlib.Core.Logic.{inl, inr, _≢_}
 use mathlib.Core.Bool.{true, false, _&&_}
 use mathlib.Core.List.{List, [], _∷_, _++_}
-use Prim.Native.Nat.{ℕ, zero, suc, _+_, _*_, _-_, _≤_, _<_}
+use Prim.Native.Nat.{ℕ, suc, _+_, _*_, _-_, _≤_, _<_}
 use native.Mathlib.Omega.{arith}
 use lib.Dec.{leb, eqb}
 use lib.ListN.{length, getD, take, set, length-set}
@@ -27,12 +27,11 @@ use Rattle.pool.specs.Walks.{fresh, markAll}
 use Rattle.pool.specs.Walks as pool-walks
 use Rattle.pool.proofs.Reading.{Reading, reading-one, reading-trans}
 use Rattle.book.specs.Book as book
-use Rattle.book.specs.Entries.{firstRow}
 use Rattle.tables.specs.Stored.{Stored, recordsOf, holdsColumn, isSoundFor}
-use Rattle.counting.specs.Counting.{linkedIn, CanLink, ListedIn, OnlyTwo}
+use Rattle.counting.specs.Counting.{linkedIn, CanLink, ListedIn, startIn, OnlyTwo}
 use Rattle.counting.specs.Given.{Counted, givenIn}
 use Rattle.soundness.specs.Checking.{marksIn, ChainRead, Checked}
-use Rattle.soundness.specs.State.{walked, Walked, Stash, State, WithinWork, ColumnsRead}
+use Rattle.soundness.specs.State.{liveIn, walked, Walked, Stash, State, WithinWork, ColumnsRead}
 use Rattle.counting.proofs.Linking.{link-only, link-listed}
 use Rattle.soundness.proofs.Column.{SoundParts, sound-parts, reading-of, marks-same, entriesHeld, Found}
 
@@ -68,7 +67,7 @@ module _ {s : Stored} {b : book.Book} {w : List ℕ} {j met : ℕ} (st : State s
         ];
       }
 
-  pub closing-cut : (l : ℕ) → isSoundFor (book.columnsIn b) s ≡ false → ColumnsRead s b w w₂ l Cut
+  pub closing-cut : (l : ℕ) → isSoundFor (liveIn s b) s ≡ false → ColumnsRead s b w w₂ l Cut
   closing-cut l e =
       record { only = walk-only; cut = λ _. e; next = λ n t. absurd (let z : _≡_ {A = ℕ} 0 1 = cc in omega arith) }
 
@@ -82,7 +81,7 @@ module _ {s : Stored} {b : book.Book} {w : List ℕ} {j met : ℕ} (st : State s
   f = length (s .next)
 
   abbrev L : List FactorColumn
-  L = factorOf (length (s .heads)) (book.columnsIn b)
+  L = factorOf (length (s .heads)) (liveIn s b)
 
   pattern-is : valuesAt (s .rows) (recordsOf s j) ≡ patternOf (columnAt L j)
   pattern-is =
@@ -91,16 +90,16 @@ module _ {s : Stored} {b : book.Book} {w : List ℕ} {j met : ℕ} (st : State s
 
   pub closing-parent : getD (valuesAt (s .rows) (recordsOf s j)) 1 0 ≡ parentOf L j
   closing-parent =
-      let t : (rest : List ℕ) × (patternOf (columnAt L j) ≡ j ∷ rest) × (rises (suc j) m rest ≡ true) × (getD rest 0 0 ≡ parentOf L j) = pattern-parts m (book.columnsIn b) j (st .low) inside in
+      let t : (rest : List ℕ) × (patternOf (columnAt L j) ≡ j ∷ rest) × (rises (suc j) m rest ≡ true) × (getD rest 0 0 ≡ parentOf L j) = pattern-parts m (liveIn s b) j (st .low) inside in
       ap (λ (l : List ℕ). getD l 1 0) (pattern-is ∙ t .1) ∙ t .3
 
   pub closing-within : parentOf L j ≤ m
-  closing-within = elim (parent-above m (book.columnsIn b) j (st .low) inside) [ inl e ↦ omega arith | inr e ↦ e .1 ]
+  closing-within = elim (parent-above m (liveIn s b) j (st .low) inside) [ inl e ↦ omega arith | inr e ↦ e .1 ]
 
-  pub closing-differs : at (s .parents) j ≢ parentOf L j → isSoundFor (book.columnsIn b) s ≡ false
+  pub closing-differs : at (s .parents) j ≢ parentOf L j → isSoundFor (liveIn s b) s ≡ false
   closing-differs d =
-      refute (isSoundFor (book.columnsIn b) s) (λ t.
-      (let p : SoundParts (book.columnsIn b) s = sound-parts (book.columnsIn b) s t in
+      refute (isSoundFor (liveIn s b) s) (λ t.
+      (let p : SoundParts (liveIn s b) s = sound-parts (liveIn s b) s t in
       d (eqb-true (at (s .parents) j) (parentOf L j) (and-both (entriesHeld s j (columnAt L j)) (eqb (at (s .parents) j) (parentOf L j)) (p .holds j (st .low) inside) .1))))
 
   -- ---- the table
@@ -175,9 +174,9 @@ module _ {s : Stored} {b : book.Book} {w : List ℕ} {j met : ℕ} (st : State s
       next-zero : IsZero w₄ 0 m
       next-zero i h = four-place (0 + i) (inl (omega arith)) (λ e. omega arith) ∙ chain-read .zero i h
 
-      next-columns : ListedIn w₄ (columnHead m) m (columnNext m f (length (b .next))) (length (b .heads)) (firstRow (b .heads) (b .rows)) (length (b .heads))
+      next-columns : ListedIn w₄ (columnHead m) m (columnNext m f (length (b .next))) (length (b .heads)) (startIn b) (length (b .heads))
       next-columns =
-          listed-keep w w₄ (columnHead m) m (columnNext m f (length (b .next))) (length (b .heads)) (firstRow (b .heads) (b .rows)) (length (b .heads))
+          listed-keep w w₄ (columnHead m) m (columnNext m f (length (b .next))) (length (b .heads)) (startIn b) (length (b .heads))
           (region-ext w w₄ (columnNext m f (length (b .next))) (columnNext m f (length (b .next))) (length (b .heads)) (omega (arith, st .sizes .long)) (omega (arith, st .sizes .long, four-length))
           (λ i h. four-far (columnNext m f (length (b .next)) + i) (omega arith) (λ e. omega arith) (inr (omega arith)) (inr (omega arith))))
           (λ i h. four-far (columnHead m + i) (omega arith) (λ e. omega arith) (inl (omega arith)) (inl (omega arith))) (st .columns)

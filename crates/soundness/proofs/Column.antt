@@ -30,9 +30,9 @@ use Rattle.tables.specs.Stored.{Stored, recordsOf, holdsColumn, holdsFrom, free
 use Rattle.soundness.specs.Fitting.{fits}
 use Rattle.counting.specs.Given.{Counted, givenIn}
 use Rattle.soundness.specs.Checking.{marksIn, chainFits, Checked}
-use Rattle.soundness.specs.State.{walked, Walked, State}
+use Rattle.soundness.specs.State.{liveIn, walked, Walked, State}
 use Rattle.soundness.proofs.Fitting.{fits-same}
-use Rattle.counting.proofs.Giving.{keep-region}
+use Rattle.counting.proofs.Given.{keep-region}
 use Rattle.soundness.proofs.Ready.{ready-counters}
 
 -- ---- what soundness says
@@ -101,7 +101,7 @@ pub record Found (s : Stored) (b : book.Book) (w w₁ : List ℕ) (j met n : ℕ
   pub fitted : chainFits (s .rows) (s .counts) (s .next) w₁ (length (s .heads)) met (at (s .heads) j) ≡ true
   pub count : n ≡ met + length (recordsOf s j)
   pub walks-here : walks (s .next) (marksIn w (length (s .heads)) (length (s .next))) met (at (s .heads) j) ≡ true
-  pub held : entriesHeld s j (columnAt (factorOf (length (s .heads)) (book.columnsIn b)) j) ≡ true
+  pub held : entriesHeld s j (columnAt (factorOf (length (s .heads)) (liveIn s b)) j) ≡ true
 
 module _ {s : Stored} {b : book.Book} {w : List ℕ} {j met : ℕ} (st : State s b w j met) (inside : j ≤ length (s .heads))
     {w₁ : List ℕ} {given : ℕ} (d : Counted (length (s .heads)) (length (s .next)) w w₁ (givenIn (b .heads) (b .rows) (b .next) w (length (s .heads)) (length (s .next)) j) given) where
@@ -112,7 +112,7 @@ module _ {s : Stored} {b : book.Book} {w : List ℕ} {j met : ℕ} (st : State s
   f = length (s .next)
 
   abbrev column : FactorColumn
-  column = columnAt (factorOf (length (s .heads)) (book.columnsIn b)) j
+  column = columnAt (factorOf (length (s .heads)) (liveIn s b)) j
 
   pub marks-same : marksIn w₁ m f ≡ marksIn w m f
   marks-same = keep-region m f (d .only) (omega (arith, st .sizes .long)) (factorMarks m) f (omega arith) (omega arith)
@@ -129,10 +129,10 @@ module _ {s : Stored} {b : book.Book} {w : List ℕ} {j met : ℕ} (st : State s
       rw (marks-same, t) refl
 
   module _ {w₂ : List ℕ} {a : Walk} (k : Checked (s .rows) (s .counts) (s .next) w₁ w₂ m met (at (s .heads) j) a) where
-    pub column-cut : a ≡ Cut → isSoundFor (book.columnsIn b) s ≡ false
+    pub column-cut : a ≡ Cut → isSoundFor (liveIn s b) s ≡ false
     column-cut e =
-        refute (isSoundFor (book.columnsIn b) s) (λ t.
-        (let p : SoundParts (book.columnsIn b) s = sound-parts (book.columnsIn b) s t in
+        refute (isSoundFor (liveIn s b) s) (λ t.
+        (let p : SoundParts (liveIn s b) s = sound-parts (liveIn s b) s t in
         let h : (test ≡ true) × (eqb (at (s .parents) j) (column .parent) ≡ true) = and-both test (eqb (at (s .parents) j) (column .parent)) (p .holds j (st .low) inside) in
         let y : chainFits (s .rows) (s .counts) (s .next) w₁ m met (at (s .heads) j) ≡ true = fit-is ∙ both-and (whole-walks (st .chains-walked) (st .low) inside (p .whole)) (h .0) in
         let n : ℕ = met + length (recordsOf s j) in

@@ -11,11 +11,10 @@ use lib.Dec.{ltb, leb, eqb}
 use lib.ListN.{length, getD, set}
 use borrow.Author.Tests.{lt-ltb, ltb-true, le-leb, leb-true, eq-eqb, ne-eqb, eqb-true, eqb-false, not-true}
 use Rattle.lists.specs.Lists.{at, put, valuesAt, same, sumOf}
-use Rattle.lists.proofs.Tests.{eq-or-ne, lt-or-le, and-both, both-and, and-assoc, both-ways, refute}
+use Rattle.lists.proofs.Tests.{eq-or-ne, lt-or-le, and-both, both-and, both-ways, refute}
 use Rattle.lists.proofs.Member.{same-eq, same-self}
 use Rattle.lists.proofs.Place.{put-length, at-put-same, at-put-other}
 use Rattle.symbolic.specs.Factor.{patternFrom, nonZero}
-use Rattle.pool.specs.Chains.{lastOf}
 use Rattle.counting.specs.Counting.{total}
 use Rattle.soundness.specs.Fitting.{entryFits, passes, struck, fits}
 use Rattle.soundness.specs.Checking.{EntryChecked}
@@ -32,39 +31,15 @@ pub struck-more : (ns xs : List ℕ) (x : ℕ) → struck ns (xs ++ (x ∷ [])) 
 unfolding struck
 struck-more ns xs x = struck-append ns xs (x ∷ [])
 
-pub struck-length : (ns xs : List ℕ) → length (struck ns xs) ≡ length ns
-unfolding struck
-struck-length ns [] = refl
-struck-length ns (x ∷ xs) = struck-length (put ns x 0) xs ∙ put-length ns x 0
+-- a record that fits leaves the rest to pass the counters that are left; one that does not fails
+module _ (rs vs : List ℕ) (m : ℕ) (ns : List ℕ) (z d : ℕ) (es : List ℕ) where
+  pub passes-next : entryFits m ns z (at rs d) (at vs d) ≡ true → passes rs vs m ns z (d ∷ es) ≡ passes rs vs m (put ns (at rs d) 0) (at rs d) es
+  unfolding passes
+  passes-next e = ap (λ (b : Bool). b && passes rs vs m (put ns (at rs d) 0) (at rs d) es) e
 
-pub passes-append : (rs vs : List ℕ) (m : ℕ) (ns : List ℕ) (z : ℕ) (ds es : List ℕ) →
-    passes rs vs m ns z (ds ++ es) ≡ (passes rs vs m ns z ds && passes rs vs m (struck ns (valuesAt rs ds)) (lastOf z (valuesAt rs ds)) es)
-unfolding passes struck valuesAt lastOf
-passes-append rs vs m ns z [] es = refl
-passes-append rs vs m ns z (d ∷ ds) es =
-    ap (λ (b : Bool). entryFits m ns z (at rs d) (at vs d) && b) (passes-append rs vs m (put ns (at rs d) 0) (at rs d) ds es) ∙
-    sym (and-assoc (entryFits m ns z (at rs d) (at vs d)) (passes rs vs m (put ns (at rs d) 0) (at rs d) ds)
-    (passes rs vs m (struck (put ns (at rs d) 0) (valuesAt rs ds)) (lastOf (at rs d) (valuesAt rs ds)) es))
-
-pub passes-one : (rs vs : List ℕ) (m : ℕ) (ns : List ℕ) (z d : ℕ) → entryFits m ns z (at rs d) (at vs d) ≡ true → passes rs vs m ns z (d ∷ []) ≡ true
-unfolding passes
-passes-one rs vs m ns z d e = both-and e refl
-
-pub last-append : (z : ℕ) (xs : List ℕ) (x : ℕ) → lastOf z (xs ++ (x ∷ [])) ≡ x
-unfolding lastOf
-last-append z [] x = refl
-last-append z (y ∷ ys) x = last-append y ys x
-
--- a record that does not fit, wherever it stands
-pub passes-not : (rs vs : List ℕ) (m : ℕ) (ns : List ℕ) (z : ℕ) (ds : List ℕ) (d : ℕ) (es : List ℕ) →
-    passes rs vs m ns z (ds ++ (d ∷ es)) ≡ true → entryFits m (struck ns (valuesAt rs ds)) (lastOf z (valuesAt rs ds)) (at rs d) (at vs d) ≡ true
-unfolding passes
-passes-not rs vs m ns z ds d es h =
-    let ms : List ℕ = struck ns (valuesAt rs ds) in
-    let y : ℕ = lastOf z (valuesAt rs ds) in
-    let t : (passes rs vs m ns z ds ≡ true) × (passes rs vs m ms y (d ∷ es) ≡ true) =
-    and-both (passes rs vs m ns z ds) (passes rs vs m ms y (d ∷ es)) (sym (passes-append rs vs m ns z ds (d ∷ es)) ∙ h) in
-    and-both (entryFits m ms y (at rs d) (at vs d)) (passes rs vs m (put ms (at rs d) 0) (at rs d) es) (t .1) .0
+  pub passes-not : entryFits m ns z (at rs d) (at vs d) ≡ false → passes rs vs m ns z (d ∷ es) ≡ false
+  unfolding passes
+  passes-not e = ap (λ (b : Bool). b && passes rs vs m (put ns (at rs d) 0) (at rs d) es) e
 
 -- ---- the facts of one entry
 

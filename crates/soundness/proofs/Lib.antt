@@ -5,5 +5,5 @@ pub mod Local
 pub mod Ready
 pub mod Column
 pub mod Closing
-pub mod Through
+pub mod ReadThrough
 pub mod Preparing

@@ -1,6 +1,6 @@
 -- What a column is given is what the definition gives it (given-is): the rows of its children but their first, counted where the children's chains were
--- verified, the rows of the book columns that start there, and 1 on the diagonal. Before that: a book column's smallest row as it is read at its head, and
--- the columns of the book that start at a row, as a count over the ids. Assumes nothing.
+-- verified, the rows of the book columns that start there, and 1 on the diagonal. Before that: the columns that count and start at a row,
+-- as a count over the ids of the book; that all booked columns count is used in `live-booked` alone. Assumes nothing.
 use mathlib.Core.Path.{_≡_, refl, sym, ap, subst, _∙_}
 use mathlib.Core.Logic.{inl, inr, _≢_, _↔_}
 use mathlib.Core.Bool.{Bool, true, false, _&&_, not}
@@ -16,19 +16,18 @@ use Rattle.lists.proofs.Tests.{cases, eq-or-ne, lt-or-le, zero-or-pos, and-both
 use Rattle.lists.proofs.Count.{count-ext, count-shift}
 use Rattle.lists.proofs.Times.{times-nil, times-self, times-other, times-cons, times-append, mem-times, times-mem, among-none, among-some, UpTo}
 use Rattle.lists.proofs.Rising.{rises-in, rises-first}
-use Rattle.symbolic.specs.Columns.{Column, smallest, holds, startingWith}
+use Rattle.symbolic.specs.Columns.{Column, smallest, holds, startingWith, live}
 use Rattle.symbolic.specs.Factor.{FactorColumn, factorOf, columnAt, multiplicity, parentOf, patternOf, childrenWith, countFor}
 use Rattle.symbolic.specs.Definition.{childWith}
 use Rattle.symbolic.proofs.Build.{factor-length, count-is, counts-length, children-count}
 use Rattle.symbolic.proofs.Patterns.{pattern-holds, pattern-parts}
-use Rattle.pool.specs.Chains.{chain, Linked}
-use Rattle.pool.proofs.Chains.{chain-nil, Step, linked-step}
+use Rattle.pool.specs.Chains.{chain}
+use Rattle.pool.proofs.Chains.{chain-nil, linked-step}
 use Rattle.pool.proofs.Whole.{pool-linked}
-use Rattle.book.specs.Book.{Book, isBooked, columnFor, columnsFrom, columnsIn}
-use Rattle.book.specs.Entries.{firstRow}
+use Rattle.book.specs.Book.{Book, isBooked, columnFor, columnsFrom, columnsIn, registerIn}
 use Rattle.book.proofs.Columns.{columns-nil, columns-booked, columns-absent, absent-zero}
 use Rattle.book.proofs.Sound.{Sound, fitting}
-use Rattle.counting.specs.Counting.{numbered, gathered, tallied}
+use Rattle.counting.specs.Counting.{numbered, gathered, tallied, startIn}
 use Rattle.counting.proofs.Numbers.{numbered-in, gathered-up, gathered-zero, gathered-count}
 use Rattle.counting.proofs.Tallies.{tallied-length, tallied-cell}
 
@@ -75,20 +74,6 @@ module _ {m : ℕ} {b : Book} (s : Sound m b) where
         | inr e ↦ rw (absent-zero (b .heads) i e, chain-nil (length (b .next)) (b .next)) (omega arith)
       ]
 
-  -- its smallest row, as it is read at its head
-  pub first-row : (i : ℕ) → 1 ≤ i → i ≤ length (b .heads) → firstRow (b .heads) (b .rows) i ≡ smallest (columnFor b i)
-  unfolding valuesAt
-  first-row i p q =
-      elim (eq-or-ne (at (b .heads) i) 0) [
-        | inl e ↦ rw (e, chain-nil (length (b .next)) (b .next)) refl
-        | inr e ↦
-            let h : ℕ = at (b .heads) i in
-            let l : Linked (b .next) h (chain (b .next) h) = pool-linked (s .pool) i p q in
-            let t : Step (b .next) h (chain (b .next) h) = linked-step (b .next) h (chain (b .next) h) e l in
-            let v : getD (valuesAt (b .rows) (chain (b .next) h)) 0 0 ≡ at (b .rows) h = ap (λ (rs : List ℕ). getD (valuesAt (b .rows) rs) 0 0) (t .parts) in
-            rw (ne-eqb h 0 e) (sym v)
-      ]
-
   pub head-in : (i : ℕ) → 1 ≤ i → i ≤ length (b .heads) → at (b .heads) i ≤ length (b .next)
   head-in i p q =
       elim (eq-or-ne (at (b .heads) i) 0) [
@@ -96,8 +81,8 @@ module _ {m : ℕ} {b : Book} (s : Sound m b) where
         | inr e ↦ linked-step (b .next) (at (b .heads) i) (chain (b .next) (at (b .heads) i)) e (pool-linked (s .pool) i p q) .high
       ]
 
-  pub first-in : (i : ℕ) → 1 ≤ i → i ≤ length (b .heads) → firstRow (b .heads) (b .rows) i ≤ m
-  first-in i p q = omega (arith, first-row i p q, rows-at (columnFor b i .rows) (rows-rise i p))
+  pub start-in : (i : ℕ) → 1 ≤ i → startIn b i ≤ m
+  start-in i p = rows-at (columnFor b i .rows) (rows-rise i p)
     where
       rows-at : (xs : List ℕ) → rises 1 m xs ≡ true → getD xs 0 0 ≤ m
       rows-at [] h = omega arith
@@ -127,9 +112,13 @@ starting-from b j x low (suc n) i =
       | inr e ↦ ap (startingWith j x) (columns-absent b (suc i) n e) ∙ omega (arith, rest, both, ap one here, ap one (absent-not b j x (suc i) low e))
     ]
 
-pub starting-count : (b : Book) (j x : ℕ) → 1 ≤ j → startingWith j x (columnsIn b) ≡ count (startsWith b j x) (length (b .heads))
-starting-count b j x low =
-    starting-from b j x low (length (b .heads)) 0 ∙ count-ext (λ k. startsWith b j x (0 + k)) (startsWith b j x) (length (b .heads)) (λ k p q. (let e : 0 + k ≡ k = omega arith in ap (startsWith b j x) e))
+-- all that the book has counts
+live-booked : (m : ℕ) (b : Book) → live (registerIn m b) ≡ columnsIn b
+live-booked m b = refl
+
+pub starting-count : (m : ℕ) (b : Book) (j x : ℕ) → 1 ≤ j → startingWith j x (live (registerIn m b)) ≡ count (startsWith b j x) (length (b .heads))
+starting-count m b j x low =
+    ap (startingWith j x) (live-booked m b) ∙ starting-from b j x low (length (b .heads)) 0 ∙ count-ext (λ k. startsWith b j x (0 + k)) (startsWith b j x) (length (b .heads)) (λ k p q. (let e : 0 + k ≡ k = omega arith in ap (startsWith b j x) e))
 
 -- ---- the local equation
 
@@ -139,9 +128,9 @@ pub record Verified (m : ℕ) (cs : List Column) (parent : ℕ → ℕ) (tail : 
   pub rows-are : patternOf (columnAt (factorOf m cs) c) ≡ c ∷ tail c
 
 module _ {m : ℕ} {b : Book} (s : Sound m b) (parent : ℕ → ℕ) (tail : ℕ → List ℕ) (j : ℕ) (low : 1 ≤ j) (high : j ≤ m)
-    (before : (c : ℕ) → 1 ≤ c → c < j → Verified m (columnsIn b) parent tail c) where
+    (before : (c : ℕ) → 1 ≤ c → c < j → Verified m (live (registerIn m b)) parent tail c) where
   abbrev cs : List Column
-  cs = columnsIn b
+  cs = live (registerIn m b)
 
   abbrev L : List FactorColumn
   L = factorOf m cs
@@ -150,7 +139,7 @@ module _ {m : ℕ} {b : Book} (s : Sound m b) (parent : ℕ → ℕ) (tail : ℕ
   kids = gathered tail (numbered parent j (j - 1))
 
   abbrev cols : List ℕ
-  cols = gathered (λ i. columnFor b i .rows) (numbered (firstRow (b .heads) (b .rows)) j (length (b .heads)))
+  cols = gathered (λ i. columnFor b i .rows) (numbered (startIn b) j (length (b .heads)))
 
   -- the rows of a child
   tail-parts : (c : ℕ) → 1 ≤ c → c < j → (rises (suc c) m (tail c) ≡ true) × (getD (tail c) 0 0 ≡ parentOf L c)
@@ -196,8 +185,8 @@ module _ {m : ℕ} {b : Book} (s : Sound m b) (parent : ℕ → ℕ) (tail : ℕ
 
   cols-up : UpTo m cols
   cols-up =
-      gathered-up m (λ i. columnFor b i .rows) (numbered (firstRow (b .heads) (b .rows)) j (length (b .heads)))
-      (λ i n. rises-up m (columnFor b i .rows) (rows-rise s i (numbered-in (firstRow (b .heads) (b .rows)) j (length (b .heads)) i n .0)))
+      gathered-up m (λ i. columnFor b i .rows) (numbered (startIn b) j (length (b .heads)))
+      (λ i n. rises-up m (columnFor b i .rows) (rows-rise s i (numbered-in (startIn b) j (length (b .heads)) i n .0)))
 
   kids-below : (x : ℕ) → x < j → times x kids ≡ 0
   kids-below x h =
@@ -207,11 +196,11 @@ module _ {m : ℕ} {b : Book} (s : Sound m b) (parent : ℕ → ℕ) (tail : ℕ
 
   cols-below : (x : ℕ) → x < j → times x cols ≡ 0
   cols-below x h =
-      gathered-zero x (λ i. columnFor b i .rows) (numbered (firstRow (b .heads) (b .rows)) j (length (b .heads))) (λ i n.
-      (let t : (1 ≤ i) × (i ≤ length (b .heads)) × (firstRow (b .heads) (b .rows) i ≡ j) = numbered-in (firstRow (b .heads) (b .rows)) j (length (b .heads)) i n in
+      gathered-zero x (λ i. columnFor b i .rows) (numbered (startIn b) j (length (b .heads))) (λ i n.
+      (let t : (1 ≤ i) × (i ≤ length (b .heads)) × (startIn b i ≡ j) = numbered-in (startIn b) j (length (b .heads)) i n in
       elim (zero-or-pos (times x (columnFor b i .rows))) [
         | inl z ↦ z
-        | inr z ↦ absurd (omega (arith, least (columnFor b i .rows) (rows-rise s i (t .0)) (times-mem x (columnFor b i .rows) z), first-row s i (t .0) (t .1), t .2))
+        | inr z ↦ absurd (omega (arith, least (columnFor b i .rows) (rows-rise s i (t .0)) (times-mem x (columnFor b i .rows) z), t .2))
       ]))
     where
       least : {x : ℕ} (xs : List ℕ) → rises 1 m xs ≡ true → Mem x xs → getD xs 0 0 ≤ x
@@ -227,11 +216,8 @@ module _ {m : ℕ} {b : Book} (s : Sound m b) (parent : ℕ → ℕ) (tail : ℕ
 
   cols-count : (x : ℕ) → times x cols ≡ startingWith j x cs
   cols-count x =
-      let hs : List ℕ = b .heads in
-      gathered-count (λ i. columnFor b i .rows) (firstRow hs (b .rows)) (λ i. holds (columnFor b i) x) j x (length hs)
-      (λ i a h e. rises-once 1 m (columnFor b i .rows) (rows-rise s i a) x) ∙
-      count-ext (λ i. eqb (firstRow hs (b .rows) i) j && holds (columnFor b i) x) (λ i. eqb (smallest (columnFor b i)) j && holds (columnFor b i) x) (length hs)
-      (λ i a h. ap (λ (z : ℕ). eqb z j && holds (columnFor b i) x) (first-row s i a h)) ∙ sym (starting-count b j x low)
+      gathered-count (λ i. columnFor b i .rows) (startIn b) (λ i. holds (columnFor b i) x) j x (length (b .heads))
+      (λ i a h e. rises-once 1 m (columnFor b i .rows) (rows-rise s i a) x) ∙ sym (starting-count m b j x low)
 
   one-times : (x : ℕ) → times x (j ∷ []) ≡ one (eqb x j)
   one-times x =

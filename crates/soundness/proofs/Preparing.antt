@@ -5,7 +5,7 @@ use mathlib.Core.Path.{_≡_, sym, ap, subst, _∙_}
 use mathlib.Core.Logic.{inl, inr}
 use mathlib.Core.Bool.{Bool, true, false, _&&_}
 use mathlib.Core.List.{List}
-use Prim.Native.Nat.{ℕ, zero, _+_, _*_, _-_, _≤_}
+use Prim.Native.Nat.{ℕ, _+_, _*_, _-_, _≤_}
 use native.Mathlib.Omega.{arith}
 use lib.ListN.{length, List·getD-eq-default}
 use borrow.Rule.Slice.PartMut.{putMid}
@@ -16,14 +16,13 @@ use Rattle.workspace.proofs.Regions.{region-length, region-cell, zero-part, onl
 use Rattle.pool.specs.Chains.{Linked}
 use Rattle.pool.specs.Walks.{NoMarks}
 use Rattle.book.specs.Book as book
-use Rattle.book.specs.Entries.{firstRow}
 use Rattle.book.proofs.Sound.{Sound, sound-of}
 use Rattle.tables.specs.Stored.{Stored, isSoundFor}
-use Rattle.counting.specs.Counting.{numbered, CanList, Listed}
-use Rattle.soundness.specs.State.{WithinWork, Prepared, FactorRead}
+use Rattle.counting.specs.Counting.{numbered, startIn, CanList, Listed}
+use Rattle.soundness.specs.State.{liveIn, WithinWork, Prepared, FactorRead}
 use Rattle.soundness.specs.ReadThrough.{CanReadThrough, areSound}
 use Rattle.counting.proofs.Parts.{part-only}
-use Rattle.soundness.proofs.Local.{head-in, first-in}
+use Rattle.soundness.proofs.Local.{head-in, start-in}
 
 module _ {s : Stored} {b : book.Book} {w : List ℕ} (pre : CanReadThrough s b w) where
   abbrev m : ℕ
@@ -57,7 +56,7 @@ module _ {s : Stored} {b : book.Book} {w : List ℕ} (pre : CanReadThrough s b w
           }
 
       pub preparing-unsound : (r : Bool) → r ≡ book.isSound m b → r ≡ false → false ≡ areSound s b
-      preparing-unsound r p q = sym (ap (λ (t : Bool). t && isSoundFor (book.columnsIn b) s) (sym p ∙ q))
+      preparing-unsound r p q = sym (ap (λ (t : Bool). t && isSoundFor (liveIn s b) s) (sym p ∙ q))
 
       -- a region that was zero, before the book's marks
       zero-before : (c l : ℕ) → c + l ≤ 8 * m + f → IsZero (putMid a (e - a) w ms) c l
@@ -71,9 +70,11 @@ module _ {s : Stored} {b : book.Book} {w : List ℕ} (pre : CanReadThrough s b w
         pub preparing-list : CanList (b .heads) (b .rows) (putMid a (e - a) w ms) (3 * m) m e
         preparing-list =
             record {
+              next = b .next;
+              sized = pre .booked;
               few = omega (arith, pre .n-bound);
               heads-in = λ i p q. omega (arith, head-in book-sound i p q, pre .booked);
-              rows-in = λ i p q. first-in book-sound i p q;
+              rows-in = λ i p q. start-in book-sound i p;
               apart = omega arith;
               long = omega (arith, pre .long, marked-only .same-length);
               empty = zero-before (3 * m) m (omega arith);
@@ -106,7 +107,7 @@ module _ {s : Stored} {b : book.Book} {w : List ℕ} (pre : CanReadThrough s b w
                     listed .only .outside (factorMarks m + i) (inr (omega arith)) (inl (omega arith)) ∙ zero-before (factorMarks m) f (omega arith) i h;
                 columns = λ v p q.
                     (let k : e ≡ columnNext m f (length (b .next)) = omega arith in
-                    subst (λ (z : ℕ). Linked (region x z (length (b .heads))) (cell x (3 * m) (v - 1)) (numbered (firstRow (b .heads) (b .rows)) v (length (b .heads)))) k (listed .lists v p q));
+                    subst (λ (z : ℕ). Linked (region x z (length (b .heads))) (cell x (3 * m) (v - 1)) (numbered (startIn b) v (length (b .heads)))) k (listed .lists (b .next) (pre .booked) v p q));
               }
 
           x-only : WithinWork s b w x
@@ -119,7 +120,7 @@ module _ {s : Stored} {b : book.Book} {w : List ℕ} (pre : CanReadThrough s b w
 
           module _ {y : List ℕ} {r : Bool} (read : FactorRead s b x y r) where
             pub preparing-answer : r ≡ areSound s b
-            preparing-answer = read .answer ∙ sym (ap (λ (t : Bool). t && isSoundFor (book.columnsIn b) s) sound)
+            preparing-answer = read .answer ∙ sym (ap (λ (t : Bool). t && isSoundFor (liveIn s b) s) sound)
 
             pub preparing-end : WithinWork s b w y
             preparing-end = only-trans x-only (read .only)

@@ -24,13 +24,12 @@ use Rattle.symbolic.proofs.Patterns.{pattern-parts, pattern-within-rows}
 use Rattle.pool.specs.Chains.{Linked}
 use Rattle.pool.proofs.Chains.{linked-chain, linked-self}
 use Rattle.book.specs.Book as book
-use Rattle.book.specs.Entries.{firstRow}
 use Rattle.book.proofs.Sound.{Sound, sound-of}
 use Rattle.tables.specs.Stored.{Stored, recordsOf, holdsColumn}
-use Rattle.counting.specs.Counting.{numbered, gathered, tallied, total}
+use Rattle.counting.specs.Counting.{numbered, gathered, tallied, total, startIn}
 use Rattle.counting.specs.Given.{Counted, childrenIn, stashed, Stashed, bookRows, startingIn, givenIn, CanTallyAll}
 use Rattle.soundness.specs.Checking.{CanCheck}
-use Rattle.soundness.specs.State.{State}
+use Rattle.soundness.specs.State.{liveIn, State}
 use Rattle.counting.proofs.Numbers.{numbered-in, gathered-ext}
 use Rattle.counting.proofs.Tallies.{tallied-total}
 use Rattle.soundness.proofs.Local.{rows-rise, rows-few, rises-up, Verified, given-up, given-is}
@@ -76,15 +75,15 @@ module _ {s : Stored} {b : book.Book} {w : List ℕ} {j met : ℕ} (st : State s
   f = length (s .next)
 
   abbrev L : List FactorColumn
-  L = factorOf (length (s .heads)) (book.columnsIn b)
+  L = factorOf (length (s .heads)) (liveIn s b)
 
   read-column : (c : ℕ) → 1 ≤ c → c < j → HeldColumn s (columnAt L c) c
   read-column c p q = held s (columnAt L c) c (st .holds c p q)
 
-  read-verified : (c : ℕ) → 1 ≤ c → c < j → Verified m (book.columnsIn b) (at (s .parents)) (tailOf s) c
+  read-verified : (c : ℕ) → 1 ≤ c → c < j → Verified m (liveIn s b) (at (s .parents)) (tailOf s) c
   read-verified c p q =
       let h : HeldColumn s (columnAt L c) c = read-column c p q in
-      let t : (rest : List ℕ) × (patternOf (columnAt L c) ≡ c ∷ rest) × (rises (suc c) m rest ≡ true) × (getD rest 0 0 ≡ parentOf L c) = pattern-parts m (book.columnsIn b) c p (omega (arith, st .high)) in
+      let t : (rest : List ℕ) × (patternOf (columnAt L c) ≡ c ∷ rest) × (rises (suc c) m rest ≡ true) × (getD rest 0 0 ≡ parentOf L c) = pattern-parts m (liveIn s b) c p (omega (arith, st .high)) in
       let e : tailOf s c ≡ t .0 = ap (drop 1) (h .rows-are ∙ t .1) in
       record { parent-is = h .parent-is; rows-are = t .1 ∙ ap (λ (l : List ℕ). c ∷ l) (sym e) }
 
@@ -92,9 +91,9 @@ module _ {s : Stored} {b : book.Book} {w : List ℕ} {j met : ℕ} (st : State s
   read-length : (c : ℕ) → 1 ≤ c → c < j → (length (recordsOf s c) ≡ 1 + length (tailOf s c)) × (length (recordsOf s c) ≤ m)
   read-length c p q =
       let h : HeldColumn s (columnAt L c) c = read-column c p q in
-      let v : Verified m (book.columnsIn b) (at (s .parents)) (tailOf s) c = read-verified c p q in
+      let v : Verified m (liveIn s b) (at (s .parents)) (tailOf s) c = read-verified c p q in
       let l : length (recordsOf s c) ≡ length (patternOf (columnAt L c)) = sym (values-length (s .rows) (recordsOf s c)) ∙ ap length (h .rows-are) in
-      let r : length (patternOf (columnAt L c)) + 1 ≤ suc m = rises-length 1 m (patternOf (columnAt L c)) (omega arith) (pattern-within-rows m (book.columnsIn b) c p (omega (arith, st .high))) in
+      let r : length (patternOf (columnAt L c)) + 1 ≤ suc m = rises-length 1 m (patternOf (columnAt L c)) (omega arith) (pattern-within-rows m (liveIn s b) c p (omega (arith, st .high))) in
       (omega (arith, l, ap length (v .rows-are)), omega arith)
 
   -- its rows but the first, in the stash
@@ -134,12 +133,12 @@ module _ {s : Stored} {b : book.Book} {w : List ℕ} {j met : ℕ} (st : State s
     kids-are : childrenIn w m j ≡ numbered (at (s .parents)) j (j - 1)
     kids-are = linked-chain (region w (childNext m) m) (cell w (childHead m) (j - 1)) (numbered (at (s .parents)) j (j - 1)) kids-linked
 
-    cols-linked : Linked (region w (columnNext m f (length (b .next))) (length (b .heads))) (cell w (columnHead m) (j - 1)) (numbered (firstRow (b .heads) (b .rows)) j (length (b .heads)))
+    cols-linked : Linked (region w (columnNext m f (length (b .next))) (length (b .heads))) (cell w (columnHead m) (j - 1)) (numbered (startIn b) j (length (b .heads)))
     cols-linked = st .columns j (st .low) inside
 
-    cols-are : startingIn w m f (length (b .heads)) (length (b .next)) j ≡ numbered (firstRow (b .heads) (b .rows)) j (length (b .heads))
+    cols-are : startingIn w m f (length (b .heads)) (length (b .next)) j ≡ numbered (startIn b) j (length (b .heads))
     cols-are =
-        linked-chain (region w (columnNext m f (length (b .next))) (length (b .heads))) (cell w (columnHead m) (j - 1)) (numbered (firstRow (b .heads) (b .rows)) j (length (b .heads))) cols-linked
+        linked-chain (region w (columnNext m f (length (b .next))) (length (b .heads))) (cell w (columnHead m) (j - 1)) (numbered (startIn b) j (length (b .heads))) cols-linked
 
     a-kid : (c : ℕ) → 1 ≤ times c (childrenIn w m j) → (1 ≤ c) × (c < j)
     a-kid c n =
@@ -148,14 +147,14 @@ module _ {s : Stored} {b : book.Book} {w : List ℕ} {j met : ℕ} (st : State s
 
     an-id : (i : ℕ) → 1 ≤ times i (startingIn w m f (length (b .heads)) (length (b .next)) j) → (1 ≤ i) × (i ≤ length (b .heads))
     an-id i n =
-        let t : (1 ≤ i) × (i ≤ length (b .heads)) × (firstRow (b .heads) (b .rows) i ≡ j) =
-        numbered-in (firstRow (b .heads) (b .rows)) j (length (b .heads)) i (subst (λ (l : List ℕ). 1 ≤ times i l) cols-are n) in
+        let t : (1 ≤ i) × (i ≤ length (b .heads)) × (startIn b i ≡ j) =
+        numbered-in (startIn b) j (length (b .heads)) i (subst (λ (l : List ℕ). 1 ≤ times i l) cols-are n) in
         (t .0, t .1)
 
     tails-up : (c : ℕ) → 1 ≤ c → c < j → UpTo m (tailOf s c)
     tails-up c p q =
-        let v : Verified m (book.columnsIn b) (at (s .parents)) (tailOf s) c = read-verified c p q in
-        tail-rows m (patternOf (columnAt L c)) c (tailOf s c) (v .rows-are) (rises-up m (patternOf (columnAt L c)) (pattern-within-rows m (book.columnsIn b) c p (omega (arith, st .high))))
+        let v : Verified m (liveIn s b) (at (s .parents)) (tailOf s) c = read-verified c p q in
+        tail-rows m (patternOf (columnAt L c)) c (tailOf s c) (v .rows-are) (rises-up m (patternOf (columnAt L c)) (pattern-within-rows m (liveIn s b) c p (omega (arith, st .high))))
       where
         tail-rows : (m : ℕ) (xs : List ℕ) (y : ℕ) (ys : List ℕ) → xs ≡ y ∷ ys → UpTo m xs → UpTo m ys
         tail-rows m xs y ys e up x n = up x (omega (arith, ap (times x) e, times-cons x y ys))
@@ -171,7 +170,7 @@ module _ {s : Stored} {b : book.Book} {w : List ℕ} {j met : ℕ} (st : State s
           children = linked-self (region w (childNext m) m) (cell w (childHead m) (j - 1)) (numbered (at (s .parents)) j (j - 1)) kids-linked;
           stash = λ c n. (let t : (1 ≤ c) × (c < j) = a-kid c n in stash-piece c (t .0) (t .1) (tails-up c (t .0) (t .1)));
           starting =
-              linked-self (region w (columnNext m f (length (b .next))) (length (b .heads))) (cell w (columnHead m) (j - 1)) (numbered (firstRow (b .heads) (b .rows)) j (length (b .heads))) cols-linked;
+              linked-self (region w (columnNext m f (length (b .next))) (length (b .heads))) (cell w (columnHead m) (j - 1)) (numbered (startIn b) j (length (b .heads))) cols-linked;
           copied = λ i n.
               (let t : (1 ≤ i) × (i ≤ length (b .heads)) = an-id i n in
               record { free = b .free; has = record { m = m; sized = st .sizes .booked; sound = st .sound; low = t .0; high = t .1 }; fits = rows-few book-sound i (t .0) });
@@ -180,13 +179,13 @@ module _ {s : Stored} {b : book.Book} {w : List ℕ} {j met : ℕ} (st : State s
 
     abbrev given-rows : List ℕ
     given-rows =
-        j ∷ (gathered (tailOf s) (numbered (at (s .parents)) j (j - 1)) ++ gathered (λ (i : ℕ). book.columnFor b i .rows) (numbered (firstRow (b .heads) (b .rows)) j (length (b .heads))))
+        j ∷ (gathered (tailOf s) (numbered (at (s .parents)) j (j - 1)) ++ gathered (λ (i : ℕ). book.columnFor b i .rows) (numbered (startIn b) j (length (b .heads))))
 
     given-same : givenIn (b .heads) (b .rows) (b .next) w m f j ≡ given-rows
     given-same =
         let k : gathered (stashed w m f) (childrenIn w m j) ≡ gathered (tailOf s) (numbered (at (s .parents)) j (j - 1)) =
         gathered-ext (stashed w m f) (tailOf s) (childrenIn w m j) (λ c n. (let t : (1 ≤ c) × (c < j) = a-kid c n in stash-tail c (t .0) (t .1))) ∙ ap (gathered (tailOf s)) kids-are in
-        let l : gathered (bookRows (b .heads) (b .rows) (b .next)) (startingIn w m f (length (b .heads)) (length (b .next)) j) ≡ gathered (λ (i : ℕ). book.columnFor b i .rows) (numbered (firstRow (b .heads) (b .rows)) j (length (b .heads))) =
+        let l : gathered (bookRows (b .heads) (b .rows) (b .next)) (startingIn w m f (length (b .heads)) (length (b .next)) j) ≡ gathered (λ (i : ℕ). book.columnFor b i .rows) (numbered (startIn b) j (length (b .heads))) =
         gathered-ext (bookRows (b .heads) (b .rows) (b .next)) (λ (i : ℕ). book.columnFor b i .rows) (startingIn w m f (length (b .heads)) (length (b .next)) j) (λ i n. refl) ∙
         ap (gathered (λ (i : ℕ). book.columnFor b i .rows)) cols-are in
         rw (k, l) refl

@@ -7,6 +7,7 @@ use Rattle.workspace.specs.Layout.{workNeed, bookMarks}
 use Rattle.workspace.specs.Regions.{IsZero, cleared}
 use Rattle.book.specs.Book as book
 use Rattle.tables.specs.Stored.{Stored, Sized, isSoundFor}
+use Rattle.soundness.specs.State.{liveIn}
 
 -- tables cut to their sizes, sizes that 32 bits hold with room, and a work table that is ready
 pub record CanReadThrough (s : Stored) (b : book.Book) (work : List ℕ) : Type 0 where
@@ -28,6 +29,6 @@ pub record CanReadThrough (s : Stored) (b : book.Book) (work : List ℕ) : Type 
 abbrev pub madeReady : (work : List ℕ) → (m f c : ℕ) → List ℕ
 madeReady w m f c = cleared (cleared w 0 (8 * m + f)) (bookMarks m f) c
 
--- "Tables are sound if .."
+-- "Tables are sound if ..": the book is, and the stored columns are the definition's for the columns that count
 abbrev pub areSound : Stored → book.Book → Bool
-areSound s b = book.isSound (length (s .heads)) b && isSoundFor (book.columnsIn b) s
+areSound s b = book.isSound (length (s .heads)) b && isSoundFor (liveIn s b) s

@@ -9,16 +9,20 @@ use lib.ListN.{length, take}
 use Rattle.lists.specs.Lists.{at, valuesAt}
 use Rattle.workspace.specs.Layout.{workNeed, childHead, childNext, columnHead, stashStart, factorMarks, rowStash, columnNext}
 use Rattle.workspace.specs.Regions.{cell, region, IsZero, OnlyIn}
+use Rattle.symbolic.specs.Columns.{Column, live}
 use Rattle.symbolic.specs.Factor.{factorOf, columnAt}
 use Rattle.pool.specs.Whole.{chains, AllLinked}
 use Rattle.pool.specs.Walks.{fresh, markAll, NoMarks}
 use Rattle.pool.specs.declared.Walk.{Walk}
 use Rattle.pool.specs.declared.Walk.the-variants.{Ended, Cut}
 use Rattle.book.specs.Book as book
-use Rattle.book.specs.Entries.{firstRow}
 use Rattle.tables.specs.Stored.{Stored, Sized, recordsOf, holdsColumn, isSoundFor}
-use Rattle.counting.specs.Counting.{ListedIn}
+use Rattle.counting.specs.Counting.{ListedIn, startIn}
 use Rattle.soundness.specs.Checking.{marksIn}
+
+-- the columns that count: the live ones of the book's register
+abbrev pub liveIn : Stored → book.Book → List Column
+liveIn s b = live (book.registerIn (length (s .heads)) b)
 
 -- tables cut to their sizes, sizes that 32 bits hold with room, and a work table of W places
 pub record Sizes (s : Stored) (b : book.Book) (work : List ℕ) : Type 0 where
@@ -65,9 +69,9 @@ pub record State (s : Stored) (b : book.Book) (work : List ℕ) (j met : ℕ) : 
   pub chains-walked : Walked s (marksIn work (length (s .heads)) (length (s .next))) j met
   pub zero : IsZero work 0 (length (s .heads))
   pub children : ListedIn work (childHead (length (s .heads))) (length (s .heads)) (childNext (length (s .heads))) (length (s .heads)) (at (s .parents)) (j - 1)
-  pub columns : ListedIn work (columnHead (length (s .heads))) (length (s .heads)) (columnNext (length (s .heads)) (length (s .next)) (length (b .next))) (length (b .heads)) (firstRow (b .heads) (b .rows)) (length (b .heads))
+  pub columns : ListedIn work (columnHead (length (s .heads))) (length (s .heads)) (columnNext (length (s .heads)) (length (s .next)) (length (b .next))) (length (b .heads)) (startIn b) (length (b .heads))
   pub stash : Stash s work j met
-  pub holds : (c : ℕ) → 1 ≤ c → c < j → holdsColumn s c (columnAt (factorOf (length (s .heads)) (book.columnsIn b)) c) ≡ true
+  pub holds : (c : ℕ) → 1 ≤ c → c < j → holdsColumn s c (columnAt (factorOf (length (s .heads)) (liveIn s b)) c) ≡ true
 
 -- the work table is the same but for its first W places
 abbrev pub WithinWork : Stored → book.Book → (before after : List ℕ) → Type 0
@@ -81,7 +85,7 @@ pub record CanReadColumn (s : Stored) (b : book.Book) (work : List ℕ) (j met :
 -- columns up to k - 1 read: a cut means that the tables are not sound
 pub record ColumnsRead (s : Stored) (b : book.Book) (work₀ work : List ℕ) (k : ℕ) (a : Walk) : Type 0 where
   pub only : WithinWork s b work₀ work
-  pub cut : a ≡ Cut → isSoundFor (book.columnsIn b) s ≡ false
+  pub cut : a ≡ Cut → isSoundFor (liveIn s b) s ≡ false
   pub next : (n : ℕ) → a ≡ Ended n → State s b work k n
 
 -- ---- before the first column
@@ -93,9 +97,9 @@ pub record Prepared (s : Stored) (b : book.Book) (work : List ℕ) : Type 0 wher
   pub zero : IsZero work 0 (length (s .heads))
   pub heads-zero : IsZero work (childHead (length (s .heads))) (length (s .heads))
   pub marks-zero : IsZero work (factorMarks (length (s .heads))) (length (s .next))
-  pub columns : ListedIn work (columnHead (length (s .heads))) (length (s .heads)) (columnNext (length (s .heads)) (length (s .next)) (length (b .next))) (length (b .heads)) (firstRow (b .heads) (b .rows)) (length (b .heads))
+  pub columns : ListedIn work (columnHead (length (s .heads))) (length (s .heads)) (columnNext (length (s .heads)) (length (s .next)) (length (b .next))) (length (b .heads)) (startIn b) (length (b .heads))
 
--- after all columns were read: the answer is whether the stored columns are sound for the book's
+-- after all columns were read: the answer is whether the stored columns are sound for those that count
 pub record FactorRead (s : Stored) (b : book.Book) (work₀ work : List ℕ) (a : Bool) : Type 0 where
   pub only : WithinWork s b work₀ work
-  pub answer : a ≡ isSoundFor (book.columnsIn b) s
+  pub answer : a ≡ isSoundFor (liveIn s b) s

@@ -6,7 +6,7 @@ ghost use lib.ListN.{length, getD};
 ghost use Rattle.tables.specs.Stored.{storedOf};
 ghost use Rattle.workspace.specs.Regions.{region};
 ghost use Rattle.book.specs.Book.{bookOf};
-ghost use Rattle.book.specs.Walks.{WalkedWith};
+ghost use Rattle.pool.specs.Walks.{WalkedWith};
 ghost use Rattle.soundness.specs.Checking.{CanCheckFree, zeroChain, CanCheckEntry, EntryChecked, CanCheck, Checked};
 ghost use Rattle.soundness.specs.State.{State, CanReadColumn, ColumnsRead, Prepared, FactorRead, WithinWork};
 ghost use Rattle.soundness.specs.ReadThrough.{CanReadThrough, areSound, madeReady};

@@ -1,19 +1,18 @@
--- Lists of columns up to order (Bag: every sum is the same) and by ids: what reads columns up to order, distinct ids (`Once`), a list that holds each
--- column of another as long (`bag-just`), what leaves and what stays in a removal (`bag-splits`). Assumes nothing.
-use mathlib.Core.Path.{_≡_, refl, sym, ap, _∙_, subst}
-use mathlib.Core.Logic.{inl, inr, _≢_}
+-- Lists of columns up to order (Bag: every sum is the same) and by ids: what reads columns up to order, ids, what leaves and
+-- what stays in a removal (`bag-splits`). Assumes nothing.
+use mathlib.Core.Path.{_≡_, refl, sym, _∙_, subst}
+use mathlib.Core.Logic.{inl, inr}
 use mathlib.Core.Bool.{Bool, true, false, _&&_, _||_, not, true≢false}
 use mathlib.Core.List.{List, [], _∷_, _++_}
-use Prim.Native.Nat.{ℕ, _+_, _≤_, _<_}
+use Prim.Native.Nat.{ℕ, _+_, _≤_}
 use native.Mathlib.Omega.{arith}
 use lib.Dec.{eqb}
-use lib.ListN.{length, length-append}
+use lib.ListN.{length}
 use borrow.Author.Tests.{eqb-true, eq-eqb, ne-eqb, not-true}
 use Rattle.lists.specs.Lists.{pick, one, Mem, first, later, all, among, noRepeats, same, times, sumOf}
 use Rattle.lists.proofs.Tests.{cases, eq-or-ne, and-both, both-and}
-use Rattle.lists.proofs.Member.{mem-left, mem-right, mem-either, split-mem, all-at, all-make, mem-among, same-eq, same-self}
+use Rattle.lists.proofs.Member.{all-at, all-make, mem-among, same-eq, same-self}
 use Rattle.lists.proofs.Sum.{sum-append, sum-find, sum-has, sum-length, sum-ext, sum-zero, sum-plus}
-use Rattle.lists.proofs.Times.{among-some, once-of, of-once}
 use Rattle.symbolic.specs.Columns.{Column, smallest, holds, startingWith}
 use Rattle.symbolic.specs.Change.{idsOf, without, columnOf, columnsOf, Bag}
 use Rattle.symbolic.proofs.Columns.{starts-sum}
@@ -87,47 +86,10 @@ ids-times i (c ∷ cs) = omega (arith, ids-times i cs)
 pub bag-ids : (cs ds : List Column) → Bag cs ds → (i : ℕ) → times i (idsOf cs) ≡ times i (idsOf ds)
 bag-ids cs ds b i = ids-times i cs ∙ b (λ c. one (hasId i c)) ∙ sym (ids-times i ds)
 
--- no id stands twice
-abbrev pub Once : List Column → Type 0
-Once cs = (i : ℕ) → sumOf (λ c. one (hasId i c)) cs ≤ 1
-
-pub once-unique : (cs : List Column) → Once cs → noRepeats (idsOf cs) ≡ true
-once-unique cs h = of-once (idsOf cs) (λ i. omega (arith, h i, ids-times i cs))
-
-pub unique-once : (cs : List Column) → noRepeats (idsOf cs) ≡ true → Once cs
-unique-once cs h i = omega (arith, once-of (idsOf cs) h i, ids-times i cs)
-
 pub id-mem : {c : Column} {cs : List Column} → Mem c cs → Mem (c .id) (idsOf cs)
 unfolding idsOf
 id-mem first = first
 id-mem (later m) = later (id-mem m)
-
-pub id-live : (i : ℕ) (cs : List Column) → 0 < sumOf (λ c. one (hasId i c)) cs → among i (idsOf cs) ≡ true
-id-live i cs h = among-some i (idsOf cs) (omega (arith, ids-times i cs))
-
--- ---- a list that holds every column of another with distinct ids, and no more columns than it
-
-mem-drop : (xs ys : List Column) (c d : Column) → d .id ≢ c .id → Mem d (xs ++ (c ∷ ys)) → Mem d (xs ++ ys)
-mem-drop xs ys c d n m = elim (mem-either xs m) [ inl h ↦ mem-left ys h | inr h ↦ go c n h ]
-  where
-    go : (c : Column) → d .id ≢ c .id → Mem d (c ∷ ys) → Mem d (xs ++ ys)
-    go c n first = absurd (n refl)
-    go c n (later h) = mem-right xs h
-
-pub bag-just : (cs ds : List Column) → length cs ≡ length ds → noRepeats (idsOf ds) ≡ true → ((d : Column) → Mem d ds → Mem d cs) → Bag cs ds
-unfolding noRepeats idsOf sumOf
-bag-just [] [] e u h f = refl
-bag-just (c ∷ cs) [] e u h f = absurd (omega arith)
-bag-just cs (d ∷ ds) e u h f =
-    let t : (ys : List Column) × (zs : List Column) × (cs ≡ ys ++ (d ∷ zs)) = split-mem (h d first) in
-    let v : (not (among (d .id) (idsOf ds)) ≡ true) × (noRepeats (idsOf ds) ≡ true) =
-    and-both (not (among (d .id) (idsOf ds))) (noRepeats (idsOf ds)) u in
-    let rest : sumOf f (t .0 ++ t .1) ≡ sumOf f ds =
-    bag-just (t .0 ++ t .1) ds (omega (arith, ap length (t .2), length-append (t .0) (d ∷ t .1), length-append (t .0) (t .1))) (v .1)
-    (λ x m. mem-drop (t .0) (t .1) d x
-    (λ q. true≢false (sym (mem-among (subst (λ (n : ℕ). Mem n (idsOf ds)) q (id-mem m))) ∙ not-true (among (d .id) (idsOf ds)) (v .0)))
-    (subst (λ (l : List Column). Mem x l) (t .2) (h x (later m)))) f in
-    omega (arith, ap (sumOf f) (t .2), sum-append f (t .0) (d ∷ t .1), sum-append f (t .0) (t .1))
 
 -- ---- the columns of some ids
 

@@ -1,6 +1,4 @@
--- The computed factor: its columns one by one, its length, and `laws`: it meets the definition's sentences (IsFactor). Then `factor-unique`: a list of
--- factor columns each of which is the one that those before it give (`column-local`, row by row) is the factor; a reading through of tables cites it.
--- This file alone unfolds buildFrom (but for instances). Assumes nothing.
+-- The computed factor: its columns one by one, its length, and `laws`: it meets the definition's sentences (IsFactor). This file alone unfolds buildFrom (but for instances). Assumes nothing.
 use mathlib.Core.Path.{_≡_, refl, sym, ap, _∙_, subst}
 use mathlib.Core.Logic.{_⊎_, inl, inr}
 use mathlib.Core.Bool.{false, _&&_, not}
@@ -10,7 +8,7 @@ use native.Mathlib.Omega.{arith}
 use native.Mathlib.Nat.{add-zero, add-suc, suc-add}
 use lib.Dec.{ltb, eqb}
 use lib.ListN.{length, getD, take, length-append, List·getD-eq-default}
-use lib.Seq.{take-append-seam, getD-append-seam, take-suc, take-all, ext-getD}
+use lib.Seq.{take-append-seam, getD-append-seam, take-suc, ext-getD}
 use borrow.Author.Tests.{lt-ltb, le-ltb, eq-eqb, ne-eqb}
 use Rattle.lists.specs.Lists.{pick, one, count}
 use Rattle.lists.proofs.Tests.{eq-or-ne, lt-or-le, zero-or-pos, refute}
@@ -209,38 +207,3 @@ column-ext f g e h p =
     let c : f .counts ≡ g .counts =
     ext-getD 0 (f .counts) (g .counts) e (λ k l. let q : suc k - 1 ≡ k = omega arith in rw q at (h (suc k) (omega arith) l)) in
     λ i. record { counts = c i; parent = p i }
-
--- ---- the local equation
-
--- column j is the one that the columns before it give
-abbrev pub IsLocal : (m : ℕ) → List Column → List FactorColumn → (j : ℕ) → Type 0
-IsLocal m cs fs j = columnAt fs j ≡ columnOver m cs (take (j - 1) fs) j
-
--- row by row: m multiplicities, each as counted over the columns before, and the parent by them
-pub column-local : (m : ℕ) (cs : List Column) (fs : List FactorColumn) (j : ℕ) → length (columnAt fs j .counts) ≡ m →
-    ((i : ℕ) → 1 ≤ i → i ≤ m → multiplicity fs i j ≡ countFor cs (take (j - 1) fs) j i) → parentOf fs j ≡ firstAbove j 1 (columnAt fs j .counts) →
-    IsLocal m cs fs j
-column-local m cs fs j l h p =
-    let ns : List ℕ = countsFrom cs (take (j - 1) fs) j 1 m in
-    let c : columnAt fs j ≡ record { counts = ns; parent = parentOf fs j } =
-    column-ext (columnAt fs j) (record { counts = ns; parent = parentOf fs j }) (l ∙ sym (counts-from-length cs (take (j - 1) fs) j 1 m)) (λ i x y.
-    let q : 1 + (i - 1) ≡ i = omega arith in
-    h i x (omega arith) ∙
-    sym (counts-at cs (take (j - 1) fs) j 1 m (i - 1) (omega arith) ∙ ap (λ (k : ℕ). countFor cs (take (j - 1) fs) j k) q)) refl in
-    let e : parentOf fs j ≡ firstAbove j 1 ns = p ∙ ap (λ (f : FactorColumn). firstAbove j 1 (f .counts)) c in
-    c ∙ ap (λ (k : ℕ). record { counts = ns; parent = k }) e
-
-build-local : (m : ℕ) (cs : List Column) (fs : List FactorColumn) (j n : ℕ) → 1 ≤ j → j - 1 + n ≡ length fs →
-    ((k : ℕ) → 1 ≤ k → k ≤ length fs → IsLocal m cs fs k) → buildFrom m cs (take (j - 1) fs) j n ≡ fs
-unfolding buildFrom
-build-local m cs fs j zero low e h = take-all (j - 1) fs (omega arith)
-build-local m cs fs j (suc n) low e h =
-    let step : suc (j - 1) ≡ suc j - 1 = omega arith in
-    let one-more : take (j - 1) fs ++ (columnOver m cs (take (j - 1) fs) j ∷ []) ≡ take (suc j - 1) fs =
-    ap (λ (f : FactorColumn). take (j - 1) fs ++ (f ∷ [])) (sym (h j low (omega arith))) ∙ sym (take-suc fs (j - 1) noColumn (omega arith)) ∙
-    ap (λ (k : ℕ). take k fs) step in
-    ap (λ (l : List FactorColumn). buildFrom m cs l (suc j) n) one-more ∙ build-local m cs fs (suc j) n (omega arith) (omega arith) h
-
-pub factor-unique : (m : ℕ) (cs : List Column) (fs : List FactorColumn) → length fs ≡ m → ((j : ℕ) → 1 ≤ j → j ≤ m → IsLocal m cs fs j) → factorOf m cs ≡ fs
-factor-unique m cs fs e h =
-    ap (λ (n : ℕ). buildFrom m cs [] 1 n) (sym e) ∙ build-local m cs fs 1 (length fs) (omega arith) (omega arith) (λ k a b. h k a (omega arith))

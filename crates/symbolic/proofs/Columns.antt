@@ -72,13 +72,6 @@ smallest-held c h = go (c .rows) h
     go [] h = absurd (omega arith)
     go (x ∷ xs) h = mem-among (first {xs = xs})
 
-pub smallest-within : (m : ℕ) (c : Column) → fitsRows m c ≡ true → smallest c ≤ m
-smallest-within m c f = go (c .rows) f
-  where
-    go : (rows : List ℕ) → rises 1 m rows ≡ true → getD rows 0 0 ≤ m
-    go [] f = omega arith
-    go (x ∷ xs) f = rises-in {x = x} 1 m (first {xs = xs}) f .1
-
 -- every row of a column lies between its smallest and m
 pub smallest-least : (m : ℕ) (c : Column) (x : ℕ) → fitsRows m c ≡ true → holds c x ≡ true → (1 ≤ smallest c) × (smallest c ≤ x) × (x ≤ m)
 smallest-least m c x f h = go (c .rows) f (among-mem x (c .rows) h)

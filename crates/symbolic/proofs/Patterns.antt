@@ -1,4 +1,4 @@
--- Patterns as rising lists: the test for a row, a pattern cut in two, its length, that it rises, its members, its second row (`parent-second`). Then a
+-- Patterns as rising lists: the test for a row, a pattern cut in two, that it rises, its members, its second row (`parent-second`). Then a
 -- column of the factor: it is known by its multiplicities and parent (`same-column`), it is the diagonal, then the parent if any (`pattern-parts`).
 -- With `set-split` of lib.Seq, `pattern-append` says what one changed multiplicity does. Assumes nothing.
 use mathlib.Core.Path.{_≡_, refl, sym, ap, _∙_, subst}
@@ -43,12 +43,6 @@ pub counts-append : (xs ys : List ℕ) → nonZero (xs ++ ys) ≡ nonZero xs ++ 
 unfolding nonZero
 counts-append [] ys = refl
 counts-append (x ∷ xs) ys = elim (cases (eqb x 0)) [ inl e ↦ rw (e, counts-append xs ys) | inr e ↦ rw (e, counts-append xs ys) ]
-
--- as many rows as multiplicities
-pub pattern-length : (a : ℕ) (ns : List ℕ) → length (patternFrom a ns) ≡ length (nonZero ns)
-unfolding patternFrom nonZero
-pattern-length a [] = refl
-pattern-length a (n ∷ ns) = elim (cases (eqb n 0)) [ inl e ↦ rw e (pattern-length (suc a) ns) | inr e ↦ rw e (ap suc (pattern-length (suc a) ns)) ]
 
 pub pattern-rises : (a : ℕ) (ns : List ℕ) (b : ℕ) → a + length ns ≤ suc b → rises a b (patternFrom a ns) ≡ true
 unfolding patternFrom rises

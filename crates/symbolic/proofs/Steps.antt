@@ -1,13 +1,13 @@
 -- The steps at one column, for any two factors over the same rows: nothing handled gives the multiplicities before, one child more moves them by
 -- that child, and with every child handled that differs they are those after (`steps-at`: the record StepsAt). Then what one child does, by the
--- paper's cases: kept (B), gained (C), lost (D), untouched; for adding, where rows only enter, and for removing, where they only leave. Assumes nothing.
+-- paper's cases: kept (B), gained (C), lost (D); for adding, where rows only enter. Assumes nothing.
 use mathlib.Core.Path.{_≡_, refl, sym, ap, _∙_}
 use mathlib.Core.Logic.{inl, inr, _≢_}
 use mathlib.Core.Bool.{Bool, true, false, _&&_, not, true≢false}
 use Prim.Native.Nat.{ℕ, _+_, _≤_, _<_}
 use native.Mathlib.Omega.{arith}
 use lib.Dec.{eqb}
-use borrow.Author.Tests.{eqb-true, eqb-false, eq-eqb, ne-eqb, not-true}
+use borrow.Author.Tests.{eqb-true, eqb-false, not-true}
 use Rattle.lists.specs.Lists.{one}
 use Rattle.lists.proofs.Tests.{cases, eq-or-ne, and-both, refute}
 use Rattle.lists.proofs.Count.{count-ext, count-at}
@@ -77,9 +77,6 @@ isNew M M′ i c = eqb (M i c) 0 && not (eqb (M′ i c) 0)
 abbrev pub isGone : (M M′ : ℕ → ℕ → ℕ) (i c : ℕ) → Bool
 isGone M M′ i c = isNew M′ M i c
 
-pub new-true : (M M′ : ℕ → ℕ → ℕ) (i c : ℕ) → M i c ≡ 0 → 0 < M′ i c → isNew M M′ i c ≡ true
-new-true M M′ i c z p = rw (eq-eqb (M i c) 0 z, ne-eqb (M′ i c) 0 (omega arith))
-
 pub new-inv : (M M′ : ℕ → ℕ → ℕ) (i c : ℕ) → isNew M M′ i c ≡ true → (M i c ≡ 0) × (0 < M′ i c)
 new-inv M M′ i c h =
     let t : (eqb (M i c) 0 ≡ true) × (not (eqb (M′ i c) 0) ≡ true) = and-both (eqb (M i c) 0) (not (eqb (M′ i c) 0)) h in
@@ -113,15 +110,7 @@ module _ (M : ℕ → ℕ → ℕ) (P : ℕ → ℕ) (M′ : ℕ → ℕ → ℕ
   pub child-lost : P c ≡ j → P′ c ≢ j → (one (childWith M P j i c) ≡ one (not (eqb (M i c) 0))) × (one (childWith M′ P′ j i c) ≡ 0)
   child-lost p q = (ap one (child-is M P j i c p), ap one (child-other M′ P′ j i c q))
 
-  -- no child before or after
-  pub child-never : P c ≢ j → P′ c ≢ j → (one (childWith M P j i c) ≡ 0) × (one (childWith M′ P′ j i c) ≡ 0)
-  child-never p q = (ap one (child-other M P j i c p), ap one (child-other M′ P′ j i c q))
-
   -- B when rows only enter (adding) and when they only leave (removing)
   pub child-kept-adding : (0 < M i c → 0 < M′ i c) → P c ≡ j → P′ c ≡ j →
       one (childWith M′ P′ j i c) ≡ one (childWith M P j i c) + one (isNew M M′ i c)
   child-kept-adding g p q = omega (arith, child-kept p q, ap one (new-none M′ M i c g))
-
-  pub child-kept-removing : (0 < M′ i c → 0 < M i c) → P c ≡ j → P′ c ≡ j →
-      one (childWith M′ P′ j i c) + one (isGone M M′ i c) ≡ one (childWith M P j i c)
-  child-kept-removing g p q = omega (arith, child-kept p q, ap one (new-none M M′ i c g))

@@ -1,8 +1,8 @@
--- Touched columns of a batch: the column where one of the batch starts is touched, and the parent of a touched column, and nothing else
--- (`touched-start`, `touched-parent`, `touched-cases`); then touched columns as a rising list. No premise on the batch's rows is needed: a column of
+-- Touched columns of a batch: the column where one of the batch starts is touched, and the parent of a touched column
+-- (`touched-start`, `touched-parent`); then touched columns as a rising list. No premise on the batch's rows is needed: a column of
 -- the batch that starts outside 1 to m touches none of 1 to m. Locality.antt has what the others keep. Assumes nothing.
 use mathlib.Core.Path.{_≡_, refl, subst}
-use mathlib.Core.Logic.{_⊎_, inl, inr, _↔_}
+use mathlib.Core.Logic.{inl, inr, _↔_}
 use mathlib.Core.Bool.{true}
 use mathlib.Core.List.{List, _∷_}
 use Prim.Native.Nat.{ℕ, zero, suc, _+_, _≤_, _<_}
@@ -17,7 +17,7 @@ use Rattle.symbolic.specs.Columns.{Column, smallest}
 use Rattle.symbolic.specs.Factor.{FactorColumn, factorOf, parentOf}
 use Rattle.symbolic.specs.Definition.{OnPath, here}
 use Rattle.symbolic.specs.Batch.{passes, isTouched, touchedFrom, touched}
-use Rattle.symbolic.proofs.Laws.{path-extends, path-last, path-within}
+use Rattle.symbolic.proofs.Laws.{path-extends}
 use Rattle.symbolic.proofs.Two.{path-closed}
 use Rattle.symbolic.proofs.Build.{laws, factor-length}
 use Rattle.symbolic.proofs.Paths.{path-members, path-start}
@@ -51,25 +51,6 @@ module _ (m : ℕ) (cs batch : List Column) where
   pub touched-path : {c j : ℕ} → 1 ≤ c → c ≤ m → OnPath (parentOf (factorOf m cs)) c j → isTouched (factorOf m cs) batch c ≡ true →
       isTouched (factorOf m cs) batch j ≡ true
   touched-path a b u h = path-closed (laws m cs) (laws m cs) (λ j. isTouched (factorOf m cs) batch j ≡ true) touched-parent a b u h
-
-  -- as code finds them, rising: a start, or the parent of a touched column
-  pub touched-cases : (j : ℕ) → 1 ≤ j → j ≤ m → isTouched (factorOf m cs) batch j ≡ true →
-      ((c : Column) × Mem c batch × (smallest c ≡ j)) ⊎
-      ((c : ℕ) × (1 ≤ c) × (c < j) × (parentOf (factorOf m cs) c ≡ j) × (isTouched (factorOf m cs) batch c ≡ true))
-  touched-cases j a b h =
-      let t : (d : Column) × Mem d batch × (1 ≤ smallest d) × (smallest d ≤ m) × OnPath (parentOf (factorOf m cs)) (smallest d) j = touched-by j b h in
-      elim (path-last (t .4)) [
-        | inl e ↦ inl (t .0, t .1, e)
-        | inr u ↦
-            let w : (smallest (t .0) ≤ u .0) × (u .0 ≤ m) = path-within (laws m cs) (t .2) (t .3) (u .1 .0) in
-            inr (
-              u .0,
-              omega arith,
-              omega (arith, laws m cs .parent-in (u .0) (omega arith) (w .1) (u .1 .1 .0) .0),
-              u .1 .1 .1,
-              touched-has (u .0) (t .1) (t .2) (t .3) (u .1 .0),
-            )
-      ]
 
 -- ---- as a rising list
 

@@ -38,6 +38,7 @@ pub record Register : Type 0 where
 abbrev pub liveOf : Register → List Column → List Column
 liveOf r cs = cs
 
--- the "live" columns of document 01, which the definitions of the factor take
+-- the "live" columns of document 01, which the definitions of the factor take, and check 6 too: that they are all the book has is used in
+-- soundness/proofs/Local.antt `live-booked` alone
 abbrev pub live : Register → List Column
 live r = liveOf r (r .columns)

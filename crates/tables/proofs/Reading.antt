@@ -1,7 +1,7 @@
--- Reading stored columns that hold the factor: a column's size (`holds-size`), the multiplicity of a row that a record has (`entry-count`) and of one that
--- none has (`absent-count`); what questions answer from the chains. And the records are all there are: sizes and free records make up F (`stored-full`),
+-- Reading stored columns that hold the factor: a column's size (`holds-size`), the multiplicity of a row that a record has (`entry-count`);
+-- what questions answer from the chains. And the records are all there are: sizes and free records make up F (`stored-full`),
 -- so 16 is a question of the free chain's length (`sizes-room`). Assumes nothing.
-use mathlib.Core.Path.{_≡_, refl, sym, ap, _∙_, subst}
+use mathlib.Core.Path.{_≡_, refl, sym, ap, _∙_}
 use mathlib.Core.Logic.{inl, inr}
 use mathlib.Core.Bool.{true}
 use mathlib.Core.List.{List, [], _∷_}
@@ -10,7 +10,7 @@ use native.Mathlib.Omega.{arith}
 use lib.Dec.{leb, eqb}
 use lib.ListN.{length, getD}
 use borrow.Author.Tests.{leb-true, le-leb, eq-eqb, ne-eqb}
-use Rattle.lists.specs.Lists.{Mem, at, valuesAt, sumOf, upFrom}
+use Rattle.lists.specs.Lists.{at, valuesAt, sumOf, upFrom}
 use Rattle.lists.proofs.Tests.{zero-or-pos, both-ways}
 use Rattle.lists.proofs.Rising.{from-up}
 use Rattle.lists.proofs.Place.{values-length}
@@ -18,7 +18,6 @@ use Rattle.lists.proofs.Sum.{sum-ext, sum-places}
 use Rattle.symbolic.specs.Columns.{Column}
 use Rattle.symbolic.specs.Factor.{FactorColumn, countIn, factorOf, columnAt, patternFrom, nonZero, patternOf, multiplicitiesOf, sizeOf, sizeSum}
 use Rattle.symbolic.proofs.Build.{factor-length}
-use Rattle.symbolic.proofs.Patterns.{pattern-members}
 use Rattle.symbolic.proofs.Sizes.{size-sum}
 use Rattle.pool.specs.Chains.{chain}
 use Rattle.pool.specs.Whole.{chains}
@@ -75,14 +74,6 @@ module _ {s : Stored} {j : ℕ} {f : FactorColumn} (h : Holds s j f) where
       let t : (1 ≤ getD (patternOf f) k 0) × (getD (multiplicitiesOf f) k 0 ≡ getD (f .counts) (getD (patternOf f) k 0 - 1) 0) =
       pattern-entry 1 (f .counts) k (omega (arith, holds-size)) in
       (omega arith, y ∙ t .1 ∙ ap (λ (i : ℕ). countIn f i) (sym x))
-
-  -- a row that no record has
-  pub absent-count : (i : ℕ) → 1 ≤ i → i ≤ length (f .counts) → (Mem i (valuesAt (s .rows) (recordsOf s j)) → ⊥) → countIn f i ≡ 0
-  absent-count i a b n =
-      elim (zero-or-pos (countIn f i)) [
-        | inl z ↦ z
-        | inr p ↦ absurd (n (subst (λ (l : List ℕ). Mem i l) (sym (h .rows)) (pattern-members f i a b .1 p)))
-      ]
 
 -- ---- all of them
 

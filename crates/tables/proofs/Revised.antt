@@ -1,25 +1,21 @@
 -- Tables revised column by column: what stays is reflexive and composes (`stays-self`, `stays-joins`, `beyond-joins`, `tails-join`), a column that stays
--- holds what it held (`stays-holds`), and columns revised where a batch touches them, with the rest as they were, are the factor after it
--- (`revised-holds`, `revised-sound`). Assumes nothing.
+-- holds what it held (`stays-holds`), and tables whose columns are the factor's are sound (`revised-sound`). Assumes nothing.
 use mathlib.Core.Path.{_≡_, refl, sym, ap, _∙_, subst}
-use mathlib.Core.Logic.{inl, inr}
-use mathlib.Core.Bool.{Bool, true, false}
+use mathlib.Core.Bool.{true}
 use mathlib.Core.List.{List}
 use Prim.Native.Nat.{ℕ, _≤_}
-use native.Mathlib.Omega.{arith}
 use lib.ListN.{length}
 use Rattle.lists.specs.Lists.{Mem, valuesAt, allZero}
-use Rattle.lists.proofs.Tests.{cases}
 use Rattle.lists.proofs.Times.{times-mem}
 use Rattle.lists.proofs.Place.{values-frame}
 use Rattle.symbolic.specs.Columns.{Column}
 use Rattle.symbolic.specs.Factor.{FactorColumn, factorOf, columnAt}
 use Rattle.pool.specs.Chains.{chain}
 use Rattle.pool.specs.Whole.{Pool}
-use Rattle.tables.specs.Stored.{Stored, recordsOf, holdsFrom, isSoundFor}
+use Rattle.tables.specs.Stored.{Stored, recordsOf, isSoundFor}
 use Rattle.tables.specs.Tables.{Tables, Sizes}
 use Rattle.tables.specs.Stays.{ColumnStays, Beyond, TailsStay}
-use Rattle.tables.proofs.Stored.{Holds, column-holds, holds-column, holds-at, holds-make, facts-sound}
+use Rattle.tables.proofs.Stored.{Holds, facts-sound}
 
 -- ---- what stays
 
@@ -38,24 +34,8 @@ stays-joins {a} {b} {c} {j} s t =
       next = λ x m. t .next x (e x m) ∙ s .next x m;
     }
 
-pub beyond-self : (n : ℕ) (xs : List ℕ) → Beyond n xs xs
-beyond-self n xs = record { same-length = refl; same-tail = refl }
-
 pub beyond-joins : {n : ℕ} {xs ys zs : List ℕ} → Beyond n xs ys → Beyond n ys zs → Beyond n xs zs
 beyond-joins s t = record { same-length = t .same-length ∙ s .same-length; same-tail = t .same-tail ∙ s .same-tail }
-
-pub tails-self : (l : Sizes) (t : Tables) → TailsStay l t t
-tails-self l t =
-    record {
-      heads = beyond-self (l .m) (t .heads);
-      parents = beyond-self (l .m) (t .parents);
-      rows = beyond-self (l .f) (t .rows);
-      counts = beyond-self (l .f) (t .counts);
-      next = beyond-self (l .f) (t .next);
-      bookHeads = beyond-self (l .n) (t .bookHeads);
-      bookRows = beyond-self (l .c) (t .bookRows);
-      bookNext = beyond-self (l .c) (t .bookNext);
-    }
 
 pub tails-join : {l : Sizes} {t u v : Tables} → TailsStay l t u → TailsStay l u v → TailsStay l t v
 tails-join a b =
@@ -82,23 +62,9 @@ stays-holds {a} {b} {j} {f} s h =
       parent = s .parent ∙ h .parent;
     }
 
--- ---- all columns, where T says which were revised
+-- ---- all columns
 
-module _ (a b : Stored) (fs gs : List FactorColumn) (m : ℕ) (T : ℕ → Bool) (old : holdsFrom a fs 1 m ≡ true)
-    (revised : (j : ℕ) → 1 ≤ j → j ≤ m → T j ≡ true → Holds b j (columnAt gs j)) (rest : (j : ℕ) → 1 ≤ j → j ≤ m → T j ≡ false → ColumnStays a b j)
-    (same : (j : ℕ) → 1 ≤ j → j ≤ m → T j ≡ false → columnAt gs j ≡ columnAt fs j) where
-  pub revised-column : (j : ℕ) → 1 ≤ j → j ≤ m → Holds b j (columnAt gs j)
-  revised-column j p q =
-      elim (cases (T j)) [
-        | inl e ↦ revised j p q e
-        | inr e ↦ subst (λ (f : FactorColumn). Holds b j f) (sym (same j p q e))
-            (stays-holds (rest j p q e) (column-holds a j (columnAt fs j) (holds-at a fs 1 m old j p (omega arith))))
-      ]
-
-  pub revised-holds : holdsFrom b gs 1 m ≡ true
-  revised-holds = holds-make b gs 1 m (λ j p q. holds-column b j (columnAt gs j) (revised-column j p (omega arith)))
-
--- and so sound, with a whole pool and free records zero
+-- tables whose columns are the factor's are sound, with a whole pool and free records zero
 pub revised-sound : (cs : List Column) (b : Stored) (m : ℕ) → length (b .heads) ≡ m → Pool (b .next) (b .heads) (b .free) →
     allZero (valuesAt (b .rows) (chain (b .next) (b .free))) ≡ true → allZero (valuesAt (b .counts) (chain (b .next) (b .free))) ≡ true →
     ((j : ℕ) → 1 ≤ j → j ≤ m → Holds b j (columnAt (factorOf m cs) j)) → isSoundFor cs b ≡ true

@@ -2,7 +2,7 @@
 -- The record of sizes and free heads, and all eight tables; `over` keeps what stands beyond. proofs/Opening.antt shows that they are sound.
 -- Assumes nothing: these are definitions.
 use mathlib.Core.List.{_++_}
-use Prim.Native.Nat.{_+_, _-_}
+use Prim.Native.Nat.{_-_}
 use lib.ListN.{replicate}
 use Rattle.lists.specs.Lists.{over, upFrom}
 use Rattle.pool.specs.Opening.{openedNexts, freeHead}

@@ -69,7 +69,7 @@ bookIn s t =
 
 -- the register that the book holds, by rising id
 abbrev pub registerOf : State → Tables → Register
-registerOf s t = record { m = s .sizes .m; columns = book.columnsIn (bookIn s t) }
+registerOf s t = book.registerIn (s .sizes .m) (bookIn s t)
 
 -- "Tables are sound if ..": the book is sound, and the stored columns are the definition's for the live columns
 abbrev pub isSound : State → Tables → Bool

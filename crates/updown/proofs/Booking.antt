@@ -1,4 +1,4 @@
--- The columns that a sound book has under some ids: the first row of each (`booked-first`), its rows copied into the buffer (`booked-copy`,
+-- The columns that a sound book has under some ids: the head and the smallest row of each (`booked-first`, `booked-start`), its rows copied into the buffer (`booked-copy`,
 -- `booked-gathered`), the loops over them. Assumes nothing.
 use mathlib.Core.Path.{_≡_, refl, sym, ap, _∙_, subst}
 use mathlib.Core.Logic.{inl, inr, _≢_}
@@ -16,10 +16,10 @@ use Rattle.workspace.specs.Regions.{cell, region, IsZero}
 use Rattle.workspace.proofs.Regions.{region-cell, region-length}
 use Rattle.pool.specs.Chains.{chain, Linked}
 use Rattle.pool.specs.Whole.{isWhole, Pool}
-use Rattle.pool.proofs.Chains.{Step, linked-step, linked-end}
+use Rattle.pool.proofs.Chains.{linked-head}
 use Rattle.pool.proofs.Whole.{whole-pool, pool-linked}
 use Rattle.book.specs.Book as book
-use Rattle.book.specs.Entries.{CanCopy}
+use Rattle.book.specs.Entries.{CanCopy, HasHead, StartsAt}
 use Rattle.differences.specs.Gather.{Gathered}
 use Rattle.differences.specs.Count.{Counted}
 use Rattle.updown.specs.Entries.{Booked}
@@ -68,17 +68,12 @@ module _ {heads rows next ids : List ℕ} {m : ℕ} {W : List Column} (h : BookH
     booked-linked : Linked next (at heads id) (chain next (at heads id))
     booked-linked = pool-linked book-pool id (entry .1) (entry .2)
 
-    head-some : at heads id ≢ 0
-    unfolding valuesAt
-    head-some e =
-        let c : chain next (at heads id) ≡ [] = linked-end next (at heads id) (chain next (at heads id)) e booked-linked in
-        omega (arith, booked-fits .some, ap length (entry .0), ap (λ (rs : List ℕ). length (valuesAt rows rs)) c)
-
-    pub booked-first : (1 ≤ id) × (id ≤ length heads) × (1 ≤ at heads id) × (at heads id ≤ length rows) × (at rows (at heads id) ≡ smallest (getD W k none))
-    unfolding valuesAt
+    pub booked-first : HasHead heads rows id
     booked-first =
-        let t : Step next (at heads id) (chain next (at heads id)) = linked-step next (at heads id) (chain next (at heads id)) head-some booked-linked in
-        (entry .1, entry .2, t .low, omega (arith, t .high, h .sized), sym (ap (λ (xs : List ℕ). getD xs 0 0) (entry .0 ∙ ap (valuesAt rows) (t .parts))))
+        record { low = entry .1; high = entry .2; within = omega (arith, linked-head next (at heads id) (chain next (at heads id)) booked-linked, h .sized) }
+
+    pub booked-start : {row : ℕ} → StartsAt heads rows id row → row ≡ smallest (getD W k none)
+    booked-start s = s next (h .sized) ∙ ap (λ (xs : List ℕ). getD xs 0 0) (sym (entry .0))
 
     rows-short : length (getD W k none .rows) ≤ m
     rows-short = omega (arith, rises-length 1 m (getD W k none .rows) (omega arith) (booked-fits .rising))
@@ -172,17 +167,17 @@ module _ {heads rows next ids : List ℕ} {m flags : ℕ} {w₀ : List ℕ} {W :
   room-here : Room m flags w
   room-here = record { m-bound = c .room .m-bound; low = c .room .low; long = omega (arith, c .room .long, s .same-length) }
 
-  pub marking-booked : {row : ℕ} → row ≡ at rows (at heads (getD ids k 0)) → Room m flags w × (1 ≤ row) × (row ≤ m) × (k + 1 ≤ 64)
+  pub marking-booked : {row : ℕ} → StartsAt heads rows (getD ids k 0) row → Room m flags w × (1 ≤ row) × (row ≤ m) × (k + 1 ≤ 64)
   marking-booked e =
       let f : Fits m (getD W k none) = booked-fits (c .holds) k l in
-      let g : at rows (at heads (getD ids k 0)) ≡ smallest (getD W k none) = booked-first (c .holds) k l .4 in
-      (room-here, omega (arith, e, g, f .low), omega (arith, e, g, f .high), omega (arith, c .few, booked-size (c .holds)))
+      let g : _ ≡ smallest (getD W k none) = booked-start (c .holds) k l e in
+      (room-here, omega (arith, g, f .low), omega (arith, g, f .high), omega (arith, c .few, booked-size (c .holds)))
 
-  pub marking-booked-next : {w₁ : List ℕ} {row : ℕ} → row ≡ at rows (at heads (getD ids k 0)) → w₁ ≡ marked m flags w row (4 * (k + 1) + 2) → StartsTo m flags W w₀ w₁ (k + 1)
+  pub marking-booked-next : {w₁ : List ℕ} {row : ℕ} → StartsAt heads rows (getD ids k 0) row → w₁ ≡ marked m flags w row (4 * (k + 1) + 2) → StartsTo m flags W w₀ w₁ (k + 1)
   marking-booked-next {w₁} {row} a e =
       let f : Fits m (getD W k none) = booked-fits (c .holds) k l in
       let q : k + 1 - 1 ≡ k = omega arith in
-      let g : row ≡ startOf W (k + 1) = a ∙ booked-first (c .holds) k l .4 ∙ ap (λ (x : ℕ). smallest (getD W x none)) (sym q) in
+      let g : row ≡ startOf W (k + 1) = booked-start (c .holds) k l a ∙ ap (λ (x : ℕ). smallest (getD W x none)) (sym q) in
       let h : smallest (getD W k none) ≡ startOf W (k + 1) = ap (λ (x : ℕ). smallest (getD W x none)) (sym q) in
       subst (λ (x : List ℕ). StartsTo m flags W w₀ x (k + 1)) (sym (e ∙ ap (λ (x : ℕ). marked m flags w x (4 * (k + 1) + 2)) g))
       (starts-next s room-here (omega (arith, h, f .low)) (omega (arith, h, f .high))
@@ -205,14 +200,14 @@ module _ {heads rows next ids : List ℕ} {m : ℕ} {R W : List Column} {w₀ w 
       (put-gathered m w (valuesAt rows (chain next (at heads (getD ids k 0)))) ys (booked-steady .tally .touched .long) (booked-steady .tally .buffer)
       (omega (arith, rises-length 1 m (valuesAt rows (chain next (at heads (getD ids k 0)))) (omega arith) r)) o r)
 
-  pub booked-here : {w₁ w₂ : List ℕ} {g n′ row : ℕ} → row ≡ at rows (at heads (getD ids k 0)) → row ≡ j →
+  pub booked-here : {w₁ w₂ : List ℕ} {g n′ row : ℕ} → StartsAt heads rows (getD ids k 0) row → row ≡ j →
       Gathered m w w₁ g (λ i. among i (valuesAt rows (chain next (at heads (getD ids k 0))))) → Counted m w₁ g false w₂ n′ → Counting m R W false w₀ w₂ n′ j (k + 1) place
   booked-here a e x y =
-      counting-here c t (omega (arith, booked-size h)) (sym (booked-first h k l .4) ∙ sym a ∙ e)
+      counting-here c t (omega (arith, booked-size h)) (sym (booked-start h k l a) ∙ e)
       (bumps x false (holds (getD W k none)) (λ i p q. ap (λ (z : List ℕ). among i z) (sym (booked-rows h k l))) y)
 
-  pub booked-past : {row : ℕ} → row ≡ at rows (at heads (getD ids k 0)) → row ≢ j → Counting m R W false w₀ w n j (k + 1) place
-  booked-past a e = counting-past c t (omega (arith, booked-size h)) (λ x. e (a ∙ booked-first h k l .4 ∙ x))
+  pub booked-past : {row : ℕ} → StartsAt heads rows (getD ids k 0) row → row ≢ j → Counting m R W false w₀ w n j (k + 1) place
+  booked-past a e = counting-past c t (omega (arith, booked-size h)) (λ x. e (booked-start h k l a ∙ x))
 
 pub part-length : (m : ℕ) (w : List ℕ) → 3 * m ≤ length w → length (take (3 * m - 2 * m) (drop (2 * m) w)) ≡ m
 part-length m w l = omega (arith, length-take-le (3 * m - 2 * m) (drop (2 * m) w) (omega (arith, length-drop (2 * m) w)))

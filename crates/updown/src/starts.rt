@@ -48,7 +48,7 @@ pub fn mark_booked(
 {
     let mut k: usize = 0;
     while k < ids.len() {
-        let row = book::lowest_row(book_heads, book_rows, Id(ids[k]));
+        let row = book::smallest_row(book_heads, book_rows, Id(ids[k]));
         marks::mark_start(work, m, flags, row, (k + 1) as u32);
         k += 1;
     }
@@ -94,7 +94,7 @@ fn count_booked(
     let mut k: usize = 0;
     while k < ids.len() {
         let id = Id(ids[k]);
-        let row = book::lowest_row(book_heads, book_rows, id);
+        let row = book::smallest_row(book_heads, book_rows, id);
         if row.0 == j.0 {
             let a = BUFFER * m;
             let e = MARKS * m;

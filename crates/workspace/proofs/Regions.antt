@@ -1,9 +1,9 @@
 -- Laws of regions, over plain lists, by what a user does: read a region as a list, have it zero, store a value, compare two tables that differ in
 -- one region only, clear a region. Premises are inequalities of starts and lengths, for omega; apartness is given as `inl` or `inr` of one.
 -- A loop that writes one region carries OnlyIn as its frame (`only-refl` at the start, `only-store` at a turn; a change made on the spot is bound by
--- a typed `let` first); what it wrote is zero again by `cleared-back`. Assumes nothing.
+-- a typed `let` first). Assumes nothing.
 use mathlib.Core.Path.{_≡_, refl, sym, ap, subst, _∙_}
-use mathlib.Core.Logic.{_⊎_, inl, inr, _≢_, _↔_}
+use mathlib.Core.Logic.{_⊎_, inl, inr}
 use mathlib.Core.List.{List, [], _∷_, _++_}
 use Prim.Native.Nat.{ℕ, _+_, _-_, _≤_, _<_}
 use native.Mathlib.Omega.{arith}
@@ -30,9 +30,6 @@ place-cases a n k =
 -- a place of a region lies outside one that is apart from it
 pub apart-outside : (a n b l : ℕ) → Apart a n b l → (i : ℕ) → i < l → Outside a n (b + i)
 apart-outside a n b l s i h = elim s [ inl p ↦ inr (omega arith) | inr p ↦ inl (omega arith) ]
-
-pub apart-swap : (a n b l : ℕ) → Apart a n b l → Apart b l a n
-apart-swap a n b l s = elim s [ inl p ↦ inr p | inr p ↦ inl p ]
 
 -- ---- a region as a list
 
@@ -66,34 +63,15 @@ zero-at w a n k z p q = let e : a + (k - a) ≡ k = omega arith in subst (λ (x 
 pub zero-part : (w : List ℕ) (a n b l : ℕ) → IsZero w a n → a ≤ b → b + l ≤ a + n → IsZero w b l
 zero-part w a n b l z p q i h = zero-at w a n (b + i) z (omega arith) (omega arith)
 
-pub zero-split : (w : List ℕ) (a n l : ℕ) → IsZero w a (n + l) → IsZero w a n × IsZero w (a + n) l
-zero-split w a n l z = (zero-part w a (n + l) a n z (omega arith) (omega arith), zero-part w a (n + l) (a + n) l z (omega arith) (omega arith))
-
-pub zero-join : (w : List ℕ) (a n l : ℕ) → IsZero w a n → IsZero w (a + n) l → IsZero w a (n + l)
-zero-join w a n l y z i h =
-    elim (lt-or-le i n) [
-      | inl p ↦ y i p
-      | inr p ↦ zero-at w (a + n) l (a + i) z (omega arith) (omega arith)
-    ]
-
 pub zero-region : (w : List ℕ) (a n : ℕ) → a + n ≤ length w → IsZero w a n → region w a n ≡ replicate n 0
 zero-region w a n h z =
     ext-getD 0 (region w a n) (replicate n 0) (region-length w a n h ∙ sym (length-replicate {A = ℕ} n 0))
     (λ i l. let s : i < n = omega (arith, region-length w a n h) in region-cell w a n i s ∙ z i s ∙ sym (getD-replicate {A = ℕ} n i 0 0 s))
 
-pub region-zero : (w : List ℕ) (a n : ℕ) → region w a n ≡ replicate n 0 → IsZero w a n
-region-zero w a n e i h = sym (region-cell w a n i h) ∙ ap (λ (xs : List ℕ). getD xs i 0) e ∙ getD-replicate {A = ℕ} n i 0 0 h
-
-pub region-zero-iff : (w : List ℕ) (a n : ℕ) → a + n ≤ length w → (region w a n ≡ replicate n 0) ↔ IsZero w a n
-region-zero-iff w a n h = (region-zero w a n, zero-region w a n h)
-
 -- ---- a value stored at place i of the region that starts at a
 
 pub store-same : (w : List ℕ) (a i v : ℕ) → a + i < length w → cell (set w (a + i) v) a i ≡ v
 store-same w a i v h = getD-set-same w (a + i) v 0 h
-
-pub store-other : (w : List ℕ) (a i v j : ℕ) → j ≢ i → cell (set w (a + i) v) a j ≡ cell w a j
-store-other w a i v j d = getD-set-other w (a + i) (a + j) v 0 (λ e. d (omega arith))
 
 pub store-only : {w : List ℕ} {a n : ℕ} (i v : ℕ) → i < n → OnlyIn a n w (set w (a + i) v)
 store-only {w} {a} {n} i v h =
@@ -181,9 +159,6 @@ module _ (w : List ℕ) (k v b l : ℕ) (s : Outside b l k) where
   place-apart : Apart k 1 b l
   place-apart = elim s [ inl q ↦ inl (omega arith) | inr q ↦ inr q ]
 
-  pub store-leaves-cell : (i : ℕ) → i < l → cell (set w k v) b i ≡ cell w b i
-  store-leaves-cell = only-cell at-place b l place-apart
-
   pub store-leaves-zero : IsZero w b l → IsZero (set w k v) b l
   store-leaves-zero = only-zero at-place b l place-apart
 
@@ -234,10 +209,6 @@ module _ (w : List ℕ) (a n : ℕ) (fits : a + n ≤ length w) where
   pub cleared-same : IsZero w a n → cleared w a n ≡ w
   cleared-same z = sym (cleared-unique only-refl z)
 
--- a region that was zero, was written and is cleared: the table as it was before
-pub cleared-back : {a n : ℕ} {before after : List ℕ} → a + n ≤ length before → OnlyIn a n before after → IsZero before a n → cleared after a n ≡ before
-cleared-back {a} {n} {before} {after} h o z = sym (cleared-unique after a n (omega (arith, o .same-length)) (only-sym o) z)
-
 -- clearing place by place: nothing yet, and one place more
 pub cleared-none : (w : List ℕ) (a : ℕ) → a ≤ length w → cleared w a 0 ≡ w
 cleared-none w a h = cleared-same w a 0 (omega arith) (λ i l. absurd (omega arith))
@@ -252,16 +223,6 @@ cleared-next w a i h =
           let e : i ≡ j = omega arith in
           subst (λ (t : ℕ). cell (set (cleared w a i) (a + i) 0) a t ≡ 0) e (store-same (cleared w a i) a i 0 (omega (arith, cleared-length w a i (omega arith))))
     ])
-
--- two regions that follow one another
-pub cleared-join : (w : List ℕ) (a n l : ℕ) → a + n + l ≤ length w → cleared (cleared w a n) (a + n) l ≡ cleared w a (n + l)
-cleared-join w a n l h =
-    let k : length (cleared w a n) ≡ length w = cleared-length w a n (omega arith) in
-    let o : OnlyIn a n w (cleared w a n) = cleared-only w a n (omega arith) in
-    let p : OnlyIn (a + n) l (cleared w a n) (cleared (cleared w a n) (a + n) l) = cleared-only (cleared w a n) (a + n) l (omega arith) in
-    cleared-unique w a (n + l) (omega arith) (only-join a (n + l) o p (omega arith) (omega arith) (omega arith) (omega arith))
-    (zero-join (cleared (cleared w a n) (a + n) l) a n l (only-zero p a n (inr (omega arith)) (cleared-zero w a n (omega arith)))
-    (cleared-zero (cleared w a n) (a + n) l (omega arith)))
 
 -- ---- the first places of the table
 

@@ -1,7 +1,6 @@
 -- A planned entry in one place of the work table: row − 1 in 12 bits, multiplicity in 18 bits, kind in 2 bits, from the lowest bit up; packed by
 -- weights and read by `/` and `%`, no masks. Laws: proofs/Planned.antt.
 -- Assumes nothing: these are definitions.
-use mathlib.Core.Path.{_≡_}
 use Prim.Native.Nat.{ℕ, _+_, _*_, _-_, _/_, _%_, _≤_, _<_}
 
 -- a planned entry of row, new multiplicity and kind, as one number

@@ -3,8 +3,8 @@
 // table and a start, since two parts of one table cannot be lent at once.
 ghost use mathlib.Core.Path.{_≡_};
 ghost use Prim.Native.Nat.{_+_, _*_, _≤_, _<_};
-ghost use lib.ListN.{length, set};
-ghost use Rattle.workspace.specs.Regions.{cell, cleared};
+ghost use lib.ListN.{length};
+ghost use Rattle.workspace.specs.Regions.{cleared};
 ghost use Rattle.workspace.specs.Layout.{workNeed};
 ghost use Rattle.workspace.specs.Planned.{packed, FitsEntry, rowOf, multiplicityOf, kindOf};
 
@@ -46,22 +46,6 @@ pub fn work_need(m: u32, n: u32, f: u32, c: u32) -> usize
     ensures { λ r. ⌜ r ≡ workNeed m n f c ⌝ }
 {
     8 * (m as usize) + 4 * (f as usize) + (c as usize) + (n as usize) + 1024
-}
-
-// The place i of the region that starts at a.
-pub fn read(work: &[u32], a: usize, i: usize) -> u32
-    requires { ⌜ a + i < length (now work) ⌝ }
-    ensures { λ r. ⌜ r ≡ cell (now (work .entry)) a i ⌝ }
-{
-    work[a + i]
-}
-
-// Stores v at place i of the region that starts at a.
-pub fn store(work: &mut [u32], a: usize, i: usize, v: u32)
-    requires { ⌜ a + i < length (now work) ⌝ }
-    ensures { λ _. ⌜ now (work .exit) ≡ set (now (work .entry)) (a + i) v ⌝ }
-{
-    work[a + i] = v;
 }
 
 // Clears the n places from a on.

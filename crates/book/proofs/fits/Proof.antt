@@ -6,11 +6,9 @@ use borrow.Author.Needs.{needs}
 use Rattle.book.proofs.fits.Statement.{statement}
 use Rattle.book.proofs.fits.Tie as tie
 
--- src/lib.rt:169:10
 count-requires : tie.Need-count-requires
 count-requires c κs = search needs
 
--- src/lib.rt:165:1
 returns : tie.Need-returns
 returns c = count-fits _ _ _ (c .count .ensures)
 

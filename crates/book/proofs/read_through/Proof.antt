@@ -6,7 +6,7 @@ use Prim.Native.Nat.{_-_}
 use native.Mathlib.Omega.{arith}
 use borrow.Author.Needs.{needs}
 use lib.ListN.{length}
-use Rattle.book.proofs.Testing.{ended-within}
+use Rattle.pool.proofs.Testing.{ended-within}
 use Rattle.book.proofs.Through.{Through, through-start, through-none, through-next, through-free-cut, through-cut, through-end}
 use Rattle.book.proofs.read_through.Statement.{statement}
 use Rattle.book.proofs.read_through.Tie as tie

@@ -6,7 +6,8 @@ use Prim.Native.Nat.{_-_, _*_, _^_, _≤_, _<_}
 use native.Mathlib.Omega.{arith}
 use borrow.Author.Needs.{needs}
 use lib.ListN.{length}
-use Rattle.book.proofs.Testing.{visited-meets, ColumnTesting, column-start, column-refused, column-low, column-high, column-next, column-many, column-ended}
+use Rattle.pool.proofs.Testing.{visited-meets}
+use Rattle.book.proofs.Walks.{ColumnTesting, column-start, column-refused, column-low, column-high, column-next, column-many, column-ended}
 use Rattle.book.proofs.Through.{column-walked}
 use Rattle.book.proofs.walk_column.Statement.{statement}
 use Rattle.book.proofs.walk_column.Tie as tie

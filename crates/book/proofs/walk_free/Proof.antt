@@ -6,7 +6,8 @@ use Prim.Native.Nat.{_-_, _*_, _^_, _≤_, _<_}
 use native.Mathlib.Omega.{arith}
 use borrow.Author.Needs.{needs}
 use lib.ListN.{length}
-use Rattle.book.proofs.Testing.{visited-meets, FreeTesting, free-start, free-refused, free-failed, free-next, free-ended}
+use Rattle.pool.proofs.Testing.{visited-meets}
+use Rattle.book.proofs.Walks.{FreeTesting, free-start, free-refused, free-failed, free-next, free-ended}
 use Rattle.book.proofs.walk_free.Statement.{statement}
 use Rattle.book.proofs.walk_free.Tie as tie
 

@@ -6,7 +6,7 @@ use native.Mathlib.Omega.{arith}
 use lib.ListN.{length}
 use Rattle.pool.specs.Chains.{chain, Linked}
 use Rattle.columns.specs.Search.{lastBelow}
-use Rattle.columns.proofs.Searching.{Here, here, last-none, last-found, last-further}
+use Rattle.columns.proofs.Search.{Here, here, last-none, last-found, last-further}
 use Rattle.columns.proofs.advance.Statement.{statement}
 use Rattle.columns.proofs.advance.Tie as tie
 

@@ -11,7 +11,7 @@ use Rattle.pool.specs.Chains.{chain}
 use Rattle.pool.specs.Changes.{Has, insertAfter, unlinkAfter}
 use Rattle.columns.specs.Search.{lastBelow}
 use Rattle.columns.specs.Apply.{recordBefore, recordAfter, recounted, inserted, unlinked}
-use Rattle.columns.proofs.Searching.{Here, here, last-has}
+use Rattle.columns.proofs.Search.{Here, here, last-has}
 use Rattle.columns.proofs.apply_entry.Statement.{statement}
 use Rattle.columns.proofs.apply_entry.Tie as tie
 

@@ -6,7 +6,7 @@ use borrow.Author.Needs.{needs}
 use lib.ListN.{length}
 use Rattle.pool.specs.Chains.{chain}
 use Rattle.columns.specs.Search.{countOf}
-use Rattle.columns.proofs.Searching.{countAt, count-none, count-other, count-found, can-count, first-high}
+use Rattle.columns.proofs.Search.{countAt, count-none, count-other, count-found, can-count, first-high}
 use Rattle.columns.proofs.count_at.Statement.{statement}
 use Rattle.columns.proofs.count_at.Tie as tie
 

@@ -6,7 +6,7 @@ use native.Mathlib.Omega.{arith}
 use lib.ListN.{length}
 use Rattle.pool.specs.Chains.{chain, Linked}
 use Rattle.columns.specs.Search.{firstAt}
-use Rattle.columns.proofs.Searching.{Here, here, first-none, first-found, first-further}
+use Rattle.columns.proofs.Search.{Here, here, first-none, first-found, first-further}
 use Rattle.columns.proofs.first_at.Statement.{statement}
 use Rattle.columns.proofs.first_at.Tie as tie
 

@@ -1,6 +1,6 @@
 -- `columns::one_counts` meets its contract. The loop's invariant is `Filling`: the first i multiplicities are those of fresh columns. The measure is what is left.
 -- Assumes nothing.
-use Prim.Native.Nat.{ℕ, _-_}
+use Prim.Native.Nat.{_-_}
 use native.Mathlib.Omega.{arith}
 use lib.ListN.{length}
 use Rattle.columns.specs.Opened.{openedCounts}

@@ -25,11 +25,11 @@ add-k c = omega arith
 cast-k : tie.Need-cast-k Inv-loop μ-loop
 cast-k c = omega (arith, start c .pre .few)
 
-first-row-requires : tie.Need-first-row-requires Inv-loop μ-loop
-first-row-requires c κs = linking-has (start c .pre) (c .before .loop .inv) (c .loop-test .taken)
+smallest-row-requires : tie.Need-smallest-row-requires Inv-loop μ-loop
+smallest-row-requires c κs = linking-has (start c .pre) (c .before .loop .inv) (c .loop-test .taken)
 
 link-requires : tie.Need-link-requires Inv-loop μ-loop
-link-requires c κs = linking-can (start (c .before .before) .pre) (c .before .before .before .loop .inv) (c .before .first-row .result .0) (c .before .before .loop-test .taken) (c .before .first-row .ensures)
+link-requires c κs = linking-can (start (c .before .before) .pre) (c .before .before .before .loop .inv) (c .before .smallest-row .result .0) (c .before .before .loop-test .taken) (c .before .smallest-row .ensures)
 
 add-i : tie.Need-add-i Inv-loop μ-loop
 add-i c = omega arith
@@ -40,7 +40,7 @@ loop-less c = omega arith
 loop-again : tie.Need-loop-again Inv-loop μ-loop
 loop-again c =
     let d = c .before .before .before in
-    linking-next (start (d .before .before) .pre) (d .before .before .before .loop .inv) (d .before .first-row .result .0) (d .before .before .loop-test .taken) (d .before .first-row .ensures)
+    linking-next (start (d .before .before) .pre) (d .before .before .before .loop .inv) (d .before .smallest-row .result .0) (d .before .before .loop-test .taken) (d .before .smallest-row .ensures)
     (c .before .before .link .ensures)
 
 same-length : tie.Need-same-length Inv-loop μ-loop
@@ -58,7 +58,7 @@ link-columns-spec =
     loop-holds
     add-k
     cast-k
-    first-row-requires
+    smallest-row-requires
     link-requires
     add-i
     loop-less

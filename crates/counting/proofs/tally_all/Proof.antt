@@ -1,7 +1,7 @@
 -- `counting::tally_all` meets its contract: the diagonal, the children and the columns that start there are counted one after another
--- (proofs/Giving.antt). Assumes nothing.
+-- (proofs/Given.antt). Assumes nothing.
 use native.Mathlib.Omega.{arith}
-use Rattle.counting.proofs.Giving.{giving-children, giving-columns, giving-first, giving-second, giving-length, giving-end}
+use Rattle.counting.proofs.Given.{giving-children, giving-columns, giving-first, giving-second, giving-length, giving-end}
 use Rattle.counting.proofs.tally_all.Statement.{statement}
 use Rattle.counting.proofs.tally_all.Tie as tie
 

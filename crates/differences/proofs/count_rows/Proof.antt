@@ -2,7 +2,7 @@
 use mathlib.Core.Path.{_∙_}
 use native.Mathlib.Omega.{arith}
 use borrow.Author.Needs.{needs}
-use Rattle.differences.proofs.Counting.{bumped-merge, merged-counted}
+use Rattle.differences.proofs.Count.{bumped-merge, merged-counted}
 use Rattle.differences.proofs.count_rows.Statement.{statement}
 use Rattle.differences.proofs.count_rows.Tie as tie
 

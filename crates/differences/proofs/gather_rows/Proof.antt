@@ -4,7 +4,7 @@ use Prim.Native.Nat.{_-_, _≤_}
 use native.Mathlib.Omega.{arith}
 use lib.ListN.{length, take}
 use Rattle.differences.specs.Gather.{Gathering}
-use Rattle.differences.proofs.Gathering.{gathering-start, list-room, list-push, list-done}
+use Rattle.differences.proofs.Gather.{gathering-start, list-room, list-push, list-done}
 use Rattle.differences.proofs.gather_rows.Statement.{statement}
 use Rattle.differences.proofs.gather_rows.Tie as tie
 

@@ -1,7 +1,7 @@
 -- `differences::merge` meets its contract. The loop's invariant is `Merging`; a turn moves the list's last row or the buffer's to the back. The measure is how
 -- many are left of both. Assumes nothing.
 use mathlib.Core.Path.{sym, _∙_}
-use Prim.Native.Nat.{_+_, _-_, _*_, _^_, _≤_, _<_}
+use Prim.Native.Nat.{_+_, _*_, _^_, _≤_, _<_}
 use native.Mathlib.Omega.{arith}
 use lib.ListN.{length, length-set}
 use Rattle.differences.proofs.Merging.{Merging, merging-start, merging-length, merging-low, merging-list, merging-buffer, merging-done}

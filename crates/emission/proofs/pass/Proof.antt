@@ -3,10 +3,9 @@
 use Prim.Native.Nat.{_-_, _*_, _^_, _≤_, _<_}
 use native.Mathlib.Omega.{arith}
 use lib.ListN.{length}
-use Rattle.lists.specs.Lists.{at}
 use Rattle.pool.specs.Chains.{chain}
 use Rattle.differences.proofs.Chain.{onward-less}
-use Rattle.emission.proofs.Walking.{Walking, walking-start, walking-onward, walking-small, walking-next, passed-stop, passed-end}
+use Rattle.emission.proofs.Walks.{Walking, walking-start, walking-onward, walking-small, walking-next, passed-stop, passed-end}
 use Rattle.emission.proofs.pass.Statement.{statement}
 use Rattle.emission.proofs.pass.Tie as tie
 

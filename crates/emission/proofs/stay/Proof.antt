@@ -1,7 +1,6 @@
 -- `emission::stay` meets its contract: one more in size, and the first row above the diagonal. Assumes nothing.
 use mathlib.Core.Path.{ap}
 use Prim.Native.Nat.{ℕ, _+_}
-use Rattle.emission.specs.declared.Walk.{Walk}
 use borrow.Author.Needs.{needs}
 use Rattle.emission.proofs.stay.Statement.{statement}
 use Rattle.emission.proofs.stay.Tie as tie

@@ -1,6 +1,5 @@
 -- `take_line` meets its contract. The loop's invariant: the bytes taken and those to come make up the line (`Filling`). The measure is what is left of the
 -- piece. Assumes nothing.
-use mathlib.Core.Path.{_≡_}
 use Prim.Native.Nat.{_-_}
 use native.Mathlib.Omega.{arith}
 use lib.ListN.{length}

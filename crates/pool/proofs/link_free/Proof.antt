@@ -1,15 +1,13 @@
 -- `pool::link_free` meets its contract. The loop's invariant is `Linking`: the first i nexts are those of an opened pool. The measure is what
 -- is left of the table. Assumes nothing.
 use mathlib.Core.Path.{_≡_, refl}
-use Prim.Native.Nat.{ℕ, _-_}
+use Prim.Native.Nat.{_-_}
 use native.Mathlib.Omega.{arith}
 use lib.ListN.{length}
 use borrow.Author.Tests.{lt-ltb, le-ltb}
 use Rattle.pool.proofs.Opening.{Linking, linking-start, linking-long, linking-used, linking-free, linking-last, linking-end}
 use Rattle.pool.proofs.link_free.Statement.{statement}
 use Rattle.pool.proofs.link_free.Tie as tie
-use Rattle.pool.proofs.link_free.Reads as reads
-use Rattle.pool.proofs.link_free.Lts as lts
 
 abbrev Inv-loop : tie.InvT-loop
 Inv-loop next₀ used k a i₀ next i = Linking used next₀ next i

@@ -10,7 +10,7 @@ use Rattle.lists.proofs.Tests.{in-range}
 use Rattle.book.specs.Book.{Book, bookOf}
 use Rattle.book.proofs.Sound.{free-linked}
 use Rattle.calls.specs.Refusals.{isAccepted}
-use Rattle.refusals.specs.Found.{registerIn}
+use Rattle.book.specs.Book.{registerIn}
 use Rattle.refusals.proofs.Tests.{is-in}
 use Rattle.refusals.proofs.Finding.{found-accepted, rows-few, add-shape, add-counts, add-positions, add-fits, add-full}
 use Rattle.refusals.proofs.find_add.Statement.{statement}

@@ -4,7 +4,7 @@ use mathlib.Core.Path.{_∙_}
 use Prim.Native.Nat.{_-_, _*_, _^_, _≤_, _<_}
 use native.Mathlib.Omega.{arith}
 use lib.ListN.{length}
-use Rattle.book.proofs.Testing.{visited-meets}
+use Rattle.pool.proofs.Testing.{visited-meets}
 use Rattle.soundness.proofs.Freeing.{Freeing, freeing-start, freeing-refused, freeing-row, freeing-count, freeing-next, freeing-end}
 use borrow.Author.Needs.{needs}
 use Rattle.soundness.proofs.check_free.Statement.{statement}
@@ -53,13 +53,13 @@ loop-holds : tie.Need-loop-holds Inv-loop μ-loop
 loop-holds c = freeing-start
 
 meet-requires : tie.Need-meet-requires Inv-loop μ-loop
-meet-requires c κs = let t = c .before in omega (arith, t .if1 .taken, t .before .before .loop .inv .walking .long, entry t .pre .marks-long)
+meet-requires c κs = let t = c .before in omega (arith, t .if1 .taken, t .before .before .loop .inv .testing .walking .long, entry t .pre .marks-long)
 
 enum-told : tie.Need-enum-told Inv-loop μ-loop
 enum-told c = search needs
 
 same-length : tie.Need-same-length Inv-loop μ-loop
-same-length c = refused c .meet .kept .1 .0 ∙ test (refused c) .before .before .loop .inv .walking .long
+same-length c = refused c .meet .kept .1 .0 ∙ test (refused c) .before .before .loop .inv .testing .walking .long
 
 returns : tie.Need-returns Inv-loop μ-loop
 returns c = let d = refused c in freeing-refused (test d .before .before .loop .inv) (test d .if1 .taken) (d .meet .ensures) (c .enum-told .given .1)
@@ -80,7 +80,7 @@ shared-slice-read-if2 : tie.Need-shared-slice-read-if2 Inv-loop μ-loop
 shared-slice-read-if2 c = let f = facts (c .before) in omega arith
 
 same-length-2 : tie.Need-same-length-2 Inv-loop μ-loop
-same-length-2 c = let d = met-one (c .before .before) in d .meet .kept .1 .0 ∙ test d .before .before .loop .inv .walking .long
+same-length-2 c = let d = met-one (c .before .before) in d .meet .kept .1 .0 ∙ test d .before .before .loop .inv .testing .walking .long
 
 returns-2 : tie.Need-returns-2 Inv-loop μ-loop
 returns-2 c =
@@ -94,7 +94,7 @@ shared-slice-read-if3 : tie.Need-shared-slice-read-if3 Inv-loop μ-loop
 shared-slice-read-if3 c = let f = facts (c .before .before .before) in omega arith
 
 same-length-3 : tie.Need-same-length-3 Inv-loop μ-loop
-same-length-3 c = let d = met-one (c .before .before .before .before) in d .meet .kept .1 .0 ∙ test d .before .before .loop .inv .walking .long
+same-length-3 c = let d = met-one (c .before .before .before .before) in d .meet .kept .1 .0 ∙ test d .before .before .loop .inv .testing .walking .long
 
 returns-3 : tie.Need-returns-3 Inv-loop μ-loop
 returns-3 c =
@@ -113,7 +113,7 @@ loop-again c =
     freeing-next (test d .before .before .loop .inv) (test d .if1 .taken) (d .meet .ensures) (c .before .before .before .before .before .after .given .1) (c .before .before .if2 .left) (c .if3 .left)
 
 same-length-4 : tie.Need-same-length-4 Inv-loop μ-loop
-same-length-4 c = c .before .before .loop .inv .walking .long
+same-length-4 c = c .before .before .loop .inv .testing .walking .long
 
 returns-4 : tie.Need-returns-4 Inv-loop μ-loop
 returns-4 c = freeing-end (c .before .before .loop .inv) (c .if1 .left)

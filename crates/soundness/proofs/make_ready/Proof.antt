@@ -1,12 +1,10 @@
 -- `soundness::make_ready` meets its contract: two regions are cleared, one after the other. Assumes nothing.
-use mathlib.Core.Path.{_≡_, ap, _∙_}
+use mathlib.Core.Path.{ap, _∙_}
 use mathlib.Core.List.{List}
 use Prim.Native.Nat.{ℕ, _+_, _*_}
 use native.Mathlib.Omega.{arith}
-use lib.ListN.{length}
 use borrow.Author.Needs.{needs}
 use Rattle.workspace.specs.Regions.{cleared}
-use Rattle.workspace.proofs.Regions.{cleared-length}
 use Rattle.soundness.proofs.make_ready.Statement.{statement}
 use Rattle.soundness.proofs.make_ready.Tie as tie
 

@@ -1,11 +1,11 @@
--- `soundness::read_columns` meets its contract. The loop's invariant: columns 1 to i were read (ColumnsReading of proofs/Through.antt). The measure is how
+-- `soundness::read_columns` meets its contract. The loop's invariant: columns 1 to i were read (ColumnsReading of proofs/ReadThrough.antt). The measure is how
 -- many columns are left. Assumes nothing.
 use Prim.Native.Nat.{_-_}
 use native.Mathlib.Omega.{arith}
 use lib.ListN.{length}
 use Rattle.book.specs.Book.{bookOf}
 use Rattle.tables.specs.Stored.{storedOf}
-use Rattle.soundness.proofs.Through.{ColumnsReading, columns-start, columns-can, columns-cut, columns-next, columns-end}
+use Rattle.soundness.proofs.ReadThrough.{ColumnsReading, columns-start, columns-can, columns-cut, columns-next, columns-end}
 use borrow.Author.Needs.{needs}
 use Rattle.soundness.proofs.read_columns.Statement.{statement}
 use Rattle.soundness.proofs.read_columns.Tie as tie

@@ -1,10 +1,10 @@
 -- `soundness::read_factor` meets its contract: the free chain, the columns by rising number, and at the end as many records met as there are (first-state and
--- last-answer of proofs/Through.antt). Assumes nothing.
+-- last-answer of proofs/ReadThrough.antt). Assumes nothing.
 use mathlib.Core.Path.{refl}
 use Prim.Native.Nat.{ℕ, _+_, _*_}
 use native.Mathlib.Omega.{arith}
 use lib.ListN.{length}
-use Rattle.soundness.proofs.Through.{first-can, first-only, first-cut, first-within, first-state, last-cut, last-answer}
+use Rattle.soundness.proofs.ReadThrough.{first-can, first-only, first-cut, first-within, first-state, last-cut, last-answer}
 use borrow.Author.Needs.{needs}
 use Rattle.soundness.proofs.read_factor.Statement.{statement}
 use Rattle.soundness.proofs.read_factor.Tie as tie

@@ -34,8 +34,8 @@ mul-t15 c = omega arith
 shared-slice-read-t18 : tie.Need-shared-slice-read-t18 Inv-loop μ-loop
 shared-slice-read-t18 c = omega arith
 
-lowest-row-requires : tie.Need-lowest-row-requires Inv-loop μ-loop
-lowest-row-requires c κs = let f = booked-first (start (c .before .before) .pre .holds) (c .before .before .loop .k) (c .before .loop-test .taken) in (f .0, f .1, f .2, f .3)
+smallest-row-requires : tie.Need-smallest-row-requires Inv-loop μ-loop
+smallest-row-requires c κs = let f = booked-first (start (c .before .before) .pre .holds) (c .before .before .loop .k) (c .before .loop-test .taken) in f
 
 mul-a : tie.Need-mul-a Inv-loop μ-loop
 mul-a c = omega (arith, (start (c .before .before .before .before .before .before) .pre .can) .narrow, booked-steady (start (c .before .before .before .before .before .before) .pre .can) (start (c .before .before .before .before .before .before) .pre .holds) (hand (c .before .before .before .before .before .before)) (c .before .before .before .before .before .loop-test .taken) .tally .touched .long)
@@ -71,7 +71,7 @@ loop-less : tie.Need-loop-less Inv-loop μ-loop
 loop-less c = omega arith
 
 loop-again : tie.Need-loop-again Inv-loop μ-loop
-loop-again c = (omega arith, λ R W place h can. booked-here can h (c .before .before .before .before .before .before .before .before .before .before .before .before .before .before .loop .inv .1 R W place h can) (c .before .before .before .before .before .before .before .before .before .before .before .before .before .loop-test .taken) (c .before .before .before .before .before .before .before .before .before .before .before .lowest-row .ensures) (c .before .before .before .before .before .before .before .before .if1 .taken) (booked-gathered can h (c .before .before .before .before .before .before .before .before .before .before .before .before .before .before .loop .inv .1 R W place h can) (c .before .before .before .before .before .before .before .before .before .before .before .before .before .loop-test .taken) _ _ (c .before .before .before .before .before .before .copy-rows .ensures .0) (c .before .before .before .before .before .before .copy-rows .ensures .1)) (c .before .before .count-rows .ensures))
+loop-again c = (omega arith, λ R W place h can. booked-here can h (c .before .before .before .before .before .before .before .before .before .before .before .before .before .before .loop .inv .1 R W place h can) (c .before .before .before .before .before .before .before .before .before .before .before .before .before .loop-test .taken) (c .before .before .before .before .before .before .before .before .before .before .before .smallest-row .ensures) (c .before .before .before .before .before .before .before .before .if1 .taken) (booked-gathered can h (c .before .before .before .before .before .before .before .before .before .before .before .before .before .before .loop .inv .1 R W place h can) (c .before .before .before .before .before .before .before .before .before .before .before .before .before .loop-test .taken) _ _ (c .before .before .before .before .before .before .copy-rows .ensures .0) (c .before .before .before .before .before .before .copy-rows .ensures .1)) (c .before .before .count-rows .ensures))
 
 add-k-2 : tie.Need-add-k-2 Inv-loop μ-loop
 add-k-2 c = omega arith
@@ -80,7 +80,7 @@ loop-less-2 : tie.Need-loop-less-2 Inv-loop μ-loop
 loop-less-2 c = omega arith
 
 loop-again-2 : tie.Need-loop-again-2 Inv-loop μ-loop
-loop-again-2 c = (omega arith, λ R W place h can. booked-past can h (c .before .before .before .before .before .before .loop .inv .1 R W place h can) (c .before .before .before .before .before .loop-test .taken) (c .before .before .before .lowest-row .ensures) (c .if1 .left))
+loop-again-2 c = (omega arith, λ R W place h can. booked-past can h (c .before .before .before .before .before .before .loop .inv .1 R W place h can) (c .before .before .before .before .before .loop-test .taken) (c .before .before .before .smallest-row .ensures) (c .if1 .left))
 
 same-length : tie.Need-same-length Inv-loop μ-loop
 same-length c = (hand (c .before)) .only .same-length
@@ -97,7 +97,7 @@ count-booked-spec =
     loop-holds
     mul-t15
     shared-slice-read-t18
-    lowest-row-requires
+    smallest-row-requires
     mul-a
     mul-e
     mul-copy-rows

@@ -32,17 +32,17 @@ mul-mark-start c = omega arith
 shared-slice-read-mark-start : tie.Need-shared-slice-read-mark-start Inv-loop μ-loop
 shared-slice-read-mark-start c = omega arith
 
-lowest-row-requires : tie.Need-lowest-row-requires Inv-loop μ-loop
-lowest-row-requires c κs = let f = booked-first ((start (c .before .before) .pre .can) .holds) (c .before .before .loop .k) (c .before .loop-test .taken) in (f .0, f .1, f .2, f .3)
+smallest-row-requires : tie.Need-smallest-row-requires Inv-loop μ-loop
+smallest-row-requires c κs = let f = booked-first ((start (c .before .before) .pre .can) .holds) (c .before .before .loop .k) (c .before .loop-test .taken) in f
 
 add-mark-start : tie.Need-add-mark-start Inv-loop μ-loop
 add-mark-start c = omega arith
 
 cast-mark-start : tie.Need-cast-mark-start Inv-loop μ-loop
-cast-mark-start c = omega (arith, marking-booked (start (c .before .before .before .before) .pre .can) (hand (c .before .before .before .before)) (c .before .before .before .loop-test .taken) (c .before .lowest-row .ensures) .3)
+cast-mark-start c = omega (arith, marking-booked (start (c .before .before .before .before) .pre .can) (hand (c .before .before .before .before)) (c .before .before .before .loop-test .taken) (c .before .smallest-row .ensures) .3)
 
 mark-start-requires : tie.Need-mark-start-requires Inv-loop μ-loop
-mark-start-requires c κs = marking-booked (start (c .before .before .before .before) .pre .can) (hand (c .before .before .before .before)) (c .before .before .before .loop-test .taken) (c .before .lowest-row .ensures)
+mark-start-requires c κs = marking-booked (start (c .before .before .before .before) .pre .can) (hand (c .before .before .before .before)) (c .before .before .before .loop-test .taken) (c .before .smallest-row .ensures)
 
 add-k : tie.Need-add-k Inv-loop μ-loop
 add-k c = omega arith
@@ -51,7 +51,7 @@ loop-less : tie.Need-loop-less Inv-loop μ-loop
 loop-less c = omega arith
 
 loop-again : tie.Need-loop-again Inv-loop μ-loop
-loop-again c = (omega arith, λ next W can. marking-booked-next can (c .before .before .before .before .before .before .before .loop .inv .1 next W can) (c .before .before .before .before .before .before .loop-test .taken) (c .before .before .before .before .lowest-row .ensures) (c .before .before .mark-start .ensures))
+loop-again c = (omega arith, λ next W can. marking-booked-next can (c .before .before .before .before .before .before .before .loop .inv .1 next W can) (c .before .before .before .before .before .before .loop-test .taken) (c .before .before .before .before .smallest-row .ensures) (c .before .before .mark-start .ensures))
 
 same-length : tie.Need-same-length Inv-loop μ-loop
 same-length c = (hand (c .before)) .same-length
@@ -68,7 +68,7 @@ mark-booked-spec =
     loop-holds
     mul-mark-start
     shared-slice-read-mark-start
-    lowest-row-requires
+    smallest-row-requires
     add-mark-start
     cast-mark-start
     mark-start-requires

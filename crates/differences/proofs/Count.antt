@@ -1,10 +1,9 @@
--- The two steps of counting together: what the first leaves can be merged, and merged it is the whole count. Then what a user of the count needs: a tally
--- and a gathering can be counted, and the count is the tally of the differences counted. Assumes nothing.
+-- The two steps of counting together: what the first leaves can be merged, and merged it is the whole count. Assumes nothing.
 use mathlib.Core.Path.{_≡_, refl, sym, ap, _∙_}
 use mathlib.Core.Logic.{inl, inr, _≢_}
-use mathlib.Core.Bool.{Bool, true, false, not, true≢false}
+use mathlib.Core.Bool.{Bool, true, not}
 use mathlib.Core.List.{List, _++_}
-use Prim.Native.Nat.{ℕ, _+_, _-_, _*_, _≤_, _<_}
+use Prim.Native.Nat.{ℕ, _+_, _-_, _*_, _≤_}
 use native.Mathlib.Omega.{arith}
 use lib.Dec.{eqb}
 use lib.ListN.{length, getD, length-append}
@@ -14,10 +13,9 @@ use Rattle.lists.proofs.Tests.{zero-or-pos, one-le}
 use Rattle.lists.proofs.Member.{mem-either, among-mem}
 use Rattle.lists.proofs.Times.{times-append, times-mem, mem-times, among-some, once-length}
 use Rattle.lists.proofs.Rising.{rises-in}
-use Rattle.workspace.specs.Regions.{region, IsZero}
-use Rattle.workspace.proofs.Regions.{region-ext, region-length, only-region, only-zero, only-join, zero-part, zero-at}
-use Rattle.differences.specs.Tally.{base, shifted, differenceAt, Tally, counted}
-use Rattle.differences.specs.Gather.{CanGather, Gathered}
+use Rattle.workspace.specs.Regions.{region}
+use Rattle.workspace.proofs.Regions.{region-ext, region-length, only-join}
+use Rattle.differences.specs.Tally.{shifted, differenceAt}
 use Rattle.differences.specs.Count.{CanCount, Counted, Bumped, CanMerge, Merged}
 use Rattle.differences.proofs.Rows.{rises-once}
 use Rattle.differences.proofs.Bumping.{counted-same}
@@ -107,64 +105,3 @@ module _ {m : ℕ} {w₀ : List ℕ} {n k : ℕ} {up : Bool} {w : List ℕ} {f :
 
         one-of : (y : ℕ) → y ≢ 0 → one (not (eqb y 0)) ≡ 1
         one-of y d = rw (ne-eqb y 0 d) refl
-
--- ---- for a user
-
--- nothing counted yet
-pub tally-start : {m : ℕ} {w : List ℕ} → 3 * m ≤ length w → IsZero w 0 (3 * m) → Tally m w 0 (λ i. base)
-unfolding among rises
-tally-start {m} {w} l z =
-    let none : (i : ℕ) → i ≤ m → 1 ≤ i → at w i ≡ 0 = (λ i q p. zero-at w 0 (3 * m) (i - 1) z (omega arith) (omega arith)) in
-    record {
-      touched = record {
-        long = l;
-        within = omega arith;
-        rising = refl;
-        listed = λ i p q. (λ t e. true≢false (sym t), λ d. absurd (d (none i q p)));
-        rest = zero-part w 0 (3 * m) (m + 0) (m - 0) z (omega arith) (omega arith);
-      };
-      values = λ i p q. rw (none i q p) refl;
-      buffer = zero-part w 0 (3 * m) (2 * m) m z (omega arith) (omega arith);
-    }
-
-pub tally-gather : {m : ℕ} {w : List ℕ} {n : ℕ} {δ : ℕ → ℕ} → Tally m w n δ → CanGather m w
-tally-gather t = record { long = t .touched .long; empty = t .buffer }
-
-module _ {m : ℕ} {w₀ : List ℕ} {n : ℕ} {δ : ℕ → ℕ} {w : List ℕ} {k : ℕ} {p : ℕ → Bool} (t : Tally m w₀ n δ) (g : Gathered m w₀ w k p) where
-  same-place : (i : ℕ) → 1 ≤ i → i ≤ m → at w i ≡ at w₀ i
-  same-place i a b = g .only .outside (i - 1) (inl (omega arith))
-
-  same-list : region w m n ≡ region w₀ m n
-  same-list = only-region (g .only) m n (inr (omega (arith, t .touched .within)))
-
-  same-value : (i : ℕ) → 1 ≤ i → i ≤ m → differenceAt w i ≡ δ i
-  same-value i a b = ap shifted (same-place i a b) ∙ t .values i a b
-
-  pub tally-gathered : ((i : ℕ) → p i ≡ true → (2 ≤ δ i) × (δ i < 2147483647)) → CanCount m w n k
-  tally-gathered f =
-      record {
-        touched = record {
-          long = omega (arith, g .only .same-length, t .touched .long);
-          within = t .touched .within;
-          rising = rw same-list (t .touched .rising);
-          listed = λ i a b. (
-            λ h e. t .touched .listed i a b .0 (sym (ap (among i) same-list) ∙ h) (sym (same-place i a b) ∙ e),
-            λ d. ap (among i) same-list ∙ t .touched .listed i a b .1 (λ e. d (same-place i a b ∙ e)),
-          );
-          rest = only-zero (g .only) (m + n) (m - n) (inr (omega (arith, t .touched .within))) (t .touched .rest);
-        };
-        buffered = g .buffered;
-        ranges = λ i h.
-            let b : (1 ≤ i) × (i ≤ m) = rises-in 1 m (among-mem i (region w (2 * m) k) h) (g .buffered .rising) in
-            let r : (2 ≤ δ i) × (δ i < 2147483647) = f i (sym (g .rows i) ∙ h) in
-            (omega (arith, r .0, same-value i (b .0) (b .1)), omega (arith, r .1, same-value i (b .0) (b .1)));
-      }
-
-  -- the count is the tally of the differences counted
-  pub tally-counted : (up : Bool) {x : List ℕ} {l : ℕ} (δ′ : ℕ → ℕ) → Counted m w k up x l → counted up δ δ′ m p → Tally m x l δ′
-  tally-counted up {x} {l} δ′ c d = record { touched = c .tally .touched; values = go up (c .counted-rows) d; buffer = c .tally .buffer }
-    where
-      go : (up : Bool) → counted up (differenceAt w) (differenceAt x) m (λ i. among i (region w (2 * m) k)) → counted up δ δ′ m p →
-          (i : ℕ) → 1 ≤ i → i ≤ m → differenceAt x i ≡ δ′ i
-      go true c d i a b = omega (arith, c i a b, d i a b, ap one (g .rows i), same-value i a b)
-      go false c d i a b = omega (arith, c i a b, d i a b, ap one (g .rows i), same-value i a b)

@@ -5,7 +5,7 @@ use mathlib.Core.Path.{_≡_, refl, sym, ap, subst, _∙_}
 use mathlib.Core.Logic.{inl, inr, _≢_}
 use mathlib.Core.Bool.{Bool, true, false, _&&_, true≢false}
 use mathlib.Core.List.{List, [], _∷_}
-use Prim.Native.Nat.{ℕ, zero, _+_, _*_, _-_, _≤_, _<_}
+use Prim.Native.Nat.{ℕ, _+_, _*_, _-_, _≤_, _<_}
 use native.Mathlib.Omega.{arith}
 use lib.Dec.{eqb}
 use lib.ListN.{length, getD, take, set, length-set, List·getD-eq-default}
@@ -25,12 +25,12 @@ use Rattle.pool.specs.Walks as pool-walks
 use Rattle.pool.proofs.Walking.{walked-cut}
 use Rattle.pool.proofs.Reading.{Reading, reading-one, reading-end, reading-free-cut}
 use Rattle.book.specs.Book as book
-use Rattle.book.specs.Entries.{firstRow}
-use Rattle.book.specs.Walks.{WalkedWith}
-use Rattle.book.proofs.Testing.{ended-walked, cut-unwalked}
+use Rattle.pool.specs.Walks.{WalkedWith}
+use Rattle.pool.proofs.Testing.{ended-walked, cut-unwalked}
 use Rattle.tables.specs.Stored.{Stored, freeZero, holdsFrom, isSoundFor}
 use Rattle.soundness.specs.Checking.{CanCheckFree, zeroChain, marksIn}
-use Rattle.soundness.specs.State.{walked, Walked, State, WithinWork, CanReadColumn, ColumnsRead, Prepared, FactorRead}
+use Rattle.soundness.specs.State.{liveIn, walked, Walked, State, WithinWork, CanReadColumn, ColumnsRead, Prepared, FactorRead}
+use Rattle.counting.specs.Counting.{startIn}
 use Rattle.counting.proofs.Linking.{listed-start}
 use Rattle.counting.proofs.Parts.{part-only, part-region}
 use Rattle.soundness.proofs.Column.{holds-make, SoundParts, sound-parts, reading-of}
@@ -118,8 +118,8 @@ module _ {s : Stored} {b : book.Book} {w : List ℕ} (pre : Prepared s b w) wher
       first-cut c =
           record {
             only = first-only;
-            answer = sym (refute (isSoundFor (book.columnsIn b) s) (λ t.
-                (let p : SoundParts (book.columnsIn b) s = sound-parts (book.columnsIn b) s t in
+            answer = sym (refute (isSoundFor (liveIn s b) s) (λ t.
+                (let p : SoundParts (liveIn s b) s = sound-parts (liveIn s b) s t in
                 let u : walks (s .next) (marksIn w m f) 0 (s .free) ≡ false = cut-unwalked free-walk c (p .free-zero) in
                 true≢false (sym (p .whole) ∙ reading-free-cut no-marks (s .heads) (walked-cut {ms = marksIn w m f} u) refl))));
           }
@@ -188,7 +188,7 @@ module _ {s : Stored} {b : book.Book} {w : List ℕ} (pre : Prepared s b w) wher
                     listed-start x (childHead m) m (childNext m) m (at (s .parents)) (omega (arith, pre .sizes .long, x-long))
                     (λ i h. x-place (childHead m + i) (inl (omega arith)) (λ z. omega arith) ∙ pre .heads-zero i h);
                 columns =
-                    listed-keep w x (columnHead m) m (columnNext m f (length (b .next))) (length (b .heads)) (firstRow (b .heads) (b .rows)) (length (b .heads))
+                    listed-keep w x (columnHead m) m (columnNext m f (length (b .next))) (length (b .heads)) (startIn b) (length (b .heads))
                     (region-ext w x (columnNext m f (length (b .next))) (columnNext m f (length (b .next))) (length (b .heads)) (omega (arith, pre .sizes .long)) (omega (arith, pre .sizes .long, x-long))
                     (λ i h. x-place (columnNext m f (length (b .next)) + i) (inr (omega arith)) (λ z. omega arith)))
                     (λ i h. x-place (columnHead m + i) (inl (omega arith)) (λ z. omega arith)) (pre .columns);
@@ -218,8 +218,8 @@ module _ {s : Stored} {b : book.Book} {w : List ℕ} (pre : Prepared s b w) wher
                 let g : Reading (s .next) (st .chains-walked .marks₀) 0 (s .free ∷ s .heads) (marksIn y m f) k =
                 subst (λ (l : List ℕ). Reading (s .next) (st .chains-walked .marks₀) 0 l (marksIn y m f) k) heads-are (reading-of (st .chains-walked)) in
                 let whole : isWhole (s .next) (s .heads) (s .free) ≡ eqb k (length (s .next)) = reading-end (st .chains-walked .none) (s .heads) g in
-                let all : holdsFrom s (factorOf (length (s .heads)) (book.columnsIn b)) 1 (length (s .heads)) ≡ true =
-                holds-make s (factorOf (length (s .heads)) (book.columnsIn b)) 1 (length (s .heads)) (λ j p h. st .holds j p (omega arith)) in
+                let all : holdsFrom s (factorOf (length (s .heads)) (liveIn s b)) 1 (length (s .heads)) ≡ true =
+                holds-make s (factorOf (length (s .heads)) (liveIn s b)) 1 (length (s .heads)) (λ j p h. st .holds j p (omega arith)) in
                 record { only = only-trans second-only (r .only); answer = sym (rw (whole, first-free, all) (and-true (eqb k (length (s .next))))) }
               where
                 and-true : (t : Bool) → ((t && true) && true) ≡ t

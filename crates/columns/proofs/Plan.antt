@@ -4,13 +4,13 @@
 use mathlib.Core.Path.{_≡_, refl, sym, ap, _∙_}
 use mathlib.Core.Logic.{_≢_}
 use mathlib.Core.List.{List, [], _∷_, _++_, append-assoc}
-use Prim.Native.Nat.{ℕ, suc, _+_, _-_, _≤_, _<_}
+use Prim.Native.Nat.{ℕ, suc, _-_, _≤_, _<_}
 use native.Mathlib.Omega.{arith}
 use lib.ListN.{length, getD}
 use lib.Seq.{set-at, getD-at}
 use borrow.Author.Tests.{eq-eqb, ne-eqb}
 use Rattle.lists.specs.Lists.{at, put}
-use Rattle.lists.proofs.Place.{put-length, at-put-other}
+use Rattle.lists.proofs.Place.{at-put-other}
 use Rattle.workspace.specs.Planned.{rowOf, multiplicityOf, kindOf}
 use Rattle.columns.specs.Plan.{KindIs, planned, Suits, ofKind}
 
@@ -47,11 +47,6 @@ planned-none ns = refl
 pub planned-next : (xs : List ℕ) (n : ℕ) (ys : List ℕ) (e : ℕ) (es : List ℕ) → suc (length xs) ≡ rowOf e → planned (xs ++ (n ∷ ys)) (e ∷ es) ≡ planned ((xs ++ (multiplicityOf e ∷ [])) ++ ys) es
 unfolding planned
 planned-next xs n ys e es q = ap (λ (l : List ℕ). planned l es) (put-cut xs n ys (rowOf e) (multiplicityOf e) q)
-
-pub planned-length : (ns plan : List ℕ) → length (planned ns plan) ≡ length ns
-unfolding planned
-planned-length ns [] = refl
-planned-length ns (e ∷ es) = planned-length (put ns (rowOf e) (multiplicityOf e)) es ∙ put-length ns (rowOf e) (multiplicityOf e)
 
 -- a row below those planned keeps its multiplicity; ms may be other multiplicities than those that the plan suits
 pub planned-below : (ns ms : List ℕ) (a : ℕ) (plan : List ℕ) (i : ℕ) → Suits ns a plan → 1 ≤ i → i < a → at (planned ms plan) i ≡ at ms i
