@@ -1,4 +1,4 @@
 // The listing program: answers the commands on standard input, here those of document 01's example.
 fn main() {
-    listing_loop::run();
+    streams::report(listing_loop::run());
 }

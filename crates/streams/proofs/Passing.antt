@@ -16,12 +16,12 @@ count-more c n b q = ((c + b) / 2 ^ 64 + q .0, omega (arith, q .1))
 
 -- ---- reads and writes
 
-pub passed-start : Passed (record { read = 0; written = 0; failed = false }) [] []
+pub passed-start : Passed (record { read = 0; written = 0; failed = false; broken = false }) [] []
 passed-start = record { handed = 0; read = (0, refl); written = (0, refl); front = omega arith; whole = λ e. refl }
 
-pub passed-read : {s : Streams} {i o : List ℕ} (bs : List ℕ) {n : ℕ} → n ≡ (s .read + length bs) % 2 ^ 64 → s .failed ≡ false → Passed s i o →
-    Passed (record { read = n; written = s .written; failed = false }) (i ++ bs) o
-passed-read {s} {i} {o} bs {n} q e p =
+pub passed-read : {s : Streams} {i o : List ℕ} (bs : List ℕ) (b : Bool) {n : ℕ} → n ≡ (s .read + length bs) % 2 ^ 64 → s .failed ≡ false → Passed s i o →
+    Passed (record { read = n; written = s .written; failed = false; broken = b }) (i ++ bs) o
+passed-read {s} {i} {o} bs b {n} q e p =
     record {
       handed = p .handed;
       read = subst (λ (c : ℕ). CountOf c (length (i ++ bs))) (sym q)
@@ -32,7 +32,7 @@ passed-read {s} {i} {o} bs {n} q e p =
     }
 
 pub passed-write : {s : Streams} {i o : List ℕ} (bs : List ℕ) (f : Bool) {n : ℕ} → n ≡ (s .written + length bs) % 2 ^ 64 → s .failed ≡ false → Passed s i o →
-    Passed (record { read = s .read; written = n; failed = f }) i (o ++ bs)
+    Passed (record { read = s .read; written = n; failed = f; broken = s .broken }) i (o ++ bs)
 passed-write {s} {i} {o} bs f {n} q e p =
     record {
       handed = length (o ++ bs);

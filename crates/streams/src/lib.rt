@@ -1,18 +1,19 @@
 // Standard input and output with a record of what went through them. `Passed` says of the record which bytes the reads gave and which the writes were handed.
 // Its fields are private, so no other crate makes a record but by these functions. After a failed write nothing is read or written any more.
-ghost use mathlib.Core.Path.{_≡_};
-ghost use mathlib.Core.List.{List, [], _++_};
-ghost use Prim.Native.Nat.{ℕ, _+_, _≤_};
-ghost use lib.ListN.{length, take};
+ghost use mathlib.Core.List.{[]};
+ghost use Prim.Native.Nat.{_≤_};
+ghost use lib.ListN.{length};
 ghost use Rattle.streams.specs.Passing.{Passed, Read, Wrote, Flushed};
+use libc::STDERR_FILENO;
 use libc::STDIN_FILENO;
 use libc::STDOUT_FILENO;
 
-// How many bytes were read and written, modulo 2^64, and whether a write failed.
+// How many bytes were read and written, modulo 2^64, whether a write failed, and whether the last read did.
 pub struct Streams {
     read: u64,
     written: u64,
     failed: bool,
+    broken: bool,
 }
 
 // After a read: how many bytes it gave. None are the end, as is a read that fails.
@@ -35,6 +36,7 @@ pub fn start() -> Streams
         read: 0,
         written: 0,
         failed: false,
+        broken: false,
     }
 }
 
@@ -45,11 +47,13 @@ pub fn read(streams: Streams, piece: &mut [u8]) -> Reading
     if streams.failed {
         return Reading { streams, count: 0 };
     }
-    let count = io::count(libc::read(STDIN_FILENO, piece), piece);
+    let got = libc::read(STDIN_FILENO, piece);
+    let count = io::count(got, piece);
     let after = Streams {
         read: std::num::wrapping_add_u64(streams.read, count as u64),
         written: streams.written,
         failed: false,
+        broken: got < 0,
     };
     Reading {
         streams: after,
@@ -69,6 +73,7 @@ pub fn write(streams: Streams, bytes: &[u8]) -> Streams
         read: streams.read,
         written: std::num::wrapping_add_u64(streams.written, bytes.len() as u64),
         failed: !done,
+        broken: streams.broken,
     }
 }
 
@@ -85,5 +90,15 @@ pub fn make_room(streams: Streams, list: &[u8], count: usize, needed: usize) -> 
     Waiting {
         streams: after,
         count: 0,
+    }
+}
+
+// Says on standard error what failed, if anything did.
+pub fn report(streams: Streams) {
+    if streams.failed {
+        io::write_all(STDERR_FILENO, b"the output failed\n");
+    }
+    if streams.broken {
+        io::write_all(STDERR_FILENO, b"the input failed\n");
     }
 }

@@ -34,7 +34,7 @@ returns-2 c =
     record {
       within = k .0;
       passed = λ i o p.
-          passed-read (take (c .before .count .result) (c .before .before .before .before .before .read .last .1 .0))
+          passed-read (take (c .before .count .result) (c .before .before .before .before .before .read .last .1 .0)) _
           (c .wrapping-add-u64 .ensures ∙ ap (λ (n : ℕ). (s .read + n) % 2 ^ 64) (k .1)) (c .before .before .before .before .before .before .before .if1 .left) p;
     }
 
