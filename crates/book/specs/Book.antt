@@ -36,12 +36,12 @@ abbrev pub isBooked : (heads : List ℕ) → (id : ℕ) → Bool
 isBooked hs i = not (eqb (at hs i) 0)
 
 -- the records of an id's column
-abbrev pub recordsOf : Book → (id : ℕ) → List ℕ
-recordsOf b i = chain (b .next) (at (b .heads) i)
+abbrev pub recordsUnder : Book → (id : ℕ) → List ℕ
+recordsUnder b i = chain (b .next) (at (b .heads) i)
 
 -- the column of an id
 abbrev pub columnFor : Book → (id : ℕ) → Column
-columnFor b i = record { id = i; rows = valuesAt (b .rows) (recordsOf b i) }
+columnFor b i = record { id = i; rows = valuesAt (b .rows) (recordsUnder b i) }
 
 -- the columns of the booked ids, of so many ids from one on
 unfoldable pub columnsFrom : Book → (id : ℕ) → ℕ → List Column
@@ -68,5 +68,5 @@ isSound m b =
 -- the column of an id stays: its head, its records, and the row of each
 pub record ColumnStays (before after : Book) (id : ℕ) : Type 0 where
   pub head : at (after .heads) id ≡ at (before .heads) id
-  pub records : recordsOf after id ≡ recordsOf before id
-  pub rows : valuesAt (after .rows) (recordsOf after id) ≡ valuesAt (before .rows) (recordsOf before id)
+  pub records : recordsUnder after id ≡ recordsUnder before id
+  pub rows : valuesAt (after .rows) (recordsUnder after id) ≡ valuesAt (before .rows) (recordsUnder before id)

@@ -15,7 +15,7 @@ use Rattle.workspace.specs.Regions.{cell, region, OnlyIn}
 use Rattle.workspace.proofs.Regions.{region-length, region-ext}
 use Rattle.pool.proofs.Chains.{linked-short, linked-high}
 use Rattle.counting.specs.Counting.{gathered, tallied, OnlyTwo}
-use Rattle.counting.specs.Given.{Counted, Sizes, childrenIn, stashed, Stashed, CanTallyChildren, bookRows, startingIn, CanTallyColumns, givenIn, CanTallyAll}
+use Rattle.counting.specs.Given.{Counted, Places, childrenIn, stashed, Stashed, CanTallyChildren, bookRows, startingIn, CanTallyColumns, givenIn, CanTallyAll}
 use Rattle.counting.proofs.Numbers.{gathered-ext, gathered-up, gathered-length}
 use Rattle.counting.proofs.Tallies.{tallied-append, tallied-cell, tallied-front, tallied-only, times-most}
 use Rattle.counting.proofs.Linking.{two-trans}
@@ -127,7 +127,7 @@ module _ {hs rs ns w₀ : List ℕ} {m f j : ℕ} (pre : CanTallyAll hs rs ns w�
         pre .n-bound,
       )
 
-  sizes-at : {w : List ℕ} → OnlyTwo 0 m (small m f) 256 w₀ w → Sizes m f w j
+  sizes-at : {w : List ℕ} → OnlyTwo 0 m (small m f) 256 w₀ w → Places m f w j
   sizes-at o =
       record {
         low = pre .sizes .low;

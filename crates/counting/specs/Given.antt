@@ -25,7 +25,7 @@ pub record Counted (m f : ℕ) (work₀ work : List ℕ) (rows : List ℕ) (give
   pub number : given ≡ length rows
 
 -- a work table long enough for the sizes, and a row of 1 to m
-pub record Sizes (m f : ℕ) (work : List ℕ) (j : ℕ) : Type 0 where
+pub record Places (m f : ℕ) (work : List ℕ) (j : ℕ) : Type 0 where
   pub low : 1 ≤ j
   pub high : j ≤ m
   pub m-bound : m ≤ 4096
@@ -51,7 +51,7 @@ pub record Stashed (work : List ℕ) (m f c : ℕ) : Type 0 where
 
 -- the list of j's children ends, the rows of each stand in the stash, and 32 bits hold the counters
 pub record CanTallyChildren (work : List ℕ) (m f j : ℕ) : Type 0 where
-  pub sizes : Sizes m f work j
+  pub sizes : Places m f work j
   pub linked : Linked (region work (childNext m) m) (cell work (childHead m) (j - 1)) (childrenIn work m j)
   pub each : (c : ℕ) → 1 ≤ times c (childrenIn work m j) → Stashed work m f c
   pub room : (i : ℕ) → i < m → getD work i 0 < 1073741824
@@ -68,7 +68,7 @@ startingIn w m f n c j = chain (region w (columnNext m f c) n) (cell w (columnHe
 
 -- the list of the ids that start at j ends, each has at most 256 rows, all of 1 to m, and 32 bits hold the counters
 pub record CanTallyColumns (heads rows next work : List ℕ) (m f j : ℕ) : Type 0 where
-  pub sizes : Sizes m f work j
+  pub sizes : Places m f work j
   -- ids and book records: loose bounds above document 01's 16,384 and 262,144, which only keep counts within 32 bits
   pub n-bound : length heads ≤ 200000
   pub c-bound : length next ≤ 4194304
@@ -88,7 +88,7 @@ givenIn hs rs ns w m f j =
 -- zero counters, and what counting the children and the book columns asks
 pub record CanTallyAll (heads rows next work : List ℕ) (m f j : ℕ) : Type 0 where
   pub zero : IsZero work 0 m
-  pub sizes : Sizes m f work j
+  pub sizes : Places m f work j
   -- ids and book records: loose bounds above document 01's 16,384 and 262,144, which only keep counts within 32 bits
   pub n-bound : length heads ≤ 200000
   pub c-bound : length next ≤ 4194304

@@ -25,7 +25,7 @@ abbrev pub liveIn : Stored → book.Book → List Column
 liveIn s b = live (book.registerIn (length (s .heads)) b)
 
 -- tables cut to their sizes, sizes that 32 bits hold with room, and a work table of W places
-pub record Sizes (s : Stored) (b : book.Book) (work : List ℕ) : Type 0 where
+pub record TablesFit (s : Stored) (b : book.Book) (work : List ℕ) : Type 0 where
   pub stored : Sized s
   pub booked : book.Sized b
   pub some : 1 ≤ length (s .heads)
@@ -62,7 +62,7 @@ pub record Stash (s : Stored) (work : List ℕ) (j met : ℕ) : Type 0 where
 
 -- all that is known before column j is read
 pub record State (s : Stored) (b : book.Book) (work : List ℕ) (j met : ℕ) : Type 0 where
-  pub sizes : Sizes s b work
+  pub sizes : TablesFit s b work
   pub low : 1 ≤ j
   pub high : j ≤ suc (length (s .heads))
   pub sound : book.isSound (length (s .heads)) b ≡ true
@@ -92,7 +92,7 @@ pub record ColumnsRead (s : Stored) (b : book.Book) (work₀ work : List ℕ) (k
 
 -- the book is sound, its columns are listed, and what the columns of L need is zero
 pub record Prepared (s : Stored) (b : book.Book) (work : List ℕ) : Type 0 where
-  pub sizes : Sizes s b work
+  pub sizes : TablesFit s b work
   pub sound : book.isSound (length (s .heads)) b ≡ true
   pub zero : IsZero work 0 (length (s .heads))
   pub heads-zero : IsZero work (childHead (length (s .heads))) (length (s .heads))

@@ -85,18 +85,18 @@ beyond-passed n b a z =
 
 abbrev pub bookTest : (before after : book.Book) (id : ℕ) → Bool
 bookTest b a i =
-    eqb (at (a .heads) i) (at (b .heads) i) && (same (book.recordsOf a i) (book.recordsOf b i) &&
-    same (valuesAt (a .rows) (book.recordsOf a i)) (valuesAt (b .rows) (book.recordsOf b i)))
+    eqb (at (a .heads) i) (at (b .heads) i) && (same (book.recordsUnder a i) (book.recordsUnder b i) &&
+    same (valuesAt (a .rows) (book.recordsUnder a i)) (valuesAt (b .rows) (book.recordsUnder b i)))
 
 pub book-passed : (b a : book.Book) (i : ℕ) → bookTest b a i ≡ true → book.ColumnStays b a i
 book-passed b a i z =
     let h : Bool = eqb (at (a .heads) i) (at (b .heads) i) in
-    let r : Bool = same (book.recordsOf a i) (book.recordsOf b i) in
-    let v : Bool = same (valuesAt (a .rows) (book.recordsOf a i)) (valuesAt (b .rows) (book.recordsOf b i)) in
+    let r : Bool = same (book.recordsUnder a i) (book.recordsUnder b i) in
+    let v : Bool = same (valuesAt (a .rows) (book.recordsUnder a i)) (valuesAt (b .rows) (book.recordsUnder b i)) in
     let s : (h ≡ true) × ((r && v) ≡ true) = and-both h (r && v) z in
     let t : (r ≡ true) × (v ≡ true) = and-both r v (s .1) in
     record {
       head = eqb-true (at (a .heads) i) (at (b .heads) i) (s .0);
-      records = same-eq (book.recordsOf a i) (book.recordsOf b i) (t .0);
-      rows = same-eq (valuesAt (a .rows) (book.recordsOf a i)) (valuesAt (b .rows) (book.recordsOf b i)) (t .1);
+      records = same-eq (book.recordsUnder a i) (book.recordsUnder b i) (t .0);
+      rows = same-eq (valuesAt (a .rows) (book.recordsUnder a i)) (valuesAt (b .rows) (book.recordsUnder b i)) (t .1);
     }
