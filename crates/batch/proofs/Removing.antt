@@ -21,7 +21,6 @@ use Rattle.calls.specs.Steps.{bookedIn}
 use Rattle.calls.proofs.Choices.{Whole, or-whole}
 use Rattle.calls.proofs.Refusals.{RemoveFits, remove-facts}
 use Rattle.calls.proofs.Changes.{touched-removing, removal-bag, removal-fits, removal-factor}
-use Rattle.refusals.specs.Found as refusals
 use Rattle.refusals.specs.Found.{removeFound}
 use Rattle.refusals.proofs.Accepted.{RemoveReady, remove-ready, remove-refusal}
 use Rattle.updown.specs.Plans.{PlanIs}
@@ -102,8 +101,8 @@ module _ {t : Tables} {f g : ℕ} {w : List ℕ} (can : CanFind (cutWorld t f g)
 
     found-whole : removeFound (length (t .heads)) (bookWhole t g) is ≡ accepted
     found-whole =
-        let y : Refusal = idsRefusal (refusals.registerIn m (bookWhole t g)) (length (t .bookHeads)) 1 [] is in
-        or-whole (unless (isIn 1 64 (length is)) 7 0) y (ids-whole (refusals.registerIn m (bookWhole t g)) (length (t .bookHeads)) 1 [] is) found
+        let y : Refusal = idsRefusal (book.registerIn m (bookWhole t g)) (length (t .bookHeads)) 1 [] is in
+        or-whole (unless (isIn 1 64 (length is)) 7 0) y (ids-whole (book.registerIn m (bookWhole t g)) (length (t .bookHeads)) 1 [] is) found
 
     pub remove-can : (h i : ℕ) → CanRemove (storedWhole t h) (bookWhole t i) is w (without is (bookedIn (cutWorld t f g) .columns)) (columnsOf is (bookedIn (cutWorld t f g) .columns))
     remove-can h i =
