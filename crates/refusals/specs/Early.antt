@@ -8,7 +8,7 @@ use Prim.Native.Nat.{ℕ}
 use lib.Dec.{leb, eqb}
 use lib.ListN.{length}
 use Rattle.lists.specs.Lists.{pick}
-use Rattle.calls.specs.Calls.{recordsFor}
+use Rattle.calls.specs.Calls.{defaultRecords}
 use Rattle.calls.specs.Refusals.{Bounds, isAccepted, roomFor}
 
 -- the four largest sizes as one record
@@ -17,7 +17,7 @@ largest m n f c = record { m = m; n = n; f = f; c = c }
 
 -- the records that an opening gets for those it asks, for an m whose 16 × m fits 32 bits; number 1 refuses any other, whatever F is
 abbrev pub recordsFor : (m f : ℕ) → ℕ
-recordsFor m f = pick (leb m 268435455 && eqb f 0) (recordsFor m) f
+recordsFor m f = pick (leb m 268435455 && eqb f 0) (defaultRecords m) f
 
 -- ---- long enough: the tables of L, those of the book
 
