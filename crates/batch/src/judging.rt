@@ -1,5 +1,6 @@
 // A batch judged before anything is written: its refusal is searched for, and where there is none its plan is made in the work table.
 ghost use mathlib.Core.Path.{_≡_};
+ghost use mathlib.Core.Bool.{false};
 ghost use mathlib.Core.List.{List};
 ghost use Prim.Native.Nat.{ℕ};
 ghost use Rattle.tables.specs.Tables.{tablesOf};

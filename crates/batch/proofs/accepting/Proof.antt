@@ -8,7 +8,7 @@ grade-of-requires : tie.Need-grade-of-requires
 grade-of-requires c κs = search needs
 
 returns : tie.Need-returns
-returns c = rw (c .grade-of .ensures) refl
+returns c = rw (c .before .before .grade-of .ensures) refl
 
 pub accepting-spec : {M : Type 1} → statement M
 accepting-spec = tie.close (tie.spec grade-of-requires returns)

@@ -27,7 +27,7 @@ abbrev wrote : tie.After-accepting → tie.After-write-add
 wrote c = c .before .before .before .before .before .before .before .before .before .before .before .before .before .before .before .before .before .before .before .before .before
 
 abbrev at-write : tie.After-write-add-arg10 → tie.Else1
-at-write c = c .before .before .before .before .before .before .before .before .before .before
+at-write c = c .before .before .before .before .before .before .before .before .before .before .before
 
 -- ---- the world and the change
 
