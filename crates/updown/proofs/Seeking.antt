@@ -9,7 +9,7 @@ use native.Mathlib.Omega.{arith}
 use lib.Dec.{eqb, leb}
 use lib.ListN.{length, getD}
 use borrow.Author.Tests.{eqb-false, ne-eqb, le-leb}
-use Rattle.lists.specs.Lists.{Mem}
+use Rattle.lists.specs.Lists.{Mem, all}
 use Rattle.lists.proofs.Tests.{cases, lt-or-le, zero-or-pos}
 use Rattle.lists.proofs.Member.{mem-place}
 use Rattle.symbolic.specs.Columns.{Column, smallest}
@@ -29,7 +29,6 @@ use Rattle.updown.specs.Turns.{larger, smaller, before, after, done, sta
 use Rattle.updown.specs.States.{startOf, Numbers, Begun, Setting, Turning, Between, Turned}
 use Rattle.updown.specs.Starts.{CanStart, Started}
 use Rattle.book.specs.Book as book
-use Rattle.lists.specs.Lists.{all}
 use Rattle.updown.proofs.Plans.{region-same, last-in}
 use Rattle.updown.proofs.Marked.{touched-mark}
 use Rattle.updown.proofs.Stepping.{done-skip, done-in}

@@ -136,10 +136,18 @@ fn advance(walk: Walk, j: Row, e: Emission) -> Walk
 fn stopped(walk: Walk, e: Emission) -> Walk
     ensures { λ r. ⌜ (r .fits ≡ e .fits) × (r .used ≡ e .used) ⌝ }
 {
-    let mut w = walk;
-    w.fits = e.fits;
-    w.used = e.used;
-    w
+    let first = walk.first;
+    let last = walk.last;
+    let avail = e.avail;
+    Walk {
+        fits: e.fits,
+        first: first,
+        last: last,
+        count: walk.count,
+        entries: walk.entries,
+        used: e.used,
+        avail: avail,
+    }
 }
 
 // The turn of j after A: B, C and D, the column's plan, and one step up.

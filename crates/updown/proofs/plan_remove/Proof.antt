@@ -1,3 +1,4 @@
+-- `updown::plan_remove` meets its contract: the starts are marked, the walk goes, and the flags are cleared. Assumes nothing.
 use Rattle.updown.proofs.Preparing.{remove-mark, remove-leave, remove-planned}
 use lib.ListN.{length}
 use Prim.Native.Nat.{suc}

@@ -1,3 +1,4 @@
+-- `updown::marks::mark_parent` meets its contract: by the test whether the label is larger. Assumes nothing.
 use borrow.Author.Tests.{lt-ltb, le-ltb}
 use lib.ListN.{length-set}
 use native.Mathlib.Omega.{arith}

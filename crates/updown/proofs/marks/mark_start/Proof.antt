@@ -1,3 +1,4 @@
+-- `updown::marks::mark_start` meets its contract: two stores. Assumes nothing.
 use lib.ListN.{length-set}
 use native.Mathlib.Omega.{arith}
 use borrow.Author.Needs.{needs}

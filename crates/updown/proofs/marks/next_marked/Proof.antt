@@ -1,3 +1,5 @@
+-- `updown::marks::next_marked` meets its contract: the loop's invariant is `Passing`, that no row passed is marked; the measure is the rows left. Assumes
+-- nothing.
 use mathlib.Core.Path.{refl}
 use Rattle.updown.proofs.Marking.{Passing, passing-start, passing-block, passing-row, passing-found, passing-none}
 use Prim.Native.Nat.{_-_}

@@ -1,3 +1,4 @@
+-- `updown::queues::count_child` meets its contract: by the test whether the child is kept. Assumes nothing.
 use Rattle.updown.proofs.Bringing.{child-kept, child-gained}
 use borrow.Author.Needs.{needs}
 use Rattle.updown.proofs.queues.count_child.Statement.{statement}

@@ -1,16 +1,16 @@
-use mathlib.Core.Path.{_∙_}
-use lib.ListN.{length-set}
+-- `updown::queues::count_children` meets its contract: the loop's invariant is `Emptying`, for all columns that the tables suit; the measure is the length
+-- of the queue left. Assumes nothing.
+use mathlib.Core.Path.{_∙_, refl}
+use lib.ListN.{length-set, length, set}
 use Rattle.updown.proofs.Emptying.{Emptying, emptying-start, at-hand, hand-plan, hand-chain, hand-steady, hand-column, other-within, child-stepped, emptying-next, emptying-less, emptying-end}
 use Rattle.updown.proofs.Draining.{turn-open, drain-open}
 use Rattle.updown.specs.Walks.{Columns, Parents, Turn, Drain}
 use Rattle.updown.specs.Queues.{links}
 use Rattle.pool.specs.Chains.{chain}
 use Rattle.symbolic.specs.Columns.{Column}
-use lib.ListN.{length, set}
 use Prim.Native.Nat.{ℕ, _+_, _-_, _*_}
 use mathlib.Core.List.{List}
 use mathlib.Core.Logic.{inl}
-use mathlib.Core.Path.{refl}
 use native.Mathlib.Omega.{arith}
 use Rattle.updown.proofs.queues.count_children.Statement.{statement}
 use Rattle.updown.proofs.queues.count_children.Tie as tie

@@ -1,3 +1,4 @@
+-- `updown::queues::count_kept` meets its contract: what is gathered from the plan is counted. Assumes nothing.
 use Rattle.updown.proofs.Bringing.{plan-read, kept-up, kept-down}
 use Rattle.updown.proofs.Children.{can-gather, can-count}
 use borrow.Author.Needs.{needs}

@@ -1,3 +1,5 @@
+-- `updown::queues::count_lost` meets its contract: the loop's invariant is `Emptying`, for all columns that the tables suit; the measure is the length of
+-- the queue left. Assumes nothing.
 use Rattle.updown.proofs.Emptying.{Emptying, emptying-start, at-hand, hand-plan, hand-chain, hand-steady, hand-column, lost-stepped, emptying-next, emptying-less, lost-open, lost-drain, lost-end}
 use Rattle.updown.specs.Walks.{Columns, Turn, Drain}
 use Rattle.updown.specs.Queues.{links}

@@ -1,3 +1,4 @@
+-- `updown::queues::other_parent` meets its contract: by the test whether columns are added. Assumes nothing.
 use mathlib.Core.Path.{refl}
 use Prim.Native.Nat.{_-_}
 use native.Mathlib.Omega.{arith}

@@ -1,3 +1,4 @@
+-- `updown::queues::pass_on` meets its contract: by the test whether there is another queue to enter. Assumes nothing.
 use borrow.Author.Tests.{eq-eqb, ne-eqb}
 use lib.ListN.{length-set}
 use mathlib.Core.Path.{refl}

@@ -1,3 +1,4 @@
+-- `updown::queues::plan_end` meets its contract: two reads. Assumes nothing.
 use lib.ListN.{getD}
 use Prim.Native.Nat.{_+_, _-_, _*_}
 use native.Mathlib.Omega.{arith}

@@ -1,3 +1,5 @@
+-- `updown::starts::count_booked` meets its contract: the loop's invariant is `Counting`, for all batches that the book has; the measure is the ids left.
+-- Assumes nothing.
 use Rattle.updown.proofs.Booking.{booked-size, booked-first, booked-copy, part-length, booked-steady, booked-gathered, booked-here, booked-past}
 use Rattle.updown.proofs.Listing.{Counting, counting-start, counting-end}
 use Rattle.updown.proofs.Children.{can-count}

@@ -1,3 +1,5 @@
+-- `updown::starts::count_listed` meets its contract: the loop's invariant is `Reading` and `Counting`, for all batches that the lists have; the measure is
+-- the columns left. Assumes nothing.
 use Rattle.updown.proofs.Listing.{Reading, Counting, reading-start, reading-end, reading-next, counting-start, counting-steady, counting-end, listed-first, listed-gather, listed-here, listed-past}
 use Rattle.updown.proofs.Children.{can-count}
 use Rattle.updown.specs.Starts.{CanStart}

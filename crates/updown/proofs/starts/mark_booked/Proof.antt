@@ -1,3 +1,5 @@
+-- `updown::starts::mark_booked` meets its contract: the loop's invariant is `StartsTo`, for all batches that the book has; the measure is the ids left.
+-- Assumes nothing.
 use Rattle.updown.proofs.Booking.{booked-first, marking-booked, marking-booked-next, marking-booked-end}
 use Rattle.updown.proofs.Listing.{starts-none}
 use Rattle.updown.specs.Starts.{StartsTo, CanMarkBooked}

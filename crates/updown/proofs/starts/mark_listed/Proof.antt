@@ -1,5 +1,6 @@
-use Rattle.updown.proofs.Listing.{marking-end}
-use Rattle.updown.proofs.Listing.{Reading, reading-start, reading-end, reading-next, starts-none, marking-row, marking-next}
+-- `updown::starts::mark_listed` meets its contract: the loop's invariant is `Reading` and `StartsTo`, for all batches that the lists have; the measure is
+-- the columns left. Assumes nothing.
+use Rattle.updown.proofs.Listing.{marking-end, Reading, reading-start, reading-end, reading-next, starts-none, marking-row, marking-next}
 use Rattle.updown.specs.Starts.{StartsTo, CanMark}
 use Rattle.symbolic.specs.Columns.{Column}
 use lib.ListN.{length}

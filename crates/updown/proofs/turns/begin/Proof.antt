@@ -1,3 +1,4 @@
+-- `updown::turns::begin` meets its contract: by the test whether a column was touched before. Assumes nothing.
 use lib.ListN.{length-set}
 use borrow.Author.Tests.{eq-eqb, ne-eqb}
 use mathlib.Core.Path.{refl}

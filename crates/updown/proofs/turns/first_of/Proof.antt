@@ -1,3 +1,4 @@
+-- `updown::turns::first_of` meets its contract: by the test whether there is a first column. Assumes nothing.
 use borrow.Author.Tests.{eq-eqb, ne-eqb}
 use mathlib.Core.Path.{refl}
 use Rattle.updown.proofs.turns.first_of.Statement.{statement}

@@ -1,3 +1,4 @@
+-- `updown::turns::plan_column` meets its contract: B and C, D, then the plan of the column. Assumes nothing.
 use Rattle.updown.proofs.Columning.{emit-ready, planned}
 use native.Mathlib.Omega.{arith}
 use borrow.Author.Needs.{needs}

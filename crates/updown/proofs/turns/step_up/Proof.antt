@@ -1,3 +1,4 @@
+-- `updown::turns::step_up` meets its contract: by the test whether there is a parent in the tree. Assumes nothing.
 use lib.ListN.{length-set}
 use borrow.Author.Tests.{eq-eqb, ne-eqb}
 use mathlib.Core.Path.{refl}

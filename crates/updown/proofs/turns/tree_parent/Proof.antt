@@ -1,3 +1,4 @@
+-- `updown::turns::tree_parent` meets its contract: by the test whether columns are added. Assumes nothing.
 use Prim.Native.Nat.{_-_}
 use mathlib.Core.Path.{refl}
 use native.Mathlib.Omega.{arith}

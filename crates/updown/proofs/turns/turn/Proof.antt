@@ -1,5 +1,5 @@
-use Rattle.updown.proofs.Turned.{turned-halted}
-use Rattle.updown.proofs.Turned.{turning-turn, turning-room, turning-ready, turning-small, turning-step, turned-on}
+-- `updown::turns::turn` meets its contract: by the test whether the plan of the column fits. Assumes nothing.
+use Rattle.updown.proofs.Turned.{turned-halted, turning-turn, turning-room, turning-ready, turning-small, turning-step, turned-on}
 use mathlib.Core.Bool.{true≢false}
 use mathlib.Core.Path.{sym, _∙_}
 use borrow.Author.Needs.{needs}

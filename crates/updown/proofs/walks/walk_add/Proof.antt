@@ -1,3 +1,5 @@
+-- `updown::walks::walk_add` meets its contract: the loop's invariant is `Seeking`, for all columns that the tables and lists suit; the measure is the rows
+-- left. Assumes nothing.
 use borrow.Author.Tests.{not-true, not-false}
 use Rattle.updown.proofs.Entering.{enter-begin, enter-first, enter-end, enter-start, enter-turning, enter-flags, enter-on, enter-stops}
 use Rattle.updown.proofs.Leaving.{rowsLeft, rows-fewer}

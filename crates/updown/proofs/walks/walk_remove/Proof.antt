@@ -1,3 +1,5 @@
+-- `updown::walks::walk_remove` meets its contract: the loop's invariant is `Seeking`, for all columns that the tables and the book suit; the measure is the
+-- rows left. Assumes nothing.
 use Rattle.updown.proofs.Leaving.{rowsLeft, rows-fewer, leave-begin, leave-first, leave-start, leave-turning, leave-flags, leave-on}
 use Rattle.updown.proofs.Seeking.{Seeking, seeking-begin}
 use Rattle.updown.specs.Starts.{CanLeave}
