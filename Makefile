@@ -1,5 +1,5 @@
 # make check               prove the listing program and all below it, and run it on the example
-# make test                the gate (rt ci), then header, C example, Rust package, an installation and the picture
+# make test                the gate (rt ci), then header, C example, Rust package, an installation, the picture, paths in proofs and crates.txt
 # make install PREFIX=DIR  archive, header and pkg-config file
 # make bench               the library beside plain C, a table of ratios
 # make picture             docs/pattern.svg, from the example's stored run
@@ -17,7 +17,7 @@ check:
 # The gate removes target/ first, so the rest waits for it.
 test:
 	rt ci
-	$(MAKE) test-header test-c test-rust test-install test-picture
+	$(MAKE) test-header test-c test-rust test-install test-picture test-paths test-crates
 
 test-header: $(ARCHIVE)
 	tools/check-header $(ARCHIVE)
@@ -44,6 +44,13 @@ test-picture:
 	tools/draw $(EXAMPLE) | cmp - docs/pattern.svg
 	@echo "picture: as stored"
 
+test-paths:
+	tools/shift-paths --check
+	tools/shift-paths --tries
+
+test-crates:
+	tools/check-crates
+
 archive: $(ARCHIVE)
 
 # Proves the library first.
@@ -62,4 +69,4 @@ bench:
 picture:
 	tools/draw $(EXAMPLE) > docs/pattern.svg
 
-.PHONY: check test test-header test-c test-rust test-install test-picture archive install bench picture
+.PHONY: check test test-header test-c test-rust test-install test-picture test-paths test-crates archive install bench picture
