@@ -213,7 +213,7 @@ class Model:
         return st
 
     def struct_copied(self, name, value, st):
-        if len(value) == 3 and value[1] == '.' and value[2] in self.structs:
+        if len(value) > 2 and len(value) % 2 and set(value[1::2]) == {'.'} and value[-1] in self.structs:
             self.step(st, name, ('copied', name, self.counts.get(name.replace('_', '-'), 0)))
 
     def if_(self, test, body, st):
