@@ -47,16 +47,17 @@ def kind_of(text):
 
 
 def sources(root):
-    """All functions, and the names of fields that hold structs."""
+    """All functions, and the types of fields by struct and name, under '' of all structs."""
     found, fields = [], {}
     for path in sorted(glob.glob(root + '/crates/*/src/*.rt')):
         crate, module = path.split('/')[-3], os.path.basename(path)[:-3]
         text = re.sub(r'//[^\n]*', '', open(path).read())
         while m := re.search(r'\b(requires|ensures)\s+(\w+\s*)?\{', text):
             text = text[:m.start()] + text[closing(text, m.end() - 1) + 1:]
-        for body in re.findall(r'struct \w+\s*\{([^}]*)\}', text):
+        for struct, body in re.findall(r'struct (\w+)\s*\{([^}]*)\}', text):
             for name, kind in re.findall(r'(\w+): (\w+)', body):
-                fields.setdefault(name, set()).add(kind[0].isupper())
+                for owner in ('', struct):
+                    fields.setdefault((owner, name), set()).add(kind)
         owners = [(m.start(), closing(text, m.end() - 1), m[1]) for m in re.finditer(r'\bimpl (\w+)\s*\{', text)]
         for m in re.finditer(r'\bfn (\w+)\s*\(', text):
             end = closing(text, m.end() - 1, '()')
@@ -67,7 +68,7 @@ def sources(root):
                 params.append((name.strip(), kind.strip()))
             owner = next((o for a, b, o in owners if a < m.start() < b), '')
             found.append(Function(crate, '' if module == 'lib' else module, owner, m[1], params, text[start + 1:closing(text, start)]))
-    return found, {name for name, kinds in fields.items() if kinds == {True}}
+    return found, fields
 
 
 def of_proof(tree, folder):
@@ -120,7 +121,7 @@ class Model:
     its length."""
 
     def __init__(self, tree, f):
-        fns, self.structs = tree
+        fns, self.fields = tree
         self.fns, self.f, self.names, self.counts, self.needs, self.keys = fns, f, {}, {}, [], {}
         self.kinds, self.arrays, self.shape = dict(f.params), set(), []
         self.calls = self.returns = self.tests = 0
@@ -213,7 +214,12 @@ class Model:
         return st
 
     def struct_copied(self, name, value, st):
-        if len(value) > 2 and len(value) % 2 and set(value[1::2]) == {'.'} and value[-1] in self.structs:
+        if len(value) < 3 or set(value[1::2]) != {'.'}:
+            return
+        kinds = self.fields.get(('', value[2]), {'u32'})
+        for f in value[4::2]:
+            kinds = set().union(*(self.fields.get((k, f), {'u32'}) for k in kinds))
+        if all(k[0].isupper() for k in kinds):
             self.step(st, name, ('copied', name, self.counts.get(name.replace('_', '-'), 0)))
 
     def if_(self, test, body, st):
