@@ -87,7 +87,7 @@ fn sound() {
     show(&rows, &counts, &next[..5], 1, 3);
 }
 
-// Record 6 leads back to record 1: there is an entry after every entry.
+// Record 6's next is record 1: there is an entry after every entry.
 fn cycle() {
     let rows = [1u16, 2, 3, 4, 5, 3, 0, 3, 0];
     let counts = [2u16, 2, 3, 1, 1, 1, 0, 1, 0];

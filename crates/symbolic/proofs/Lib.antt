@@ -6,6 +6,7 @@ pub mod Build
 pub mod Columns
 pub mod Patterns
 pub mod Paths
+pub mod Passing
 pub mod Touched
 pub mod Exchange
 pub mod Locality

@@ -9,13 +9,13 @@ use native.Mathlib.Omega.{arith}
 use lib.Dec.{leb}
 use lib.ListN.{length, getD, drop, length-take, length-drop}
 use lib.Seq.{ext-getD}
-use borrow.Author.Tests.{le-leb}
 use Rattle.lists.specs.Lists.{pick, Mem, first, later, rises}
-use Rattle.lists.proofs.Tests.{cases, eq-or-ne, and-both, both-and}
-use Rattle.lists.proofs.Rising.{rises-in, rises-weaken}
+use Rattle.lists.proofs.Tests.{cases, and-both}
+use Rattle.lists.proofs.Rising.{rises-in}
 use Rattle.symbolic.specs.Columns.{Column}
 use Rattle.symbolic.specs.Factor.{FactorColumn, columnAt}
 use Rattle.symbolic.specs.Batch.{isTouched, touchedFrom, entriesOf}
+use Rattle.symbolic.proofs.Passing.{passing-mem, mem-passing, passing-rises, touched-passing}
 use Rattle.workspace.specs.Regions.{cell, region}
 use Rattle.workspace.proofs.Regions.{region-cell}
 use Rattle.pool.specs.Chains.{lastOf}
@@ -41,42 +41,13 @@ touched-more fs cs i (suc n) =
     ]
 
 pub touched-in : (fs : List FactorColumn) (cs : List Column) (i n c : ℕ) → i ≤ c → c < i + n → isTouched fs cs c ≡ true → Mem c (touchedFrom fs cs i n)
-unfolding touchedFrom
-touched-in fs cs i zero c a b h = absurd (omega arith)
-touched-in fs cs i (suc n) c a b h =
-    elim (eq-or-ne i c) [
-      | inl q ↦ rw (q, h) first
-      | inr q ↦
-          let m : Mem c (touchedFrom fs cs (suc i) n) = touched-in fs cs (suc i) n c (omega arith) (omega arith) h in
-          elim (cases (isTouched fs cs i)) [ inl e ↦ rw e (later m) | inr e ↦ rw e m ]
-    ]
+touched-in fs cs i n c a b h = rw (touched-passing fs cs i n) (passing-mem (isTouched fs cs) i n c a b h)
 
 pub in-touched : (fs : List FactorColumn) (cs : List Column) (i n c : ℕ) → Mem c (touchedFrom fs cs i n) → (i ≤ c) × (c < i + n) × (isTouched fs cs c ≡ true)
-unfolding touchedFrom
-in-touched fs cs i zero c m = elim m [ ]
-in-touched fs cs i (suc n) c m =
-    elim (cases (isTouched fs cs i)) [
-      | inr z ↦
-          let t : (suc i ≤ c) × (c < suc i + n) × (isTouched fs cs c ≡ true) = in-touched fs cs (suc i) n c (rw z at m) in
-          (omega arith, omega arith, t .2)
-      | inl z ↦ go c (rw z at m) z (λ k. in-touched fs cs (suc i) n c k)
-    ]
-  where
-    go : (c : ℕ) → Mem c (i ∷ touchedFrom fs cs (suc i) n) → isTouched fs cs i ≡ true →
-        (Mem c (touchedFrom fs cs (suc i) n) → (suc i ≤ c) × (c < suc i + n) × (isTouched fs cs c ≡ true)) →
-        (i ≤ c) × (c < i + suc n) × (isTouched fs cs c ≡ true)
-    go c first z f = (omega arith, omega arith, z)
-    go c (later m) z f = let t : (suc i ≤ c) × (c < suc i + n) × (isTouched fs cs c ≡ true) = f m in (omega arith, omega arith, t .2)
+in-touched fs cs i n c m = mem-passing (isTouched fs cs) i n c (rw (touched-passing fs cs i n) at m)
 
 pub touched-rising : (fs : List FactorColumn) (cs : List Column) (i n b : ℕ) → i + n ≤ suc b → rises i b (touchedFrom fs cs i n) ≡ true
-unfolding touchedFrom rises
-touched-rising fs cs i zero b h = refl
-touched-rising fs cs i (suc n) b h =
-    let ih : rises (suc i) b (touchedFrom fs cs (suc i) n) ≡ true = touched-rising fs cs (suc i) n b (omega arith) in
-    elim (cases (isTouched fs cs i)) [
-      | inl e ↦ rw e (both-and (both-and (le-leb i i (omega arith)) (le-leb i b (omega arith))) ih)
-      | inr e ↦ rw e (rises-weaken (suc i) b i (touchedFrom fs cs (suc i) n) (omega arith) ih)
-    ]
+touched-rising fs cs i n b h = rw (touched-passing fs cs i n) (passing-rises (isTouched fs cs) i n b h)
 
 pub last-append : (r : ℕ) (xs : List ℕ) (x : ℕ) → lastOf r (xs ++ (x ∷ [])) ≡ x
 unfolding lastOf
