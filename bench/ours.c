@@ -15,7 +15,7 @@ Ran bench_run_batches(nigvalds_factor factor, NIGVALDS_CHANGED_TABLES, uint16_t 
 #define REPORT(f) touched, (f)->m, labels, (f)->m
 
 static nigvalds_factor record(const Fac *f)
-{ nigvalds_factor r = {f->m, f->n, f->F, f->C, f->ffree, f->bfree}; return r; }
+{ nigvalds_factor r = {f->m, f->n, f->F, f->C, f->ffree, f->bfree, f->grade2, f->grade3, f->grade4}; return r; }
 
 static void keep(Fac *f, nigvalds_factor r) { f->ffree = r.free; f->bfree = r.book_free; }
 

@@ -1,4 +1,4 @@
-/* A host of Nigvalds: opens a factor, adds and removes columns, asks, reads columns, and meets refusals. */
+/* A host of Nigvalds: opens a factor, adds and removes columns, asks, reads columns, meets refusals, and opens anew with limits of its own. */
 #include <inttypes.h>
 #include <stdio.h>
 
@@ -59,6 +59,18 @@ static void ask(nigvalds_factor factor) {
     printf("column 2: %" PRIu32 " entries, %" PRIu32 ":%" PRIu32 " %" PRIu32 ":%" PRIu32 "\n", r.value, list[0], list[1], list[2], list[3]);
 }
 
+/* Opens with limits, the first entries of grades 2, 3 and 4, and adds a batch. */
+static void grade(uint32_t grade2, uint32_t grade3, uint32_t grade4, const uint32_t *ids, const uint32_t *counts, const uint32_t *rows) {
+    printf("open with limits %" PRIu32 " %" PRIu32 " %" PRIu32 ": ", grade2, grade3, grade4);
+    nigvalds_opened o = nigvalds_open_in_with_limits(&tables, M, N, F, C, grade2, grade3, grade4);
+    if (o.number != NIGVALDS_ACCEPTED) {
+        printf("no %" PRIu32 ", %s\n", o.number, nigvalds_refusal_text(o.number));
+        return;
+    }
+    nigvalds_changed a = nigvalds_add_in(&tables, o.factor, ids, 3, counts, 3, rows, 6);
+    printf("%" PRIu32 " entries have grade %" PRIu32 "\n", a.entries, a.grade);
+}
+
 int main(void) {
     nigvalds_opened o = nigvalds_open_in(&tables, M, N, F + 1, C);
     printf("open with a larger F: no %" PRIu32 ", %s\n", o.number, nigvalds_refusal_text(o.number));
@@ -88,5 +100,8 @@ int main(void) {
     tables.parents[0] = 2;
     const uint32_t number = nigvalds_check_in(&tables, factor).number;
     printf("check of a damaged parent: %" PRIu32 ", %s\n", number, nigvalds_refusal_text(number));
+
+    grade(4, 8, 16, ids, counts, rows);
+    grade(4, 4, 16, ids, counts, rows);
     return 0;
 }

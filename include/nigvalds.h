@@ -31,8 +31,9 @@
  *   - whole: in proportion to m + n + F + C. Every call but a reading reads all tables through, or writes them all; a batch also pays for what it touches;
  *   - constant: a few loads.
  *
- * AFTER NUMBER 6 the tables are as they were lent: something else has written them, or the record is not theirs. No call mends them. Go back to the last good
- * copy of tables and record (one taken after an accepted call), or open anew and add the columns again; nigvalds_check says whether a copy is sound.
+ * AFTER NUMBER 6 the tables are as they were lent: something else has written them, or the record is not theirs, or its limits of the grades break the rule
+ * (a record of an older version has none: put the host's own or the default ones in). No call mends tables. Go back to the last good copy of tables and
+ * record (one taken after an accepted call), or open anew and add the columns again; nigvalds_check says whether a copy is sound.
  */
 #ifndef NIGVALDS_H
 #define NIGVALDS_H
@@ -44,7 +45,7 @@
 extern "C" {
 #endif
 
-#define NIGVALDS_VERSION "0.1.0"
+#define NIGVALDS_VERSION "0.2.0"
 
 /* ---- sizes */
 
@@ -58,11 +59,17 @@ extern "C" {
 /* F when an opening asks for 0. */
 #define NIGVALDS_DEFAULT_RECORDS(m) (16u * (m))
 
+/* The first entries of grades 2, 3 and 4 when an opening asks for 0, 0 and 0. */
+#define NIGVALDS_DEFAULT_GRADE2 256u
+#define NIGVALDS_DEFAULT_GRADE3 4096u
+#define NIGVALDS_DEFAULT_GRADE4 65536u
+
 /* W, the places of the work table; f is F itself, not 0. */
 #define NIGVALDS_WORK_PLACES(m, n, f, c) (8u * (size_t)(m) + 4u * (size_t)(f) + (size_t)(c) + (size_t)(n) + 1024u)
 
-/* ---- numbers. The first that applies is given. A refusal's other numbers are 0, and nothing lent changes except that from 6 on the first W work places are
-   zero; they are zero after an accepted call too. Numbers 8 to 14 come with the position of the column in the batch, from 1; 12 for rows left over with 0. */
+/* ---- numbers. The first that applies is given; 20 stands between 4 and 5. A refusal's other numbers are 0, and nothing lent changes but the work table: it is
+   as lent under 1 to 5 and 20, otherwise its first W places are zero, as after an accepted call. Numbers 8 to 14 come with the position of the column in the
+   batch, from 1; 12 for rows left over with 0. */
 
 enum {
     NIGVALDS_ACCEPTED = 0,
@@ -84,7 +91,8 @@ enum {
     NIGVALDS_FACTOR_FULL = 16,
     NIGVALDS_ASKED_OUTSIDE = 17,
     NIGVALDS_LIST_ENDS = 18,
-    NIGVALDS_NO_COMMAND = 19 /* the listing program alone */
+    NIGVALDS_NO_COMMAND = 19, /* the listing program alone */
+    NIGVALDS_LIMITS = 20      /* an opening alone */
 };
 
 /* What a number says, in plain words. */
@@ -110,16 +118,19 @@ static inline const char *nigvalds_refusal_text(uint32_t number) {
     case NIGVALDS_ASKED_OUTSIDE: return "a row or column asked about is outside 1 to m";
     case NIGVALDS_LIST_ENDS: return "the list ends before the answer does";
     case NIGVALDS_NO_COMMAND: return "a line is no command";
+    case NIGVALDS_LIMITS: return "a limit of the grades is below 2 or not above the limit before";
     default: return "no number of this library";
     }
 }
 
 /* ---- records and answers, by value */
 
-/* The record of sizes and free heads. It goes with the tables: each call takes the one that the call before left. */
+/* The record of sizes, free heads and limits of the grades. It goes with the tables: each call takes the one that the call before left. Limits that break the
+   rule of an opening, zeros too, are unsound in a record (6). To a record stored by version 0.1 add the default limits. */
 typedef struct nigvalds_factor {
     uint32_t m, n, f, c;
     uint32_t free, book_free;
+    uint32_t grade2, grade3, grade4; /* from so many entries on a grade is 2, 3 and 4 */
 } nigvalds_factor;
 
 /* An opening: accepted, number 0 and the record; refused, the number and a record of zeros. A refused opening's record must not replace the host's: tables and
@@ -129,8 +140,8 @@ typedef struct nigvalds_opened {
     nigvalds_factor factor;
 } nigvalds_opened;
 
-/* A batch: touched is how many columns the lists report, entries the sum of their sizes after the call, grade 1 to 4 by the entries; factor is the record
-   after the call, under a refusal the one that was given. */
+/* A batch: touched is how many columns the lists report, entries the sum of their sizes after the call, grade 1 to 4 by the entries: 1 and one more
+   for each limit that they reach. factor is the record after the call, under a refusal the one that was given. */
 typedef struct nigvalds_changed {
     uint32_t number, position;
     uint32_t touched, entries, grade;
@@ -163,8 +174,10 @@ typedef struct nigvalds_entry {
         size_t book_heads_length, const uint16_t *book_rows, size_t book_rows_length, const uint32_t *book_next, size_t book_next_length,           \
         uint32_t *work, size_t work_length
 
-/* Opens a fresh factor: writes all tables. f = 0 means 16 x m. Refusals 1 to 5. Cost: whole. */
-nigvalds_opened nigvalds_open(uint32_t m, uint32_t n, uint32_t f, uint32_t c, NIGVALDS_WRITTEN_TABLES);
+/* Opens a fresh factor: writes all tables. f = 0 means 16 x m. From grade2, grade3 and grade4 entries on a batch's grade is 2, 3 and 4; these limits stay with
+   the factor until it is opened anew. The first must be at least 2, each above the one before; three zeros mean the default ones, which the record then holds.
+   Refusals 1 to 5 and 20. Cost: whole. */
+nigvalds_opened nigvalds_open(uint32_t m, uint32_t n, uint32_t f, uint32_t c, uint32_t grade2, uint32_t grade3, uint32_t grade4, NIGVALDS_WRITTEN_TABLES);
 
 /* Adds a batch: by position, each id enters with as many of the rows not yet used as its count says. touched receives the touched columns, rising, and labels
    the largest position whose path passes through each; both need m places of 16 bits. Refusals 1 to 10 and 12 to 16. Cost: whole, and the records on its
@@ -177,7 +190,7 @@ nigvalds_changed nigvalds_add(nigvalds_factor factor, NIGVALDS_CHANGED_TABLES, u
 nigvalds_changed nigvalds_remove(nigvalds_factor factor, NIGVALDS_CHANGED_TABLES, uint16_t *touched, size_t touched_length, uint16_t *labels,
                                  size_t labels_length, const uint32_t *ids, size_t ids_length);
 
-/* Whether the tables are sound: number 0, 6 for no, or 1 to 5 where sizes or tables cannot be used; value 0. Cost: whole. */
+/* Whether the tables are sound and the record's limits keep the rule: number 0, 6 for no, or 1 to 5 where sizes or tables cannot be used; value 0. Cost: whole. */
 nigvalds_reply nigvalds_check(nigvalds_factor factor, NIGVALDS_READ_TABLES);
 
 /* The multiplicity of row i in column j, 0 when absent. Refusals 1 to 6 and 17. Cost: whole. */
@@ -240,8 +253,15 @@ typedef struct nigvalds_tables {
         (t)->work, (t)->work_length
 #define NIGVALDS_REPORT(t) (t)->touched, (t)->touched_length, (t)->labels, (t)->labels_length
 
+/* With the default limits. */
 static inline nigvalds_opened nigvalds_open_in(const nigvalds_tables *t, uint32_t m, uint32_t n, uint32_t f, uint32_t c) {
-    return nigvalds_open(m, n, f, c, NIGVALDS_PARTS(t));
+    return nigvalds_open(m, n, f, c, 0, 0, 0, NIGVALDS_PARTS(t));
+}
+
+/* With limits of the host's own. */
+static inline nigvalds_opened nigvalds_open_in_with_limits(const nigvalds_tables *t, uint32_t m, uint32_t n, uint32_t f, uint32_t c, uint32_t grade2,
+                                                           uint32_t grade3, uint32_t grade4) {
+    return nigvalds_open(m, n, f, c, grade2, grade3, grade4, NIGVALDS_PARTS(t));
 }
 
 static inline nigvalds_changed nigvalds_add_in(const nigvalds_tables *t, nigvalds_factor factor, const uint32_t *ids, size_t ids_length,

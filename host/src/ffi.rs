@@ -1,7 +1,7 @@
 //! The library's functions as `include/nigvalds.h` declares them; `tools/check-header` compares both with crates/nigvalds/src.
 //! A slice crosses as a pointer and a length in places; structs cross by value.
 
-/// The record of sizes and free heads. It goes with the tables.
+/// The record of sizes, free heads and limits of the grades. It goes with the tables.
 #[repr(C)]
 #[derive(Clone, Copy, Debug, Default, PartialEq, Eq)]
 pub struct Record {
@@ -17,6 +17,12 @@ pub struct Record {
     pub free: u32,
     /// The first free book record, 0 for none.
     pub book_free: u32,
+    /// From so many entries on the grade is 2.
+    pub grade2: u32,
+    /// From so many entries on the grade is 3.
+    pub grade3: u32,
+    /// From so many entries on the grade is 4.
+    pub grade4: u32,
 }
 
 /// What an opening answers: number 0 and the record, or the refusal's number and a record of zeros.
@@ -41,7 +47,7 @@ pub struct Changed {
     pub touched: u32,
     /// The sum of their sizes after the call.
     pub entries: u32,
-    /// 1 to 4, by the entries; 0 where it is refused.
+    /// 1 to 4, by the entries and the limits in the record; 0 where it is refused.
     pub grade: u32,
     /// The record after the call; where it is refused, the one that was given.
     pub record: Record,
@@ -97,7 +103,7 @@ macro_rules! pointer {
 }
 
 declare! {
-    fn nigvalds_open(m: u32, n: u32, f: u32, c: u32; written written;) -> Opened;
+    fn nigvalds_open(m: u32, n: u32, f: u32, c: u32, grade2: u32, grade3: u32, grade4: u32; written written;) -> Opened;
     fn nigvalds_add(factor: Record; read written;
         touched: *mut u16, touched_length: usize, labels: *mut u16, labels_length: usize, ids: *const u32, ids_length: usize,
         row_counts: *const u32, row_counts_length: usize, row_list: *const u32, row_list_length: usize) -> Changed;

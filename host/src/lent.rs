@@ -8,6 +8,31 @@ pub fn work_places(m: u32, n: u32, f: u32, c: u32) -> usize {
     8 * m as usize + 4 * f as usize + c as usize + n as usize + 1024
 }
 
+/// The limits of the grades. The first must be at least 2 and each above the one before, or an opening is refused by 20; three zeros mean the default ones.
+///
+/// ```
+/// # use nigvalds::{Factor, Limits};
+/// let limits = Limits { grade4: 100_000, ..Limits::default() };
+/// assert_eq!(Factor::open_with_limits(5, 8, 0, 16, limits)?.limits(), limits);
+/// # Ok::<(), nigvalds::Refusal>(())
+/// ```
+#[derive(Clone, Copy, Debug, PartialEq, Eq, Hash)]
+pub struct Limits {
+    /// From so many entries on the grade is 2.
+    pub grade2: u32,
+    /// From so many entries on the grade is 3.
+    pub grade3: u32,
+    /// From so many entries on the grade is 4.
+    pub grade4: u32,
+}
+
+/// Those that the library takes for three zeros: 256, 4,096 and 65,536.
+impl Default for Limits {
+    fn default() -> Limits {
+        Limits { grade2: 256, grade3: 4096, grade4: 65536 }
+    }
+}
+
 /// The eight tables; what belongs to number k stands at place k - 1.
 #[derive(Clone, Debug, Default, PartialEq, Eq)]
 pub struct Tables {
@@ -73,9 +98,10 @@ impl Tables {
         }
     }
 
-    /// Opens a fresh factor: writes all tables. f = 0 means 16 × m.
-    pub fn open(&mut self, m: u32, n: u32, f: u32, c: u32, work: &mut [u32]) -> Opened {
-        written!(self.heads, self.parents, self.rows, self.counts, self.next, self.book_heads, self.book_rows, self.book_next, work; nigvalds_open(m, n, f, c))
+    /// Opens a fresh factor: writes all tables. f = 0 means 16 × m, three zeros for limits mean the default ones.
+    pub fn open(&mut self, m: u32, n: u32, f: u32, c: u32, limits: Limits, work: &mut [u32]) -> Opened {
+        written!(self.heads, self.parents, self.rows, self.counts, self.next, self.book_heads, self.book_rows, self.book_next, work;
+            nigvalds_open(m, n, f, c, limits.grade2, limits.grade3, limits.grade4))
     }
 
     /// Adds a batch: by position, each id with as many of the rows not yet used as its count says.
@@ -91,7 +117,7 @@ impl Tables {
             nigvalds_remove(record) ids.as_ptr(), ids.len())
     }
 
-    /// Whether the tables are sound: number 0, or 6 for no; 1 to 5 where the sizes or tables cannot be used.
+    /// Whether the tables are sound and the record's limits keep the rule: number 0, or 6 for no; 1 to 5 where the sizes or tables cannot be used.
     pub fn check(&self, record: Record, work: &mut [u32]) -> Reply {
         read!(self, work; nigvalds_check(record))
     }

@@ -21,6 +21,7 @@ pub mod lent;
 mod refusal;
 
 pub use columns::{Column, Columns, Entries, Entry, Path};
+pub use lent::Limits;
 pub use refusal::Refusal;
 
 use lent::{Changed, Record, Tables};
@@ -53,7 +54,7 @@ pub struct Report<'a> {
     pub labels: &'a [u16],
     /// The sum of the sizes of the touched columns after the call.
     pub entries: u32,
-    /// 1 to 4, by the entries.
+    /// 1 to 4, by the entries: 1, and one more for each of the factor's [`Limits`] that they reach.
     pub grade: u32,
 }
 
@@ -67,8 +68,14 @@ impl Factor {
     /// The largest C.
     pub const MOST_BOOKED: u32 = 262144;
 
-    /// A fresh factor; f = 0 means 16 × m.
+    /// A fresh factor with the default limits of the grades; f = 0 means 16 × m.
     pub fn open(m: u32, n: u32, f: u32, c: u32) -> Result<Factor, Refusal> {
+        Factor::open_with_limits(m, n, f, c, Limits::default())
+    }
+
+    /// A fresh factor with these limits, which it keeps until it is opened anew; three zeros mean the default ones. Limits that break the rule are refused by
+    /// [`Refusal::Limits`]. f = 0 means 16 × m.
+    pub fn open_with_limits(m: u32, n: u32, f: u32, c: u32, limits: Limits) -> Result<Factor, Refusal> {
         let places = |x: u32, most: u32| x.min(most);
         let (rows, ids, booked) = (places(m, Self::MOST_ROWS), places(n, Self::MOST_IDS), places(c, Self::MOST_BOOKED));
         let records = if f == 0 { 16 * rows } else { places(f, Self::MOST_RECORDS) };
@@ -79,13 +86,19 @@ impl Factor {
             touched: vec![0; rows as usize],
             labels: vec![0; rows as usize],
         };
-        factor.reopen(m, n, f, c)?;
+        factor.reopen_with_limits(m, n, f, c, limits)?;
         Ok(factor)
     }
 
-    /// Opens anew in the tables there are, without a column; where they are too short for the sizes, it is refused and the factor stays.
+    /// Opens anew in the tables there are, without a column and with the default limits. Where it is refused, for the sizes or since the tables are too short
+    /// for them, the factor stays.
     pub fn reopen(&mut self, m: u32, n: u32, f: u32, c: u32) -> Result<(), Refusal> {
-        let opened = self.tables.open(m, n, f, c, self.work.get_mut());
+        self.reopen_with_limits(m, n, f, c, Limits::default())
+    }
+
+    /// Opens anew likewise, with these limits, three zeros for the default ones; limits that break the rule are refused too.
+    pub fn reopen_with_limits(&mut self, m: u32, n: u32, f: u32, c: u32, limits: Limits) -> Result<(), Refusal> {
+        let opened = self.tables.open(m, n, f, c, limits, self.work.get_mut());
         answered(opened.number, 0)?;
         self.record = opened.record;
         Ok(())
@@ -157,7 +170,13 @@ impl Factor {
         Columns::new(&self.tables, self.record.m)
     }
 
-    /// The record of sizes and free heads.
+    /// The limits of its grades.
+    pub fn limits(&self) -> Limits {
+        let Record { grade2, grade3, grade4, .. } = self.record;
+        Limits { grade2, grade3, grade4 }
+    }
+
+    /// The record of sizes, free heads and limits.
     pub fn record(&self) -> Record {
         self.record
     }

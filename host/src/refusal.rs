@@ -83,6 +83,7 @@ refusals! {
     17 AskedOutside "a row or column asked about is outside 1 to m";
     18 ListEnds "the list ends before the answer does";
     19 NoCommand "a line is no command";
+    20 Limits "a limit of the grades is below 2 or not above the limit before";
 }
 
 impl fmt::Display for Refusal {

@@ -9,8 +9,8 @@ use nigvalds::lent::{Record, Tables};
 // A world with some columns.
 fn filled(seed: u64) -> (World, Random) {
     let mut random = Random::new(seed);
-    let sizes = random.sizes();
-    let mut world = World::open(sizes, &mut random);
+    let (sizes, limits) = (random.sizes(), random.limits());
+    let mut world = World::open(sizes, limits, &mut random);
     for _ in 0..12 {
         let (ids, counts, rows) = random.addition(sizes, &world.live);
         world.add(&ids, &counts, &rows);
@@ -27,7 +27,7 @@ fn other(random: &mut Random, was: u32, most: u32) -> u32 {
     match random.within(1, 5) {
         1 => was.wrapping_add(1),
         2 => was.wrapping_sub(1),
-        3 => random.within(0, most + 1),
+        3 => random.within(0, most.saturating_add(1)),
         4 => 0,
         _ => random.next() as u32,
     }
@@ -43,10 +43,10 @@ fn change32(random: &mut Random, table: &mut [u32], most: u32) {
     table[k] = other(random, table[k], most);
 }
 
-// Changes one place of the tables, perhaps one beyond the sizes, or a free head.
+// Changes one place of the tables, perhaps one beyond the sizes, a free head or a limit.
 fn damage(random: &mut Random, record: &mut Record, t: &mut Tables) {
     let r = *record;
-    match random.within(1, 10) {
+    match random.within(1, 13) {
         1 => change32(random, &mut t.heads, r.f),
         2 => change16(random, &mut t.parents, r.m),
         3 => change16(random, &mut t.rows, r.m),
@@ -56,7 +56,10 @@ fn damage(random: &mut Random, record: &mut Record, t: &mut Tables) {
         7 => change16(random, &mut t.book_rows, r.m),
         8 => change32(random, &mut t.book_next, r.c),
         9 => record.free = other(random, r.free, r.f),
-        _ => record.book_free = other(random, r.book_free, r.c),
+        10 => record.book_free = other(random, r.book_free, r.c),
+        11 => record.grade2 = other(random, r.grade2, r.grade3),
+        12 => record.grade3 = other(random, r.grade3, r.grade4),
+        _ => record.grade4 = other(random, r.grade4, r.grade4),
     }
 }
 
@@ -93,6 +96,7 @@ fn calls_agree(record: Record, t: &mut Tables, w: &World) -> bool {
         assert_eq!(t.remove(record, &mut work, &mut touched, &mut labels, &[1]).number, 6);
         assert!(*t == before && touched == w.touched && labels == w.labels && list.iter().all(|x| *x == 5));
     }
+    assert_eq!(work, w.work);
     sound
 }
 

@@ -4,29 +4,37 @@ mod model;
 use model::random::Random;
 use model::world::World;
 
+// An opening, a removal or an addition. Gives the number.
+fn step(world: &mut World, random: &mut Random) -> u32 {
+    if random.once_in(10) {
+        let (sizes, limits) = (random.any_sizes(), random.any_limits());
+        return world.reopen(sizes, limits);
+    }
+    if random.once_in(3) {
+        let ids = random.removal(world.sizes, &world.live);
+        return world.remove(&ids).0;
+    }
+    let (ids, counts, rows) = random.addition(world.sizes, &world.live);
+    world.add(&ids, &counts, &rows).0
+}
+
 #[test]
 fn random_histories() {
-    let mut numbers = [0; 19];
+    let mut numbers = [0; 21];
     for seed in 0..400 {
         let mut random = Random::new(seed);
-        let sizes = random.sizes();
-        let mut world = World::open(sizes, &mut random);
+        let (sizes, limits) = (random.sizes(), random.limits());
+        let mut world = World::open(sizes, limits, &mut random);
         for _ in 0..60 {
-            let number = if random.once_in(3) {
-                let ids = random.removal(sizes, &world.live);
-                world.remove(&ids)
-            } else {
-                let (ids, counts, rows) = random.addition(sizes, &world.live);
-                world.add(&ids, &counts, &rows)
-            };
-            numbers[number.0 as usize] += 1;
+            let number = step(&mut world, &mut random);
+            numbers[number as usize] += 1;
             if random.once_in(10) {
                 world.ask();
             }
         }
         world.ask();
     }
-    for number in [0, 7, 8, 9, 10, 11, 12, 13, 14, 15, 16] {
+    for number in [0, 1, 2, 3, 4, 5, 7, 8, 9, 10, 11, 12, 13, 14, 15, 16, 20] {
         assert!(numbers[number] > 20, "number {number} came up {} times", numbers[number]);
     }
 }
@@ -37,7 +45,8 @@ fn removing_every_column_gives_the_fresh_patterns() {
         let mut random = Random::new(seed);
         let mut sizes = random.sizes();
         sizes.f = sizes.m * (sizes.m + 1) / 2;
-        let mut world = World::open(sizes, &mut random);
+        let limits = random.limits();
+        let mut world = World::open(sizes, limits, &mut random);
         let fresh = world.factor();
         for _ in 0..10 {
             let (ids, counts, rows) = random.addition(sizes, &world.live);

@@ -2,7 +2,7 @@
 mod model;
 
 use model::random::Random;
-use model::{factor, path, report, size, Live, Pattern};
+use model::{factor, path, report, size, Live, Pattern, OLD_LIMITS};
 use nigvalds::{Factor, Refusal};
 
 const M: u32 = 4096;
@@ -30,7 +30,7 @@ fn largest_batch() {
     let live: Live = columns.iter().enumerate().map(|(k, rows)| (16321 + k as u32, rows.clone())).collect();
     let expected = factor(M, &live);
     let starts: Vec<u32> = columns.iter().map(|rows| rows[0]).collect();
-    let said = report(&expected, &expected, &starts);
+    let said = report(OLD_LIMITS, &expected, &expected, &starts);
     let mut f = largest();
     let r = f.add(&batch(16321, &columns)).unwrap();
     assert_eq!((r.touched, r.labels, r.entries, r.grade), (&said.touched[..], &said.labels[..], said.entries, 4));

@@ -1,11 +1,11 @@
-//! Every number, 1 to 18, with its position; and the order among them.
+//! Every number, 1 to 18, with its position; and the order among them. The limits of the grades, with 20, have tests of their own.
 mod model;
 
 use model::random::Random;
 use model::world::World;
-use model::Sizes;
+use model::{Sizes, OLD_LIMITS};
 use nigvalds::lent::{work_places, Record, Tables};
-use nigvalds::{Factor, Refusal};
+use nigvalds::{Factor, Limits, Refusal};
 
 // The state of the listing's example: {1, 3}, {1, 4}, {2, 3} under ids 1 to 3.
 fn example() -> Factor {
@@ -59,6 +59,7 @@ fn short_tables_and_lists() {
     let s = Sizes { m: 5, n: 8, f: 9, c: 16 };
     let full = Tables::for_sizes(s.m, s.n, s.f, s.c);
     let places = work_places(s.m, s.n, s.f, s.c);
+    let open = |t: &mut Tables, places: usize| t.open(s.m, s.n, s.f, s.c, Limits::default(), &mut vec![1; places]);
     let cuts: [fn(&mut Tables); 8] = [
         |t| t.heads.truncate(4),
         |t| t.parents.truncate(4),
@@ -73,12 +74,12 @@ fn short_tables_and_lists() {
         let mut t = full.clone();
         cut(&mut t);
         let before = t.clone();
-        assert_eq!(t.open(s.m, s.n, s.f, s.c, &mut vec![1; places]).number, 5);
+        assert_eq!(open(&mut t, places).number, 5);
         assert_eq!(t, before);
     }
     let mut t = full;
-    assert_eq!(t.open(s.m, s.n, s.f, s.c, &mut vec![1; places - 1]).number, 5);
-    let record = t.open(s.m, s.n, s.f, s.c, &mut vec![1; places]).record;
+    assert_eq!(open(&mut t, places - 1).number, 5);
+    let record = open(&mut t, places).record;
     let mut work = vec![1; places];
     for (touched, labels, number) in [(4, 5, 5), (5, 4, 5), (5, 5, 7)] {
         assert_eq!(t.add(record, &mut work, &mut vec![0; touched], &mut vec![0; labels], &[], &[], &[]).number, number);
@@ -157,17 +158,17 @@ fn questions() {
     }
 }
 
-// The numbers as a type: 1 to 19, there and back, each with words of its own.
+// The numbers as a type: 1 to 20, there and back, each with words of its own.
 #[test]
 fn numbers_of_the_type() {
     let mut words = std::collections::BTreeSet::new();
-    for number in 1..=19 {
+    for number in 1..=20 {
         let refusal = Refusal::of(number, 3).unwrap();
         assert_eq!(refusal.number(), number);
         assert_eq!(refusal.position(), if (8..=14).contains(&number) { 3 } else { 0 });
         words.insert(refusal.to_string());
     }
-    assert_eq!(words.len(), 19);
+    assert_eq!(words.len(), 20);
     assert_eq!(Refusal::of(0, 0), None);
     assert_eq!(Refusal::RowOrder { position: 2 }.to_string(), "refused by 14 at position 2: a row is not above the row before");
 }
@@ -175,7 +176,7 @@ fn numbers_of_the_type() {
 // A number that this package does not know is an error like any other.
 #[test]
 fn unknown_numbers() {
-    for number in [20, u32::MAX] {
+    for number in [21, u32::MAX] {
         let refusal = Refusal::of(number, 7).unwrap();
         assert_eq!((refusal.number(), refusal.position()), (number, 7));
         assert_eq!(refusal.to_string(), format!("refused by {number} at position 7: no number of this library"));
@@ -186,7 +187,7 @@ fn unknown_numbers() {
 #[test]
 fn longest_columns() {
     let rows: Vec<u32> = (1..=257).collect();
-    let mut world = World::open(Sizes { m: 257, n: 2, f: 65536, c: 600 }, &mut Random::new(1));
+    let mut world = World::open(Sizes { m: 257, n: 2, f: 65536, c: 600 }, OLD_LIMITS, &mut Random::new(1));
     assert_eq!(world.add(&[1], &[256], &rows[..256]), (0, 0));
     assert_eq!(world.add(&[2], &[257], &rows), (12, 1));
 }

@@ -9,6 +9,7 @@ use lib.Dec.{leb}
 use lib.ListN.{length, drop, length-drop}
 use Rattle.symbolic.specs.Columns.{Column, Register}
 use Rattle.symbolic.specs.Factor.{factorOf, sizeSum}
+use Rattle.symbolic.specs.Grades.{Limits}
 use Rattle.pool.specs.Chains.{chain}
 use Rattle.tables.specs.Tables.{Tables}
 use Rattle.calls.specs.Refusals.{Refusal, refusal, accepted, isAccepted, orElse, unless, batchOf, addRefusal}
@@ -38,9 +39,9 @@ batch-listed (i ∷ is) (n ∷ ns) rs e h =
 
 -- ---- the verdict
 
-module _ {t : Tables} {f g : ℕ} {w : List ℕ} (can : CanFind (cutWorld t f g) w) (is ns rs : List ℕ) where
+module _ {t : Tables} {lim : Limits} {f g : ℕ} {w : List ℕ} (can : CanFind (cutWorld t lim f g) w) (is ns rs : List ℕ) where
   abbrev R : List Column
-  R = bookedIn (cutWorld t f g) .columns
+  R = bookedIn (cutWorld t lim f g) .columns
 
   abbrev m : ℕ
   m = length (t .heads)
@@ -49,7 +50,7 @@ module _ {t : Tables} {f g : ℕ} {w : List ℕ} (can : CanFind (cutWorld t f g)
   abbrev pub add-rest : Refusal
   add-rest = unless (leb (sizeSum (factorOf m (R ++ batchOf is ns rs))) (length (t .next))) 16 0
 
-  pub add-number : numberFor (cutWorld t f g) (adding is ns rs) ≡ orElse (addFound m (bookWhole t g) is ns rs) add-rest
+  pub add-number : numberFor (cutWorld t lim f g) (adding is ns rs) ≡ orElse (addFound m (bookWhole t g) is ns rs) add-rest
   add-number =
       let r : List Column → Register = λ cs. record { m = m; columns = cs } in
       let q : List Column → Refusal = λ cs. unless (leb (sizeSum (factorOf m (cs ++ batchOf is ns rs))) (length (t .next))) 16 0 in
@@ -59,14 +60,14 @@ module _ {t : Tables} {f g : ℕ} {w : List ℕ} (can : CanFind (cutWorld t f g)
 
   -- refused by 7 to 15
   pub add-refused : {x : Verdict} → verdictNumber x ≡ addFound (length (t .heads)) (bookWhole t g) is ns rs → isAccepted (verdictNumber x) ≡ false →
-      Judged (cutWorld t f g) (adding is ns rs) w w x
+      Judged (cutWorld t lim f g) (adding is ns rs) w w x
   add-refused {x} e h =
       refused-judged (sym (add-number ∙ ap (λ (y : Refusal). orElse y add-rest) (sym e) ∙ or-first (verdictNumber x) add-rest h)) h refl
 
   -- ---- not refused by 7 to 15
 
   module _ (found : isAccepted (addFound (length (t .heads)) (bookWhole t g) is ns rs) ≡ true) where
-    pub add-can : CanAdd (storedWhole t f) ns rs w (bookedIn (cutWorld t f g) .columns) (batchOf is ns rs)
+    pub add-can : CanAdd (storedWhole t f) ns rs w (bookedIn (cutWorld t lim f g) .columns) (batchOf is ns rs)
     add-can =
         let a : AddReady m (bookWhole t g) is ns rs = add-ready m (bookWhole t g) is ns rs found in
         record {
@@ -74,20 +75,20 @@ module _ {t : Tables} {f g : ℕ} {w : List ℕ} (can : CanFind (cutWorld t f g)
           listed = batch-listed is ns rs (a .counted) (omega (arith, a .used));
         }
 
-    number-full : numberFor (cutWorld t f g) (adding is ns rs) ≡ add-rest
+    number-full : numberFor (cutWorld t lim f g) (adding is ns rs) ≡ add-rest
     number-full = add-number ∙ or-second (addFound m (bookWhole t g) is ns rs) add-rest found
 
     module _ {w′ : List ℕ} {z : Bool} {first count entries used : ℕ}
-        (p : AddPlanned (storedWhole t f) (bookedIn (cutWorld t f g) .columns) (batchOf is ns rs) w w′ z first count entries used) where
+        (p : AddPlanned (storedWhole t f) (bookedIn (cutWorld t lim f g) .columns) (batchOf is ns rs) w w′ z first count entries used) where
       -- it fits
       pub add-planned : z ≡ true → {x : Verdict} → verdictNumber x ≡ accepted → x .plan .first .0 ≡ first → x .plan .count ≡ count → x .plan .entries ≡ entries → x .plan .used ≡ used →
-          Judged (cutWorld t f g) (adding is ns rs) w w′ x
+          Judged (cutWorld t lim f g) (adding is ns rs) w w′ x
       add-planned h {x} e q1 q2 q3 q4 =
           planned-judged (e ∙ sym (number-full ∙ unless-true (leb (sizeSum (factorOf m (R ++ batchOf is ns rs))) (length (t .next))) 16 0 (sym (p .fits-is) ∙ h)))
-          (ap isAccepted e) (record { room = length (chain (t .next) f); room-fits = omega arith; plan = rw (q1, q2, q3, q4, touched-adding (bookedIn (cutWorld t f g)) is ns rs) (p .plan h) })
+          (ap isAccepted e) (record { room = length (chain (t .next) f); room-fits = omega arith; plan = rw (q1, q2, q3, q4, touched-adding (bookedIn (cutWorld t lim f g)) is ns rs) (p .plan h) })
 
       -- it does not: 16
-      pub add-full : z ≡ false → {x : Verdict} → verdictNumber x ≡ refusal 16 0 → Judged (cutWorld t f g) (adding is ns rs) w w′ x
+      pub add-full : z ≡ false → {x : Verdict} → verdictNumber x ≡ refusal 16 0 → Judged (cutWorld t lim f g) (adding is ns rs) w w′ x
       add-full h {x} e =
           refused-judged (e ∙ sym (number-full ∙ unless-false (leb (sizeSum (factorOf m (R ++ batchOf is ns rs))) (length (t .next))) 16 0 (sym (p .fits-is) ∙ h)))
           (ap isAccepted e) (p .unchanged h)

@@ -9,6 +9,7 @@ use lib.ListN.{length}
 use Rattle.lists.specs.Lists.{sumOf}
 use Rattle.symbolic.specs.Columns.{Column}
 use Rattle.symbolic.specs.Change.{Bag, without}
+use Rattle.symbolic.specs.Grades.{Limits}
 use Rattle.pool.specs.Chains.{chain}
 use Rattle.book.specs.Book as book
 use Rattle.tables.specs.Tables.{Tables}
@@ -36,8 +37,8 @@ total-is (n ∷ ns) = ap (λ (k : ℕ). n + k) (total-is ns)
 
 -- ---- an addition
 
-module _ {t : Tables} {f g : ℕ} {w : List ℕ} (can : CanFind (cutWorld t f g) w) (is ns rs : List ℕ)
-    (taken : isAccepted (numberFor (cutWorld t f g) (adding is ns rs)) ≡ true) where
+module _ {t : Tables} {lim : Limits} {f g : ℕ} {w : List ℕ} (can : CanFind (cutWorld t lim f g) w) (is ns rs : List ℕ)
+    (taken : isAccepted (numberFor (cutWorld t lim f g) (adding is ns rs)) ≡ true) where
   pub enter-can : CanEnter (length (t .heads)) (bookWhole t g) is ns rs
   enter-can =
       let m : ℕ = length (t .heads) in
@@ -59,7 +60,7 @@ module _ {t : Tables} {f g : ℕ} {w : List ℕ} (can : CanFind (cutWorld t f g)
       }
 
   pub entered-after : {after : book.Book} → Entered (length (t .heads)) (bookWhole t g) is ns rs after →
-      BookAfter (length (t .heads)) (bookWhole t g) (effect (bookedIn (cutWorld t f g)) (adding is ns rs) .register .columns) is after
+      BookAfter (length (t .heads)) (bookWhole t g) (effect (bookedIn (cutWorld t lim f g)) (adding is ns rs) .register .columns) is after
   entered-after {after} e =
       record {
         sized = e .sized;
@@ -72,8 +73,8 @@ module _ {t : Tables} {f g : ℕ} {w : List ℕ} (can : CanFind (cutWorld t f g)
 
 -- ---- a removal
 
-module _ {t : Tables} {f g : ℕ} {w : List ℕ} (can : CanFind (cutWorld t f g) w) (is : List ℕ)
-    (taken : isAccepted (numberFor (cutWorld t f g) (removing is)) ≡ true) where
+module _ {t : Tables} {lim : Limits} {f g : ℕ} {w : List ℕ} (can : CanFind (cutWorld t lim f g) w) (is : List ℕ)
+    (taken : isAccepted (numberFor (cutWorld t lim f g) (removing is)) ≡ true) where
   pub leave-can : CanLeave (length (t .heads)) (bookWhole t g) is
   leave-can =
       let m : ℕ = length (t .heads) in
@@ -82,7 +83,7 @@ module _ {t : Tables} {f g : ℕ} {w : List ℕ} (can : CanFind (cutWorld t f g)
       record { sized = can .book-rows; sound = book-sound can; distinct = x .distinct; named = x .named; booked = x .booked }
 
   pub left-after : {after : book.Book} → Left (length (t .heads)) (bookWhole t g) is after →
-      BookAfter (length (t .heads)) (bookWhole t g) (effect (bookedIn (cutWorld t f g)) (removing is) .register .columns) is after
+      BookAfter (length (t .heads)) (bookWhole t g) (effect (bookedIn (cutWorld t lim f g)) (removing is) .register .columns) is after
   left-after {after} e =
       record {
         sized = e .sized;

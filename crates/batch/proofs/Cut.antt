@@ -10,6 +10,7 @@ use lib.Seq.{take-all}
 use Rattle.lists.specs.Lists.{all, noRepeats}
 use Rattle.symbolic.specs.Columns.{Column, fitsRows}
 use Rattle.symbolic.specs.Change.{idsOf}
+use Rattle.symbolic.specs.Grades.{Limits}
 use Rattle.workspace.specs.Regions.{IsZero}
 use Rattle.book.specs.Book as book
 use Rattle.book.proofs.Columns.{columns-count, ids-distinct}
@@ -25,8 +26,8 @@ use Rattle.batch.specs.Parts.{storedWhole, bookWhole}
 
 -- ---- read whole
 
-pub stored-whole : (t : Tables) (f g : ℕ) → Sized (storedWhole t f) → storedIn (cutWorld t f g .state) t ≡ storedWhole t f
-stored-whole t f g z = λ i.
+pub stored-whole : (t : Tables) (lim : Limits) (f g : ℕ) → Sized (storedWhole t f) → storedIn (cutWorld t lim f g .state) t ≡ storedWhole t f
+stored-whole t lim f g z = λ i.
     record {
       heads = take-all (length (t .heads)) (t .heads) (omega arith) i;
       parents = take-all (length (t .heads)) (t .parents) (omega (arith, z .parents-long)) i;
@@ -36,8 +37,8 @@ stored-whole t f g z = λ i.
       free = f;
     }
 
-pub book-whole : (t : Tables) (f g : ℕ) → book.Sized (bookWhole t g) → bookIn (cutWorld t f g .state) t ≡ bookWhole t g
-book-whole t f g z = λ i.
+pub book-whole : (t : Tables) (lim : Limits) (f g : ℕ) → book.Sized (bookWhole t g) → bookIn (cutWorld t lim f g .state) t ≡ bookWhole t g
+book-whole t lim f g z = λ i.
     record {
       heads = take-all (length (t .bookHeads)) (t .bookHeads) (omega arith) i;
       rows = take-all (length (t .bookNext)) (t .bookRows) (omega arith) i;
@@ -45,43 +46,43 @@ book-whole t f g z = λ i.
       free = g;
     }
 
-module _ {t : Tables} {f g : ℕ} {w : List ℕ} (can : CanFind (cutWorld t f g) w) where
+module _ {t : Tables} {lim : Limits} {f g : ℕ} {w : List ℕ} (can : CanFind (cutWorld t lim f g) w) where
   pub sizes-are : InRange (cutSizes t)
   sizes-are = sizes-facts (cutSizes t) (ap isAccepted (can .in-range))
 
   pub stored-sized : Sized (storedWhole t f)
   stored-sized = record { parents-long = can .parents; rows-long = can .rows; counts-long = can .counts }
 
-  pub stored-cut : storedIn (cutWorld t f g .state) t ≡ storedWhole t f
-  stored-cut = stored-whole t f g stored-sized
+  pub stored-cut : storedIn (cutWorld t lim f g .state) t ≡ storedWhole t f
+  stored-cut = stored-whole t lim f g stored-sized
 
-  pub book-cut : bookIn (cutWorld t f g .state) t ≡ bookWhole t g
-  book-cut = book-whole t f g (can .book-rows)
+  pub book-cut : bookIn (cutWorld t lim f g .state) t ≡ bookWhole t g
+  book-cut = book-whole t lim f g (can .book-rows)
 
-  pub columns-cut : bookedIn (cutWorld t f g) .columns ≡ book.columnsIn (bookWhole t g)
+  pub columns-cut : bookedIn (cutWorld t lim f g) .columns ≡ book.columnsIn (bookWhole t g)
   columns-cut = ap book.columnsIn book-cut
 
   -- ---- sound
 
-  pub stored-sound : isSoundFor (bookedIn (cutWorld t f g) .columns) (storedWhole t f) ≡ true
+  pub stored-sound : isSoundFor (bookedIn (cutWorld t lim f g) .columns) (storedWhole t f) ≡ true
   stored-sound =
-      subst (λ (s : Stored). isSoundFor (bookedIn (cutWorld t f g) .columns) s ≡ true) stored-cut (sound-stored (cutWorld t f g .state) t (can .sound))
+      subst (λ (s : Stored). isSoundFor (bookedIn (cutWorld t lim f g) .columns) s ≡ true) stored-cut (sound-stored (cutWorld t lim f g .state) t (can .sound))
 
   pub book-sound : book.isSound (length (t .heads)) (bookWhole t g) ≡ true
-  book-sound = subst (λ (b : book.Book). book.isSound (length (t .heads)) b ≡ true) book-cut (sound-book (cutWorld t f g .state) t (can .sound))
+  book-sound = subst (λ (b : book.Book). book.isSound (length (t .heads)) b ≡ true) book-cut (sound-book (cutWorld t lim f g .state) t (can .sound))
 
   -- ---- the register: its columns fit, have distinct ids, and are at most n
 
-  pub columns-fit : all (book.columnFits (length (t .heads))) (bookedIn (cutWorld t f g) .columns) ≡ true
-  columns-fit = sound-fits (cutWorld t f g .state) t (can .sound)
+  pub columns-fit : all (book.columnFits (length (t .heads))) (bookedIn (cutWorld t lim f g) .columns) ≡ true
+  columns-fit = sound-fits (cutWorld t lim f g .state) t (can .sound)
 
-  pub columns-rise : all (fitsRows (length (t .heads))) (bookedIn (cutWorld t f g) .columns) ≡ true
-  columns-rise = sound-rows (cutWorld t f g .state) t (can .sound)
+  pub columns-rise : all (fitsRows (length (t .heads))) (bookedIn (cutWorld t lim f g) .columns) ≡ true
+  columns-rise = sound-rows (cutWorld t lim f g .state) t (can .sound)
 
-  pub columns-distinct : noRepeats (idsOf (bookedIn (cutWorld t f g) .columns)) ≡ true
-  columns-distinct = ids-distinct (bookIn (cutWorld t f g .state) t)
+  pub columns-distinct : noRepeats (idsOf (bookedIn (cutWorld t lim f g) .columns)) ≡ true
+  columns-distinct = ids-distinct (bookIn (cutWorld t lim f g .state) t)
 
-  pub columns-few : length (bookedIn (cutWorld t f g) .columns) ≤ 16384
+  pub columns-few : length (bookedIn (cutWorld t lim f g) .columns) ≤ 16384
   columns-few = omega (arith, ap length columns-cut, columns-count (bookWhole t g), sizes-are .n-high)
 
   -- ---- the work table
@@ -95,7 +96,7 @@ module _ {t : Tables} {f g : ℕ} {w : List ℕ} (can : CanFind (cutWorld t f g)
   -- ---- a batch of 1 to 64 columns that fit can be planned
 
   pub plan-can : (W : List Column) → all (book.columnFits (length (t .heads))) W ≡ true → 1 ≤ length W → length W ≤ 64 →
-      CanPlan (storedWhole t f) (bookedIn (cutWorld t f g) .columns) W w
+      CanPlan (storedWhole t f) (bookedIn (cutWorld t lim f g) .columns) W w
   plan-can W fits some few =
       record {
         sized = stored-sized;

@@ -11,11 +11,13 @@ use Rattle.lists.proofs.Tests.{both-and}
 use Rattle.symbolic.specs.Columns.{Column, Register}
 use Rattle.symbolic.specs.Factor.{factorOf, factorFor, columnAt}
 use Rattle.symbolic.specs.Change.{Bag}
+use Rattle.symbolic.specs.Grades.{Limits}
 use Rattle.book.specs.Book as book
 use Rattle.tables.specs.Stored.{Stored, Sized, isSoundFor}
 use Rattle.tables.specs.Stays.{ColumnStays, EntriesKeep, Beyond}
 use Rattle.tables.specs.Tables.{Tables, storedIn, bookIn, isSound}
 use Rattle.tables.proofs.Stored.{sound-bag}
+use Rattle.tables.proofs.Tables.{sound-limits}
 use Rattle.calls.specs.Refusals.{isAccepted}
 use Rattle.calls.specs.Calls.{Change}
 use Rattle.calls.specs.Changes.{effect, touchedBy, labelled}
@@ -62,17 +64,17 @@ beyond-cut q = beyond-at refl q
 
 -- ---- the plan's writing
 
-module _ {t : Tables} {f g : ℕ} {k : Change} {w w′ a b : List ℕ} {first used : ℕ}
-    (c : CanWriteBatch (cutWorld t f g) k w w′ a b first used) where
+module _ {t : Tables} {lim : Limits} {f g : ℕ} {k : Change} {w w′ a b : List ℕ} {first used : ℕ}
+    (c : CanWriteBatch (cutWorld t lim f g) k w w′ a b first used) where
   abbrev r : Register
-  r = bookedIn (cutWorld t f g)
+  r = bookedIn (cutWorld t lim f g)
 
-  abbrev find : CanFind (cutWorld t f g) w
+  abbrev find : CanFind (cutWorld t lim f g) w
   find = c .can .find
 
   pub write-can :
-      CanWrite (storedWhole t f) (bookedIn (cutWorld t f g) .columns) (effect (bookedIn (cutWorld t f g)) k .register .columns)
-      (effect (bookedIn (cutWorld t f g)) k .label) (touchedBy (bookedIn (cutWorld t f g)) k)
+      CanWrite (storedWhole t f) (bookedIn (cutWorld t lim f g) .columns) (effect (bookedIn (cutWorld t lim f g)) k .register .columns)
+      (effect (bookedIn (cutWorld t lim f g)) k .label) (touchedBy (bookedIn (cutWorld t lim f g)) k)
       w w′ a b first (c .count) (c .entries) used
   write-can =
       record {
@@ -97,35 +99,36 @@ module _ {t : Tables} {f g : ℕ} {k : Change} {w w′ a b : List ℕ} {first us
   -- ---- columns written and a book changed
 
   module _ {t′ : Tables} {f′ g′ : ℕ} {w″ a′ b′ : List ℕ} (same-next : length (t′ .next) ≡ length (t .next))
-      (x : PlanWritten (storedWhole t f) (effect (bookedIn (cutWorld t f g)) k .register .columns)
-      (effect (bookedIn (cutWorld t f g)) k .label) (touchedBy (bookedIn (cutWorld t f g)) k) w a b (storedWhole t′ f′) w″ a′ b′)
-      (y : BookAfter (length (t .heads)) (bookWhole t g) (effect (bookedIn (cutWorld t f g)) k .register .columns) (effect (bookedIn (cutWorld t f g)) k .ids) (bookWhole t′ g′)) where
+      (x : PlanWritten (storedWhole t f) (effect (bookedIn (cutWorld t lim f g)) k .register .columns)
+      (effect (bookedIn (cutWorld t lim f g)) k .label) (touchedBy (bookedIn (cutWorld t lim f g)) k) w a b (storedWhole t′ f′) w″ a′ b′)
+      (y : BookAfter (length (t .heads)) (bookWhole t g) (effect (bookedIn (cutWorld t lim f g)) k .register .columns) (effect (bookedIn (cutWorld t lim f g)) k .ids) (bookWhole t′ g′)) where
     abbrev same-heads : length (t′ .heads) ≡ length (t .heads)
     same-heads = ap length (x .heads)
 
-    stored-after : storedIn (cutWorld t′ f′ g′ .state) t′ ≡ storedWhole t′ f′
-    stored-after = cut.stored-whole t′ f′ g′ (x .sized)
+    stored-after : storedIn (cutWorld t′ lim f′ g′ .state) t′ ≡ storedWhole t′ f′
+    stored-after = cut.stored-whole t′ lim f′ g′ (x .sized)
 
-    book-after : bookIn (cutWorld t′ f′ g′ .state) t′ ≡ bookWhole t′ g′
-    book-after = cut.book-whole t′ f′ g′ (y .sized)
+    book-after : bookIn (cutWorld t′ lim f′ g′ .state) t′ ≡ bookWhole t′ g′
+    book-after = cut.book-whole t′ lim f′ g′ (y .sized)
 
-    columns-after : Bag (bookedIn (cutWorld t′ f′ g′) .columns) (effect (bookedIn (cutWorld t f g)) k .register .columns)
+    columns-after : Bag (bookedIn (cutWorld t′ lim f′ g′) .columns) (effect (bookedIn (cutWorld t lim f g)) k .register .columns)
     columns-after = subst (λ (d : book.Book). Bag (book.columnsIn d) (effect r k .register .columns)) (sym book-after) (y .columns)
 
-    sound-after : isSound (cutWorld t′ f′ g′ .state) t′ ≡ true
+    sound-after : isSound (cutWorld t′ lim f′ g′ .state) t′ ≡ true
     sound-after =
-        let p : book.isSound (length (t′ .heads)) (bookIn (cutWorld t′ f′ g′ .state) t′) ≡ true =
+        let p : book.isSound (length (t′ .heads)) (bookIn (cutWorld t′ lim f′ g′ .state) t′) ≡ true =
         subst (λ (d : book.Book). book.isSound (length (t′ .heads)) d ≡ true) (sym book-after)
         (subst (λ (n : ℕ). book.isSound n (bookWhole t′ g′) ≡ true) (sym same-heads) (y .sound)) in
-        let q : isSoundFor (bookedIn (cutWorld t′ f′ g′) .columns) (storedIn (cutWorld t′ f′ g′ .state) t′) ≡ true =
-        subst (λ (s : Stored). isSoundFor (bookedIn (cutWorld t′ f′ g′) .columns) s ≡ true) (sym stored-after)
-        (sound-bag (bookedIn (cutWorld t′ f′ g′) .columns) (effect r k .register .columns) (storedWhole t′ f′) columns-after ∙ x .sound) in
-        both-and p q
+        let q : isSoundFor (bookedIn (cutWorld t′ lim f′ g′) .columns) (storedIn (cutWorld t′ lim f′ g′ .state) t′) ≡ true =
+        subst (λ (s : Stored). isSoundFor (bookedIn (cutWorld t′ lim f′ g′) .columns) s ≡ true) (sym stored-after)
+        (sound-bag (bookedIn (cutWorld t′ lim f′ g′) .columns) (effect r k .register .columns) (storedWhole t′ f′) columns-after ∙ x .sound) in
+        both-and (sound-limits (cutWorld t lim f g .state) t (find .sound)) (both-and p q)
 
-    pub batch-exchanged : Exchanged (cutWorld t f g) k (cutWorld t′ f′ g′)
+    pub batch-exchanged : Exchanged (cutWorld t lim f g) k (cutWorld t′ lim f′ g′)
     batch-exchanged =
         record {
           sizes = λ i. record { m = same-heads i; n = y .same-heads i; f = same-next i; c = y .same-records i };
+          limits = refl;
           sound = sound-after;
           columns = columns-after;
           others = λ j p q h. both-read (λ (s s′ : Stored). ColumnStays s s′ j) (cut.stored-cut find) stored-after (x .others j p q h);
@@ -143,7 +146,7 @@ module _ {t : Tables} {f g : ℕ} {k : Change} {w w′ a b : List ℕ} {first us
           };
         }
 
-    pub batch-written : BatchWritten (cutWorld t f g) k w a b (cutWorld t′ f′ g′) w″ a′ b′
+    pub batch-written : BatchWritten (cutWorld t lim f g) k w a b (cutWorld t′ lim f′ g′) w″ a′ b′
     batch-written =
         record {
           exchanged = batch-exchanged;

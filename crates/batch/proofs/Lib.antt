@@ -4,6 +4,7 @@ pub mod Adding
 pub mod Removing
 pub mod Exchanging
 pub mod Booking
+pub mod Grading
 pub mod Stepping
 pub mod Lifting
 pub mod Lifted

@@ -10,6 +10,7 @@ use Rattle.lists.specs.Lists.{among, at}
 use Rattle.symbolic.specs.Columns.{Register}
 use Rattle.symbolic.specs.Factor.{factorOf, inPattern}
 use Rattle.symbolic.specs.Change.{Bag}
+use Rattle.symbolic.specs.Grades.{Limits, areLimits}
 use Rattle.book.specs.Book as book
 use Rattle.tables.specs.Stored.{Stored, isSoundFor}
 use Rattle.tables.specs.Stays.{ColumnStays, EntriesStay, TailsStay}
@@ -26,15 +27,15 @@ use Rattle.batch.proofs.Lifting.{cutTables, joinTables, worldFor, join-
 moved : {A : Type 0} (P : A → A → Type 0) {a a′ b b′ : A} → a ≡ b → a′ ≡ b′ → P a a′ → P b b′
 moved P {a} {a′} {b} {b′} e e′ h = subst (λ x. P x b′) e (subst (λ x. P a x) e′ h)
 
-module _ {l : Sizes} {t : Tables} (long : Long l t) (f g : ℕ) (y : Tables) (f′ g′ : ℕ) (k : Change) where
+module _ {l : Sizes} {t : Tables} (long : Long l t) (lim : Limits) (f g : ℕ) (y : Tables) (f′ g′ : ℕ) (k : Change) where
   abbrev u : World
-  u = cutWorld (cutTables l t) f g
+  u = cutWorld (cutTables l t) lim f g
 
   abbrev v : World
-  v = cutWorld y f′ g′
+  v = cutWorld y lim f′ g′
 
   abbrev after : World
-  after = worldFor l f′ g′ (joinTables l y t)
+  after = worldFor l lim f′ g′ (joinTables l y t)
 
   -- lengths stay, so the tables after it fit
   exchanged-fits : TailsStay (cutSizes (cutTables l t)) (cutTables l t) y → Fits l y
@@ -51,34 +52,35 @@ module _ {l : Sizes} {t : Tables} (long : Long l t) (f g : ℕ) (y : Tables) (f�
         book-next = h .bookNext .same-length ∙ z .book-next;
       }
 
-  pub exchanged-lifts : Exchanged (cutWorld (cutTables l t) f g) k (cutWorld y f′ g′) → Exchanged (worldFor l f g t) k (worldFor l f′ g′ (joinTables l y t))
+  pub exchanged-lifts : Exchanged (cutWorld (cutTables l t) lim f g) k (cutWorld y lim f′ g′) → Exchanged (worldFor l lim f g t) k (worldFor l lim f′ g′ (joinTables l y t))
   exchanged-lifts x =
       let c : Fits l (cutTables l t) = cut-fits l t long in
       let z : Fits l y = exchanged-fits (x .tails) in
-      let s : storedIn (u .state) (u .tables) ≡ storedIn (worldFor l f g t .state) t = stored-lifts long f g in
-      let b : bookIn (u .state) (u .tables) ≡ bookIn (worldFor l f g t .state) t = book-lifts long f g in
-      let r : registerOf (u .state) (u .tables) ≡ registerOf (worldFor l f g t .state) t = register-lifts long f g in
-      let s′ : storedIn (v .state) y ≡ storedIn (after .state) (after .tables) = stored-fits z f′ g′ ∙ sym (stored-joins z f′ g′ t) in
-      let b′ : bookIn (v .state) y ≡ bookIn (after .state) (after .tables) = book-fits z f′ g′ ∙ sym (book-joins z f′ g′ t) in
+      let s : storedIn (u .state) (u .tables) ≡ storedIn (worldFor l lim f g t .state) t = stored-lifts long lim f g in
+      let b : bookIn (u .state) (u .tables) ≡ bookIn (worldFor l lim f g t .state) t = book-lifts long lim f g in
+      let r : registerOf (u .state) (u .tables) ≡ registerOf (worldFor l lim f g t .state) t = register-lifts long lim f g in
+      let s′ : storedIn (v .state) y ≡ storedIn (after .state) (after .tables) = stored-fits z lim f′ g′ ∙ sym (stored-joins z lim f′ g′ t) in
+      let b′ : bookIn (v .state) y ≡ bookIn (after .state) (after .tables) = book-fits z lim f′ g′ ∙ sym (book-joins z lim f′ g′ t) in
       let l′ : ℕ = l .m in
-      let stays : (i j : ℕ) → inPattern (factorOf (l .m) (effect (registerOf (worldFor l f g t .state) t) k .stay)) i j ≡ true →
+      let stays : (i j : ℕ) → inPattern (factorOf (l .m) (effect (registerOf (worldFor l lim f g t .state) t) k .stay)) i j ≡ true →
       inPattern (factorOf (cutSizes (cutTables l t) .m) (effect (registerOf (u .state) (u .tables)) k .stay)) i j ≡ true =
       λ i j n. subst (λ (m : ℕ). inPattern (factorOf m (effect (registerOf (u .state) (u .tables)) k .stay)) i j ≡ true) (sym (c .heads))
       (subst (λ (o : Register). inPattern (factorOf (l .m) (effect o k .stay)) i j ≡ true) (sym r) n) in
       let sound : isSound (v .state) y ≡ isSound (after .state) (after .tables) =
-      λ i. book.isSound (z .heads i) (b′ i) && isSoundFor (book.columnsIn (b′ i)) (s′ i) in
+      λ i. areLimits lim && (book.isSound (z .heads i) (b′ i) && isSoundFor (book.columnsIn (b′ i)) (s′ i)) in
       record {
         sizes = refl;
+        limits = refl;
         sound = sym sound ∙ x .sound;
         columns = subst (λ (q : Register). Bag (registerOf (after .state) (after .tables) .columns) (effect q k .register .columns)) r
             (subst (λ (d : book.Book). Bag (book.columnsIn d) (effect (registerOf (u .state) (u .tables)) k .register .columns)) b′ (x .columns));
         others = λ j p q h. moved (λ (m n : Stored). ColumnStays m n j) s s′
             (x .others j p (subst (λ (n : ℕ). j ≤ n) (sym (c .heads)) q) (ap (λ (o : Register). among j (touchedBy o k)) r ∙ h));
-        entries = λ j p q. moved (λ (m n : Stored). EntriesStay (factorOf l′ (effect (registerOf (worldFor l f g t .state) t) k .stay)) m n j) s s′
+        entries = λ j p q. moved (λ (m n : Stored). EntriesStay (factorOf l′ (effect (registerOf (worldFor l lim f g t .state) t) k .stay)) m n j) s s′
             (λ i o d e h n. x .entries j p (subst (λ (n : ℕ). j ≤ n) (sym (c .heads)) q) i o d e h (stays (at (storedIn (u .state) (u .tables) .rows) i) j n));
         book = λ i p q h. moved (λ (m n : book.Book). book.ColumnStays m n i) b b′
             (x .book i p (subst (λ (n : ℕ). i ≤ n) (sym (c .book-heads)) q) (ap (λ (o : Register). among i (effect o k .ids)) r ∙ h));
-        tails = tails-join z f′ g′ t long;
+        tails = tails-join z lim f′ g′ t long;
       }
 
   -- ---- the whole step
@@ -87,23 +89,23 @@ module _ {l : Sizes} {t : Tables} (long : Long l t) (f g : ℕ) (y : Tables) (f�
     abbrev refusalIn : World → Refusal
     refusalIn w = effect (bookedIn w) k .refusal (w .state .sizes)
 
-    by-number : (q : Bool) → isAccepted (refusalIn u) ≡ q → BatchOutcome q u k x a y′ v → refusalIn u ≡ refusalIn (worldFor l f g t) →
-        BatchStep (worldFor l f g t) k x a y′ after
+    by-number : (q : Bool) → isAccepted (refusalIn u) ≡ q → BatchOutcome q u k x a y′ v → refusalIn u ≡ refusalIn (worldFor l lim f g t) →
+        BatchStep (worldFor l lim f g t) k x a y′ after
     by-number true e o n =
-        subst (λ (q : Bool). BatchOutcome q (worldFor l f g t) k x a y′ after) (sym (ap isAccepted (sym n) ∙ e)) (
-          o .0 ∙ ap (λ (r : Register). acceptedBy r (changing k)) (register-lifts long f g),
-          o .1 ∙ ap (λ (r : Register). listsAfter r (callOf (changing k) x) (x .work)) (register-lifts long f g),
+        subst (λ (q : Bool). BatchOutcome q (worldFor l lim f g t) k x a y′ after) (sym (ap isAccepted (sym n) ∙ e)) (
+          o .0 ∙ ap (λ (r : Register). acceptedBy lim r (changing k)) (register-lifts long lim f g),
+          o .1 ∙ ap (λ (r : Register). listsAfter r (callOf (changing k) x) (x .work)) (register-lifts long lim f g),
           exchanged-lifts (o .2),
         )
     by-number false e o n =
         let w : joinTables l y t ≡ t = ap (λ (q : World). joinTables l (q .tables) t) (o .2) ∙ join-cut l t in
-        subst (λ (q : Bool). BatchOutcome q (worldFor l f g t) k x a y′ after) (sym (ap isAccepted (sym n) ∙ e)) (
+        subst (λ (q : Bool). BatchOutcome q (worldFor l lim f g t) k x a y′ after) (sym (ap isAccepted (sym n) ∙ e)) (
           o .0 ∙ ap refusedBy n,
           o .1,
-          λ i. worldFor l (o .2 i .state .free) (o .2 i .state .bookFree) (w i),
+          λ i. worldFor l (o .2 i .state .limits) (o .2 i .state .free) (o .2 i .state .bookFree) (w i),
         )
 
-    pub step-lifts : BatchStep (cutWorld (cutTables l t) f g) k x a y′ (cutWorld y f′ g′) → BatchStep (worldFor l f g t) k x a y′ (worldFor l f′ g′ (joinTables l y t))
+    pub step-lifts : BatchStep (cutWorld (cutTables l t) lim f g) k x a y′ (cutWorld y lim f′ g′) → BatchStep (worldFor l lim f g t) k x a y′ (worldFor l lim f′ g′ (joinTables l y t))
     step-lifts step =
         by-number (isAccepted (refusalIn u)) refl step
-        (λ i. effect (register-lifts long f g i) k .refusal (cut-sizes-are (cut-fits l t long) f g i))
+        (λ i. effect (register-lifts long lim f g i) k .refusal (cut-sizes-are (cut-fits l t long) lim f g i))

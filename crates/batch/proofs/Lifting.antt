@@ -10,6 +10,7 @@ use lib.ListN.{length, take, drop, take-append-drop, length-append, length-drop}
 use lib.Seq.{length-take-le, take-at, drop-at}
 use Rattle.lists.proofs.Tests.{both-and}
 use Rattle.symbolic.specs.Columns.{Register}
+use Rattle.symbolic.specs.Grades.{Limits, areLimits}
 use Rattle.workspace.specs.Regions.{IsZero}
 use Rattle.book.specs.Book as book
 use Rattle.tables.specs.Stored.{Stored, Sized, isSoundFor}
@@ -51,8 +52,8 @@ joinTables l y t =
       bookNext = y .bookNext ++ drop (l .c) (t .bookNext);
     }
 
-abbrev pub worldFor : Sizes → (free bookFree : ℕ) → Tables → World
-worldFor l f g t = record { state = record { sizes = l; free = f; bookFree = g }; tables = t }
+abbrev pub worldFor : Sizes → Limits → (free bookFree : ℕ) → Tables → World
+worldFor l lim f g t = record { state = record { sizes = l; limits = lim; free = f; bookFree = g }; tables = t }
 
 -- what was cut and put back is as it was
 pub join-cut : (l : Sizes) (t : Tables) → joinTables l (cutTables l t) t ≡ t
@@ -98,19 +99,19 @@ beyond n xs ys p q =
 
 -- ---- tables that fit are read whole, alone or before any tails
 
-module _ {l : Sizes} {y : Tables} (z : Fits l y) (f g : ℕ) where
+module _ {l : Sizes} {y : Tables} (z : Fits l y) (lim : Limits) (f g : ℕ) where
   pub cut-sizes-are : cutSizes y ≡ l
   cut-sizes-are = λ i. record { m = z .heads i; n = z .book-heads i; f = z .next i; c = z .book-next i }
 
-  pub stored-fits : storedIn (cutWorld y f g .state) y ≡ storedWhole y f
+  pub stored-fits : storedIn (cutWorld y lim f g .state) y ≡ storedWhole y f
   stored-fits =
-      stored-whole y f g (record { parents-long = z .parents ∙ sym (z .heads); rows-long = z .rows ∙ sym (z .next); counts-long = z .counts ∙ sym (z .next) })
+      stored-whole y lim f g (record { parents-long = z .parents ∙ sym (z .heads); rows-long = z .rows ∙ sym (z .next); counts-long = z .counts ∙ sym (z .next) })
 
-  pub book-fits : bookIn (cutWorld y f g .state) y ≡ bookWhole y g
-  book-fits = book-whole y f g (z .book-rows ∙ sym (z .book-next))
+  pub book-fits : bookIn (cutWorld y lim f g .state) y ≡ bookWhole y g
+  book-fits = book-whole y lim f g (z .book-rows ∙ sym (z .book-next))
 
   module _ (t : Tables) where
-    pub stored-joins : storedIn (worldFor l f g (joinTables l y t) .state) (joinTables l y t) ≡ storedWhole y f
+    pub stored-joins : storedIn (worldFor l lim f g (joinTables l y t) .state) (joinTables l y t) ≡ storedWhole y f
     stored-joins = λ i.
         record {
           heads = take-at (y .heads) (drop (l .m) (t .heads)) (l .m) (z .heads) i;
@@ -121,7 +122,7 @@ module _ {l : Sizes} {y : Tables} (z : Fits l y) (f g : ℕ) where
           free = f;
         }
 
-    pub book-joins : bookIn (worldFor l f g (joinTables l y t) .state) (joinTables l y t) ≡ bookWhole y g
+    pub book-joins : bookIn (worldFor l lim f g (joinTables l y t) .state) (joinTables l y t) ≡ bookWhole y g
     book-joins = λ i.
         record {
           heads = take-at (y .bookHeads) (drop (l .n) (t .bookHeads)) (l .n) (z .book-heads) i;
@@ -146,24 +147,24 @@ module _ {l : Sizes} {y : Tables} (z : Fits l y) (f g : ℕ) where
 
 -- ---- the cut tables of a usable factor
 
-module _ {l : Sizes} {t : Tables} (long : Long l t) (f g : ℕ) where
-  pub stored-lifts : storedIn (cutWorld (cutTables l t) f g .state) (cutTables l t) ≡ storedIn (worldFor l f g t .state) t
-  stored-lifts = stored-fits (cut-fits l t long) f g
+module _ {l : Sizes} {t : Tables} (long : Long l t) (lim : Limits) (f g : ℕ) where
+  pub stored-lifts : storedIn (cutWorld (cutTables l t) lim f g .state) (cutTables l t) ≡ storedIn (worldFor l lim f g t .state) t
+  stored-lifts = stored-fits (cut-fits l t long) lim f g
 
-  pub book-lifts : bookIn (cutWorld (cutTables l t) f g .state) (cutTables l t) ≡ bookIn (worldFor l f g t .state) t
-  book-lifts = book-fits (cut-fits l t long) f g
+  pub book-lifts : bookIn (cutWorld (cutTables l t) lim f g .state) (cutTables l t) ≡ bookIn (worldFor l lim f g t .state) t
+  book-lifts = book-fits (cut-fits l t long) lim f g
 
-  pub register-lifts : registerOf (cutWorld (cutTables l t) f g .state) (cutTables l t) ≡ registerOf (worldFor l f g t .state) t
+  pub register-lifts : registerOf (cutWorld (cutTables l t) lim f g .state) (cutTables l t) ≡ registerOf (worldFor l lim f g t .state) t
   register-lifts = λ i. record { m = cut-fits l t long .heads i; columns = book.columnsIn (book-lifts i) }
 
-  sound-lifts : isSound (cutWorld (cutTables l t) f g .state) (cutTables l t) ≡ isSound (worldFor l f g t .state) t
-  sound-lifts = λ i. book.isSound (cut-fits l t long .heads i) (book-lifts i) && isSoundFor (book.columnsIn (book-lifts i)) (stored-lifts i)
+  sound-lifts : isSound (cutWorld (cutTables l t) lim f g .state) (cutTables l t) ≡ isSound (worldFor l lim f g t .state) t
+  sound-lifts = λ i. areLimits lim && (book.isSound (cut-fits l t long .heads i) (book-lifts i) && isSoundFor (book.columnsIn (book-lifts i)) (stored-lifts i))
 
-  pub lift-can : {w a b : List ℕ} → sizesRefusal bounds l ≡ accepted → isSound (worldFor l f g t .state) t ≡ true → workFor l ≤ length w →
-      IsZero w 0 (workFor l) → l .m ≤ length a → l .m ≤ length b → CanBatch (cutWorld (cutTables l t) f g) w a b
+  pub lift-can : {w a b : List ℕ} → sizesRefusal bounds l ≡ accepted → isSound (worldFor l lim f g t .state) t ≡ true → workFor l ≤ length w →
+      IsZero w 0 (workFor l) → l .m ≤ length a → l .m ≤ length b → CanBatch (cutWorld (cutTables l t) lim f g) w a b
   lift-can {w} {a} {b} sizes sound room zero p q =
       let z : Fits l (cutTables l t) = cut-fits l t long in
-      let e : l ≡ cutSizes (cutTables l t) = sym (cut-sizes-are z f g) in
+      let e : l ≡ cutSizes (cutTables l t) = sym (cut-sizes-are z lim f g) in
       record {
         find = record {
           in-range = subst (λ (x : Sizes). sizesRefusal bounds x ≡ accepted) e sizes;

@@ -12,6 +12,7 @@ use Rattle.symbolic.specs.Columns.{Column, Register}
 use Rattle.symbolic.specs.Factor.{FactorColumn, factorOf}
 use Rattle.symbolic.specs.Batch.{labelOf, touched}
 use Rattle.symbolic.specs.Change.{without, columnsOf}
+use Rattle.symbolic.specs.Grades.{Limits}
 use Rattle.book.specs.Book as book
 use Rattle.book.proofs.Columns.{column-found}
 use Rattle.tables.specs.Tables.{Tables}
@@ -71,20 +72,20 @@ ids-whole r n p bs (i ∷ is) h =
     let q : Refusal = idsRefusal r n (suc p) (i ∷ bs) is in
     or-whole x (orElse y (orElse z q)) (or-whole y (orElse z q) (or-whole z q (ids-whole r n (suc p) (i ∷ bs) is))) h
 
-module _ {t : Tables} {f g : ℕ} {w : List ℕ} (can : CanFind (cutWorld t f g) w) (is : List ℕ) where
+module _ {t : Tables} {lim : Limits} {f g : ℕ} {w : List ℕ} (can : CanFind (cutWorld t lim f g) w) (is : List ℕ) where
   abbrev r : Register
-  r = bookedIn (cutWorld t f g)
+  r = bookedIn (cutWorld t lim f g)
 
   abbrev m : ℕ
   m = length (t .heads)
 
-  pub remove-number : numberFor (cutWorld t f g) (removing is) ≡ removeFound m (bookWhole t g) is
+  pub remove-number : numberFor (cutWorld t lim f g) (removing is) ≡ removeFound m (bookWhole t g) is
   remove-number =
       ap (λ (cs : List Column). removeRefusal (cutSizes t) (record { m = m; columns = cs }) is) (columns-cut can) ∙
       remove-refusal (cutSizes t) m (bookWhole t g) is refl
 
   pub remove-refused : {x : Verdict} → verdictNumber x ≡ removeFound (length (t .heads)) (bookWhole t g) is → isAccepted (verdictNumber x) ≡ false →
-      Judged (cutWorld t f g) (removing is) w w x
+      Judged (cutWorld t lim f g) (removing is) w w x
   remove-refused e h = refused-judged (e ∙ sym remove-number) h refl
 
   -- ---- not refused
@@ -96,7 +97,7 @@ module _ {t : Tables} {f g : ℕ} {w : List ℕ} (can : CanFind (cutWorld t f g)
     abbrev W : List Column
     W = columnsOf is (r .columns)
 
-    facts : RemoveFits (cutSizes t) (bookedIn (cutWorld t f g)) is
+    facts : RemoveFits (cutSizes t) (bookedIn (cutWorld t lim f g)) is
     facts = remove-facts (cutSizes t) r is (ap isAccepted remove-number ∙ found)
 
     found-whole : removeFound (length (t .heads)) (bookWhole t g) is ≡ accepted
@@ -104,7 +105,7 @@ module _ {t : Tables} {f g : ℕ} {w : List ℕ} (can : CanFind (cutWorld t f g)
         let y : Refusal = idsRefusal (book.registerIn m (bookWhole t g)) (length (t .bookHeads)) 1 [] is in
         or-whole (unless (isIn 1 64 (length is)) 7 0) y (ids-whole (book.registerIn m (bookWhole t g)) (length (t .bookHeads)) 1 [] is) found
 
-    pub remove-can : (h i : ℕ) → CanRemove (storedWhole t h) (bookWhole t i) is w (without is (bookedIn (cutWorld t f g) .columns)) (columnsOf is (bookedIn (cutWorld t f g) .columns))
+    pub remove-can : (h i : ℕ) → CanRemove (storedWhole t h) (bookWhole t i) is w (without is (bookedIn (cutWorld t lim f g) .columns)) (columnsOf is (bookedIn (cutWorld t lim f g) .columns))
     remove-can h i =
         let x : RemoveReady (bookWhole t g) is = remove-ready m (bookWhole t g) is found in
         record {
@@ -121,9 +122,9 @@ module _ {t : Tables} {f g : ℕ} {w : List ℕ} (can : CanFind (cutWorld t f g)
         }
 
     pub remove-planned : {h : ℕ} {w′ : List ℕ} {z : Bool} {first count entries used : ℕ} →
-        RemovePlanned (storedWhole t h) (without is (bookedIn (cutWorld t f g) .columns)) (columnsOf is (bookedIn (cutWorld t f g) .columns)) w w′ z first count entries used →
+        RemovePlanned (storedWhole t h) (without is (bookedIn (cutWorld t lim f g) .columns)) (columnsOf is (bookedIn (cutWorld t lim f g) .columns)) w w′ z first count entries used →
         {x : Verdict} → verdictNumber x ≡ accepted → x .plan .first .0 ≡ first → x .plan .count ≡ count → x .plan .entries ≡ entries → x .plan .used ≡ used →
-        Judged (cutWorld t f g) (removing is) w w′ x
+        Judged (cutWorld t lim f g) (removing is) w w′ x
     remove-planned {h} {w′} {z} {first} {count} {entries} {used} p {x} e q1 q2 q3 q4 =
         planned-judged (e ∙ sym (remove-number ∙ found-whole)) (ap isAccepted e)
         (record {

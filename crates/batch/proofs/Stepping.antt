@@ -6,7 +6,7 @@ use mathlib.Core.Bool.{Bool, true, false}
 use mathlib.Core.List.{List}
 use Prim.Native.Nat.{ℕ}
 use lib.ListN.{length}
-use Rattle.symbolic.specs.Batch.{gradeOf}
+use Rattle.symbolic.specs.Grades.{Limits, gradeOf}
 use Rattle.tables.specs.Tables.{Tables}
 use Rattle.calls.specs.Refusals.{isAccepted}
 use Rattle.calls.specs.Calls.{Change, reportLists}
@@ -34,14 +34,14 @@ module _ {u : World} {c : Change} {before after : List ℕ} {x : Verdict} (j : J
 
   -- accepted: the plan's numbers, and what was written
   pub step-taken : {v : World} {work a b a′ b′ : List ℕ} → x .refusal .number ≡ 0 → BatchWritten u c before a b v work a′ b′ →
-      BatchStep u c (reportLists before a b) (answerOf 0 0 (x .plan .count) (x .plan .entries) (gradeOf (x .plan .entries))) (reportLists work a′ b′) v
+      BatchStep u c (reportLists before a b) (answerOf 0 0 (x .plan .count) (x .plan .entries) (gradeOf (u .state .limits) (x .plan .entries))) (reportLists work a′ b′) v
   step-taken {v} {work} {a} {b} {a′} {b′} h w =
       let n : isAccepted (numberFor u c) ≡ true = judged-taken j h in
       let p : BatchPlan u c before after (x .plan .first .0) (x .plan .count) (x .plan .entries) (x .plan .used) = j .plan n in
       let e : x .plan .count ≡ length (touchedBy (bookedIn u) c) = p .plan .count-is in
       let d : x .plan .entries ≡ entriesBy (bookedIn u) c = p .plan .entries-is in
-      subst (λ (z : Bool). BatchOutcome z u c (reportLists before a b) (answerOf 0 0 (x .plan .count) (x .plan .entries) (gradeOf (x .plan .entries))) (reportLists work a′ b′) v) (sym n) (
-        (λ i. answerOf 0 0 (e i) (d i) (gradeOf (d i))),
+      subst (λ (z : Bool). BatchOutcome z u c (reportLists before a b) (answerOf 0 0 (x .plan .count) (x .plan .entries) (gradeOf (u .state .limits) (x .plan .entries))) (reportLists work a′ b′) v) (sym n) (
+        (λ i. answerOf 0 0 (e i) (d i) (gradeOf (u .state .limits) (d i))),
         (λ i. reportLists (w .work-is i) (w .touched-is i) (w .labels-is i)),
         w .exchanged,
       )
@@ -52,21 +52,21 @@ module _ {u : World} {c : Change} {before after : List ℕ} {x : Verdict} (j : J
 abbrev pub refusedAnswer : Verdict → (free bookFree : ℕ) → Batch
 refusedAnswer x f g = record { number = x .refusal .number; position = x .refusal .position; touched = 0; entries = 0; grade = 0; free = record { 0 = f }; «book_free» = record { 0 = g } }
 
-abbrev pub acceptedAnswer : Verdict → FreeHeads → Batch
-acceptedAnswer x h =
-    record { number = 0; position = 0; touched = x .plan .count; entries = x .plan .entries; grade = gradeOf (x .plan .entries); free = h .free; «book_free» = h .«book_free» }
+abbrev pub acceptedAnswer : Limits → Verdict → FreeHeads → Batch
+acceptedAnswer lim x h =
+    record { number = 0; position = 0; touched = x .plan .count; entries = x .plan .entries; grade = gradeOf lim (x .plan .entries); free = h .free; «book_free» = h .«book_free» }
 
-pub batch-refused : {t : Tables} {f g : ℕ} {c : Change} {before after : List ℕ} {x : Verdict} → Judged (cutWorld t f g) c before after x → x .refusal .number ≢ 0 →
+pub batch-refused : {t : Tables} {lim : Limits} {f g : ℕ} {c : Change} {before after : List ℕ} {x : Verdict} → Judged (cutWorld t lim f g) c before after x → x .refusal .number ≢ 0 →
     (a b : List ℕ) {r : Batch} → r ≡ refusedAnswer x f g →
-    BatchStep (cutWorld t f g) c (reportLists before a b) (batchAnswer r) (reportLists after a b) (cutWorld t (r .free .0) (r .«book_free» .0))
-batch-refused {t} {f} {g} {c} {before} {after} {x} j h a b {r} q =
-    subst (λ (y : Batch). BatchStep (cutWorld t f g) c (reportLists before a b) (batchAnswer y) (reportLists after a b) (cutWorld t (y .free .0) (y .«book_free» .0)))
+    BatchStep (cutWorld t lim f g) c (reportLists before a b) (batchAnswer r) (reportLists after a b) (cutWorld t lim (r .free .0) (r .«book_free» .0))
+batch-refused {t} {lim} {f} {g} {c} {before} {after} {x} j h a b {r} q =
+    subst (λ (y : Batch). BatchStep (cutWorld t lim f g) c (reportLists before a b) (batchAnswer y) (reportLists after a b) (cutWorld t lim (y .free .0) (y .«book_free» .0)))
     (sym q) (step-refused j h a b)
 
-pub batch-taken : {t t′ : Tables} {f g : ℕ} {c : Change} {before after work a b a′ b′ : List ℕ} {x : Verdict} {h : FreeHeads} →
-    Judged (cutWorld t f g) c before after x → x .refusal .number ≡ 0 →
-    BatchWritten (cutWorld t f g) c before a b (cutWorld t′ (h .free .0) (h .«book_free» .0)) work a′ b′ → {r : Batch} → r ≡ acceptedAnswer x h →
-    BatchStep (cutWorld t f g) c (reportLists before a b) (batchAnswer r) (reportLists work a′ b′) (cutWorld t′ (r .free .0) (r .«book_free» .0))
-batch-taken {t} {t′} {f} {g} {c} {before} {after} {work} {a} {b} {a′} {b′} {x} {h} j n w {r} q =
-    subst (λ (y : Batch). BatchStep (cutWorld t f g) c (reportLists before a b) (batchAnswer y) (reportLists work a′ b′) (cutWorld t′ (y .free .0) (y .«book_free» .0)))
+pub batch-taken : {t t′ : Tables} {lim : Limits} {f g : ℕ} {c : Change} {before after work a b a′ b′ : List ℕ} {x : Verdict} {h : FreeHeads} →
+    Judged (cutWorld t lim f g) c before after x → x .refusal .number ≡ 0 →
+    BatchWritten (cutWorld t lim f g) c before a b (cutWorld t′ lim (h .free .0) (h .«book_free» .0)) work a′ b′ → {r : Batch} → r ≡ acceptedAnswer lim x h →
+    BatchStep (cutWorld t lim f g) c (reportLists before a b) (batchAnswer r) (reportLists work a′ b′) (cutWorld t′ lim (r .free .0) (r .«book_free» .0))
+batch-taken {t} {t′} {lim} {f} {g} {c} {before} {after} {work} {a} {b} {a′} {b′} {x} {h} j n w {r} q =
+    subst (λ (y : Batch). BatchStep (cutWorld t lim f g) c (reportLists before a b) (batchAnswer y) (reportLists work a′ b′) (cutWorld t′ lim (y .free .0) (y .«book_free» .0)))
     (sym q) (step-taken j n w)

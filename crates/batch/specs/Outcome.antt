@@ -5,6 +5,7 @@ use mathlib.Core.Bool.{Bool, true, false}
 use mathlib.Core.List.{List}
 use Prim.Native.Nat.{ℕ, _≤_}
 use lib.ListN.{length}
+use Rattle.symbolic.specs.Grades.{Limits}
 use Rattle.workspace.specs.Regions.{IsZero}
 use Rattle.tables.specs.Tables.{Tables, Sizes, isSound}
 use Rattle.calls.specs.Refusals.{accepted, isAccepted, bounds, sizesRefusal, workFor}
@@ -20,8 +21,8 @@ abbrev pub cutSizes : Tables → Sizes
 cutSizes t = record { m = length (t .heads); n = length (t .bookHeads); f = length (t .next); c = length (t .bookNext) }
 
 -- record and tables of a factor whose tables are cut to their sizes
-abbrev pub cutWorld : Tables → (free bookFree : ℕ) → World
-cutWorld t f g = record { state = record { sizes = cutSizes t; free = f; bookFree = g }; tables = t }
+abbrev pub cutWorld : Tables → Limits → (free bookFree : ℕ) → World
+cutWorld t h f g = record { state = record { sizes = cutSizes t; limits = h; free = f; bookFree = g }; tables = t }
 
 -- ---- what a batch asks
 
@@ -55,7 +56,7 @@ batchAnswer x = record { number = x .number; position = x .position; touched = x
 -- answer, lists (the work table as it was) and world, by the number that the register gives
 abbrev pub BatchOutcome : (isTaken : Bool) → World → Change → Lent → Answer → Lent → World → Type 0
 BatchOutcome true u c x a y v =
-    (a ≡ acceptedBy (bookedIn u) (changing c)) × (y ≡ listsAfter (bookedIn u) (callOf (changing c) x) (x .work)) × Exchanged u c v
+    (a ≡ acceptedBy (u .state .limits) (bookedIn u) (changing c)) × (y ≡ listsAfter (bookedIn u) (callOf (changing c) x) (x .work)) × Exchanged u c v
 BatchOutcome false u c x a y v = (a ≡ refusedBy (effect (bookedIn u) c .refusal (u .state .sizes))) × (y ≡ x) × (v ≡ u)
 
 -- what an unchecked batch promises of the lists x lent to it: accepted exactly if none of 7 to 16 applies

@@ -7,6 +7,7 @@ use Prim.Native.Nat.{ℕ, _≤_}
 use lib.ListN.{length}
 use Rattle.lists.specs.Lists.{over}
 use Rattle.symbolic.specs.Factor.{factorFor}
+use Rattle.symbolic.specs.Grades.{Limits}
 use Rattle.pool.specs.Chains.{chain}
 use Rattle.book.specs.Book as book
 use Rattle.tables.specs.Stored.{Stored, storedOf}
@@ -53,16 +54,18 @@ pub record Judged (u : World) (c : Change) (before after : List ℕ) (x : Verdic
   pub plan : isAccepted (numberFor u c) ≡ true → BatchPlan u c before after (x .plan .first .0) (x .plan .count) (x .plan .entries) (x .plan .used)
   pub unchanged : isAccepted (numberFor u c) ≡ false → after ≡ before
 
--- what an addition's search asks: the book's rows are not read, any that suit will do
+-- what an addition's search asks: limits and the book's rows are not read, any that suit will do
 pub record SomeRows (heads parents rows counts next bookHeads bookNext : List ℕ) (free bookFree : ℕ) (work : List ℕ) : Type 0 where
+  pub limits : Limits
   pub book-rows : List ℕ
-  pub can : CanFind (cutWorld (tablesOf heads parents rows counts next bookHeads book-rows bookNext) free bookFree) work
+  pub can : CanFind (cutWorld (tablesOf heads parents rows counts next bookHeads book-rows bookNext) limits free bookFree) work
 
--- what a removal's search asks: the free heads are not read, any that suit will do
+-- what a removal's search asks: limits and the free heads are not read, any that suit will do
 pub record SomeFree (t : Tables) (work : List ℕ) : Type 0 where
+  pub limits : Limits
   pub free : ℕ
   pub book-free : ℕ
-  pub can : CanFind (cutWorld t free book-free) work
+  pub can : CanFind (cutWorld t limits free book-free) work
 
 -- ---- written
 
@@ -74,10 +77,11 @@ pub record CanWriteBatch (u : World) (c : Change) (before work touched labels : 
   pub entries : ℕ
   pub plan : BatchPlan u c before work first count entries used
 
--- what a caller shows: such a batch, for some work table before the plan
-pub record SomePlan (u : World) (c : Change) (work touched labels : List ℕ) (first used : ℕ) : Type 0 where
+-- what a caller shows: such a batch, for some limits, and some work table before the plan
+pub record SomePlan (t : Tables) (free bookFree : ℕ) (c : Change) (work touched labels : List ℕ) (first used : ℕ) : Type 0 where
+  pub limits : Limits
   pub before : List ℕ
-  pub can : CanWriteBatch u c before work touched labels first used
+  pub can : CanWriteBatch (cutWorld t limits free bookFree) c before work touched labels first used
 
 -- tables and report are the change's, and the work table is as before the plan
 pub record BatchWritten (u : World) (c : Change) (before touched labels : List ℕ) (v : World) (work touched′ labels′ : List ℕ) : Type 0 where

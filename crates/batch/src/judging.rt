@@ -5,6 +5,7 @@ ghost use mathlib.Core.List.{List};
 ghost use Prim.Native.Nat.{ℕ};
 ghost use Rattle.tables.specs.Tables.{tablesOf};
 ghost use Rattle.calls.specs.Calls.Change.{adding, removing};
+ghost use Rattle.symbolic.specs.Grades.{Limits};
 ghost use Rattle.batch.specs.Outcome.{cutWorld, CanFind};
 ghost use Rattle.batch.specs.Parts.{Judged, SomeRows, SomeFree};
 use crate::Verdict;
@@ -55,7 +56,7 @@ pub fn judge_add(
     book_free: Rec,
 ) -> Verdict
     requires { ⌜ SomeRows (now heads) (now parents) (now rows) (now counts) (now next) (now «book_heads») (now «book_next») (free .0) («book_free» .0) (now work) ⌝ }
-    ensures { λ x. ⌜ ((br : List ℕ) → CanFind (cutWorld (tablesOf (now (heads .entry)) (now (parents .entry)) (now (rows .entry)) (now (counts .entry)) (now (next .entry)) (now («book_heads» .entry)) br (now («book_next» .entry))) (free .0) («book_free» .0)) (now (work .entry)) → Judged (cutWorld (tablesOf (now (heads .entry)) (now (parents .entry)) (now (rows .entry)) (now (counts .entry)) (now (next .entry)) (now («book_heads» .entry)) br (now («book_next» .entry))) (free .0) («book_free» .0)) (adding (now (ids .entry)) (now («row_counts» .entry)) (now («row_list» .entry))) (now (work .entry)) (now (work .exit)) x) ⌝ }
+    ensures { λ x. ⌜ ((h : Limits) (br : List ℕ) → CanFind (cutWorld (tablesOf (now (heads .entry)) (now (parents .entry)) (now (rows .entry)) (now (counts .entry)) (now (next .entry)) (now («book_heads» .entry)) br (now («book_next» .entry))) h (free .0) («book_free» .0)) (now (work .entry)) → Judged (cutWorld (tablesOf (now (heads .entry)) (now (parents .entry)) (now (rows .entry)) (now (counts .entry)) (now (next .entry)) (now («book_heads» .entry)) br (now («book_next» .entry))) h (free .0) («book_free» .0)) (adding (now (ids .entry)) (now («row_counts» .entry)) (now («row_list» .entry))) (now (work .entry)) (now (work .exit)) x) ⌝ }
 {
     let found = refusals::find_add(
         book_heads,
@@ -103,7 +104,7 @@ pub fn judge_remove(
     ids: &[u32],
 ) -> Verdict
     requires { ⌜ SomeFree (tablesOf (now heads) (now parents) (now rows) (now counts) (now next) (now «book_heads») (now «book_rows») (now «book_next»)) (now work) ⌝ }
-    ensures { λ x. ⌜ ((f g : ℕ) → CanFind (cutWorld (tablesOf (now (heads .entry)) (now (parents .entry)) (now (rows .entry)) (now (counts .entry)) (now (next .entry)) (now («book_heads» .entry)) (now («book_rows» .entry)) (now («book_next» .entry))) f g) (now (work .entry)) → Judged (cutWorld (tablesOf (now (heads .entry)) (now (parents .entry)) (now (rows .entry)) (now (counts .entry)) (now (next .entry)) (now («book_heads» .entry)) (now («book_rows» .entry)) (now («book_next» .entry))) f g) (removing (now (ids .entry))) (now (work .entry)) (now (work .exit)) x) ⌝ }
+    ensures { λ x. ⌜ ((h : Limits) (f g : ℕ) → CanFind (cutWorld (tablesOf (now (heads .entry)) (now (parents .entry)) (now (rows .entry)) (now (counts .entry)) (now (next .entry)) (now («book_heads» .entry)) (now («book_rows» .entry)) (now («book_next» .entry))) h f g) (now (work .entry)) → Judged (cutWorld (tablesOf (now (heads .entry)) (now (parents .entry)) (now (rows .entry)) (now (counts .entry)) (now (next .entry)) (now («book_heads» .entry)) (now («book_rows» .entry)) (now («book_next» .entry))) h f g) (removing (now (ids .entry))) (now (work .entry)) (now (work .exit)) x) ⌝ }
 {
     let found = refusals::find_remove(book_heads, ids);
     if found.number != 0 {

@@ -2,7 +2,9 @@
 // touched paths. Nothing of the tables is written before the last refusal is excluded.
 ghost use mathlib.Core.Path.{_≡_};
 ghost use Rattle.tables.specs.Tables.{tablesOf};
-ghost use Rattle.symbolic.specs.Batch.{gradeOf};
+ghost use lib.Dec.{leb};
+ghost use Rattle.lists.specs.Lists.{one};
+ghost use Rattle.symbolic.specs.Grades.{limitsOf, gradeOf};
 ghost use Rattle.calls.specs.Calls.{reportLists};
 ghost use Rattle.calls.specs.Calls.Change.{adding, removing};
 ghost use Rattle.batch.specs.Outcome.{cutWorld, CanBatch, batchAnswer, BatchStep};
@@ -37,15 +39,30 @@ pub struct FreeHeads {
     pub book_free: Rec,
 }
 
-// Grade 1 is for 1 to 255 entries, 2 for 256 to 4,095, 3 for 4,096 to 65,535, 4 for more; 0 for none.
-fn grade_of(entries: u32) -> u32
-    ensures { λ r. ⌜ r ≡ gradeOf entries ⌝ }
+// 1 where the entries reach a limit, otherwise 0.
+fn reaches(entries: u32, limit: u32) -> u32
+    ensures { λ r. ⌜ r ≡ one (leb limit entries) ⌝ }
 {
-    match entries {
-        0 => 0,
-        1..=255 => 1,
-        256..=4095 => 2,
-        4096..=65535 => 3,
+    if entries < limit {
+        return 0;
+    }
+    1
+}
+
+// The grade of some entries, by the numbers of entries from which on it is 2, 3 and 4: one more than these limits that are reached; 0 for no entry.
+fn grade_of(entries: u32, grade2: u32, grade3: u32, grade4: u32) -> u32
+    ensures { λ r. ⌜ r ≡ gradeOf (limitsOf grade2 grade3 grade4) entries ⌝ }
+{
+    if entries == 0 {
+        return 0;
+    }
+    let second = reaches(entries, grade2);
+    let third = reaches(entries, grade3);
+    let fourth = reaches(entries, grade4);
+    match second + third + fourth {
+        0 => 1,
+        1 => 2,
+        2 => 3,
         _ => 4,
     }
 }
@@ -66,10 +83,10 @@ fn refusing(verdict: Verdict, free: Rec, book_free: Rec) -> Batch
 }
 
 // The answer of a verdict that accepts, with the heads after it.
-fn accepting(verdict: Verdict, after: FreeHeads) -> Batch
-    ensures { λ r. ⌜ r ≡ record { number = 0; position = 0; touched = verdict .plan .count; entries = verdict .plan .entries; grade = gradeOf (verdict .plan .entries); free = after .free; «book_free» = after .«book_free» } ⌝ }
+fn accepting(verdict: Verdict, after: FreeHeads, grade2: u32, grade3: u32, grade4: u32) -> Batch
+    ensures { λ r. ⌜ r ≡ record { number = 0; position = 0; touched = verdict .plan .count; entries = verdict .plan .entries; grade = gradeOf (limitsOf grade2 grade3 grade4) (verdict .plan .entries); free = after .free; «book_free» = after .«book_free» } ⌝ }
 {
-    let grade = grade_of(verdict.plan.entries);
+    let grade = grade_of(verdict.plan.entries, grade2, grade3, grade4);
     let free = after.free;
     let book_free = after.book_free;
     Batch {
@@ -83,7 +100,8 @@ fn accepting(verdict: Verdict, after: FreeHeads) -> Batch
     }
 }
 
-// Adds a batch: each id with as many rows of the list as its count says. Numbers 7 to 16 refuse it, and then nothing changes.
+// Adds a batch: each id with as many rows of the list as its count says. Numbers 7 to 16 refuse it, and then nothing changes. From grade2, grade3 and grade4
+// entries on its grade is 2, 3 and 4.
 pub fn add(
     heads: &[u32],
     parents: &mut [u16],
@@ -101,9 +119,12 @@ pub fn add(
     row_list: &[u32],
     free: Rec,
     book_free: Rec,
+    grade2: u32,
+    grade3: u32,
+    grade4: u32,
 ) -> Batch
-    requires { ⌜ CanBatch (cutWorld (tablesOf (now heads) (now parents) (now rows) (now counts) (now next) (now «book_heads») (now «book_rows») (now «book_next»)) (free .0) («book_free» .0)) (now work) (now touched) (now labels) ⌝ }
-    ensures { λ r. ⌜ BatchStep (cutWorld (tablesOf (now (heads .entry)) (now (parents .entry)) (now (rows .entry)) (now (counts .entry)) (now (next .entry)) (now («book_heads» .entry)) (now («book_rows» .entry)) (now («book_next» .entry))) (free .0) («book_free» .0)) (adding (now (ids .entry)) (now («row_counts» .entry)) (now («row_list» .entry))) (reportLists (now (work .entry)) (now (touched .entry)) (now (labels .entry))) (batchAnswer r) (reportLists (now (work .exit)) (now (touched .exit)) (now (labels .exit))) (cutWorld (tablesOf (now (heads .entry)) (now (parents .exit)) (now (rows .exit)) (now (counts .exit)) (now (next .exit)) (now («book_heads» .exit)) (now («book_rows» .exit)) (now («book_next» .exit))) (r .free .0) (r .«book_free» .0)) ⌝ }
+    requires { ⌜ CanBatch (cutWorld (tablesOf (now heads) (now parents) (now rows) (now counts) (now next) (now «book_heads») (now «book_rows») (now «book_next»)) (limitsOf grade2 grade3 grade4) (free .0) («book_free» .0)) (now work) (now touched) (now labels) ⌝ }
+    ensures { λ r. ⌜ BatchStep (cutWorld (tablesOf (now (heads .entry)) (now (parents .entry)) (now (rows .entry)) (now (counts .entry)) (now (next .entry)) (now («book_heads» .entry)) (now («book_rows» .entry)) (now («book_next» .entry))) (limitsOf grade2 grade3 grade4) (free .0) («book_free» .0)) (adding (now (ids .entry)) (now («row_counts» .entry)) (now («row_list» .entry))) (reportLists (now (work .entry)) (now (touched .entry)) (now (labels .entry))) (batchAnswer r) (reportLists (now (work .exit)) (now (touched .exit)) (now (labels .exit))) (cutWorld (tablesOf (now (heads .entry)) (now (parents .exit)) (now (rows .exit)) (now (counts .exit)) (now (next .exit)) (now («book_heads» .exit)) (now («book_rows» .exit)) (now («book_next» .exit))) (limitsOf grade2 grade3 grade4) (r .free .0) (r .«book_free» .0)) ⌝ }
 {
     let verdict = judging::judge_add(
         heads,
@@ -144,10 +165,10 @@ pub fn add(
         free,
         book_free,
     );
-    accepting(verdict, after)
+    accepting(verdict, after, grade2, grade3, grade4)
 }
 
-// Removes the columns of a batch of ids. Numbers 7 to 11 refuse it, and then nothing changes.
+// Removes the columns of a batch of ids. Numbers 7 to 11 refuse it, and then nothing changes. The grade as in an addition.
 pub fn remove(
     heads: &[u32],
     parents: &mut [u16],
@@ -163,9 +184,12 @@ pub fn remove(
     ids: &[u32],
     free: Rec,
     book_free: Rec,
+    grade2: u32,
+    grade3: u32,
+    grade4: u32,
 ) -> Batch
-    requires { ⌜ CanBatch (cutWorld (tablesOf (now heads) (now parents) (now rows) (now counts) (now next) (now «book_heads») (now «book_rows») (now «book_next»)) (free .0) («book_free» .0)) (now work) (now touched) (now labels) ⌝ }
-    ensures { λ r. ⌜ BatchStep (cutWorld (tablesOf (now (heads .entry)) (now (parents .entry)) (now (rows .entry)) (now (counts .entry)) (now (next .entry)) (now («book_heads» .entry)) (now («book_rows» .entry)) (now («book_next» .entry))) (free .0) («book_free» .0)) (removing (now (ids .entry))) (reportLists (now (work .entry)) (now (touched .entry)) (now (labels .entry))) (batchAnswer r) (reportLists (now (work .exit)) (now (touched .exit)) (now (labels .exit))) (cutWorld (tablesOf (now (heads .entry)) (now (parents .exit)) (now (rows .exit)) (now (counts .exit)) (now (next .exit)) (now («book_heads» .exit)) (now («book_rows» .exit)) (now («book_next» .exit))) (r .free .0) (r .«book_free» .0)) ⌝ }
+    requires { ⌜ CanBatch (cutWorld (tablesOf (now heads) (now parents) (now rows) (now counts) (now next) (now «book_heads») (now «book_rows») (now «book_next»)) (limitsOf grade2 grade3 grade4) (free .0) («book_free» .0)) (now work) (now touched) (now labels) ⌝ }
+    ensures { λ r. ⌜ BatchStep (cutWorld (tablesOf (now (heads .entry)) (now (parents .entry)) (now (rows .entry)) (now (counts .entry)) (now (next .entry)) (now («book_heads» .entry)) (now («book_rows» .entry)) (now («book_next» .entry))) (limitsOf grade2 grade3 grade4) (free .0) («book_free» .0)) (removing (now (ids .entry))) (reportLists (now (work .entry)) (now (touched .entry)) (now (labels .entry))) (batchAnswer r) (reportLists (now (work .exit)) (now (touched .exit)) (now (labels .exit))) (cutWorld (tablesOf (now (heads .entry)) (now (parents .exit)) (now (rows .exit)) (now (counts .exit)) (now (next .exit)) (now («book_heads» .exit)) (now («book_rows» .exit)) (now («book_next» .exit))) (limitsOf grade2 grade3 grade4) (r .free .0) (r .«book_free» .0)) ⌝ }
 {
     let verdict = judging::judge_remove(
         heads,
@@ -201,5 +225,5 @@ pub fn remove(
         free,
         book_free,
     );
-    accepting(verdict, after)
+    accepting(verdict, after, grade2, grade3, grade4)
 }

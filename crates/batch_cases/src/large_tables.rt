@@ -45,6 +45,9 @@ pub fn open(
         64,
         f,
         16384,
+        0,
+        0,
+        0,
         heads,
         parents,
         rows,
@@ -63,6 +66,9 @@ pub fn open(
             c: 0,
             free: 0,
             book_free: 0,
+            grade2: 0,
+            grade3: 0,
+            grade4: 0,
         };
     };
     record

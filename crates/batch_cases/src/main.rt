@@ -1,5 +1,6 @@
-// Batches through the factor's public entries, as lines: the document's instances, batches whose paths merge, a refusal of each number, and 64 columns of
-// 256 rows each in a factor of 4,096 rows. A batch gives `ok touched entries grade`, then its touched columns and labels, or `no number position`.
+// Batches through the factor's public entries, as lines: the document's instances, grades by other limits, batches whose paths merge, a refusal of each
+// number, and 64 columns of 256 rows each in a factor of 4,096 rows. A batch gives `ok touched entries grade`, then its touched columns and labels, or
+// `no number position`.
 mod large;
 mod large_shown;
 mod large_tables;
@@ -11,6 +12,7 @@ use case_tables::Host;
 use lines::title;
 use steps::add;
 use steps::open;
+use steps::open_with;
 use steps::remove;
 use steps::show;
 
@@ -92,6 +94,17 @@ fn grades() {
     add(h, &[1, 2, 3, 4], &[22, 1, 1, 1], &rows);
 }
 
+// Grades by the limits 2, 3 and 9, of 1, 2, 3, 8 and 9 entries: {1, 2, 3} fills 6, {4, 5} adds 3, and a column of one row 1.
+fn limits() {
+    title(b"limits 2 3 9");
+    let h = open_with(5, 8, 0, 16, 2, 3, 9);
+    add(h, &[1], &[1], &[1]);
+    add(h, &[1, 2], &[1, 1], &[1, 2]);
+    add(h, &[1, 2, 3], &[1, 1, 1], &[1, 2, 3]);
+    add(h, &[1, 2, 3], &[3, 1, 1], &[1, 2, 3, 4, 5]);
+    add(h, &[1, 2], &[3, 2], &[1, 2, 3, 4, 5]);
+}
+
 // Paths and columns in full, in a list too short, from a place past it, and of no row.
 fn asked(h: Host) {
     steps::path(h, 0, 1);
@@ -163,6 +176,7 @@ fn main() {
     batches();
     twice();
     grades();
+    limits();
     emptied();
     staying();
     merging();

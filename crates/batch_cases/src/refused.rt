@@ -1,7 +1,9 @@
-// Batches that are refused, by each number from 7 to 16, on the listed example of three columns: ids 1 to 3 are live, m is 5, n is 8.
+// Batches that are refused, by each number from 7 to 16, on the listed example of three columns: ids 1 to 3 are live, m is 5, n is 8. Openings that are
+// refused by 20.
 use crate::lines::title;
 use crate::steps::add;
 use crate::steps::open;
+use crate::steps::open_with;
 use crate::steps::remove;
 use crate::steps::show;
 use case_tables::Host;
@@ -97,6 +99,19 @@ fn filled() {
     show(add(one, &[2], &[2], &[4, 5]));
 }
 
+// 20 by a first limit below 2 and by limits that do not rise; 4 comes before it, 5 after it.
+fn limits() {
+    title(b"20");
+    open_with(5, 8, 9, 16, 1, 2, 3);
+    open_with(5, 8, 9, 16, 2, 2, 3);
+    open_with(5, 8, 9, 16, 2, 3, 3);
+    open_with(5, 8, 9, 16, 2, 3, 2);
+    open_with(5, 8, 9, 16, 0, 0, 7);
+    open_with(5, 8, 9, 0, 0, 0, 7);
+    open_with(65, 8, 0, 16, 0, 0, 7);
+    open_with(65, 8, 0, 16, 2, 3, 4);
+}
+
 pub fn all(before: Host) {
     let mut h = shapes(before);
     h = ids_to_add(h);
@@ -108,4 +123,5 @@ pub fn all(before: Host) {
     show(h);
     full();
     filled();
+    limits();
 }

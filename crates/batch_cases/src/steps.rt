@@ -2,9 +2,15 @@
 use crate::lines;
 use case_tables::Host;
 
-// Opens anew, and gives the host from now on.
+// Opens anew with the old limits, and gives the host from now on.
 pub fn open(m: u32, n: u32, f: u32, c: u32) -> Host {
-    let opened = case_tables::open(case_tables::unopened(), m, n, f, c);
+    open_with(m, n, f, c, 0, 0, 0)
+}
+
+// Opens anew with limits of the grades.
+pub fn open_with(m: u32, n: u32, f: u32, c: u32, grade2: u32, grade3: u32, grade4: u32) -> Host {
+    let before = case_tables::unopened();
+    let opened = case_tables::open(before, m, n, f, c, grade2, grade3, grade4);
     if opened.number == 0 {
         io::write_all(1, b"open\n");
     } else {
@@ -47,8 +53,7 @@ pub fn show(h: Host) {
     io::write_all(1, b"check");
     lines::word(sound.number);
     lines::end();
-    let record = h.factor;
-    let m = record.m;
+    let m = case_tables::row_count(h);
     let mut j: u32 = 0;
     while j < m {
         j += 1;

@@ -131,9 +131,9 @@ module _ (u : World) (k : Change) (v : World) where
   at-number : (f : ℕ → Bool) (n : ℕ) → all f (upFrom 1 n) ≡ true → (i : ℕ) → 1 ≤ i → i ≤ n → f i ≡ true
   at-number f n h i a b = all-at f (up-from 1 n i a (omega arith)) h
 
-  pub exchange-passed : v .state .sizes ≡ u .state .sizes →
+  pub exchange-passed : v .state .sizes ≡ u .state .sizes → v .state .limits ≡ u .state .limits →
       bookedIn v .columns ≡ effect (bookedIn u) k .register .columns → exchangeTest ≡ true → Exchanged u k v
-  exchange-passed l c z =
+  exchange-passed l g c z =
       let m : ℕ = u .state .sizes .m in
       let n : ℕ = u .state .sizes .n in
       let A : Bool = isSound (v .state) (v .tables) in
@@ -147,6 +147,7 @@ module _ (u : World) (k : Change) (v : World) where
       let s : (D ≡ true) × (E ≡ true) = and-both D E (r .1) in
       record {
         sizes = l;
+        limits = g;
         sound = p .0;
         columns = λ f. ap (λ (cs : List Column). sumOf f cs) c;
         others = λ j a b t. stays-passed (storedIn (u .state) (u .tables)) (storedIn (v .state) (v .tables)) j

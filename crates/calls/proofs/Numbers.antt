@@ -1,47 +1,56 @@
--- The number of a whole call: what is known once 1 to 5 are passed (`early-facts`), that sizes in range leave 5 alone (`early-number`), that 7 to 18 are
--- the call's own (`call-number`), what an accepted call has found (`accepted-found`), and that on sound tables the number needs no look at their contents
+-- The number of a whole call: what is known once 1 to 5 and 20 are passed (`early-facts`), that sizes in range leave 5 alone to all but openings
+-- (`early-number`) and that 6 is none of these (`early-other`), that 7 to 18 are the call's own (`call-number`), what an accepted call has found (`accepted-found`), and that on sound tables the number needs no look at their contents
 -- (`sound-number`). Assumes nothing.
-use mathlib.Core.Path.{_≡_, refl, sym, ap, subst}
-use mathlib.Core.Logic.{inl, inr}
+use mathlib.Core.Path.{_≡_, refl, sym, ap, _∙_, subst}
+use mathlib.Core.Logic.{inl, inr, _≢_}
 use mathlib.Core.Bool.{Bool, true, false, _&&_, _||_, not, true≢false}
 use mathlib.Core.List.{List, [], _∷_}
-use Prim.Native.Nat.{ℕ, suc, _+_, _≤_}
+use Prim.Native.Nat.{ℕ, suc, _+_, _<_}
 use native.Mathlib.Omega.{arith}
 use lib.Dec.{ltb, leb, eqb}
 use lib.ListN.{length, take, drop}
 use Rattle.lists.specs.Lists.{isIn, among}
+use Rattle.lists.proofs.Tests.{cases}
 use Rattle.symbolic.specs.Columns.{Register}
 use Rattle.symbolic.specs.Factor.{factorFor, sizeSum}
 use Rattle.symbolic.specs.Change.{added}
 use Rattle.tables.specs.Tables.{Tables, Sizes, State, longEnough, registerOf, isSound}
 use Rattle.calls.specs.Refusals.{Refusal, accepted, isAccepted, orElse, unless, bounds, sizesRefusal, workFor, shortRefusal, earlyRefusal, batchOf, inRegister, rowsRefusal, columnsRefusal, rowSum, roomRefusal, idsRefusal, rowRefusal, roomFor}
-use Rattle.calls.specs.Calls.{Change, adding, removing, Question, askMultiplicity, askParent, askPath, askColumn, Entry, opening, changing, checking, asking, Call, isOpening, withDefault, sizesAfter}
+use Rattle.calls.specs.Calls.{Change, adding, removing, Question, askMultiplicity, askParent, askPath, askColumn, Entry, opening, changing, checking, asking, Call, isOpening, withDefault, sizesAfter, keepsRule}
 use Rattle.calls.specs.Changes.{effect}
 use Rattle.calls.specs.Questions.{response}
 use Rattle.calls.specs.Numbers.{hasLists, callEarly, soundRefusal, ownRefusal, callRefusal, refusalOf}
-use Rattle.calls.proofs.Choices.{or-both, or-second, unless-holds, unless-true, NumberIn, number-none, number-unless, number-or}
+use Rattle.calls.proofs.Choices.{or-both, or-first, or-second, unless-holds, unless-true, NumberIn, number-none, number-unless, number-or}
 use Rattle.calls.proofs.Refusals.{HasRoom, early-passed}
 
 -- ---- 1 to 5
 
--- 1 to 5 are passed: sizes in range, tables and work table long enough for them
+-- 1 to 5 and 20 are passed: sizes in range, an opening's limits in order, tables and work table long enough for the sizes
 pub record Ready (l : Sizes) (t : Tables) (k : Call) : Type 0 where
   pub sizes : sizesRefusal bounds (sizesAfter l (k .entry)) ≡ accepted
+  pub limits : keepsRule (k .entry) ≡ true
   pub room : HasRoom (sizesAfter l (k .entry)) t (k .lent .work)
 
 pub early-facts : (l : Sizes) (t : Tables) (k : Call) → isAccepted (callEarly l t k) ≡ true → Ready l t k
 early-facts l t k h =
     let j : Sizes = sizesAfter l (k .entry) in
-    let u : (sizesRefusal bounds j ≡ accepted) × HasRoom j t (k .lent .work) × (hasLists j (k .entry) (k .lent) ≡ true) =
-    early-passed j t (k .lent .work) (hasLists j (k .entry) (k .lent)) h in
-    record { sizes = u .0; room = u .1 }
+    let u : (sizesRefusal bounds j ≡ accepted) × (keepsRule (k .entry) ≡ true) × HasRoom j t (k .lent .work) × (hasLists j (k .entry) (k .lent) ≡ true) =
+    early-passed j (keepsRule (k .entry)) t (k .lent .work) (hasLists j (k .entry) (k .lent)) h in
+    record { sizes = u .0; limits = u .1; room = u .2 }
 
 -- only an opening changes the sizes
 pub sizes-stay : (l : Sizes) (e : Entry) → isOpening e ≡ false → sizesAfter l e ≡ l
-sizes-stay l (opening k) o = absurd (true≢false o)
+sizes-stay l (opening k g) o = absurd (true≢false o)
 sizes-stay l (changing c) o = refl
 sizes-stay l checking o = refl
 sizes-stay l (asking q p) o = refl
+
+-- only an opening hands over limits
+pub rule-kept : (e : Entry) → isOpening e ≡ false → keepsRule e ≡ true
+rule-kept (opening k g) o = absurd (true≢false o)
+rule-kept (changing c) o = refl
+rule-kept checking o = refl
+rule-kept (asking q p) o = refl
 
 short-number : (l : Sizes) (t : Tables) (w : List ℕ) (z : Bool) → NumberIn 5 5 (orElse (shortRefusal l t w) (unless z 5 0))
 short-number l t w z =
@@ -55,7 +64,9 @@ early-number l t e k o =
     let w : List ℕ = k .lent .work in
     let z : Bool = hasLists j (k .entry) (k .lent) in
     let f : sizesRefusal bounds j ≡ accepted = subst (λ (i : Sizes). sizesRefusal bounds i ≡ accepted) (sym (sizes-stay l (k .entry) o)) e in
-    subst (λ (x : Refusal). NumberIn 5 5 x) (sym (or-second (sizesRefusal bounds j) (orElse (shortRefusal j t w) (unless z 5 0)) (ap isAccepted f)))
+    let y : Refusal = orElse (shortRefusal j t w) (unless z 5 0) in
+    let q : orElse (unless (keepsRule (k .entry)) 20 0) y ≡ y = ap (λ (g : Bool). orElse (unless g 20 0) y) (rule-kept (k .entry) o) in
+    subst (λ (x : Refusal). NumberIn 5 5 x) (sym (or-second (sizesRefusal bounds j) (orElse (unless (keepsRule (k .entry)) 20 0) y) (ap isAccepted f) ∙ q))
     (short-number j t w z)
 
 sizes-number : (l : Sizes) → NumberIn 1 5 (sizesRefusal bounds l)
@@ -69,18 +80,28 @@ sizes-number l =
     (number-or 1 5 z w (number-unless 1 5 (isIn (l .m) 1048576 (l .f)) 3 0 (omega arith) (omega arith))
     (number-unless 1 5 (isIn 1 262144 (l .c)) 4 0 (omega arith) (omega arith))))
 
--- 1 to 5 come before the contents are read
-pub early-low : (l : Sizes) (t : Tables) (k : Call) → callEarly l t k .number ≤ 5
-early-low l t k =
+-- what comes before the contents are read is not 6
+pub early-other : (l : Sizes) (t : Tables) (k : Call) → callEarly l t k .number ≢ 6
+early-other l t k =
     let j : Sizes = sizesAfter l (k .entry) in
     let y : Refusal = orElse (shortRefusal j t (k .lent .work)) (unless (hasLists j (k .entry) (k .lent)) 5 0) in
-    elim (number-or 1 5 (sizesRefusal bounds j) y (sizes-number j) (wider y (short-number j t (k .lent .work) (hasLists j (k .entry) (k .lent))))) [
-      | inl e ↦ omega arith
-      | inr e ↦ e .1
-    ]
+    let g : Bool = keepsRule (k .entry) in
+    apart (sizesRefusal bounds j) (orElse (unless g 20 0) y) (below 1 5 (sizesRefusal bounds j) (omega arith) (sizes-number j))
+    (apart (unless g 20 0) y (limits g) (below 5 5 y (omega arith) (short-number j t (k .lent .work) (hasLists j (k .entry) (k .lent)))))
   where
-    wider : (x : Refusal) → NumberIn 5 5 x → NumberIn 1 5 x
-    wider x h = elim h [ inl e ↦ inl e | inr e ↦ inr (omega arith) ]
+    below : (a b : ℕ) (x : Refusal) → b < 6 → NumberIn a b x → x .number ≢ 6
+    below a b x l h e = elim h [ inl q ↦ omega arith | inr q ↦ omega arith ]
+
+    limits : (g : Bool) → unless g 20 0 .number ≢ 6
+    limits true e = omega arith
+    limits false e = omega arith
+
+    apart : (x y : Refusal) → x .number ≢ 6 → y .number ≢ 6 → orElse x y .number ≢ 6
+    apart x y p q e =
+        elim (cases (isAccepted x)) [
+          | inl a ↦ q (sym (ap (λ (r : Refusal). r .number) (or-second x y a)) ∙ e)
+          | inr a ↦ p (sym (ap (λ (r : Refusal). r .number) (or-first x y a)) ∙ e)
+        ]
 
 -- ---- 7 to 18
 
@@ -153,7 +174,7 @@ question-number r (askPath j) = row-number (r .m) j
 question-number r (askColumn j) = row-number (r .m) j
 
 own-number : (l : Sizes) (r : Register) (e : Entry) (xs : List ℕ) → NumberIn 7 18 (ownRefusal l r e xs)
-own-number l r (opening k) xs = number-none 7 18
+own-number l r (opening k g) xs = number-none 7 18
 own-number l r (changing c) xs = change-number l r c
 own-number l r checking xs = number-none 7 18
 own-number l r (asking q p) xs =

@@ -16,7 +16,8 @@ use Rattle.lists.proofs.Sum.{sum-append}
 use Rattle.lists.proofs.Times.{among-some, mem-times, once-of, of-once}
 use Rattle.symbolic.specs.Columns.{Column, Register, live}
 use Rattle.symbolic.specs.Factor.{FactorColumn, factorOf, factorFor}
-use Rattle.symbolic.specs.Batch.{exchanged, labelOf, entriesOf, gradeOf}
+use Rattle.symbolic.specs.Batch.{exchanged, labelOf, entriesOf}
+use Rattle.symbolic.specs.Grades.{Limits, gradeOf}
 use Rattle.symbolic.specs.Change.{idsOf, without, columnOf, columnsOf, added, Bag}
 use Rattle.symbolic.proofs.Bags.{bag-append, bag-mem, bag-without, without-le, ids-times, hasId, column-of}
 use Rattle.symbolic.proofs.Bags as bags
@@ -141,7 +142,7 @@ module _ (r s : Register) (e : r .m ≡ s .m) (b : Bag (r .columns) (s .columns)
   bag-number l k = own (k .entry) (k .lent .list)
     where
       own : (i : Entry) (xs : List ℕ) → ownRefusal l r i xs ≡ ownRefusal l s i xs
-      own (opening j) xs = refl
+      own (opening j g) xs = refl
       own (changing c) xs = change-refusal l c
       own checking xs = refl
       own (asking q p) xs = ap (λ (x : Response). orElse (x .refusal) (roomFor xs p (length (x .list)))) (bag-response q)
@@ -194,16 +195,16 @@ module _ (r s : Register) (e : r .m ≡ s .m) (b : Bag (r .columns) (s .columns)
     -- ---- answers and lists
 
     pub bag-result : (i : Entry) → resultOf r i ≡ resultOf s i
-    bag-result (opening l) = refl
+    bag-result (opening l g) = refl
     bag-result (changing c) =
-        λ i. record { touched = bag-touched c i; labels = bag-labels c i; entries = bag-entries c i; grade = gradeOf (bag-entries c i); value = 0; list = []; place = 0 }
+        λ i. record { touched = bag-touched c i; labels = bag-labels c i; entries = bag-entries c i; value = 0; list = []; place = 0 }
     bag-result checking = refl
     bag-result (asking q p) =
-        ap (λ (x : Response). record { touched = []; labels = []; entries = 0; grade = 0; value = x .value; list = x .list; place = p }) (bag-response q)
+        ap (λ (x : Response). record { touched = []; labels = []; entries = 0; value = x .value; list = x .list; place = p }) (bag-response q)
 
-    pub bag-answer : (i : Entry) → acceptedBy r i ≡ acceptedBy s i
-    bag-answer i =
-        ap (λ (x : Result). record { number = 0; position = 0; touched = length (x .touched); entries = x .entries; grade = x .grade; value = x .value }) (bag-result i)
+    pub bag-answer : (g : Limits) (i : Entry) → acceptedBy g r i ≡ acceptedBy g s i
+    bag-answer g i =
+        ap (λ (x : Result). record { number = 0; position = 0; touched = length (x .touched); entries = x .entries; grade = gradeOf g (x .entries); value = x .value }) (bag-result i)
 
     pub bag-lists : (k : Call) (v : List ℕ) → listsAfter r k v ≡ listsAfter s k v
     bag-lists k v =

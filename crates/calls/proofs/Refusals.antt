@@ -84,14 +84,15 @@ lists-facts m a b h =
     let u : (leb m (length a) ≡ true) × (leb m (length b) ≡ true) = and-both (leb m (length a)) (leb m (length b)) h in
     (leb-true m (length a) (u .0), leb-true m (length b) (u .1))
 
--- 1 to 5 are passed
-pub early-passed : (l : Sizes) (t : Tables) (w : List ℕ) (z : Bool) → isAccepted (earlyRefusal l t w z) ≡ true →
-    (sizesRefusal bounds l ≡ accepted) × HasRoom l t w × (z ≡ true)
-early-passed l t w z h =
-    let u : (isAccepted (sizesRefusal bounds l) ≡ true) × (isAccepted (orElse (shortRefusal l t w) (unless z 5 0)) ≡ true) =
-    or-both (sizesRefusal bounds l) (orElse (shortRefusal l t w) (unless z 5 0)) h in
-    let v : (isAccepted (shortRefusal l t w) ≡ true) × (isAccepted (unless z 5 0) ≡ true) = or-both (shortRefusal l t w) (unless z 5 0) (u .1) in
-    (sizes-whole l (u .0), short-facts l t w (v .0), unless-holds z 5 0 refl (v .1))
+-- 1 to 5 and 20 are passed
+pub early-passed : (l : Sizes) (g : Bool) (t : Tables) (w : List ℕ) (z : Bool) → isAccepted (earlyRefusal l g t w z) ≡ true →
+    (sizesRefusal bounds l ≡ accepted) × (g ≡ true) × HasRoom l t w × (z ≡ true)
+early-passed l g t w z h =
+    let y : Refusal = orElse (shortRefusal l t w) (unless z 5 0) in
+    let u : (isAccepted (sizesRefusal bounds l) ≡ true) × (isAccepted (orElse (unless g 20 0) y) ≡ true) = or-both (sizesRefusal bounds l) (orElse (unless g 20 0) y) h in
+    let x : (isAccepted (unless g 20 0) ≡ true) × (isAccepted y ≡ true) = or-both (unless g 20 0) y (u .1) in
+    let v : (isAccepted (shortRefusal l t w) ≡ true) × (isAccepted (unless z 5 0) ≡ true) = or-both (shortRefusal l t w) (unless z 5 0) (x .1) in
+    (sizes-whole l (u .0), unless-holds g 20 0 refl (x .0), short-facts l t w (v .0), unless-holds z 5 0 refl (v .1))
 
 -- ---- 7 to 16: an addition
 

@@ -13,7 +13,7 @@ use Rattle.calls.specs.Steps.{Answer, refusedBy, acceptedBy, listsAfter,
 -- an accepted call
 pub record Accepted (u : World) (k : Call) (a : Answer) (x : Lent) (v : World) : Type 0 where
   pub number : isAccepted (refusalOf (u .state) (u .tables) k) ≡ true
-  pub answer : a ≡ acceptedBy (bookedIn u) (k .entry)
+  pub answer : a ≡ acceptedBy (u .state .limits) (bookedIn u) (k .entry)
   pub lists : x ≡ listsAfter (bookedIn u) k (workAfter (u .state .sizes) (u .tables) k)
   pub world : AcceptedWorld u (k .entry) v
 
@@ -62,14 +62,14 @@ module _ (u : World) (k : Call) (a : Answer) (x : Lent) (v : World) (s : Transit
 
 -- a check or a question leaves record and tables
 pub quiet-world : (u : World) (e : Entry) (v : World) → (isChange e || isOpening e) ≡ false → AcceptedWorld u e v → v ≡ u
-quiet-world u (opening l) v q s = absurd (true≢false q)
+quiet-world u (opening l g) v q s = absurd (true≢false q)
 quiet-world u (changing c) v q s = absurd (true≢false q)
 quiet-world u checking v q s = s
 quiet-world u (asking k p) v q s = s
 
 -- which change it is
 pub change-of : (e : Entry) → isChange e ≡ true → (c : Change) × (e ≡ changing c)
-change-of (opening l) q = absurd (false≢true q)
+change-of (opening l g) q = absurd (false≢true q)
 change-of (changing c) q = (c, refl)
 change-of checking q = absurd (false≢true q)
 change-of (asking k p) q = absurd (false≢true q)

@@ -6,6 +6,7 @@ use mathlib.Core.List.{List, []}
 use Prim.Native.Nat.{ℕ, _*_}
 use lib.Dec.{eqb}
 use Rattle.lists.specs.Lists.{pick}
+use Rattle.symbolic.specs.Grades.{Limits, areLimits, limitsFor}
 use Rattle.tables.specs.Tables.{Sizes}
 
 -- ---- which entry
@@ -24,7 +25,7 @@ pub data Question : Type 0 where
 
 -- an entry with its numbers; place: where a question's list is written from on, 0 for a question that has none
 pub data Entry : Type 0 where
-  opening : (asked : Sizes) → Entry
+  opening : (asked : Sizes) (limits : Limits) → Entry
   changing : (change : Change) → Entry
   checking : Entry
   asking : (question : Question) (place : ℕ) → Entry
@@ -67,14 +68,14 @@ callOf e x = record { entry = e; lent = x }
 
 -- an entry is an opening
 abbrev pub isOpening : Entry → Bool
-isOpening (opening l) = true
+isOpening (opening l g) = true
 isOpening (changing c) = false
 isOpening checking = false
 isOpening (asking q p) = false
 
 -- an entry is a change
 abbrev pub isChange : Entry → Bool
-isChange (opening l) = false
+isChange (opening l g) = false
 isChange (changing c) = true
 isChange checking = false
 isChange (asking q p) = false
@@ -89,7 +90,21 @@ withDefault l = record { m = l .m; n = l .n; f = pick (eqb (l .f) 0) (defaultRec
 
 -- the sizes of a call: an opening brings its own, which stay if it is accepted; the others have the record's
 abbrev pub sizesAfter : Sizes → Entry → Sizes
-sizesAfter l (opening k) = withDefault k
+sizesAfter l (opening k g) = withDefault k
 sizesAfter l (changing c) = l
 sizesAfter l checking = l
 sizesAfter l (asking q p) = l
+
+-- the limits of a call: likewise
+abbrev pub limitsAfter : Limits → Entry → Limits
+limitsAfter g (opening l h) = limitsFor h
+limitsAfter g (changing c) = g
+limitsAfter g checking = g
+limitsAfter g (asking q p) = g
+
+-- "The first must be at least 2 and each must exceed the one before": an opening's limits do; the other calls hand over none
+abbrev pub keepsRule : Entry → Bool
+keepsRule (opening l g) = areLimits (limitsFor g)
+keepsRule (changing c) = true
+keepsRule checking = true
+keepsRule (asking q p) = true

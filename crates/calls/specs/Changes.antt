@@ -1,12 +1,13 @@
 -- What a change does, from the register alone: whether it is refused, which columns that count leave, enter and stay, the labels, the ids whose booked columns it
--- may alter, and the register after it. All that it reports follows: the touched columns, their labels, the entries and the grade.
+-- may alter, and the register after it. All that it reports follows: the touched columns, their labels and the entries; Steps.antt reads the grade
+-- from the entries and the factor's limits.
 -- Every change is an exchange: of the live columns some leave and others enter; an addition lets none leave, a removal lets none enter.
 -- Assumes nothing: these are definitions.
 use mathlib.Core.List.{List, [], _∷_, _++_}
 use Prim.Native.Nat.{ℕ}
 use Rattle.symbolic.specs.Columns.{Column, Register, liveOf, live}
 use Rattle.symbolic.specs.Factor.{factorFor}
-use Rattle.symbolic.specs.Batch.{exchanged, labelOf, entriesOf, gradeOf}
+use Rattle.symbolic.specs.Batch.{exchanged, labelOf, entriesOf}
 use Rattle.symbolic.specs.Change.{columnsOf, added, removed, Bag}
 use Rattle.tables.specs.Tables.{Sizes}
 use Rattle.calls.specs.Refusals.{Refusal, batchOf, addRefusal, removeRefusal}
@@ -75,15 +76,11 @@ labelsBy r c = labelled (effect r c .label) (touchedBy r c)
 abbrev pub entriesBy : Register → Change → ℕ
 entriesBy r c = entriesOf (factorFor (effect r c .register)) (touchedBy r c)
 
--- "It also gives a grade": that of its entries
-abbrev pub gradeBy : Register → Change → ℕ
-gradeBy r c = gradeOf (entriesBy r c)
-
 -- ---- the plain register
 
 -- the register after an accepted call: "Accepted opening: the new m, no column"; "a check or a question: nothing changes"
 abbrev pub registerAfter : Register → Entry → Register
-registerAfter r (opening l) = record { m = l .m; columns = [] }
+registerAfter r (opening l g) = record { m = l .m; columns = [] }
 registerAfter r (changing c) = effect r c .register
 registerAfter r checking = r
 registerAfter r (asking q p) = r

@@ -1,5 +1,5 @@
--- The number and position of a whole call, in document 01's order: sizes, tables, contents, then the call's own. The first need nothing of the tables, the
--- second their lengths, the third their contents, the last the register that the book holds.
+-- The number and position of a whole call, in document 01's order: sizes (then an opening's limits), tables, contents, then the call's own. The first need
+-- nothing of the tables, the second their lengths, the third their contents, the last the register that the book holds.
 -- Assumes nothing: these are definitions.
 use mathlib.Core.Bool.{Bool, true, _||_}
 use mathlib.Core.List.{List}
@@ -8,21 +8,21 @@ use lib.ListN.{length}
 use Rattle.symbolic.specs.Columns.{Register}
 use Rattle.tables.specs.Tables.{Tables, Sizes, State, registerOf, isSound}
 use Rattle.calls.specs.Refusals.{Refusal, accepted, orElse, unless, listsLong, earlyRefusal, roomFor}
-use Rattle.calls.specs.Calls.{Question, Entry, opening, changing, checking, asking, Lent, Call, isOpening, sizesAfter}
+use Rattle.calls.specs.Calls.{Question, Entry, opening, changing, checking, asking, Lent, Call, isOpening, sizesAfter, keepsRule}
 use Rattle.calls.specs.Changes.{effect}
 use Rattle.calls.specs.Questions.{response}
 
 -- a call's own lists are long enough for its report: only a change has such lists
 abbrev pub hasLists : Sizes → Entry → Lent → Bool
-hasLists l (opening k) x = true
+hasLists l (opening k g) x = true
 hasLists l (changing c) x = listsLong (l .m) (x .touched) (x .labels)
 hasLists l checking x = true
 hasLists l (asking q p) x = true
 
--- 1 to 5 of a call in a record with these sizes
+-- 1 to 5 and 20 of a call in a record with these sizes
 abbrev pub callEarly : Sizes → Tables → Call → Refusal
 callEarly l t k =
-    earlyRefusal (sizesAfter l (k .entry)) t (k .lent .work) (hasLists (sizesAfter l (k .entry)) (k .entry) (k .lent))
+    earlyRefusal (sizesAfter l (k .entry)) (keepsRule (k .entry)) t (k .lent .work) (hasLists (sizesAfter l (k .entry)) (k .entry) (k .lent))
 
 -- 6, "all but open": not sound
 abbrev pub soundRefusal : State → Tables → Entry → Refusal
@@ -34,7 +34,7 @@ askRefusal r q p xs = orElse (response r q .refusal) (roomFor xs p (length (resp
 
 -- 7 to 18, by the register; list: the one lent to a question
 abbrev pub ownRefusal : Sizes → Register → Entry → (list : List ℕ) → Refusal
-ownRefusal l r (opening k) xs = accepted
+ownRefusal l r (opening k g) xs = accepted
 ownRefusal l r (changing c) xs = effect r c .refusal l
 ownRefusal l r checking xs = accepted
 ownRefusal l r (asking q p) xs = askRefusal r q p xs

@@ -1,5 +1,5 @@
--- Numbers 1 to 5 and 7 to 18 of document 01's "Where a call is turned down", over naturals: each group as one ordered choice, "The first that applies is
--- given". Numbers.antt has 6 and puts the groups of a call in order. Positions are from 1, and 0 where a number has none.
+-- Numbers 1 to 5 and 7 to 18 of document 01's "Where a call is turned down", and document 02's 20, over naturals: each group as one ordered choice, "The first
+-- that applies is given". Numbers.antt has 6 and puts the groups of a call in order. Positions are from 1, and 0 where a number has none.
 -- Assumes nothing: these are definitions.
 use mathlib.Core.Bool.{Bool, _&&_, not}
 use mathlib.Core.List.{List, [], _∷_}
@@ -59,6 +59,12 @@ sizesRefusal b l =
     orElse (unless (isIn 1 (b .m) (l .m)) 1 0)
     (orElse (unless (isIn 1 (b .n) (l .n)) 2 0) (orElse (unless (isIn (l .m) (b .f) (l .f)) 3 0) (unless (isIn 1 (b .c) (l .c)) 4 0)))
 
+-- ---- 20, openings: limits
+
+-- document 02: "Limits that break this get 20 at opening, after 4"; keepsRule: those handed over keep the rule of `areLimits` (symbolic, Grades)
+abbrev pub limitsRefusal : (keepsRule : Bool) → Refusal
+limitsRefusal k = unless k 20 0
+
 -- ---- 5, every call: tables
 
 -- "needs W = .. of them"
@@ -73,9 +79,9 @@ shortRefusal l t w = unless (longEnough l t && leb (workFor l) (length w)) 5 0
 abbrev pub listsLong : (m : ℕ) → (touched labels : List ℕ) → Bool
 listsLong m ts ls = leb m (length ts) && leb m (length ls)
 
--- 1 to 5, in their order; isLong: the call's own lists are long enough
-abbrev pub earlyRefusal : Sizes → Tables → (work : List ℕ) → (isLong : Bool) → Refusal
-earlyRefusal l t w z = orElse (sizesRefusal bounds l) (orElse (shortRefusal l t w) (unless z 5 0))
+-- 1 to 4, 20 and 5, in this order; keepsRule: an opening's limits keep the rule; isLong: the call's own lists are long enough
+abbrev pub earlyRefusal : Sizes → (keepsRule : Bool) → Tables → (work : List ℕ) → (isLong : Bool) → Refusal
+earlyRefusal l k t w z = orElse (sizesRefusal bounds l) (orElse (limitsRefusal k) (orElse (shortRefusal l t w) (unless z 5 0)))
 
 -- ---- 7 to 16, batches
 

@@ -9,6 +9,7 @@ use lib.ListN.{length}
 use Rattle.lists.specs.Lists.{pick, among, over, writtenAt}
 use Rattle.symbolic.specs.Columns.{Register}
 use Rattle.symbolic.specs.Factor.{factorOf}
+use Rattle.symbolic.specs.Grades.{Limits, limitsFor, gradeOf}
 use Rattle.symbolic.specs.Change.{Bag}
 use Rattle.workspace.specs.Regions.{zeroFirst}
 use Rattle.book.specs.Book as book
@@ -17,7 +18,7 @@ use Rattle.tables.specs.Opening.{openedState, openedTables}
 use Rattle.tables.specs.Stays.{ColumnStays, EntriesStay, TailsStay}
 use Rattle.calls.specs.Refusals.{Refusal, isAccepted, workFor}
 use Rattle.calls.specs.Calls.{Change, Entry, opening, changing, checking, asking, Lent, withWork, Call, withDefault, sizesAfter}
-use Rattle.calls.specs.Changes.{effect, touchedBy, labelsBy, entriesBy, gradeBy}
+use Rattle.calls.specs.Changes.{effect, touchedBy, labelsBy, entriesBy}
 use Rattle.calls.specs.Questions.{response}
 use Rattle.calls.specs.Numbers.{callEarly, refusalOf}
 
@@ -36,40 +37,39 @@ pub record Answer : Type 0 where
 abbrev pub refusedBy : Refusal → Answer
 refusedBy x = record { number = x .number; position = x .position; touched = 0; entries = 0; grade = 0; value = 0 }
 
--- ---- what an accepted call answers and writes, from the register alone
+-- ---- what an accepted call answers and writes: from the register, and the grade from the limits too
 
 -- a change's report, a question's value and list with the place that the list is written from on; what a call does not have is 0 or []
 pub record Result : Type 0 where
   pub touched : List ℕ
   pub labels : List ℕ
   pub entries : ℕ
-  pub grade : ℕ
   pub value : ℕ
   pub list : List ℕ
   pub place : ℕ
 
 -- of a call that reports nothing
 abbrev pub noResult : Result
-noResult = record { touched = []; labels = []; entries = 0; grade = 0; value = 0; list = []; place = 0 }
+noResult = record { touched = []; labels = []; entries = 0; value = 0; list = []; place = 0 }
 
 -- what each kind of call answers and writes
 abbrev pub resultOf : Register → Entry → Result
-resultOf r (opening l) = noResult
+resultOf r (opening l g) = noResult
 resultOf r (changing c) =
-    record { touched = touchedBy r c; labels = labelsBy r c; entries = entriesBy r c; grade = gradeBy r c; value = 0; list = []; place = 0 }
+    record { touched = touchedBy r c; labels = labelsBy r c; entries = entriesBy r c; value = 0; list = []; place = 0 }
 resultOf r checking = noResult
 resultOf r (asking q p) =
-    record { touched = []; labels = []; entries = 0; grade = 0; value = response r q .value; list = response r q .list; place = p }
+    record { touched = []; labels = []; entries = 0; value = response r q .value; list = response r q .list; place = p }
 
--- the answer of an accepted call: number 0, with a change's report or a question's value
-abbrev pub acceptedBy : Register → Entry → Answer
-acceptedBy r e =
+-- the answer of an accepted call: number 0, with a change's report or a question's value; "every grade is read from" the factor's limits, 0 for no entry
+abbrev pub acceptedBy : Limits → Register → Entry → Answer
+acceptedBy g r e =
     record {
       number = 0;
       position = 0;
       touched = length (resultOf r e .touched);
       entries = resultOf r e .entries;
-      grade = resultOf r e .grade;
+      grade = gradeOf g (resultOf r e .entries);
       value = resultOf r e .value;
     }
 
@@ -103,6 +103,8 @@ bookedIn u = registerOf (u .state) (u .tables)
 -- what an accepted change leaves: "a pattern entry that stays keeps its record and .. the tables are sound afterwards"
 pub record Exchanged (before : World) (c : Change) (after : World) : Type 0 where
   pub sizes : after .state .sizes ≡ before .state .sizes
+  -- "The limits stay with the factor until it is opened anew"
+  pub limits : after .state .limits ≡ before .state .limits
   pub sound : isSound (after .state) (after .tables) ≡ true
   -- the book's columns are those of the register after the change
   pub columns : Bag (bookedIn after .columns) (effect (bookedIn before) c .register .columns)
@@ -120,7 +122,7 @@ pub record Exchanged (before : World) (c : Change) (after : World) : Type 0 wher
 
 -- record and tables after an accepted call
 abbrev pub AcceptedWorld : World → Entry → World → Type 0
-AcceptedWorld u (opening l) v = (v .state ≡ openedState (withDefault l)) × (v .tables ≡ openedTables (withDefault l) (u .tables))
+AcceptedWorld u (opening l g) v = (v .state ≡ openedState (withDefault l) (limitsFor g)) × (v .tables ≡ openedTables (withDefault l) (u .tables))
 AcceptedWorld u (changing c) v = Exchanged u c v
 AcceptedWorld u checking v = v ≡ u
 AcceptedWorld u (asking q p) v = v ≡ u
@@ -130,7 +132,7 @@ AcceptedWorld u (asking q p) v = v ≡ u
 -- taken: the accepted answer with its lists and tables; otherwise the refusal, with nothing changed but the work table
 abbrev pub OutcomeFor : (isTaken : Bool) → World → Call → Answer → Lent → World → Type 0
 OutcomeFor true u k a x v =
-    (a ≡ acceptedBy (bookedIn u) (k .entry)) × (x ≡ listsAfter (bookedIn u) k (workAfter (u .state .sizes) (u .tables) k)) × AcceptedWorld u (k .entry) v
+    (a ≡ acceptedBy (u .state .limits) (bookedIn u) (k .entry)) × (x ≡ listsAfter (bookedIn u) k (workAfter (u .state .sizes) (u .tables) k)) × AcceptedWorld u (k .entry) v
 OutcomeFor false u k a x v =
     (a ≡ refusedBy (refusalOf (u .state) (u .tables) k)) × (x ≡ withWork (k .lent) (workAfter (u .state .sizes) (u .tables) k)) × (v ≡ u)
 

@@ -1,14 +1,15 @@
 // A factor of at most 64 rows with its tables, held by value: each public entry of the factor on them, for programs that run cases. The work table is
 // made anew for each call and holds no zeros before it.
+ghost use Prim.Native.Nat.{_≤_};
 use book::Row;
 use factor::Changed;
 use factor::Factor;
 use factor::Opening;
 use questions::Reply;
 
-// The record, and tables for m 64, n 256, F 2,080 and C 2,048.
+// Tables for m 64, n 256, F 2,080 and C 2,048, and the record. It stands last: a search for a table's length
+// does not get past its fields.
 pub struct Host {
-    pub factor: Factor,
     pub heads: [u32; 64],
     pub parents: [u16; 64],
     pub rows: [u16; 2080],
@@ -17,6 +18,7 @@ pub struct Host {
     pub book_heads: [u32; 256],
     pub book_rows: [u16; 2048],
     pub book_next: [u32; 2048],
+    pub factor: Factor,
 }
 
 // What an opening gives: its number, and the host from now on.
@@ -36,14 +38,6 @@ pub struct Batched {
 // Before any opening: sizes of 0, and tables of any content.
 pub fn unopened() -> Host {
     Host {
-        factor: Factor {
-            m: 0,
-            n: 0,
-            f: 0,
-            c: 0,
-            free: 0,
-            book_free: 0,
-        },
         heads: [9; 64],
         parents: [9; 64],
         rows: [9; 2080],
@@ -52,13 +46,41 @@ pub fn unopened() -> Host {
         book_heads: [9; 256],
         book_rows: [9; 2048],
         book_next: [9; 2048],
+        factor: Factor {
+            m: 0,
+            n: 0,
+            f: 0,
+            c: 0,
+            free: 0,
+            book_free: 0,
+            grade2: 0,
+            grade3: 0,
+            grade4: 0,
+        },
     }
+}
+
+// How many rows the factor has.
+pub fn row_count(host: Host) -> u32
+    ensures { λ r. ⌜ r ≤ 64 ⌝ }
+{
+    let record = host.factor;
+    if 64 < record.m { 64 } else { record.m }
 }
 
 // ---- opening and batches
 
 // Opens. After a refused opening the record from before it serves on.
-pub fn open(host: Host, m: u32, n: u32, f: u32, c: u32) -> Opened {
+pub fn open(
+    host: Host,
+    m: u32,
+    n: u32,
+    f: u32,
+    c: u32,
+    grade2: u32,
+    grade3: u32,
+    grade4: u32,
+) -> Opened {
     let mut heads = host.heads;
     let mut parents = host.parents;
     let mut rows = host.rows;
@@ -73,6 +95,9 @@ pub fn open(host: Host, m: u32, n: u32, f: u32, c: u32) -> Opened {
         n,
         f,
         c,
+        grade2,
+        grade3,
+        grade4,
         &mut heads,
         &mut parents,
         &mut rows,
@@ -90,7 +115,6 @@ pub fn open(host: Host, m: u32, n: u32, f: u32, c: u32) -> Opened {
         Opening::Refused(refusal) => number = refusal,
     }
     let host = Host {
-        factor,
         heads,
         parents,
         rows,
@@ -99,6 +123,7 @@ pub fn open(host: Host, m: u32, n: u32, f: u32, c: u32) -> Opened {
         book_heads,
         book_rows,
         book_next,
+        factor,
     };
     Opened { number, host }
 }
@@ -135,7 +160,6 @@ pub fn add(host: Host, ids: &[u32], row_counts: &[u32], row_list: &[u32]) -> Bat
     );
     let factor = changed.factor;
     let host = Host {
-        factor,
         heads,
         parents,
         rows,
@@ -144,6 +168,7 @@ pub fn add(host: Host, ids: &[u32], row_counts: &[u32], row_list: &[u32]) -> Bat
         book_heads,
         book_rows,
         book_next,
+        factor,
     };
     Batched {
         changed,
@@ -183,7 +208,6 @@ pub fn remove(host: Host, ids: &[u32]) -> Batched {
     );
     let factor = changed.factor;
     let host = Host {
-        factor,
         heads,
         parents,
         rows,
@@ -192,6 +216,7 @@ pub fn remove(host: Host, ids: &[u32]) -> Batched {
         book_heads,
         book_rows,
         book_next,
+        factor,
     };
     Batched {
         changed,

@@ -144,11 +144,11 @@ pub fn column(p: Pair, j: u32, at: usize, room: usize) -> Pair {
     counted(p, ours.number, a & b)
 }
 
-// The check, which the reference answers with 0.
+// The check, which the reference answers from the record alone.
 pub fn check(p: Pair) -> Pair {
     let record = case_tables::check(p.host);
     let sizes = served(p.sizes);
-    let theirs = reference::refusals::of_sizes(sizes);
+    let theirs = reference::refusals::of_record(sizes);
     counted(
         p,
         record.number,

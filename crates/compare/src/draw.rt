@@ -1,5 +1,6 @@
-// Numbers from a seed, by a linear congruence modulo 2^32, and what is drawn from them: ids, rows, counts, sizes.
+// Numbers from a seed, by a linear congruence modulo 2^32, and what is drawn from them: ids, rows, counts, sizes, limits.
 ghost use Prim.Native.Nat.{_≤_};
+use crate::pair::Three;
 use reference::Live;
 
 pub type Ids = [u32; 65];
@@ -191,4 +192,30 @@ pub fn damage(seed: &mut u64, rows: &mut RowList, m: u32, s: usize) {
     if at < 4200 {
         rows[at] = draw(seed, m + 1);
     }
+}
+
+// ---- limits
+
+// Limits that rise by small steps.
+fn rising(seed: &mut u64, most: u32) -> Three
+    requires { ⌜ most ≤ 60 ⌝ }
+{
+    let second = 2 + draw(seed, most);
+    let third = second + 1 + draw(seed, most);
+    let fourth = third + 1 + draw(seed, most);
+    [second, third, fourth]
+}
+
+// Limits of the grades: three zeros, others that rise, now and then any three up to 4.
+pub fn limits(seed: &mut u64) -> Three {
+    if chance(seed, 3) {
+        return [0, 0, 0];
+    }
+    if chance(seed, 7) {
+        return [draw(seed, 4), draw(seed, 4), draw(seed, 4)];
+    }
+    if chance(seed, 1) {
+        return rising(seed, 6);
+    }
+    rising(seed, 60)
 }

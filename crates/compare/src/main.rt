@@ -3,6 +3,7 @@
 mod asked;
 mod draw;
 mod fixed;
+mod limits;
 mod pair;
 mod random;
 mod same;
@@ -10,6 +11,7 @@ mod tally;
 
 fn main() {
     let mut p = fixed::all(pair::unopened());
+    p = limits::all(p);
     p = random::histories(p, 1, 6, 8, 240, 60);
     p = random::histories(p, 2, 14, 24, 120, 60);
     p = random::histories(p, 3, 20, 256, 40, 40);

@@ -3,12 +3,16 @@
 ghost use Rattle.reference.specs.Ranges.{Served};
 use crate::same;
 use crate::tally::Tally;
-use crate::tally::more;
 use case_tables::Host;
+use factor::Changed;
 use reference::Holds;
+use reference::Limits;
 use reference::Live;
 use reference::Sizes;
 use reference::Square;
+
+// Limits as an opening takes them: the first entries of grades 2, 3 and 4.
+pub type Three = [u32; 3];
 
 pub struct Pair {
     pub host: Host,
@@ -37,6 +41,16 @@ fn none() -> Sizes
         n: 0,
         f: 0,
         c: 0,
+        limits: limits([0, 0, 0]),
+    }
+}
+
+// The limits as the reference takes them.
+fn limits(three: Three) -> Limits {
+    Limits {
+        grade2: three[0] as usize,
+        grade3: three[1] as usize,
+        grade4: three[2] as usize,
     }
 }
 
@@ -82,9 +96,7 @@ fn same_column(p: Pair, pattern: &Square, j: u32) -> bool {
 
 // Columns 1 to m.
 fn same_columns(p: Pair, pattern: &Square) -> bool {
-    let ours = p.host;
-    let record = ours.factor;
-    let m = record.m;
+    let m = case_tables::row_count(p.host);
     let mut j: u32 = 0;
     while j < m {
         j += 1;
@@ -95,7 +107,7 @@ fn same_columns(p: Pair, pattern: &Square) -> bool {
     true
 }
 
-// Whether the check gives what the sizes say and no more, and the tables hold the reference's columns.
+// Whether the record has the reference's limits, the check gives what the record says and no more, and the tables hold the reference's columns.
 fn same_factor(p: Pair) -> bool {
     let ours = p.host;
     let holds = p.holds;
@@ -104,9 +116,14 @@ fn same_factor(p: Pair) -> bool {
     let mut pattern = [0u8; 4096];
     reference::pattern::fills(&holds, &live, &mut pattern, sizes);
     let sound = case_tables::check(ours);
-    let a = same::numbers(b"check", sound.number, reference::refusals::of_sizes(sizes));
-    let b = same_columns(p, &pattern);
-    a & b
+    let a = same::numbers(
+        b"check",
+        sound.number,
+        reference::refusals::of_record(sizes),
+    );
+    let b = same::limits(ours.factor, sizes.limits);
+    let c = same_columns(p, &pattern);
+    a & b & c
 }
 
 // The pair with a call counted, once all columns are compared.
@@ -122,14 +139,14 @@ fn compared(p: Pair, number: u32, same: bool) -> Pair {
 }
 
 // The same of a batch.
-fn batch_compared(p: Pair, number: u32, same: bool) -> Pair {
+fn batch_compared(p: Pair, changed: Changed, same: bool) -> Pair {
     let mut q = p;
     let mut t = p.tally;
-    if number == 0 {
-        t.batches = more(t.batches);
+    if changed.number == 0 {
+        t = t.graded(changed.grade);
     }
     q.tally = t;
-    compared(q, number, same)
+    compared(q, changed.number, same)
 }
 
 // A sum up to a thousand million.
@@ -146,20 +163,27 @@ fn sum(a: u32, b: u32) -> u32 {
 // ---- calls
 
 // The sizes asked for.
-fn asked(m: u32, n: u32, f: u32, c: u32) -> Sizes {
+fn asked(m: u32, n: u32, f: u32, c: u32, three: Three) -> Sizes {
     Sizes {
         m: m as usize,
         n: n as usize,
         f: f as usize,
         c: c as usize,
+        limits: limits(three),
     }
 }
 
+// Opens with the old limits.
 pub fn open(p: Pair, m: u32, n: u32, f: u32, c: u32) -> Pair {
+    open_with(p, m, n, f, c, [0, 0, 0])
+}
+
+// Opens with limits of the grades.
+pub fn open_with(p: Pair, m: u32, n: u32, f: u32, c: u32, three: Three) -> Pair {
     let mut q = p;
     let mut live = p.live;
-    let opened = case_tables::open(p.host, m, n, f, c);
-    let theirs = reference::open(&mut live, served(p.sizes), asked(m, n, f, c));
+    let opened = case_tables::open(p.host, m, n, f, c, three[0], three[1], three[2]);
+    let theirs = reference::open(&mut live, served(p.sizes), asked(m, n, f, c, three));
     let after = opened.host;
     let sizes = theirs.sizes;
     q.host = after;
@@ -167,6 +191,23 @@ pub fn open(p: Pair, m: u32, n: u32, f: u32, c: u32) -> Pair {
     q.sizes = sizes;
     let same = same::numbers(b"opening", opened.number, theirs.number);
     compared(q, opened.number, same)
+}
+
+// Writes limits over those of both records, as no opening does where they break the rule.
+pub fn overwrite(p: Pair, three: Three) -> Pair {
+    let mut q = p;
+    let mut host = p.host;
+    let mut record = host.factor;
+    let mut sizes = p.sizes;
+    let limits = limits(three);
+    record.grade2 = three[0];
+    record.grade3 = three[1];
+    record.grade4 = three[2];
+    host.factor = record;
+    sizes.limits = limits;
+    q.host = host;
+    q.sizes = sizes;
+    q
 }
 
 pub fn add(p: Pair, ids: &[u32], counts: &[u32], rows: &[u32]) -> Pair {
@@ -191,8 +232,7 @@ pub fn add(p: Pair, ids: &[u32], counts: &[u32], rows: &[u32]) -> Pair {
     q.holds = holds;
     q.live = live;
     let same = same::batches(ours, theirs, &touched, &labels);
-    let changed = ours.changed;
-    batch_compared(q, changed.number, same)
+    batch_compared(q, ours.changed, same)
 }
 
 pub fn remove(p: Pair, ids: &[u32]) -> Pair {
@@ -214,6 +254,5 @@ pub fn remove(p: Pair, ids: &[u32]) -> Pair {
     q.host = after;
     q.live = live;
     let same = same::batches(ours, theirs, &touched, &labels);
-    let changed = ours.changed;
-    batch_compared(q, changed.number, same)
+    batch_compared(q, ours.changed, same)
 }

@@ -1,4 +1,4 @@
-// Random histories: openings, batches and questions, with damaged ids, counts, rows and sizes among them.
+// Random histories: openings, batches and questions, with damaged ids, counts, rows, sizes and limits among them.
 use crate::asked;
 use crate::draw;
 use crate::draw::Ids;
@@ -65,7 +65,8 @@ fn open(p: Pair, seed: &mut u64, rows: u32, ids: u32) -> Pair {
     let n = drawn_size(seed, ids, 257, 16385);
     let f = drawn_records(seed, m);
     let c = drawn_booked(seed);
-    pair::open(p, m, n, f, c)
+    let limits = draw::limits(seed);
+    pair::open_with(p, m, n, f, c, limits)
 }
 
 // ---- batches

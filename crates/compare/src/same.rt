@@ -1,5 +1,8 @@
 // Whether both gave the same; where not, a line says what differs.
+use factor::Changed;
+use factor::Factor;
 use reference::Answer;
+use reference::Limits;
 use reference::Rows;
 
 fn wide(n: u32) -> usize {
@@ -70,8 +73,16 @@ pub fn lists(what: &[u8], ours: &[u32; 160], theirs: &[u32; 160]) -> bool {
     true
 }
 
+// The limits of the grades.
+pub fn limits(ours: Factor, theirs: Limits) -> bool {
+    let a = numbers(b"limit of grade 2", ours.grade2, theirs.grade2);
+    let b = numbers(b"limit of grade 3", ours.grade3, theirs.grade3);
+    let c = numbers(b"limit of grade 4", ours.grade4, theirs.grade4);
+    a & b & c
+}
+
 // What a batch answers.
-fn answers(ours: factor::Changed, theirs: Answer) -> bool {
+fn answers(ours: Changed, theirs: Answer) -> bool {
     let a = numbers(b"number", ours.number, theirs.number);
     let b = numbers(b"position", ours.position, theirs.position);
     let c = numbers(b"touched", ours.touched, theirs.touched);

@@ -9,8 +9,10 @@ pub struct Tally {
     pub columns: u32,
     // Calls in which something differed.
     pub differences: u32,
-    // Calls by their number, 0 to 18.
-    pub numbers: [u32; 19],
+    // Calls by their number, 0 to 20.
+    pub numbers: [u32; 21],
+    // Accepted batches by their grade, 0 to 4.
+    pub grades: [u32; 5],
 }
 
 impl Tally {
@@ -20,7 +22,8 @@ impl Tally {
             batches: 0,
             columns: 0,
             differences: 0,
-            numbers: [0; 19],
+            numbers: [0; 21],
+            grades: [0; 5],
         }
     }
 
@@ -28,7 +31,7 @@ impl Tally {
     pub fn counted(self, number: u32, same: bool) -> Self {
         let mut t = self;
         t.calls = more(t.calls);
-        if number < 19 {
+        if number < 21 {
             let k = number as usize;
             t.numbers[k] = more(t.numbers[k]);
         }
@@ -38,10 +41,21 @@ impl Tally {
         t.differences = more(t.differences);
         t
     }
+
+    // One accepted batch more, with its grade.
+    pub fn graded(self, grade: u32) -> Self {
+        let mut t = self;
+        t.batches = more(t.batches);
+        if grade < 5 {
+            let k = grade as usize;
+            t.grades[k] = more(t.grades[k]);
+        }
+        t
+    }
 }
 
 // One more, up to a thousand million.
-pub fn more(n: u32) -> u32 {
+fn more(n: u32) -> u32 {
     if n < 1000000000 { n + 1 } else { n }
 }
 
@@ -57,9 +71,9 @@ fn line(name: &[u8], n: u32) {
 }
 
 // How many calls were refused by each number.
-fn print_refused(numbers: &[u32; 19]) {
+fn print_refused(numbers: &[u32; 21]) {
     let mut k: u32 = 1;
-    while k < 19 {
+    while k < 21 {
         io::write_all(1, b"refused by ");
         io::print_decimal(1, wide(k));
         line(b":", numbers[k as usize]);
@@ -69,9 +83,14 @@ fn print_refused(numbers: &[u32; 19]) {
 
 pub fn print(t: Tally) {
     let numbers = t.numbers;
+    let grades = t.grades;
     line(b"calls", t.calls);
     line(b"accepted", numbers[0]);
     line(b"accepted batches", t.batches);
+    line(b"of grade 1:", grades[1]);
+    line(b"of grade 2:", grades[2]);
+    line(b"of grade 3:", grades[3]);
+    line(b"of grade 4:", grades[4]);
     line(b"columns compared", t.columns);
     print_refused(&numbers);
     line(b"calls that differ", t.differences);

@@ -14,6 +14,7 @@ use Rattle.lists.specs.Lists.{pick}
 use Rattle.workspace.specs.Regions.{IsZero, cleared, zeroFirst}
 use Rattle.workspace.proofs.Regions.{cleared-length, cleared-zero, first-cleared, first-same}
 use Rattle.lists.proofs.Tests.{cases}
+use Rattle.symbolic.specs.Grades.{Limits, limitsFor}
 use Rattle.tables.specs.Tables.{Tables, Sizes, State, longEnough, registerOf, isSound}
 use Rattle.tables.specs.Opening.{openedState, openedTables}
 use Rattle.tables.proofs.Tables.{tails-long, long-facts}
@@ -41,74 +42,74 @@ use Rattle.factor.specs.declared.Opening.the-variants as answers
 zero-one : _≡_ {A = ℕ} 0 1 → ⊥
 zero-one e = omega arith
 
-module _ (l : Sizes) (t : Tables) (w : List ℕ) where
+module _ (l : Sizes) (g : Limits) (t : Tables) (w : List ℕ) where
   -- the tables and the zeroed work table of the sizes asked
-  fresh-can : (k : Sizes) → Ready k t (callOf (opening l) (workOnly w)) → (a b : List ℕ) → l .m ≤ length a → l .m ≤ length b →
-      CanChange (openedState (withDefault l)) (openedTables (withDefault l) t) (zeroFirst (workFor (withDefault l)) w) a b
+  fresh-can : (k : Sizes) → Ready k t (callOf (opening l g) (workOnly w)) → (a b : List ℕ) → l .m ≤ length a → l .m ≤ length b →
+      CanChange (openedState (withDefault l) (limitsFor g)) (openedTables (withDefault l) t) (zeroFirst (workFor (withDefault l)) w) a b
   fresh-can k r a b x y =
       let d : Sizes = withDefault l in
       let f : InRange d = sizes-facts d (ap isAccepted (r .sizes)) in
       let e : zeroFirst (workFor d) w ≡ cleared w 0 (workFor d) = first-cleared (workFor d) w (r .room .work) in
       let h : 0 + workFor d ≤ length w = omega (arith, r .room .work) in
       record {
-        usable = record { sizes = r .sizes; long = opened-long d t (f .f-low) (r .room .tables); sound = opened-sound d t (f .f-low) };
+        usable = record { sizes = r .sizes; long = opened-long d t (f .f-low) (r .room .tables); sound = opened-sound d (limitsFor g) t (f .f-low) (r .limits) };
         room = subst (λ (n : ℕ). workFor d ≤ n) (sym (ap length e ∙ cleared-length w 0 (workFor d) h)) (r .room .work);
         zero = subst (λ (z : List ℕ). IsZero z 0 (workFor d)) (sym e) (cleared-zero w 0 (workFor d) h);
         touched-long = x;
         labels-long = y;
       }
 
-  pub opened-can : (x : Factor) (t′ : Tables) (w′ : List ℕ) → OpenStep l t w (answers.Opened x) t′ w′ → (a b : List ℕ) → x .m ≤ length a → x .m ≤ length b → CanChange (stateOf x) t′ w′ a b
+  pub opened-can : (x : Factor) (t′ : Tables) (w′ : List ℕ) → OpenStep l g t w (answers.Opened x) t′ w′ → (a b : List ℕ) → x .m ≤ length a → x .m ≤ length b → CanChange (stateOf x) t′ w′ a b
   opened-can x t′ w′ o a b p q =
       let s : State = stateOf x in
       let u : World = record { state = s; tables = t } in
       let v : World = record { state = stateOf x; tables = t′ } in
-      let k : Call = callOf (opening l) (workOnly w) in
+      let k : Call = callOf (opening l g) (workOnly w) in
       let d : Sizes = withDefault l in
-      let g : Accepted u k (openingAnswer (answers.Opened x)) (workOnly w′) v = step-taken u k (openingAnswer (answers.Opened x)) (workOnly w′) v (o s) refl in
-      let e : isAccepted (callEarly (s .sizes) t k) ≡ true = or-both (callEarly (s .sizes) t k) accepted (g .number) .0 in
-      let m : x .m ≡ l .m = ap (λ (y : State). y .sizes .m) (g .world .0) in
+      let taken : Accepted u k (openingAnswer (answers.Opened x)) (workOnly w′) v = step-taken u k (openingAnswer (answers.Opened x)) (workOnly w′) v (o s) refl in
+      let e : isAccepted (callEarly (s .sizes) t k) ≡ true = or-both (callEarly (s .sizes) t k) accepted (taken .number) .0 in
+      let m : x .m ≡ l .m = ap (λ (y : State). y .sizes .m) (taken .world .0) in
       let z : w′ ≡ zeroFirst (workFor d) w =
-      ap (λ (y : Lent). y .work) (g .lists) ∙ ap (λ (q : Bool). pick q (zeroFirst (workFor d) w) w) e in
+      ap (λ (y : Lent). y .work) (taken .lists) ∙ ap (λ (q : Bool). pick q (zeroFirst (workFor d) w) w) e in
       subst (λ (y : List ℕ). CanChange (stateOf x) t′ y a b) (sym z)
-      (subst (λ (y : Tables). CanChange (stateOf x) y (zeroFirst (workFor d) w) a b) (sym (g .world .1))
-      (subst (λ (y : State). CanChange y (openedTables d t) (zeroFirst (workFor d) w) a b) (sym (g .world .0))
+      (subst (λ (y : Tables). CanChange (stateOf x) y (zeroFirst (workFor d) w) a b) (sym (taken .world .1))
+      (subst (λ (y : State). CanChange y (openedTables d t) (zeroFirst (workFor d) w) a b) (sym (taken .world .0))
       (fresh-can (s .sizes) (early-facts (s .sizes) t k e) a b (omega arith) (omega arith))))
 
   -- its m is one that the tables have places for
-  pub opened-fits : (x : Factor) (t′ : Tables) (w′ : List ℕ) → OpenStep l t w (answers.Opened x) t′ w′ → x .m ≤ length (t .heads)
+  pub opened-fits : (x : Factor) (t′ : Tables) (w′ : List ℕ) → OpenStep l g t w (answers.Opened x) t′ w′ → x .m ≤ length (t .heads)
   opened-fits x t′ w′ o =
       let s : State = stateOf x in
       let u : World = record { state = s; tables = t } in
       let v : World = record { state = stateOf x; tables = t′ } in
-      let k : Call = callOf (opening l) (workOnly w) in
-      let g : Accepted u k (openingAnswer (answers.Opened x)) (workOnly w′) v = step-taken u k (openingAnswer (answers.Opened x)) (workOnly w′) v (o s) refl in
-      let e : isAccepted (callEarly (s .sizes) t k) ≡ true = or-both (callEarly (s .sizes) t k) accepted (g .number) .0 in
-      let m : x .m ≡ l .m = ap (λ (y : State). y .sizes .m) (g .world .0) in
+      let k : Call = callOf (opening l g) (workOnly w) in
+      let taken : Accepted u k (openingAnswer (answers.Opened x)) (workOnly w′) v = step-taken u k (openingAnswer (answers.Opened x)) (workOnly w′) v (o s) refl in
+      let e : isAccepted (callEarly (s .sizes) t k) ≡ true = or-both (callEarly (s .sizes) t k) accepted (taken .number) .0 in
+      let m : x .m ≡ l .m = ap (λ (y : State). y .sizes .m) (taken .world .0) in
       omega (arith, long-facts (withDefault l) t (early-facts (s .sizes) t k e .room .tables) .heads)
 
   -- a refused opening has a number, and leaves tables and work table: the record before it could be any
-  module _ (n : ℕ) (t′ : Tables) (w′ : List ℕ) (o : OpenStep l t w (answers.Refused n) t′ w′) where
+  module _ (n : ℕ) (t′ : Tables) (w′ : List ℕ) (o : OpenStep l g t w (answers.Refused n) t′ w′) where
     abbrev any : ℕ → State
-    any i = record { sizes = l; free = i; bookFree = 0 }
+    any i = record { sizes = l; limits = g; free = i; bookFree = 0 }
 
-    step : (i : ℕ) → (Accepted (record { state = any i; tables = t }) (callOf (opening l) (workOnly w)) (openingAnswer (answers.Refused n)) (workOnly w′) (record { state = any i; tables = t′ })) ⊎
-        (Refused (record { state = any i; tables = t }) (callOf (opening l) (workOnly w)) (openingAnswer (answers.Refused n)) (workOnly w′) (record { state = any i; tables = t′ }))
+    step : (i : ℕ) → (Accepted (record { state = any i; tables = t }) (callOf (opening l g) (workOnly w)) (openingAnswer (answers.Refused n)) (workOnly w′) (record { state = any i; tables = t′ })) ⊎
+        (Refused (record { state = any i; tables = t }) (callOf (opening l g) (workOnly w)) (openingAnswer (answers.Refused n)) (workOnly w′) (record { state = any i; tables = t′ }))
     step i =
-        step-cases (record { state = any i; tables = t }) (callOf (opening l) (workOnly w)) (openingAnswer (answers.Refused n)) (workOnly w′) (record { state = any i; tables = t′ }) (o (any i))
+        step-cases (record { state = any i; tables = t }) (callOf (opening l g) (workOnly w)) (openingAnswer (answers.Refused n)) (workOnly w′) (record { state = any i; tables = t′ }) (o (any i))
 
     -- accepted, the record after it would be the one before it, whatever that was
-    not-accepted : (i : ℕ) → isAccepted (refusalOf (any i) t (callOf (opening l) (workOnly w))) ≡ false
+    not-accepted : (i : ℕ) → isAccepted (refusalOf (any i) t (callOf (opening l g) (workOnly w))) ≡ false
     not-accepted i =
         elim (step 0) [
           | inl f ↦ elim (step 1) [
-            | inl g ↦ absurd (zero-one (ap (λ (s : State). s .free) (f .world .0 ∙ sym (g .world .0))))
-            | inr g ↦ g .number
+            | inl h ↦ absurd (zero-one (ap (λ (s : State). s .free) (f .world .0 ∙ sym (h .world .0))))
+            | inr h ↦ h .number
           ]
           | inr f ↦ f .number
         ]
 
-    refused-as : Refused (record { state = any 0; tables = t }) (callOf (opening l) (workOnly w)) (openingAnswer (answers.Refused n)) (workOnly w′) (record { state = any 0; tables = t′ })
+    refused-as : Refused (record { state = any 0; tables = t }) (callOf (opening l g) (workOnly w)) (openingAnswer (answers.Refused n)) (workOnly w′) (record { state = any 0; tables = t′ })
     refused-as = elim (step 0) [ inl f ↦ absurd (true≢false (sym (f .number) ∙ not-accepted 0)) | inr f ↦ f ]
 
     pub refused-number : n ≢ 0
@@ -119,7 +120,7 @@ module _ (l : Sizes) (t : Tables) (w : List ℕ) where
 
     pub refused-work : w′ ≡ w
     refused-work =
-        let x : Refusal = callEarly l t (callOf (opening l) (workOnly w)) in
+        let x : Refusal = callEarly l t (callOf (opening l g) (workOnly w)) in
         elim (cases (isAccepted x)) [
           | inl e ↦ absurd (true≢false (sym (ap isAccepted (or-second x accepted e)) ∙ not-accepted 0))
           | inr e ↦ ap (λ (y : Lent). y .work) (refused-as .lists) ∙ ap (λ (q : Bool). pick q (zeroFirst (workFor (withDefault l)) w) w) e
@@ -129,7 +130,7 @@ module _ (l : Sizes) (t : Tables) (w : List ℕ) where
 
 module _ {s : State} {t : Tables} {w a b : List ℕ} (can : CanChange s t w a b) where
   -- 1 to 5 are passed
-  batch-early : isAccepted (earlyRefusal (s .sizes) t w (listsLong (s .sizes .m) a b)) ≡ true
+  batch-early : isAccepted (earlyRefusal (s .sizes) true t w (listsLong (s .sizes .m) a b)) ≡ true
   batch-early =
       let l : Sizes = s .sizes in
       both-or (sizesRefusal bounds l) (orElse (shortRefusal l t w) (unless (listsLong (l .m) a b) 5 0)) (ap isAccepted (can .usable .sizes))

@@ -1,4 +1,4 @@
--- Numbers 1 to 6 by the tests that the code makes, one law for each return; and what a call may rely on once it is admitted. Assumes nothing.
+-- Numbers 1 to 6 and 20 by the tests that the code makes, one law for each return; and what a call may rely on once it is admitted. Assumes nothing.
 use mathlib.Core.Path.{_≡_, refl, sym, ap, _∙_}
 use mathlib.Core.Logic.{_≢_, inl, inr}
 use mathlib.Core.Bool.{Bool, true, false, _&&_, not, true≢false}
@@ -23,47 +23,55 @@ number-zero x e = eq-eqb (x .number) 0 (sym e)
 number-some : (x : Refusal) {n : ℕ} → n ≡ x .number → n ≢ 0 → isAccepted x ≡ false
 number-some x {n} e d = ne-eqb (x .number) 0 (λ z. d (e ∙ z))
 
--- ---- 1 to 5
+-- ---- 1 to 5 and 20
 
-module _ (l : Sizes) (t : Tables) (w : List ℕ) where
+module _ (l : Sizes) (g : Bool) (t : Tables) (w : List ℕ) (z : Bool) where
+  abbrev short : Refusal
+  short = orElse (shortRefusal l t w) (unless z 5 0)
+
   -- the sizes are refused
-  pub early-sizes : (z : Bool) {n : ℕ} → n ≡ sizesRefusal bounds l .number → n ≢ 0 → n ≡ earlyRefusal l t w z .number
-  early-sizes z e d =
-      e ∙ sym (ap (λ (x : Refusal). x .number) (or-first (sizesRefusal bounds l) (orElse (shortRefusal l t w) (unless z 5 0)) (number-some (sizesRefusal bounds l) e d)))
+  pub early-sizes : {n : ℕ} → n ≡ sizesRefusal bounds l .number → n ≢ 0 → n ≡ earlyRefusal l g t w z .number
+  early-sizes e d =
+      e ∙ sym (ap (λ (x : Refusal). x .number) (or-first (sizesRefusal bounds l) (orElse (unless g 20 0) short) (number-some (sizesRefusal bounds l) e d)))
 
-  module _ {n : ℕ} (e : n ≡ sizesRefusal bounds l .number) (d : n ≡ 0) {x : Bool} (f : x ≡ not (isAccepted (shortRefusal l t w))) where
-    sizes-pass : isAccepted (sizesRefusal bounds l) ≡ true
-    sizes-pass = number-zero (sizesRefusal bounds l) (sym d ∙ e)
+  module _ {n : ℕ} (e : n ≡ sizesRefusal bounds l .number) (d : n ≡ 0) where
+    past-sizes : earlyRefusal l g t w z ≡ orElse (unless g 20 0) short
+    past-sizes = or-second (sizesRefusal bounds l) (orElse (unless g 20 0) short) (number-zero (sizesRefusal bounds l) (sym d ∙ e))
 
-    past-sizes : (z : Bool) → earlyRefusal l t w z ≡ orElse (shortRefusal l t w) (unless z 5 0)
-    past-sizes z = or-second (sizesRefusal bounds l) (orElse (shortRefusal l t w) (unless z 5 0)) sizes-pass
+    -- the limits are
+    pub early-limits : g ≡ false → 20 ≡ earlyRefusal l g t w z .number
+    early-limits k = sym (ap (λ (y : Refusal). y .number) (past-sizes ∙ ap (λ (b : Bool). orElse (unless b 20 0) short) k))
 
-    pub early-short : (z : Bool) → x ≡ true → 5 ≡ earlyRefusal l t w z .number
-    early-short z h =
-        let s : isAccepted (shortRefusal l t w) ≡ false = not-true (isAccepted (shortRefusal l t w)) (sym f ∙ h) in
-        sym (ap (λ (y : Refusal). y .number) (past-sizes z ∙ or-first (shortRefusal l t w) (unless z 5 0) s) ∙ five (longEnough l t && leb (workFor l) (length w)) s)
-      where
-        five : (b : Bool) → isAccepted (unless b 5 0) ≡ false → unless b 5 0 .number ≡ 5
-        five true q = absurd (true≢false q)
-        five false q = refl
+    module _ (k : g ≡ true) {x : Bool} (f : x ≡ not (isAccepted (shortRefusal l t w))) where
+      past-limits : earlyRefusal l g t w z ≡ short
+      past-limits = past-sizes ∙ ap (λ (b : Bool). orElse (unless b 20 0) short) k
 
-    module _ (h : x ≡ false) where
-      past-short : (z : Bool) → earlyRefusal l t w z ≡ unless z 5 0
-      past-short z = past-sizes z ∙ or-second (shortRefusal l t w) (unless z 5 0) (not-false (isAccepted (shortRefusal l t w)) (sym f ∙ h))
+      pub early-short : x ≡ true → 5 ≡ earlyRefusal l g t w z .number
+      early-short h =
+          let s : isAccepted (shortRefusal l t w) ≡ false = not-true (isAccepted (shortRefusal l t w)) (sym f ∙ h) in
+          sym (ap (λ (y : Refusal). y .number) (past-limits ∙ or-first (shortRefusal l t w) (unless z 5 0) s) ∙ five (longEnough l t && leb (workFor l) (length w)) s)
+        where
+          five : (b : Bool) → isAccepted (unless b 5 0) ≡ false → unless b 5 0 .number ≡ 5
+          five true q = absurd (true≢false q)
+          five false q = refl
 
-      pub early-none : (z : Bool) → z ≡ true → 0 ≡ earlyRefusal l t w z .number
-      early-none z e = sym (ap (λ (y : Refusal). y .number) (past-short z ∙ ap (λ (b : Bool). unless b 5 0) e))
+      module _ (h : x ≡ false) where
+        past-short : earlyRefusal l g t w z ≡ unless z 5 0
+        past-short = past-limits ∙ or-second (shortRefusal l t w) (unless z 5 0) (not-false (isAccepted (shortRefusal l t w)) (sym f ∙ h))
 
-      pub early-lists : (z : Bool) → z ≡ false → 5 ≡ earlyRefusal l t w z .number
-      early-lists z e = sym (ap (λ (y : Refusal). y .number) (past-short z ∙ ap (λ (b : Bool). unless b 5 0) e))
+        pub early-none : z ≡ true → 0 ≡ earlyRefusal l g t w z .number
+        early-none e = sym (ap (λ (y : Refusal). y .number) (past-short ∙ ap (λ (b : Bool). unless b 5 0) e))
+
+        pub early-lists : z ≡ false → 5 ≡ earlyRefusal l g t w z .number
+        early-lists e = sym (ap (λ (y : Refusal). y .number) (past-short ∙ ap (λ (b : Bool). unless b 5 0) e))
 
 -- ---- 6
 
 module _ (s : State) (t : Tables) (w : List ℕ) (z : Bool) where
   abbrev early : Refusal
-  early = earlyRefusal (s .sizes) t w z
+  early = earlyRefusal (s .sizes) true t w z
 
-  pub admit-early : {n : ℕ} → n ≡ earlyRefusal (s .sizes) t w z .number → n ≢ 0 → Admitted s t w z n w
+  pub admit-early : {n : ℕ} → n ≡ earlyRefusal (s .sizes) true t w z .number → n ≢ 0 → Admitted s t w z n w
   admit-early {n} e d =
       let q : isAccepted early ≡ false = number-some early e d in
       record {
@@ -71,15 +79,15 @@ module _ (s : State) (t : Tables) (w : List ℕ) (z : Bool) where
         left = sym (ap (λ (b : Bool). pick b (zeroFirst (workFor (s .sizes)) w) w) q);
       }
 
-  module _ {n : ℕ} (e : n ≡ earlyRefusal (s .sizes) t w z .number) (d : n ≡ 0) where
+  module _ {n : ℕ} (e : n ≡ earlyRefusal (s .sizes) true t w z .number) (d : n ≡ 0) where
     passed : isAccepted early ≡ true
     passed = number-zero early (sym d ∙ e)
 
     -- the tables can be read through
     pub admit-reads : HasPlaces (s .sizes) t w
     admit-reads =
-        let p : (sizesRefusal bounds (s .sizes) ≡ accepted) × HasRoom (s .sizes) t w × (z ≡ true) = early-passed (s .sizes) t w z passed in
-        record { sizes = p .0; long = p .1 .tables; room = p .1 .work }
+        let p : (sizesRefusal bounds (s .sizes) ≡ accepted) × (true ≡ true) × HasRoom (s .sizes) t w × (z ≡ true) = early-passed (s .sizes) true t w z passed in
+        record { sizes = p .0; long = p .2 .tables; room = p .2 .work }
 
     module _ {a : Bool} {w′ : List ℕ} (f : a ≡ isSound s t) (g : w′ ≡ zeroFirst (workFor (s .sizes)) w) where
       admitted : (b : Bool) → isSound s t ≡ b → (k : ℕ) → unless b 6 0 .number ≡ k → Admitted s t w z k w′
@@ -106,13 +114,13 @@ module _ {s : State} {t : Tables} {w : List ℕ} {z : Bool} {n : ℕ} {w′ : Li
     pub admitted-none : isAccepted (admission s t w z) ≡ true
     admitted-none = number-zero (admission s t w z) (sym d ∙ a .found)
 
-    both : (isAccepted (earlyRefusal (s .sizes) t w z) ≡ true) × (isAccepted (unless (isSound s t) 6 0) ≡ true)
-    both = or-both (earlyRefusal (s .sizes) t w z) (unless (isSound s t) 6 0) admitted-none
+    both : (isAccepted (earlyRefusal (s .sizes) true t w z) ≡ true) × (isAccepted (unless (isSound s t) 6 0) ≡ true)
+    both = or-both (earlyRefusal (s .sizes) true t w z) (unless (isSound s t) 6 0) admitted-none
 
-    pub admitted-early : isAccepted (earlyRefusal (s .sizes) t w z) ≡ true
+    pub admitted-early : isAccepted (earlyRefusal (s .sizes) true t w z) ≡ true
     admitted-early = both .0
 
     pub admitted-usable : Usable s t
     admitted-usable =
-        let p : (sizesRefusal bounds (s .sizes) ≡ accepted) × HasRoom (s .sizes) t w × (z ≡ true) = early-passed (s .sizes) t w z (both .0) in
-        record { sizes = p .0; long = p .1 .tables; sound = unless-holds (isSound s t) 6 0 refl (both .1) }
+        let p : (sizesRefusal bounds (s .sizes) ≡ accepted) × (true ≡ true) × HasRoom (s .sizes) t w × (z ≡ true) = early-passed (s .sizes) true t w z (both .0) in
+        record { sizes = p .0; long = p .2 .tables; sound = unless-holds (isSound s t) 6 0 refl (both .1) }

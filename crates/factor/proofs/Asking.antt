@@ -22,7 +22,7 @@ use Rattle.questions.specs.Asked.{replyOf, repliedTo, replied, listLeft}
 use Rattle.factor.specs.Admission.{admission, Admitted}
 use Rattle.factor.proofs.Admitting.{admitted-some, admitted-none}
 
--- ---- positions: 1 to 6 have none
+-- ---- positions: 1 to 6 and 20 have none
 
 abbrev Flat : Refusal → Type 0
 Flat x = x .position ≡ 0
@@ -43,14 +43,16 @@ flat-sizes l =
     (flat-or y (orElse z w) (flat-unless (isIn 1 16384 (l .n)) 2)
     (flat-or z w (flat-unless (isIn (l .m) 1048576 (l .f)) 3) (flat-unless (isIn 1 262144 (l .c)) 4)))
 
-pub flat-early : (l : Sizes) (t : Tables) (w : List ℕ) (z : Bool) → earlyRefusal l t w z .position ≡ 0
-flat-early l t w z =
-    flat-or (sizesRefusal bounds l) (orElse (shortRefusal l t w) (unless z 5 0)) (flat-sizes l)
-    (flat-or (shortRefusal l t w) (unless z 5 0) (flat-unless (longEnough l t && leb (workFor l) (length w)) 5) (flat-unless z 5))
+pub flat-early : (l : Sizes) (g : Bool) (t : Tables) (w : List ℕ) (z : Bool) → earlyRefusal l g t w z .position ≡ 0
+flat-early l g t w z =
+    let y : Refusal = orElse (shortRefusal l t w) (unless z 5 0) in
+    flat-or (sizesRefusal bounds l) (orElse (unless g 20 0) y) (flat-sizes l)
+    (flat-or (unless g 20 0) y (flat-unless g 20)
+    (flat-or (shortRefusal l t w) (unless z 5 0) (flat-unless (longEnough l t && leb (workFor l) (length w)) 5) (flat-unless z 5)))
 
 flat-admission : (s : State) (t : Tables) (w : List ℕ) (z : Bool) → Flat (admission s t w z)
 flat-admission s t w z =
-    flat-or (earlyRefusal (s .sizes) t w z) (unless (isSound s t) 6 0) (flat-early (s .sizes) t w z) (flat-unless (isSound s t) 6)
+    flat-or (earlyRefusal (s .sizes) true t w z) (unless (isSound s t) 6 0) (flat-early (s .sizes) true t w z) (flat-unless (isSound s t) 6)
 
 -- a refusal without a position, as an answer
 pub refused-flat : (x : Refusal) {n : ℕ} → n ≡ x .number → x .position ≡ 0 → replyOf (record { number = n; value = 0 }) ≡ refusedBy x
@@ -64,7 +66,7 @@ picked x y e = ap (λ (b : Bool). pick b x y) e
 
 -- isLong: the test of its lists, true for a call that has none
 pub record Admits (s : State) (t : Tables) (k : Call) (isLong : Bool) : Type 0 where
-  pub early : callEarly (s .sizes) t k ≡ earlyRefusal (s .sizes) t (k .lent .work) isLong
+  pub early : callEarly (s .sizes) t k ≡ earlyRefusal (s .sizes) true t (k .lent .work) isLong
   pub sound : soundRefusal s t (k .entry) ≡ unless (isSound s t) 6 0
   pub sizes : sizesAfter (s .sizes) (k .entry) ≡ s .sizes
 
@@ -85,8 +87,8 @@ module _ {s : State} {t : Tables} {k : Call} {z : Bool} (m : Admits s t k z) {n 
   number-is : refusalOf s t k ≡ orElse (admission s t (k .lent .work) z) call
   number-is =
       ap (λ (x : Refusal). orElse x (orElse (soundRefusal s t (k .entry)) call)) (m .early) ∙
-      ap (λ (x : Refusal). orElse (earlyRefusal (s .sizes) t w z) (orElse x call)) (m .sound) ∙
-      sym (or-assoc (earlyRefusal (s .sizes) t w z) (unless (isSound s t) 6 0) call)
+      ap (λ (x : Refusal). orElse (earlyRefusal (s .sizes) true t w z) (orElse x call)) (m .sound) ∙
+      sym (or-assoc (earlyRefusal (s .sizes) true t w z) (unless (isSound s t) 6 0) call)
 
   pub work-is : w′ ≡ workAfter (s .sizes) t k
   work-is =
@@ -112,7 +114,7 @@ module _ {s : State} {t : Tables} {k : Call} {z : Bool} (m : Admits s t k z) {n 
     own : refusalOf s t k ≡ call
     own = number-is ∙ or-second (admission s t w z) call (admitted-none a d)
 
-    pub asked-step : {b : Answer} {x : Lent} → b ≡ pick (isAccepted call) (acceptedBy (registerOf s t) (k .entry)) (refusedBy call) →
+    pub asked-step : {b : Answer} {x : Lent} → b ≡ pick (isAccepted call) (acceptedBy (s .limits) (registerOf s t) (k .entry)) (refusedBy call) →
         AcceptedWorld (record { state = s; tables = t }) (k .entry) (record { state = s; tables = t }) →
         (isAccepted call ≡ true → x ≡ listsAfter (registerOf s t) k w′) → (isAccepted call ≡ false → x ≡ withWork (k .lent) w′) →
         Transition (record { state = s; tables = t }) k b x (record { state = s; tables = t })
@@ -121,13 +123,13 @@ module _ {s : State} {t : Tables} {k : Call} {z : Bool} (m : Admits s t k z) {n 
         elim (cases (isAccepted call)) [
           | inl q ↦ accepted-step u k b x u (record {
             number = ap isAccepted own ∙ q;
-            answer = answer ∙ ap (λ (c : Bool). pick c (acceptedBy (registerOf s t) (k .entry)) (refusedBy call)) q;
+            answer = answer ∙ ap (λ (c : Bool). pick c (acceptedBy (s .limits) (registerOf s t) (k .entry)) (refusedBy call)) q;
             lists = taken q ∙ ap (λ (v : List ℕ). listsAfter (registerOf s t) k v) work-is;
             world = stays;
           })
           | inr q ↦ refused-step u k b x u (record {
             number = ap isAccepted own ∙ q;
-            answer = answer ∙ ap (λ (c : Bool). pick c (acceptedBy (registerOf s t) (k .entry)) (refusedBy call)) q ∙ ap refusedBy (sym own);
+            answer = answer ∙ ap (λ (c : Bool). pick c (acceptedBy (s .limits) (registerOf s t) (k .entry)) (refusedBy call)) q ∙ ap refusedBy (sym own);
             lists = refused q ∙ ap (λ (v : List ℕ). withWork (k .lent) v) work-is;
             world = refl;
           })

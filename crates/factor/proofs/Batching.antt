@@ -26,7 +26,7 @@ changedOf s x =
       touched = x .touched;
       entries = x .entries;
       grade = x .grade;
-      factor = record { m = s .m; n = s .n; f = s .f; c = s .c; free = x .free .0; «book_free» = x .«book_free» .0 };
+      factor = record { m = s .m; n = s .n; f = s .f; c = s .c; free = x .free .0; «book_free» = x .«book_free» .0; grade2 = s .grade2; grade3 = s .grade3; grade4 = s .grade4 };
     }
 
 module _ (s : Factor) (t : Tables) {w a b : List ℕ} (c : CanChange (stateOf s) t w a b) where
@@ -36,17 +36,17 @@ module _ (s : Factor) (t : Tables) {w a b : List ℕ} (c : CanChange (stateOf s)
   pub change-long : Long (stateOf s .sizes) t
   change-long = long-facts l t (c .usable .long)
 
-  pub change-can : CanBatch (cutWorld (cutTables (stateOf s .sizes) t) (s .free) (s .«book_free»)) w a b
+  pub change-can : CanBatch (cutWorld (cutTables (stateOf s .sizes) t) (stateOf s .limits) (s .free) (s .«book_free»)) w a b
   change-can =
-      lift-can change-long (s .free) (s .«book_free») (c .usable .sizes) (c .usable .sound) (c .room) (c .zero) (c .touched-long) (c .labels-long)
+      lift-can change-long (stateOf s .limits) (s .free) (s .«book_free») (c .usable .sizes) (c .usable .sound) (c .room) (c .zero) (c .touched-long) (c .labels-long)
 
   pub change-step : (k : Change) (lent : Lent) (y : Tables) (x : Batch) (lists : Lent) → y .heads ≡ take (s .m) (t .heads) →
-      BatchStep (cutWorld (cutTables (stateOf s .sizes) t) (s .free) (s .«book_free»)) k lent (batchAnswer x) lists (cutWorld y (x .free .0) (x .«book_free» .0)) →
+      BatchStep (cutWorld (cutTables (stateOf s .sizes) t) (stateOf s .limits) (s .free) (s .«book_free»)) k lent (batchAnswer x) lists (cutWorld y (stateOf s .limits) (x .free .0) (x .«book_free» .0)) →
       {r : Changed} → r ≡ changedOf s x → BatchStep (worldOf s t) k lent (changedAnswer r) lists (worldOf (r .factor) (joinBut (stateOf s .sizes) y t))
   change-step k lent y x lists e o {r} q =
       subst (λ (z : Changed). BatchStep (worldOf s t) k lent (changedAnswer z) lists (worldOf (z .factor) (joinBut l y t))) (sym q)
       (subst (λ (v : Tables). BatchStep (worldOf s t) k lent (batchAnswer x) lists (worldOf (changedOf s x .factor) v)) (heads-stay l y t e)
-      (step-lifts change-long (s .free) (s .«book_free») y (x .free .0) (x .«book_free» .0) k (batchAnswer x) lent lists o))
+      (step-lifts change-long (stateOf s .limits) (s .free) (s .«book_free») y (x .free .0) (x .«book_free» .0) k (batchAnswer x) lent lists o))
 
 -- a prefix of the same length, written back
 pub joined-length : (n : ℕ) (xs ys : List ℕ) → length ys ≡ length (take n xs) → length (ys ++ drop n xs) ≡ length xs

@@ -39,19 +39,19 @@ module _ (s : State) (t : Tables) (w a b : List ℕ) {y : Bool} (e : y ≡ not (
   long-is = negated y (listsLong (l .m) a b) e
 
   pub admits-change : (c : Change) → Admits s t (callOf (changing c) (reportLists w a b)) (not y)
-  admits-change c = record { early = ap (λ (z : Bool). earlyRefusal l t w z) long-is; sound = refl; sizes = refl }
+  admits-change c = record { early = ap (λ (z : Bool). earlyRefusal l true t w z) long-is; sound = refl; sizes = refl }
 
   -- ---- admitted
 
   module _ {n : ℕ} {w′ : List ℕ} (m : Admitted s t w (not y) n w′) (d : n ≡ 0) where
-    passed : (sizesRefusal bounds (s .sizes) ≡ accepted) × HasRoom (s .sizes) t w × (not y ≡ true)
-    passed = early-passed l t w (not y) (admitted-early m d)
+    passed : (sizesRefusal bounds (s .sizes) ≡ accepted) × (true ≡ true) × HasRoom (s .sizes) t w × (not y ≡ true)
+    passed = early-passed l true t w (not y) (admitted-early m d)
 
     has-room : HasRoom (s .sizes) t w
-    has-room = passed .1
+    has-room = passed .2
 
     lists-long : (s .sizes .m ≤ length a) × (s .sizes .m ≤ length b)
-    lists-long = lists-facts (l .m) a b (long-is ∙ passed .2)
+    lists-long = lists-facts (l .m) a b (long-is ∙ passed .3)
 
     pub work-first : w′ ≡ zeroFirst (workFor (s .sizes)) w
     work-first = m .left ∙ ap (λ (q : Bool). pick q (zeroFirst (workFor l) w) w) (admitted-early m d)
@@ -76,7 +76,7 @@ module _ (s : State) (t : Tables) (w a b : List ℕ) {y : Bool} (e : y ≡ not (
         Transition (record { state = s; tables = t }) (callOf (changing c) (reportLists w a b)) z x v
     changed-whole c z x v o =
         let u : World = record { state = s; tables = t } in
-        change-whole u c (reportLists w a b) (ap (λ (q : Bool). isAccepted (earlyRefusal l t w q)) long-is ∙ admitted-early m d) (admitted-usable m d .sound) z x v
+        change-whole u c (reportLists w a b) (ap (λ (q : Bool). isAccepted (earlyRefusal l true t w q)) long-is ∙ admitted-early m d) (admitted-usable m d .sound) z x v
         (subst (λ (q : List ℕ). BatchStep u c (reportLists q a b) z x v) work-first o)
 
 -- ---- refused by 1 to 6

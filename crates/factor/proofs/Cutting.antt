@@ -1,20 +1,21 @@
 -- The tables within their sizes, as the code lends them: their lengths are the sizes (`Cut`), usable tables can be asked and followed, tables that are long
 -- enough can be read through, and what is read through is soundness. Assumes nothing.
-use mathlib.Core.Path.{_≡_, sym, ap, _∙_, subst}
+use mathlib.Core.Path.{_≡_, refl, sym, ap, _∙_, subst}
 use mathlib.Core.Logic.{inr}
-use mathlib.Core.Bool.{true, _&&_}
+use mathlib.Core.Bool.{Bool, true, false, _&&_}
 use mathlib.Core.List.{List}
 use Prim.Native.Nat.{ℕ, _+_, _*_, _≤_}
 use native.Mathlib.Omega.{arith}
 use lib.ListN.{length}
 use lib.Seq.{length-take-le}
 use Rattle.symbolic.specs.Columns.{live}
+use Rattle.symbolic.specs.Grades.{areLimits}
 use Rattle.workspace.specs.Layout.{workNeed, bookMarks}
 use Rattle.workspace.specs.Regions.{IsZero, OnlyIn, cleared, zeroFirst}
 use Rattle.workspace.proofs.Regions.{cleared-zero, cleared-only, cleared-unique, only-trans, only-wider, only-zero, zero-part, first-cleared}
 use Rattle.book.specs.Book as book
 use Rattle.tables.specs.Stored.{Sized, isSoundFor}
-use Rattle.tables.specs.Tables.{Tables, Sizes, State, longEnough, storedIn, bookIn, registerOf, isSound}
+use Rattle.tables.specs.Tables.{Tables, Sizes, State, longEnough, storedIn, bookIn, registerOf, holdsSound, isSound}
 use Rattle.tables.proofs.Tables.{Long, long-facts, sound-stored}
 use Rattle.calls.specs.Refusals.{accepted, isAccepted, bounds, sizesRefusal, workFor}
 use Rattle.calls.proofs.Refusals.{InRange, sizes-facts}
@@ -94,9 +95,26 @@ module _ (s : State) {t : Tables} {w : List ℕ} (r : HasPlaces (s .sizes) t w) 
   need-is : need ≡ workFor (s .sizes)
   need-is = let c = lengths in omega arith
 
-  -- what is answered is soundness
-  pub read-sound : areSound (storedIn s t) (bookIn s t) ≡ isSound s t
-  read-sound = ap (λ (m : ℕ). book.isSound m (bookIn s t) && isSoundFor (live (registerOf s t)) (storedIn s t)) (lengths .heads)
+  -- what is read is what the tables hold
+  module _ {a : Bool} (e : a ≡ areSound (storedIn s t) (bookIn s t)) where
+    held-sound : a ≡ holdsSound s t
+    held-sound = e ∙ ap (λ (m : ℕ). book.isSound m (bookIn s t) && isSoundFor (live (registerOf s t)) (storedIn s t)) (lengths .heads)
+
+    -- unsound tables, whatever the limits
+    pub read-unsound : a ≡ false → false ≡ isSound s t
+    read-unsound h = by (areLimits (s .limits)) (holdsSound s t) (sym held-sound ∙ h)
+      where
+        by : (y z : Bool) → z ≡ false → false ≡ (y && z)
+        by true z q = sym q
+        by false z q = refl
+
+    -- sound ones: the limits decide
+    pub read-limits : a ≡ true → {r : Bool} → r ≡ areLimits (s .limits) → r ≡ isSound s t
+    read-limits h {r} q = by r (areLimits (s .limits)) (holdsSound s t) q (sym held-sound ∙ h)
+      where
+        by : (r y z : Bool) → r ≡ y → z ≡ true → r ≡ (y && z)
+        by r true z q p = q ∙ sym p
+        by r false z q p = q
 
   -- the first W places are all of them
   room : 0 + workFor (s .sizes) ≤ length w

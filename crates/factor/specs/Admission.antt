@@ -12,12 +12,12 @@ use Rattle.calls.specs.Refusals.{Refusal, accepted, isAccepted, orElse, unless,
 
 -- 1 to 6; lists: those of a batch are long enough
 abbrev pub admission : State → Tables → (work : List ℕ) → (lists : Bool) → Refusal
-admission s t w z = orElse (earlyRefusal (s .sizes) t w z) (unless (isSound s t) 6 0)
+admission s t w z = orElse (earlyRefusal (s .sizes) true t w z) (unless (isSound s t) 6 0)
 
 -- "from check 6 on, the first W work places are zero"
 pub record Admitted (s : State) (t : Tables) (work : List ℕ) (lists : Bool) (number : ℕ) (after : List ℕ) : Type 0 where
   pub found : number ≡ admission s t work lists .number
-  pub left : after ≡ pick (isAccepted (earlyRefusal (s .sizes) t work lists)) (zeroFirst (workFor (s .sizes)) work) work
+  pub left : after ≡ pick (isAccepted (earlyRefusal (s .sizes) true t work lists)) (zeroFirst (workFor (s .sizes)) work) work
 
 -- 1 to 5 are passed: sizes in range, tables and work table long enough for them
 pub record HasPlaces (l : Sizes) (t : Tables) (work : List ℕ) : Type 0 where

@@ -1,7 +1,8 @@
--- The public entries' records as the definitions of calls/ have them: the factor as sizes and free heads, tables, answers. A contract is `Transition` of the
--- entry's call over these, and nothing else. Assumes nothing: these are definitions.
+-- The public entries' records as the definitions of calls/ have them: the factor as sizes, limits and free heads, tables, answers. A contract is `Transition`
+-- of the entry's call over these, and nothing else. Assumes nothing: these are definitions.
 use mathlib.Core.List.{List}
 use Prim.Native.Nat.{ℕ}
+use Rattle.symbolic.specs.Grades.{Limits, limitsOf}
 use Rattle.tables.specs.Tables.{Tables, Sizes, State, sizesOf}
 use Rattle.calls.specs.Calls.{opening, workOnly, callOf}
 use Rattle.calls.specs.Steps.{Answer, World, Transition}
@@ -9,9 +10,10 @@ use Rattle.factor.specs.declared.Factor.{Factor}
 use Rattle.factor.specs.declared.Opening.{Opening}
 use Rattle.factor.specs.declared.Opening.the-variants.{Opened, Refused}
 
--- the record of sizes and free heads that a factor is
+-- the record of sizes, limits and free heads that a factor is
 abbrev pub stateOf : Factor → State
-stateOf x = record { sizes = sizesOf (x .m) (x .n) (x .f) (x .c); free = x .free; bookFree = x .«book_free» }
+stateOf x =
+    record { sizes = sizesOf (x .m) (x .n) (x .f) (x .c); limits = limitsOf (x .grade2) (x .grade3) (x .grade4); free = x .free; bookFree = x .«book_free» }
 
 -- a factor with the tables that are lent to its entries
 abbrev pub worldOf : Factor → Tables → World
@@ -28,6 +30,6 @@ stateAfter (Opened x) s = stateOf x
 stateAfter (Refused n) s = s
 
 -- OPEN, whatever record there was before
-abbrev pub OpenStep : (asked : Sizes) (t : Tables) (work : List ℕ) (r : Opening) (t′ : Tables) (work′ : List ℕ) → Type 0
-OpenStep l t w r t′ w′ =
-    (s : State) → Transition (record { state = s; tables = t }) (callOf (opening l) (workOnly w)) (openingAnswer r) (workOnly w′) (record { state = stateAfter r s; tables = t′ })
+abbrev pub OpenStep : (asked : Sizes) (limits : Limits) (t : Tables) (work : List ℕ) (r : Opening) (t′ : Tables) (work′ : List ℕ) → Type 0
+OpenStep l g t w r t′ w′ =
+    (s : State) → Transition (record { state = s; tables = t }) (callOf (opening l g) (workOnly w)) (openingAnswer r) (workOnly w′) (record { state = stateAfter r s; tables = t′ })

@@ -8,7 +8,7 @@ use Rattle.lists.specs.Lists.{over, upFrom}
 use Rattle.workspace.specs.Regions.{zeroFirst}
 use Rattle.pool.specs.Opening.{openedNexts, freeHead}
 use Rattle.tables.specs.Tables.{Tables, Sizes}
-use Rattle.tables.specs.Opening.{openedState, openedTables}
+use Rattle.tables.specs.Opening.{openedTables}
 use Rattle.columns.specs.Opened.{openedRows, openedCounts}
 use Rattle.calls.specs.Refusals.{workFor}
 
@@ -50,5 +50,5 @@ pub record BookWritten (n c : ℕ) (heads₀ rows₀ next₀ heads rows next : L
 pub record OpeningWritten (l : Sizes) (t₀ : Tables) (work₀ : List ℕ) (t : Tables) (work : List ℕ) (free bookFree : ℕ) : Type 0 where
   pub tables : t ≡ openedTables l t₀
   pub left : work ≡ zeroFirst (workFor l) work₀
-  pub free-is : free ≡ openedState l .free
-  pub book-free-is : bookFree ≡ openedState l .bookFree
+  pub free-is : free ≡ freeHead (l .m) (l .f)
+  pub book-free-is : bookFree ≡ freeHead 0 (l .c)

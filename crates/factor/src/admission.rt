@@ -1,4 +1,4 @@
-// What is found before a call is answered: numbers 1 to 5, the tables read through within their sizes for number 6, and both.
+// What is found before a call is answered: numbers 1 to 5 and 20, limits and tables read through within their sizes for number 6, and both.
 ghost use mathlib.Core.Path.{_≡_};
 ghost use Rattle.workspace.specs.Regions.{zeroFirst};
 ghost use Rattle.tables.specs.Tables.{isSound, sizesOf, tablesOf};
@@ -8,7 +8,7 @@ ghost use Rattle.factor.specs.Admission.{Admitted, HasPlaces};
 use crate::Factor;
 use pool::Rec;
 
-// The number 1 to 5 that a call is refused by, or 0; lists: a batch's lists are long enough.
+// The number 1 to 5 or 20 that a call is refused by, or 0; keeps_rule: an opening's limits do; lists: a batch's lists are long enough.
 pub fn early(
     factor: Factor,
     heads: &[u32],
@@ -20,9 +20,10 @@ pub fn early(
     book_rows: &[u16],
     book_next: &[u32],
     work: &[u32],
+    keeps_rule: bool,
     lists: bool,
 ) -> u32
-    ensures { λ r. ⌜ r ≡ earlyRefusal (sizesOf (factor .m) (factor .n) (factor .f) (factor .c)) (tablesOf (now (heads .entry)) (now (parents .entry)) (now (rows .entry)) (now (counts .entry)) (now (next .entry)) (now («book_heads» .entry)) (now («book_rows» .entry)) (now («book_next» .entry))) (now (work .entry)) lists .number ⌝ }
+    ensures { λ r. ⌜ r ≡ earlyRefusal (sizesOf (factor .m) (factor .n) (factor .f) (factor .c)) «keeps_rule» (tablesOf (now (heads .entry)) (now (parents .entry)) (now (rows .entry)) (now (counts .entry)) (now (next .entry)) (now («book_heads» .entry)) (now («book_rows» .entry)) (now («book_next» .entry))) (now (work .entry)) lists .number ⌝ }
 {
     let number = refusals::sizes(
         factor.m,
@@ -36,6 +37,9 @@ pub fn early(
     );
     if number != 0 {
         return number;
+    }
+    if !keeps_rule {
+        return 20;
     }
     if refusals::short(
         heads,
@@ -60,7 +64,7 @@ pub fn early(
     5
 }
 
-// Whether the tables are sound. The first W work places are zero afterwards.
+// Whether the tables are sound and the limits keep the rule. The first W work places are zero afterwards.
 pub fn read_through(
     factor: Factor,
     heads: &[u32],
@@ -100,7 +104,10 @@ pub fn read_through(
         0,
         workspace::work_need(factor.m, factor.n, factor.f, factor.c),
     );
-    sound
+    if !sound {
+        return false;
+    }
+    refusals::limits::are_limits(factor.grade2, factor.grade3, factor.grade4)
 }
 
 // The number 1 to 6 that a call is refused by, or 0. Where 1 to 5 are passed the first W work places are zero afterwards.
@@ -130,6 +137,7 @@ pub fn admit(
         book_rows,
         book_next,
         work,
+        true,
         lists,
     );
     if number != 0 {

@@ -1,5 +1,6 @@
 // The factor's public entries: opening, the check of all tables, questions, and in batches.rt adding and removing. Each refuses unusable input by number
 // and fixes everything lent. A caller that has proved its tables sound uses the unchecked twins of unchecked.rt.
+ghost use Rattle.symbolic.specs.Grades.{limitsOf};
 ghost use Rattle.tables.specs.Tables.{sizesOf, tablesOf};
 ghost use Rattle.questions.specs.Asked.{replyOf};
 ghost use Rattle.calls.specs.Calls.{callOf, workOnly, workAndList};
@@ -16,7 +17,7 @@ mod unchecked;
 use book::Row;
 use questions::Reply;
 
-// The record of sizes and free heads.
+// The record of sizes, free heads and limits: from so many entries on a grade is 2, 3 and 4.
 #[repr(C)]
 pub struct Factor {
     pub m: u32,
@@ -25,6 +26,9 @@ pub struct Factor {
     pub c: u32,
     pub free: u32,
     pub book_free: u32,
+    pub grade2: u32,
+    pub grade3: u32,
+    pub grade4: u32,
 }
 
 // What an opening answers.
@@ -54,12 +58,16 @@ impl Factor {
     // The largest C.
     pub const MOST_BOOKED: u32 = 262144;
 
-    // A fresh factor: writes all tables. F = 0 means 16 × m.
+    // A fresh factor: writes all tables. F = 0 means 16 × m. From grade2, grade3 and grade4 entries on a grade is 2, 3 and 4: the first is at least 2, each above
+    // the one before, or 20 refuses the opening; three zeros mean 256, 4,096 and 65,536.
     pub fn open(
         m: u32,
         n: u32,
         f: u32,
         c: u32,
+        grade2: u32,
+        grade3: u32,
+        grade4: u32,
         heads: &mut [u32],
         parents: &mut [u16],
         rows: &mut [u16],
@@ -70,9 +78,10 @@ impl Factor {
         book_next: &mut [u32],
         work: &mut [u32],
     ) -> Opening
-        ensures { λ r. ⌜ OpenStep (sizesOf m n f c) (tablesOf (now (heads .entry)) (now (parents .entry)) (now (rows .entry)) (now (counts .entry)) (now (next .entry)) (now («book_heads» .entry)) (now («book_rows» .entry)) (now («book_next» .entry))) (now (work .entry)) r (tablesOf (now (heads .exit)) (now (parents .exit)) (now (rows .exit)) (now (counts .exit)) (now (next .exit)) (now («book_heads» .exit)) (now («book_rows» .exit)) (now («book_next» .exit))) (now (work .exit)) ⌝ }
+        ensures { λ r. ⌜ OpenStep (sizesOf m n f c) (limitsOf grade2 grade3 grade4) (tablesOf (now (heads .entry)) (now (parents .entry)) (now (rows .entry)) (now (counts .entry)) (now (next .entry)) (now («book_heads» .entry)) (now («book_rows» .entry)) (now («book_next» .entry))) (now (work .entry)) r (tablesOf (now (heads .exit)) (now (parents .exit)) (now (rows .exit)) (now (counts .exit)) (now (next .exit)) (now («book_heads» .exit)) (now («book_rows» .exit)) (now («book_next» .exit))) (now (work .exit)) ⌝ }
     {
         let records = refusals::default_records(m, f);
+        let limits = refusals::limits::default_limits(grade2, grade3, grade4);
         let asked = Factor {
             m,
             n,
@@ -80,7 +89,11 @@ impl Factor {
             c,
             free: 0,
             book_free: 0,
+            grade2: limits.grade2,
+            grade3: limits.grade3,
+            grade4: limits.grade4,
         };
+        let keeps_rule = refusals::limits::are_limits(asked.grade2, asked.grade3, asked.grade4);
         let number = admission::early(
             asked,
             heads,
@@ -92,6 +105,7 @@ impl Factor {
             book_rows,
             book_next,
             work,
+            keeps_rule,
             true,
         );
         if number != 0 {
@@ -119,10 +133,13 @@ impl Factor {
             c,
             free: free.0.0,
             book_free: free.1.0,
+            grade2: asked.grade2,
+            grade3: asked.grade3,
+            grade4: asked.grade4,
         })
     }
 
-    // Whether the tables are sound: 0, or 6 for no; 1 to 5 refuse the call as any other.
+    // Whether the tables are sound, and the record's limits: 0, or 6 for no; 1 to 5 refuse the call as any other.
     pub fn check(
         self,
         heads: &[u32],

@@ -19,7 +19,7 @@ use questions::Reply;
 
 // The answer of a batch, with the record that has its free heads.
 fn changed(factor: Factor, x: Batch) -> Changed
-    ensures { λ r. ⌜ r ≡ record { number = x .number; position = x .position; touched = x .touched; entries = x .entries; grade = x .grade; factor = record { m = factor .m; n = factor .n; f = factor .f; c = factor .c; free = x .free .0; «book_free» = x .«book_free» .0 } } ⌝ }
+    ensures { λ r. ⌜ r ≡ record { number = x .number; position = x .position; touched = x .touched; entries = x .entries; grade = x .grade; factor = record { m = factor .m; n = factor .n; f = factor .f; c = factor .c; free = x .free .0; «book_free» = x .«book_free» .0; grade2 = factor .grade2; grade3 = factor .grade3; grade4 = factor .grade4 } } ⌝ }
 {
     let after = Factor {
         m: factor.m,
@@ -28,6 +28,9 @@ fn changed(factor: Factor, x: Batch) -> Changed
         c: factor.c,
         free: x.free.0,
         book_free: x.book_free.0,
+        grade2: factor.grade2,
+        grade3: factor.grade3,
+        grade4: factor.grade4,
     };
     Changed {
         number: x.number,
@@ -179,6 +182,9 @@ impl Factor {
             row_list,
             Rec(self.free),
             Rec(self.book_free),
+            self.grade2,
+            self.grade3,
+            self.grade4,
         );
         changed(self, x)
     }
@@ -221,6 +227,9 @@ impl Factor {
             ids,
             Rec(self.free),
             Rec(self.book_free),
+            self.grade2,
+            self.grade3,
+            self.grade4,
         );
         changed(self, x)
     }

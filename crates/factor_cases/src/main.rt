@@ -1,5 +1,5 @@
-// Opens a factor, then lays tables with three columns, and for each damages every table one place at a time with several values: a line for each place,
-// a character for each value, what `check` answers: '.' for sound, its number else.
+// Opens a factor, then lays tables with three columns, and for each damages the record's limits of the grades, then every table one place at a time with
+// several values: a line for the limits and for each place, a character for each value, what `check` answers: '.' for sound, its number else.
 use factor::Factor;
 use factor::Opening;
 
@@ -132,10 +132,37 @@ fn show_place(record: Factor, t: Tables, table: u32, place: usize) {
     io::write_all(1, &line);
 }
 
-// Writes what check answers for the tables, then a line for each place of each table.
+// The record with other limits of the grades.
+fn limited(record: Factor, grade2: u32, grade3: u32, grade4: u32) -> Factor {
+    let mut x = record;
+    x.grade2 = grade2;
+    x.grade3 = grade3;
+    x.grade4 = grade4;
+    x
+}
+
+// Writes what check answers for limits that break the rule: zeros, the first below 2, equal ones, falling ones; then for some that keep it.
+fn show_limits(record: Factor, t: Tables) {
+    let line = [
+        answer(limited(record, 0, 0, 0), t),
+        answer(limited(record, 0, 2, 3), t),
+        answer(limited(record, 1, 2, 3), t),
+        answer(limited(record, 2, 2, 3), t),
+        answer(limited(record, 2, 3, 3), t),
+        answer(limited(record, 3, 2, 4), t),
+        answer(limited(record, 2, 4, 3), t),
+        answer(limited(record, 2, 3, 4), t),
+        answer(limited(record, 4294967293, 4294967294, 4294967295), t),
+        b'\n',
+    ];
+    io::write_all(1, &line);
+}
+
+// Writes what check answers for the tables, then a line for the limits and for each place of each table.
 fn show(record: Factor, t: Tables) {
     let first = [answer(record, t), b'\n'];
     io::write_all(1, &first);
+    show_limits(record, t);
     let mut table: u32 = 0;
     while table < 8 {
         let n = places(table);
@@ -178,6 +205,9 @@ fn show_opened() {
         8,
         9,
         16,
+        0,
+        0,
+        0,
         &mut heads,
         &mut parents,
         &mut rows,
@@ -216,6 +246,9 @@ fn main() {
             c: 16,
             free: 0,
             book_free: 7,
+            grade2: 256,
+            grade3: 4096,
+            grade4: 65536,
         },
         laid(),
     );

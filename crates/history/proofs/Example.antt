@@ -10,6 +10,7 @@ use Rattle.symbolic.specs.Columns.{startingWith}
 use Rattle.symbolic.specs.Factor.{childrenWith, countsFrom, firstAbove, buildFrom, patternFrom, nonZero, pathFrom, sizeSum}
 use Rattle.symbolic.specs.Batch.{passing, labelFrom, entriesOf}
 use Rattle.symbolic.specs.Change.{idsOf, without, columnOf, columnsOf}
+use Rattle.symbolic.specs.Grades.{Limits, limitsOf, oldLimits}
 use Rattle.pool.specs.Chains.{chainFrom, lastOf}
 use Rattle.pool.specs.Whole.{chains}
 use Rattle.book.specs.Book.{columnsFrom}
@@ -22,7 +23,7 @@ use Rattle.calls.proofs.Exchanges.{exchange-passed}
 use Rattle.history.specs.Runs.{Event, Run, Begun, Plain}
 use Rattle.tables.specs.Tables.{Sizes}
 use Rattle.tables.specs.Opening.{openedState, openedTables}
-use Rattle.history.specs.Example.{askedSizes, workLent, listLent, add, change, ask, askFrom, openWith, answered, valued, workLeft, eventCalls, eventAnswers, eventTouched, eventLabels, eventWork, eventLists, shownFrom}
+use Rattle.history.specs.Example.{askedSizes, workLent, listLent, add, change, ask, askFrom, openWith, answered, valued, workLeft, lastSizes, eventCalls, eventAnswers, eventTouched, eventLabels, eventWork, eventLists, shownFrom}
 use Rattle.history.specs.Statements.{ConcreteRun}
 
 -- ---- the worlds
@@ -30,7 +31,7 @@ use Rattle.history.specs.Statements.{ConcreteRun}
 abbrev worldOf : (free bookFree : ℕ) → (heads parents rows counts next bookHeads bookRows bookNext : List ℕ) → World
 worldOf f g hs ps rs cs ns bh br bn =
     record {
-      state = record { sizes = askedSizes; free = f; bookFree = g };
+      state = record { sizes = askedSizes; limits = oldLimits; free = f; bookFree = g };
       tables = record {
         heads = hs ++ (8 ∷ []);
         parents = ps ++ (8 ∷ []);
@@ -91,19 +92,19 @@ world5 =
 
 first-exchanged : Exchanged world1 (add 1 (1 ∷ 3 ∷ [])) world2
 unfolding all any among noRepeats allZero same valuesAt rises upFrom startingWith childrenWith countsFrom firstAbove buildFrom patternFrom nonZero pathFrom passing chainFrom lastOf chains columnsFrom holdsFrom batchOf
-first-exchanged = exchange-passed world1 (add 1 (1 ∷ 3 ∷ [])) world2 refl refl refl
+first-exchanged = exchange-passed world1 (add 1 (1 ∷ 3 ∷ [])) world2 refl refl refl refl
 
 second-exchanged : Exchanged world2 (add 2 (1 ∷ 4 ∷ [])) world3
 unfolding all any among noRepeats allZero same valuesAt rises upFrom startingWith childrenWith countsFrom firstAbove buildFrom patternFrom nonZero pathFrom passing chainFrom lastOf chains columnsFrom holdsFrom batchOf
-second-exchanged = exchange-passed world2 (add 2 (1 ∷ 4 ∷ [])) world3 refl refl refl
+second-exchanged = exchange-passed world2 (add 2 (1 ∷ 4 ∷ [])) world3 refl refl refl refl
 
 third-exchanged : Exchanged world3 (add 3 (2 ∷ 3 ∷ [])) world4
 unfolding all any among noRepeats allZero same valuesAt rises upFrom startingWith childrenWith countsFrom firstAbove buildFrom patternFrom nonZero pathFrom passing chainFrom lastOf chains columnsFrom holdsFrom batchOf
-third-exchanged = exchange-passed world3 (add 3 (2 ∷ 3 ∷ [])) world4 refl refl refl
+third-exchanged = exchange-passed world3 (add 3 (2 ∷ 3 ∷ [])) world4 refl refl refl refl
 
 removal-exchanged : Exchanged world4 (removing (2 ∷ [])) world5
 unfolding all any among noRepeats allZero same valuesAt rises upFrom startingWith childrenWith countsFrom firstAbove buildFrom patternFrom nonZero pathFrom passing chainFrom lastOf chains columnsFrom holdsFrom without columnOf columnsOf
-removal-exchanged = exchange-passed world4 (removing (2 ∷ [])) world5 refl refl refl
+removal-exchanged = exchange-passed world4 (removing (2 ∷ [])) world5 refl refl refl refl
 
 -- ---- the run
 
@@ -144,31 +145,91 @@ abbrev removal : Event
 removal =
     event (removing (2 ∷ [])) (answered 0 0 3 4 1) (1 ∷ 3 ∷ 4 ∷ 9 ∷ 9 ∷ 9 ∷ []) (1 ∷ 1 ∷ 1 ∷ 9 ∷ 9 ∷ 9 ∷ [])
 
+-- ---- openings with limits
+
+abbrev opened : Sizes → Limits → Answer → (work : List ℕ) → Event
+opened l g a w = record { call = openWith l g; answer = a; left = record { work = w; touched = []; labels = []; list = [] } }
+
 abbrev noRows : Event
-noRows =
-    record {
-      call = openWith (record { m = 0; n = 8; f = 9; c = 16 });
-      answer = answered 1 0 0 0 0;
-      left = record { work = workLent; touched = []; labels = []; list = [] };
-    }
+noRows = opened (record { m = 0; n = 8; f = 9; c = 16 }) (limitsOf 2 3 4) (answered 1 0 0 0 0) workLent
 
-abbrev lastSizes : Sizes
-lastSizes = record { m = 1; n = 1; f = 2; c = 1 }
+abbrev noLimits : Event
+noLimits = opened askedSizes (limitsOf 2 2 3) (answered 20 0 0 0 0) workLent
 
-abbrev oneRow : Event
-oneRow =
-    record {
-      call = openWith lastSizes;
-      answer = answered 0 0 0 0 0;
-      left = record { work = workLeft 1042; touched = []; labels = []; list = [] };
-    }
+abbrev twoRows : Event
+twoRows = opened lastSizes (limitsOf 2 3 4) (answered 0 0 0 0 0) (workLeft 1055)
 
--- tables opened anew for one row, the places past it as they were
+abbrev plainTwo : Event
+plainTwo = opened lastSizes (limitsOf 0 0 0) (answered 0 0 0 0 0) (workLeft 1055)
+
+-- {1,4} under id 4: the records of id 2 are taken again
 abbrev world6 : World
-world6 = record { state = openedState lastSizes; tables = openedTables lastSizes (world5 .tables) }
+world6 =
+    worldOf 0 7 (1 ∷ 2 ∷ 3 ∷ 4 ∷ 5 ∷ []) (3 ∷ 3 ∷ 4 ∷ 0 ∷ 0 ∷ [])
+    (1 ∷ 2 ∷ 3 ∷ 4 ∷ 5 ∷ 3 ∷ 4 ∷ 4 ∷ 3 ∷ []) (3 ∷ 2 ∷ 3 ∷ 2 ∷ 1 ∷ 1 ∷ 1 ∷ 1 ∷ 1 ∷ []) (6 ∷ 9 ∷ 8 ∷ 0 ∷ 0 ∷ 7 ∷ 0 ∷ 0 ∷ 0 ∷ [])
+    (1 ∷ 0 ∷ 5 ∷ 3 ∷ 0 ∷ 0 ∷ 0 ∷ 0 ∷ []) (1 ∷ 3 ∷ 1 ∷ 4 ∷ 2 ∷ 3 ∷ 0 ∷ 0 ∷ 0 ∷ 0 ∷ 0 ∷ 0 ∷ 0 ∷ 0 ∷ 0 ∷ 0 ∷ [])
+    (2 ∷ 0 ∷ 4 ∷ 0 ∷ 6 ∷ 0 ∷ 8 ∷ 9 ∷ 10 ∷ 11 ∷ 12 ∷ 13 ∷ 14 ∷ 15 ∷ 16 ∷ 0 ∷ [])
+
+-- tables opened anew for two rows, the places past them as they were
+abbrev fresh : Limits → World
+fresh g = record { state = openedState lastSizes g; tables = openedTables lastSizes (world6 .tables) }
+
+-- {1,2} under id 1: record 3, the last, and both records of the book
+abbrev full : Limits → World
+full g =
+    record {
+      state = record { sizes = lastSizes; limits = g; free = 0; bookFree = 0 };
+      tables = record {
+        heads = 1 ∷ 2 ∷ 3 ∷ 4 ∷ 5 ∷ 8 ∷ [];
+        parents = 2 ∷ 0 ∷ 4 ∷ 0 ∷ 0 ∷ 8 ∷ [];
+        rows = 1 ∷ 2 ∷ 2 ∷ 4 ∷ 5 ∷ 3 ∷ 4 ∷ 4 ∷ 3 ∷ 8 ∷ [];
+        counts = 2 ∷ 2 ∷ 1 ∷ 2 ∷ 1 ∷ 1 ∷ 1 ∷ 1 ∷ 1 ∷ 8 ∷ [];
+        next = 3 ∷ 0 ∷ 0 ∷ 0 ∷ 0 ∷ 7 ∷ 0 ∷ 0 ∷ 0 ∷ 8 ∷ [];
+        bookHeads = 1 ∷ 0 ∷ 5 ∷ 3 ∷ 0 ∷ 0 ∷ 0 ∷ 0 ∷ 8 ∷ [];
+        bookRows = 1 ∷ 2 ∷ 1 ∷ 4 ∷ 2 ∷ 3 ∷ 0 ∷ 0 ∷ 0 ∷ 0 ∷ 0 ∷ 0 ∷ 0 ∷ 0 ∷ 0 ∷ 0 ∷ 8 ∷ [];
+        bookNext = 2 ∷ 0 ∷ 4 ∷ 0 ∷ 6 ∷ 0 ∷ 8 ∷ 9 ∷ 10 ∷ 11 ∷ 12 ∷ 13 ∷ 14 ∷ 15 ∷ 16 ∷ 0 ∷ 8 ∷ [];
+      };
+    }
+
+returned-exchanged : Exchanged world5 (add 4 (1 ∷ 4 ∷ [])) world6
+unfolding all any among noRepeats allZero same valuesAt rises upFrom startingWith childrenWith countsFrom firstAbove buildFrom patternFrom nonZero pathFrom passing chainFrom lastOf chains columnsFrom holdsFrom batchOf
+returned-exchanged = exchange-passed world5 (add 4 (1 ∷ 4 ∷ [])) world6 refl refl refl refl
+
+filled-exchanged : Exchanged (fresh (limitsOf 2 3 4)) (add 1 (1 ∷ 2 ∷ [])) (full (limitsOf 2 3 4))
+unfolding all any among noRepeats allZero same valuesAt rises upFrom startingWith childrenWith countsFrom firstAbove buildFrom patternFrom nonZero pathFrom passing chainFrom lastOf chains columnsFrom holdsFrom batchOf
+filled-exchanged = exchange-passed (fresh (limitsOf 2 3 4)) (add 1 (1 ∷ 2 ∷ [])) (full (limitsOf 2 3 4)) refl refl refl refl
+
+emptied-exchanged : Exchanged (full (limitsOf 2 3 4)) (removing (1 ∷ [])) (fresh (limitsOf 2 3 4))
+unfolding all any among noRepeats allZero same valuesAt rises upFrom startingWith childrenWith countsFrom firstAbove buildFrom patternFrom nonZero pathFrom passing chainFrom lastOf chains columnsFrom holdsFrom batchOf without columnOf columnsOf
+emptied-exchanged = exchange-passed (full (limitsOf 2 3 4)) (removing (1 ∷ [])) (fresh (limitsOf 2 3 4)) refl refl refl refl
+
+refilled-exchanged : Exchanged (fresh oldLimits) (add 1 (1 ∷ 2 ∷ [])) (full oldLimits)
+unfolding all any among noRepeats allZero same valuesAt rises upFrom startingWith childrenWith countsFrom firstAbove buildFrom patternFrom nonZero pathFrom passing chainFrom lastOf chains columnsFrom holdsFrom batchOf
+refilled-exchanged = exchange-passed (fresh oldLimits) (add 1 (1 ∷ 2 ∷ [])) (full oldLimits) refl refl refl refl
+
+abbrev returned : Event
+returned = event (add 4 (1 ∷ 4 ∷ [])) (answered 0 0 3 6 1) (1 ∷ 3 ∷ 4 ∷ 9 ∷ 9 ∷ 9 ∷ []) (1 ∷ 1 ∷ 1 ∷ 9 ∷ 9 ∷ 9 ∷ [])
+
+-- a batch on two rows that touches both
+abbrev graded : Change → (entries grade : ℕ) → Event
+graded c n g =
+    record {
+      call = change c;
+      answer = answered 0 0 2 n g;
+      left = record { work = workLeft 1055; touched = 1 ∷ 2 ∷ 9 ∷ 9 ∷ 9 ∷ 9 ∷ []; labels = 1 ∷ 1 ∷ 9 ∷ 9 ∷ 9 ∷ 9 ∷ []; list = [] };
+    }
+
+abbrev filled : Event
+filled = graded (add 1 (1 ∷ 2 ∷ [])) 3 3
+
+abbrev emptied : Event
+emptied = graded (removing (1 ∷ [])) 2 2
+
+abbrev refilled : Event
+refilled = graded (add 1 (1 ∷ 2 ∷ [])) 3 1
 
 abbrev plain1 : Plain
-plain1 = record { sizes = askedSizes; register = record { m = 5; columns = [] } }
+plain1 = record { sizes = askedSizes; limits = oldLimits; register = record { m = 5; columns = [] } }
 
 opened-begun : Begun world1 plain1
 unfolding all any among noRepeats allZero same sumOf valuesAt rises upFrom startingWith childrenWith countsFrom firstAbove buildFrom patternFrom nonZero pathFrom sizeSum passing labelFrom labelled entriesOf idsOf chainFrom lastOf chains columnsFrom holdsFrom batchOf rowsRefusal columnsRefusal
@@ -176,6 +237,7 @@ opened-begun =
     record {
       before = world0;
       asked = askedSizes;
+      limits = limitsOf 0 0 0;
       lent = workOnly workLent;
       answer = answered 0 0 0 0 0;
       left = record { work = workLeft 1124; touched = []; labels = []; list = [] };
@@ -228,9 +290,32 @@ no-rows-step : Transition world5 (noRows .call) (noRows .answer) (noRows .left) 
 unfolding all any among noRepeats allZero same sumOf valuesAt rises upFrom startingWith childrenWith countsFrom firstAbove buildFrom patternFrom nonZero pathFrom sizeSum passing labelFrom labelled entriesOf idsOf chainFrom lastOf chains columnsFrom holdsFrom batchOf rowsRefusal columnsRefusal
 no-rows-step = (refl, refl, refl)
 
-one-row-step : Transition world5 (oneRow .call) (oneRow .answer) (oneRow .left) world6
+no-limits-step : Transition world5 (noLimits .call) (noLimits .answer) (noLimits .left) world5
+no-limits-step = (refl, refl, refl)
+
+returned-step : Transition world5 (returned .call) (returned .answer) (returned .left) world6
 unfolding all any among noRepeats allZero same sumOf valuesAt rises upFrom startingWith childrenWith countsFrom firstAbove buildFrom patternFrom nonZero pathFrom sizeSum passing labelFrom labelled entriesOf idsOf chainFrom lastOf chains columnsFrom holdsFrom batchOf rowsRefusal columnsRefusal
-one-row-step = (refl, refl, (refl, refl))
+returned-step = (refl, refl, returned-exchanged)
+
+two-rows-step : Transition world6 (twoRows .call) (twoRows .answer) (twoRows .left) (fresh (limitsOf 2 3 4))
+unfolding all any among noRepeats allZero same sumOf valuesAt rises upFrom startingWith childrenWith countsFrom firstAbove buildFrom patternFrom nonZero pathFrom sizeSum passing labelFrom labelled entriesOf idsOf chainFrom lastOf chains columnsFrom holdsFrom batchOf rowsRefusal columnsRefusal
+two-rows-step = (refl, refl, (refl, refl))
+
+filled-step : Transition (fresh (limitsOf 2 3 4)) (filled .call) (filled .answer) (filled .left) (full (limitsOf 2 3 4))
+unfolding all any among noRepeats allZero same sumOf valuesAt rises upFrom startingWith childrenWith countsFrom firstAbove buildFrom patternFrom nonZero pathFrom sizeSum passing labelFrom labelled entriesOf idsOf chainFrom lastOf chains columnsFrom holdsFrom batchOf rowsRefusal columnsRefusal
+filled-step = (refl, refl, filled-exchanged)
+
+emptied-step : Transition (full (limitsOf 2 3 4)) (emptied .call) (emptied .answer) (emptied .left) (fresh (limitsOf 2 3 4))
+unfolding all any among noRepeats allZero same sumOf valuesAt rises upFrom startingWith childrenWith countsFrom firstAbove buildFrom patternFrom nonZero pathFrom sizeSum passing labelFrom labelled entriesOf idsOf chainFrom lastOf chains columnsFrom holdsFrom batchOf rowsRefusal columnsRefusal idsRefusal without columnOf columnsOf
+emptied-step = (refl, refl, emptied-exchanged)
+
+plain-two-step : Transition (fresh (limitsOf 2 3 4)) (plainTwo .call) (plainTwo .answer) (plainTwo .left) (fresh oldLimits)
+unfolding all any among noRepeats allZero same sumOf valuesAt rises upFrom startingWith childrenWith countsFrom firstAbove buildFrom patternFrom nonZero pathFrom sizeSum passing labelFrom labelled entriesOf idsOf chainFrom lastOf chains columnsFrom holdsFrom batchOf rowsRefusal columnsRefusal
+plain-two-step = (refl, refl, (refl, refl))
+
+refilled-step : Transition (fresh oldLimits) (refilled .call) (refilled .answer) (refilled .left) (full oldLimits)
+unfolding all any among noRepeats allZero same sumOf valuesAt rises upFrom startingWith childrenWith countsFrom firstAbove buildFrom patternFrom nonZero pathFrom sizeSum passing labelFrom labelled entriesOf idsOf chainFrom lastOf chains columnsFrom holdsFrom batchOf rowsRefusal columnsRefusal
+refilled-step = (refl, refl, refilled-exchanged)
 
 pub concrete-run : ConcreteRun
 unfolding all same upFrom Run eventCalls eventAnswers eventTouched eventLabels eventWork eventLists shownFrom chainFrom valuesAt pairsOf opened-begun
@@ -242,6 +327,7 @@ concrete-run =
       end = world4;
       begun = opened-begun;
       asked = refl;
+      limits = refl;
       run = (world2, (first-step, (world2, (again-step, (world3, (second-step, (world4, (third-step, refl))))))));
       calls = refl;
       answers = refl;
@@ -259,11 +345,14 @@ concrete-run =
       later-lists = refl;
       later-work = refl;
       later-shows = refl;
-      openings = noRows ∷ oneRow ∷ [];
-      reopened = world6;
-      last-run = (world5, (no-rows-step, (world6, (one-row-step, refl))));
+      last-events = noRows ∷ noLimits ∷ returned ∷ twoRows ∷ filled ∷ emptied ∷ plainTwo ∷ refilled ∷ [];
+      reopened = full oldLimits;
+      last-run =
+          (world5, (no-rows-step, (world5, (no-limits-step, (world6, (returned-step, (fresh (limitsOf 2 3 4), (two-rows-step, (full (limitsOf 2 3 4), (filled-step, (fresh (limitsOf 2 3 4), (emptied-step, (fresh oldLimits, (plain-two-step, (full oldLimits, (refilled-step, refl))))))))))))))));
       last-calls = refl;
       last-answers = refl;
+      last-touched = refl;
+      last-labels = refl;
       last-work = refl;
       last-shows = refl;
     }

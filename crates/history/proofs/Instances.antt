@@ -9,7 +9,7 @@ use Rattle.symbolic.specs.Batch.{passing, labelFrom, entriesOf}
 use Rattle.symbolic.specs.Change.{idsOf, without, columnOf, columnsOf}
 use Rattle.calls.specs.Refusals.{batchOf, rowsRefusal, columnsRefusal, idsRefusal}
 use Rattle.calls.specs.Changes.{labelled}
-use Rattle.history.specs.Instances.{StarredInstances, NinthInstance}
+use Rattle.history.specs.Instances.{StarredInstances, NinthInstance, LimitInstances}
 
 pub starred-instances : StarredInstances
 unfolding any among sumOf upFrom startingWith childrenWith countsFrom firstAbove buildFrom patternFrom nonZero pathFrom sizeSum passing labelFrom labelled entriesOf idsOf without columnOf columnsOf batchOf rowsRefusal columnsRefusal pairsOf
@@ -46,3 +46,30 @@ starred-instances =
 pub ninth-instance : NinthInstance
 unfolding among sumOf startingWith childrenWith countsFrom firstAbove buildFrom pathFrom idsOf without batchOf rowsRefusal columnsRefusal idsRefusal
 ninth-instance = record { emptied = refl; repeated = refl; equal-rows = refl; path = refl }
+
+pub limit-instances : LimitInstances
+unfolding any among sumOf upFrom startingWith childrenWith countsFrom firstAbove buildFrom patternFrom nonZero pathFrom sizeSum passing labelFrom labelled entriesOf batchOf
+limit-instances =
+    record {
+      opening-000 = refl;
+      opening-007 = refl;
+      opening-012 = refl;
+      opening-123 = refl;
+      opening-223 = refl;
+      opening-232 = refl;
+      opening-234 = refl;
+      opening-most = refl;
+      opening-1 = refl;
+      opening-2 = refl;
+      opening-3 = refl;
+      opening-4 = refl;
+      answer-255 = refl;
+      answer-256 = refl;
+      answer-beyond = refl;
+      later-000 = λ t. refl;
+      later-change = λ t. refl;
+      later-question = λ t. refl;
+      later-short = refl;
+      later-123 = λ t. refl;
+      later-233 = λ t. refl;
+    }

@@ -1,5 +1,5 @@
--- What record, tables and plain register have in common between calls (`Inv`): sizes in range, tables long enough and sound, and the same columns up to
--- order, ids once. It gives `Consistent` (`inv-consistent`); an accepted opening sets it up (`inv-opened`), and Steps.antt shows that every call keeps it.
+-- What record, tables and plain register have in common between calls (`Inv`): sizes in range, the same limits, tables long enough and sound, and the same
+-- columns up to order, ids once. It gives `Consistent` (`inv-consistent`); an accepted opening sets it up (`inv-opened`), and Steps.antt shows that every call keeps it.
 -- Assumes nothing.
 use mathlib.Core.Path.{_≡_, refl, sym, ap, _∙_, subst}
 use mathlib.Core.Bool.{true}
@@ -9,6 +9,7 @@ use Rattle.lists.specs.Lists.{all, noRepeats, sumOf}
 use Rattle.symbolic.specs.Columns.{Column, Register, live}
 use Rattle.symbolic.specs.Factor.{FactorColumn, factorOf, factorFor}
 use Rattle.symbolic.specs.Change.{idsOf, Bag}
+use Rattle.symbolic.specs.Grades.{Limits, areLimits, limitsFor}
 use Rattle.symbolic.proofs.Bags.{bag-mem, bag-all}
 use Rattle.book.specs.Book.{columnFits}
 use Rattle.book.proofs.Columns.{ids-distinct}
@@ -16,7 +17,7 @@ use Rattle.tables.specs.Stored.{Stored, holdsFrom}
 use Rattle.tables.specs.Tables.{Tables, Sizes, longEnough, storedIn, bookIn, isSound}
 use Rattle.tables.specs.Opening.{openedState, openedTables}
 use Rattle.tables.proofs.Stored.{stands-chain}
-use Rattle.tables.proofs.Tables.{sound-fits, sound-factor, fits-rows}
+use Rattle.tables.proofs.Tables.{sound-limits, sound-fits, sound-factor, fits-rows}
 use Rattle.tables.proofs.Opening.{opened-columns, opened-sound, opened-long}
 use Rattle.calls.specs.Refusals.{accepted, isAccepted, bounds, sizesRefusal}
 use Rattle.calls.specs.Calls.{opening, Lent, callOf, withDefault}
@@ -31,6 +32,7 @@ use Rattle.history.proofs.Reports.{held-factor}
 pub record Inv (p : Plain) (u : World) : Type 0 where
   pub in-range : sizesRefusal bounds (p .sizes) ≡ accepted
   pub sizes : u .state .sizes ≡ p .sizes
+  pub limits : u .state .limits ≡ p .limits
   pub rows : p .register .m ≡ p .sizes .m
   pub long : longEnough (p .sizes) (u .tables) ≡ true
   pub sound : isSound (u .state) (u .tables) ≡ true
@@ -71,6 +73,8 @@ module _ {p : Plain} {u : World} (i : Inv p u) where
       record {
         in-range = i .in-range;
         sizes = i .sizes;
+        in-order = ap areLimits (sym (i .limits)) ∙ sound-limits (u .state) (u .tables) (i .sound);
+        limits = i .limits;
         rows = i .rows;
         long = i .long;
         sound = i .sound;
@@ -84,22 +88,23 @@ module _ {p : Plain} {u : World} (i : Inv p u) where
 
 -- ---- an accepted opening
 
-abbrev pub openedPlain : Sizes → Plain
-openedPlain l = record { sizes = withDefault l; register = record { m = l .m; columns = [] } }
+abbrev pub openedPlain : Sizes → Limits → Plain
+openedPlain l g = record { sizes = withDefault l; limits = limitsFor g; register = record { m = l .m; columns = [] } }
 
-abbrev pub openedWorld : Sizes → Tables → World
-openedWorld l t = record { state = openedState (withDefault l); tables = openedTables (withDefault l) t }
+abbrev pub openedWorld : Sizes → Limits → Tables → World
+openedWorld l g t = record { state = openedState (withDefault l) (limitsFor g); tables = openedTables (withDefault l) t }
 
-pub inv-opened : (l k : Sizes) (t : Tables) (w : Lent) → Ready k t (callOf (opening l) w) → Inv (openedPlain l) (openedWorld l t)
+pub inv-opened : (l : Sizes) (g : Limits) (k : Sizes) (t : Tables) (w : Lent) → Ready k t (callOf (opening l g) w) → Inv (openedPlain l g) (openedWorld l g t)
 unfolding noRepeats idsOf
-inv-opened l k t w r =
+inv-opened l g k t w r =
     let f : InRange (withDefault l) = sizes-facts (withDefault l) (ap isAccepted (r .sizes)) in
     record {
       in-range = r .sizes;
       sizes = refl;
+      limits = refl;
       rows = refl;
       long = opened-long (withDefault l) t (f .f-low) (r .room .tables);
-      sound = opened-sound (withDefault l) t (f .f-low);
-      bag = λ g. ap (λ (cs : List Column). sumOf g cs) (opened-columns (withDefault l) t (f .f-low));
+      sound = opened-sound (withDefault l) (limitsFor g) t (f .f-low) (r .limits);
+      bag = λ h. ap (λ (cs : List Column). sumOf h cs) (opened-columns (withDefault l) (limitsFor g) t (f .f-low));
       once = refl;
     }

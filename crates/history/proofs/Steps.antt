@@ -1,5 +1,5 @@
 -- One call on what `Inv` describes: its number and every answer are those of the plain register (`inv-justified`), and `Inv` holds after it (`inv-step`),
--- so after a list of calls (`inv-run`). The tables are sound, so 6 is not given; the sizes are in range, so 1 to 4 are an opening's.
+-- so after a list of calls (`inv-run`). The tables are sound, so 6 is not given; the sizes are in range, so 1 to 4 are an opening's, as 20 is.
 -- Assumes nothing.
 use mathlib.Core.Path.{_≡_, refl, sym, ap, _∙_, subst}
 use mathlib.Core.Logic.{_⊎_, inl, inr, _≢_, _↔_}
@@ -13,16 +13,17 @@ use lib.Seq.{take-at}
 use Rattle.lists.specs.Lists.{pick, Mem, among, rises, over}
 use Rattle.lists.proofs.Tests.{cases, refute}
 use Rattle.lists.proofs.Member.{among-mem}
+use Rattle.symbolic.specs.Grades.{Limits, gradeOf}
 use Rattle.tables.specs.Tables.{Sizes}
 use Rattle.tables.specs.Stays.{TailsStay}
 use Rattle.tables.proofs.Tables.{tails-long}
 use Rattle.calls.specs.Refusals.{Refusal, isAccepted, orElse}
-use Rattle.calls.specs.Calls.{Change, Entry, opening, changing, checking, asking, Lent, Call, callOf, withWork, isOpening, sizesAfter}
+use Rattle.calls.specs.Calls.{Change, Entry, opening, changing, checking, asking, Lent, Call, callOf, withWork, isOpening, sizesAfter, limitsAfter}
 use Rattle.calls.specs.Changes.{effect, touchedBy, registerAfter}
 use Rattle.calls.specs.Numbers.{callEarly, callRefusal, refusalOf}
 use Rattle.calls.specs.Steps.{Answer, refusedBy, resultOf, acceptedBy, listsAfter, workAfter, World, bookedIn, Exchanged, AcceptedWorld, Transition}
 use Rattle.calls.proofs.Choices.{or-both, or-first, or-second}
-use Rattle.calls.proofs.Numbers.{early-facts, early-number, early-low, call-number, sound-number}
+use Rattle.calls.proofs.Numbers.{early-facts, early-number, early-other, call-number, sound-number}
 use Rattle.calls.proofs.Order.{bag-after, bag-number, bag-ids, bag-touched, bag-answer, bag-lists, once-after}
 use Rattle.calls.proofs.Steps.{Accepted, Refused, step-cases, taken-zero, refused-some, quiet-world, change-world}
 use Rattle.calls.proofs.Changes.{rows-stay, touched-rise, effect-exchanges}
@@ -34,7 +35,7 @@ use Rattle.history.proofs.Invariant.{Inv, book-once, inv-rows, inv-long
 
 -- the plain register after an accepted call
 abbrev taken : Plain → Entry → Plain
-taken p e = record { sizes = sizesAfter (p .sizes) e; register = registerAfter (p .register) e }
+taken p e = record { sizes = sizesAfter (p .sizes) e; limits = limitsAfter (p .limits) e; register = registerAfter (p .register) e }
 
 module _ {p : Plain} {u : World} (i : Inv p u) where
   -- ---- the number
@@ -55,20 +56,21 @@ module _ {p : Plain} {u : World} (i : Inv p u) where
             elim (call-number (p .sizes) (p .register) k) [ inl n ↦ omega arith | inr n ↦ omega arith ]
         | inr e ↦
             let q : orElse x y .number ≡ x .number = ap (λ (z : Refusal). z .number) (or-first x y e) in
-            omega (arith, early-low (p .sizes) (u .tables) k)
+            early-other (p .sizes) (u .tables) k (sym q ∙ h)
       ]
 
-  from-five : (k : Call) → isOpening (k .entry) ≡ false → (plainRefusal p (u .tables) k .number ≡ 0) ⊎ (5 ≤ plainRefusal p (u .tables) k .number)
+  from-five : (k : Call) → isOpening (k .entry) ≡ false →
+      (plainRefusal p (u .tables) k .number ≡ 0) ⊎ ((5 ≤ plainRefusal p (u .tables) k .number) × (plainRefusal p (u .tables) k .number ≢ 20))
   from-five k o =
       let x : Refusal = callEarly (p .sizes) (u .tables) k in
       let y : Refusal = callRefusal (p .sizes) (p .register) k in
       elim (cases (isAccepted x)) [
         | inl e ↦
             let q : orElse x y .number ≡ y .number = ap (λ (z : Refusal). z .number) (or-second x y e) in
-            elim (call-number (p .sizes) (p .register) k) [ inl n ↦ inl (q ∙ n) | inr n ↦ inr (omega arith) ]
+            elim (call-number (p .sizes) (p .register) k) [ inl n ↦ inl (q ∙ n) | inr n ↦ inr (omega arith, λ z. omega arith) ]
         | inr e ↦
             let q : orElse x y .number ≡ x .number = ap (λ (z : Refusal). z .number) (or-first x y e) in
-            elim (early-number (p .sizes) (u .tables) (i .in-range) k o) [ inl n ↦ inl (q ∙ n) | inr n ↦ inr (omega arith) ]
+            elim (early-number (p .sizes) (u .tables) (i .in-range) k o) [ inl n ↦ inl (q ∙ n) | inr n ↦ inr (omega arith, λ z. omega arith) ]
       ]
 
   -- ---- the answer and the lists
@@ -77,7 +79,7 @@ module _ {p : Plain} {u : World} (i : Inv p u) where
   work-plain k = ap (λ (l : Sizes). workAfter l (u .tables) k) (i .sizes)
 
   -- the front of the lent list is the register's report
-  report-is : (e : Event) (c : Change) → e .call .entry ≡ changing c → e .answer ≡ acceptedBy (bookedIn u) (e .call .entry) →
+  report-is : (e : Event) (c : Change) → e .call .entry ≡ changing c → e .answer ≡ acceptedBy (u .state .limits) (bookedIn u) (e .call .entry) →
       e .left ≡ listsAfter (bookedIn u) (e .call) (workAfter (u .state .sizes) (u .tables) (e .call)) → reported e ≡ touchedBy (p .register) c
   report-is e c q a x =
       let js : List ℕ = touchedBy (bookedIn u) c in
@@ -88,7 +90,7 @@ module _ {p : Plain} {u : World} (i : Inv p u) where
       take-at js (drop (length js) (e .call .lent .touched)) (length js) refl ∙
       bag-touched (bookedIn u) (p .register) (inv-rows i) (i .bag) (book-once u) c
 
-  change-reports : (e : Event) (c : Change) → e .call .entry ≡ changing c → e .answer ≡ acceptedBy (bookedIn u) (e .call .entry) →
+  change-reports : (e : Event) (c : Change) → e .call .entry ≡ changing c → e .answer ≡ acceptedBy (u .state .limits) (bookedIn u) (e .call .entry) →
       e .left ≡ listsAfter (bookedIn u) (e .call) (workAfter (u .state .sizes) (u .tables) (e .call)) → ReportsJust p e c
   change-reports e c q a x =
       let r : reported e ≡ touchedBy (p .register) c = report-is e c q a x in
@@ -124,11 +126,14 @@ module _ {p : Plain} {u : World} (i : Inv p u) where
         λ c h. subst (λ (j : Entry). isAccepted (callRefusal (p .sizes) (p .register) (callOf j (k .lent))) ≡ true) h
         (or-both (callEarly (p .sizes) (u .tables) k) (callRefusal (p .sizes) (p .register) k) z .1) in
         record {
-          answer = rw z (s .answer ∙ bag-answer (bookedIn u) (p .register) (inv-rows i) (i .bag) (book-once u) (k .entry));
+          answer = rw z (s .answer ∙ bag-answer (bookedIn u) (p .register) (inv-rows i) (i .bag) (book-once u) (u .state .limits) (k .entry) ∙
+              ap (λ (g : Limits). acceptedBy g (p .register) (k .entry)) (i .limits));
           never-unsound = λ h. omega arith;
-          sizes-at-openings = λ o. inl n;
+          at-openings = λ o. inl n;
           left = rw z (s .lists ∙ bag-lists (bookedIn u) (p .register) (inv-rows i) (i .bag) (book-once u) k (workAfter (u .state .sizes) (u .tables) k) ∙
               ap (λ (w : List ℕ). listsAfter (p .register) k w) (work-plain k));
+          graded = ap (λ (y : Answer). y .grade) (s .answer) ∙
+              (λ j. gradeOf (i .limits j) (ap (λ (y : Answer). y .entries) (sym (s .answer)) j));
           unchanged = λ h. elim h [ inl q ↦ absurd (q n) | inr q ↦ quiet-world u (k .entry) v q (s .world) ];
           reports = λ q c h. change-reports e c h (s .answer) (s .lists);
           alters = λ q c h. change-alters e c (report-is e c h (s .answer) (s .lists)) (own c h) (change-world h (s .world));
@@ -144,8 +149,9 @@ module _ {p : Plain} {u : World} (i : Inv p u) where
         record {
           answer = rw z a;
           never-unsound = λ h. never-six k (sym q ∙ h);
-          sizes-at-openings = λ o. elim (from-five k o) [ inl h ↦ inl (q ∙ h) | inr h ↦ inr (omega arith) ];
+          at-openings = λ o. elim (from-five k o) [ inl h ↦ inl (q ∙ h) | inr h ↦ inr (omega arith, λ z. omega arith) ];
           left = rw z (s .lists ∙ ap (λ (w : List ℕ). withWork (k .lent) w) (work-plain k));
+          graded = ap (λ (y : Answer). y .grade) a ∙ sym (ap (λ (y : Answer). gradeOf (p .limits) (y .entries)) a);
           unchanged = λ h. s .world;
           reports = λ h c q. absurd (n h);
           alters = λ h c q. absurd (n h);
@@ -168,6 +174,7 @@ module _ {p : Plain} {u : World} (i : Inv p u) where
         record {
           in-range = i .in-range;
           sizes = s .sizes ∙ i .sizes;
+          limits = s .limits ∙ i .limits;
           rows = rows-stay (p .register) c ∙ i .rows;
           long = tails-long (p .sizes) (u .tables) (v .tables) (subst (λ (x : Sizes). TailsStay x (u .tables) (v .tables)) (i .sizes) (s .tails)) (i .long);
           sound = s .sound;
@@ -176,12 +183,12 @@ module _ {p : Plain} {u : World} (i : Inv p u) where
         }
 
     inv-taken : (k : Call) (e : Entry) → k .entry ≡ e → isAccepted (refusalOf (u .state) (u .tables) k) ≡ true → AcceptedWorld u e v → Inv (taken p e) v
-    inv-taken k (opening l) q h s =
-        let w : v ≡ openedWorld l (u .tables) = λ j. record { state = s .0 j; tables = s .1 j } in
-        let r : isAccepted (callEarly (p .sizes) (u .tables) (callOf (opening l) (k .lent))) ≡ true =
+    inv-taken k (opening l g) q h s =
+        let w : v ≡ openedWorld l g (u .tables) = λ j. record { state = s .0 j; tables = s .1 j } in
+        let r : isAccepted (callEarly (p .sizes) (u .tables) (callOf (opening l g) (k .lent))) ≡ true =
         subst (λ (e : Entry). isAccepted (callEarly (p .sizes) (u .tables) (callOf e (k .lent))) ≡ true) q (both-accepted k h .0) in
-        subst (λ (x : World). Inv (openedPlain l) x) (sym w)
-        (inv-opened l (p .sizes) (u .tables) (k .lent) (early-facts (p .sizes) (u .tables) (callOf (opening l) (k .lent)) r))
+        subst (λ (x : World). Inv (openedPlain l g) x) (sym w)
+        (inv-opened l g (p .sizes) (u .tables) (k .lent) (early-facts (p .sizes) (u .tables) (callOf (opening l g) (k .lent)) r))
     inv-taken k (changing c) q h s =
         inv-change c (subst (λ (e : Entry). isAccepted (callRefusal (p .sizes) (p .register) (callOf e (k .lent))) ≡ true) q (both-accepted k h .1)) s
     inv-taken k checking q h s = subst (λ (x : World). Inv p x) (sym s) i

@@ -5,6 +5,7 @@ use mathlib.Core.Path.{_≡_, refl, sym, subst}
 use mathlib.Core.Bool.{false}
 use mathlib.Core.List.{List, [], _∷_}
 use Prim.Native.Nat.{ℕ}
+use Rattle.symbolic.specs.Grades.{Limits}
 use Rattle.tables.specs.Tables.{Sizes}
 use Rattle.calls.specs.Refusals.{accepted}
 use Rattle.calls.specs.Calls.{Entry, opening, changing, Lent, Call, callOf, isOpening}
@@ -20,22 +21,22 @@ use Rattle.history.proofs.Steps.{inv-justified, inv-step, inv-run}
 
 -- ---- an accepted opening
 
-module _ (u : World) (l : Sizes) (w : Lent) (a : Answer) (x : Lent) (v : World) (s : Transition u (callOf (opening l) w) a x v) (n : a .number ≡ 0) where
-  opened-inv : Inv (openedPlain l) v
+module _ (u : World) (l : Sizes) (g : Limits) (w : Lent) (a : Answer) (x : Lent) (v : World) (s : Transition u (callOf (opening l g) w) a x v) (n : a .number ≡ 0) where
+  opened-inv : Inv (openedPlain l g) v
   opened-inv =
-      let t : Accepted u (callOf (opening l) w) a x v = step-taken u (callOf (opening l) w) a x v s n in
-      let q : v ≡ openedWorld l (u .tables) = λ j. record { state = t .world .0 j; tables = t .world .1 j } in
-      let r : Ready (u .state .sizes) (u .tables) (callOf (opening l) w) =
-      early-facts (u .state .sizes) (u .tables) (callOf (opening l) w) (or-both (callEarly (u .state .sizes) (u .tables) (callOf (opening l) w)) accepted (t .number) .0) in
-      subst (λ (y : World). Inv (openedPlain l) y) (sym q) (inv-opened l (u .state .sizes) (u .tables) w r)
+      let t : Accepted u (callOf (opening l g) w) a x v = step-taken u (callOf (opening l g) w) a x v s n in
+      let q : v ≡ openedWorld l g (u .tables) = λ j. record { state = t .world .0 j; tables = t .world .1 j } in
+      let r : Ready (u .state .sizes) (u .tables) (callOf (opening l g) w) =
+      early-facts (u .state .sizes) (u .tables) (callOf (opening l g) w) (or-both (callEarly (u .state .sizes) (u .tables) (callOf (opening l g) w)) accepted (t .number) .0) in
+      subst (λ (y : World). Inv (openedPlain l g) y) (sym q) (inv-opened l g (u .state .sizes) (u .tables) w r)
 
 pub opening-sound : OpeningSound
-opening-sound u l w a x v s n = opened-inv u l w a x v s n .sound
+opening-sound u l g w a x v s n = opened-inv u l g w a x v s n .sound
 
 -- ---- a list of calls
 
 pub begun-inv : (u : World) (p : Plain) → Begun u p → Inv p u
-begun-inv u p b = subst (λ (q : Plain). Inv q u) (sym (b .plain)) (opened-inv (b .before) (b .asked) (b .lent) (b .answer) (b .left) u (b .step) (b .taken))
+begun-inv u p b = subst (λ (q : Plain). Inv q u) (sym (b .plain)) (opened-inv (b .before) (b .asked) (b .limits) (b .lent) (b .answer) (b .left) u (b .step) (b .taken))
 
 pub demand3 : Demand3
 demand3 u p es v b r = (
@@ -59,5 +60,5 @@ any-sound u e v s n b =
     let t : Accepted u (e .call) (e .answer) (e .left) v = step-taken u (e .call) (e .answer) (e .left) v s n in
     let f : Found (u .state) (u .tables) = accepted-found (u .state) (u .tables) (e .call) (subst (λ (i : Entry). isOpening i ≡ false) (sym (change-of (e .call .entry) b .1)) refl) (t .number) in
     let i : Inv (plainOf u) u =
-    record { in-range = f .in-range; sizes = refl; rows = refl; long = f .long; sound = f .sound; bag = λ f. refl; once = book-once u } in
+    record { in-range = f .in-range; sizes = refl; limits = refl; rows = refl; long = f .long; sound = f .sound; bag = λ f. refl; once = book-once u } in
     (inv-consistent i, inv-justified i e v s, inv-consistent (inv-step i e v s))

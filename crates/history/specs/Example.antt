@@ -1,10 +1,12 @@
 -- Document 01's listed example, as calls: "open 5 8 9 16", "add 1 1 3", "add 2 1 4", "add 3 2 3", with one more addition among them that is refused; then
--- a check, every question and the removal of 2, which is case 4 of the instances; then two openings; and what the listing shows of record and tables.
+-- a check, every question and the removal of 2, which is case 4 of the instances; then openings with limits, refused ones, after which the old ones grade on,
+-- and accepted ones; and what the listing shows of record and tables.
 -- Assumes nothing: these are definitions.
 use mathlib.Core.List.{List, [], _∷_, _++_}
 use Prim.Native.Nat.{ℕ, zero, suc, _-_}
 use lib.ListN.{length, replicate}
 use Rattle.lists.specs.Lists.{at, valuesAt, pairsOf}
+use Rattle.symbolic.specs.Grades.{Limits, limitsOf}
 use Rattle.tables.specs.Stored.{Stored, recordsOf}
 use Rattle.tables.specs.Tables.{Sizes, storedIn}
 use Rattle.calls.specs.Calls.{Change, adding, removing, Question, askMultiplicity, askParent, askPath, askColumn, opening, changing, checking, asking, workOnly, reportLists, workAndList, Call, callOf}
@@ -40,8 +42,8 @@ abbrev pub askFrom : Question → (place : ℕ) → Call
 askFrom q p = callOf (asking q p) (workAndList workLent listLent)
 
 -- an opening
-abbrev pub openWith : Sizes → Call
-openWith l = callOf (opening l) (workOnly workLent)
+abbrev pub openWith : Sizes → Limits → Call
+openWith l g = callOf (opening l g) (workOnly workLent)
 
 -- id 1 is live when it comes a second time
 abbrev pub listedCalls : List Call
@@ -52,9 +54,17 @@ abbrev pub laterCalls : List Call
 laterCalls =
     callOf checking (workOnly workLent) ∷ askFrom (askPath 1) 1 ∷ askFrom (askColumn 1) 0 ∷ ask (askMultiplicity 3 1) ∷ ask (askParent 1) ∷ change (removing (2 ∷ [])) ∷ []
 
--- an opening that is refused, for its m; then one that is accepted, of one row
+-- two rows
+abbrev pub lastSizes : Sizes
+lastSizes = record { m = 2; n = 1; f = 3; c = 2 }
+
+-- an opening that is refused, for its m; one that is refused, for its limits; an addition; an opening that is accepted, with limits; an addition and a removal;
+-- an opening without limits, and the addition once more
 abbrev pub lastCalls : List Call
-lastCalls = openWith (record { m = 0; n = 8; f = 9; c = 16 }) ∷ openWith (record { m = 1; n = 1; f = 2; c = 1 }) ∷ []
+lastCalls =
+    openWith (record { m = 0; n = 8; f = 9; c = 16 }) (limitsOf 2 3 4) ∷ openWith askedSizes (limitsOf 2 2 3) ∷ change (add 4 (1 ∷ 4 ∷ [])) ∷
+    openWith lastSizes (limitsOf 2 3 4) ∷ change (add 1 (1 ∷ 2 ∷ [])) ∷ change (removing (1 ∷ [])) ∷ openWith lastSizes (limitsOf 0 0 0) ∷
+    change (add 1 (1 ∷ 2 ∷ [])) ∷ []
 
 -- number, position, touched columns, entries, grade
 abbrev pub answered : (number position touched entries grade : ℕ) → Answer
@@ -72,9 +82,11 @@ valued v = record { number = 0; position = 0; touched = 0; entries = 0; grade = 
 abbrev pub laterAnswers : List Answer
 laterAnswers = answered 0 0 0 0 0 ∷ valued 3 ∷ valued 3 ∷ valued 1 ∷ valued 3 ∷ answered 0 0 3 4 1 ∷ []
 
--- refused by 1; accepted
+-- refused by 1 and by 20; six entries, still of grade 1; three entries and two, of grades 3 and 2 by limits 2, 3 and 4; three entries, of grade 1 again
 abbrev pub lastAnswers : List Answer
-lastAnswers = answered 1 0 0 0 0 ∷ answered 0 0 0 0 0 ∷ []
+lastAnswers =
+    answered 1 0 0 0 0 ∷ answered 20 0 0 0 0 ∷ answered 0 0 3 6 1 ∷ answered 0 0 0 0 0 ∷ answered 0 0 2 3 3 ∷ answered 0 0 2 2 2 ∷ answered 0 0 0 0 0 ∷
+    answered 0 0 2 3 1 ∷ []
 
 -- the lists for touched columns that the listed calls leave
 abbrev pub listedTouched : List (List ℕ)
@@ -96,13 +108,24 @@ laterLabels = [] ∷ [] ∷ [] ∷ [] ∷ [] ∷ (1 ∷ 1 ∷ 1 ∷ 9 ∷ 9 ∷ 
 abbrev pub laterLists : List (List ℕ)
 laterLists = [] ∷ (9 ∷ 1 ∷ 3 ∷ 4 ∷ 9 ∷ 9 ∷ []) ∷ (1 ∷ 3 ∷ 3 ∷ 1 ∷ 4 ∷ 1 ∷ []) ∷ [] ∷ [] ∷ [] ∷ []
 
--- the work table that calls leave: its first W places zero, the rest as lent; as lent under 1; W is 1,042 for the last opening
+-- the work table that calls leave: its first W places zero, the rest as lent; as lent under 1 and 20; W is 1,055 for two rows
 abbrev pub workLeft : (w : ℕ) → List ℕ
 workLeft w = replicate w 0 ++ replicate (1125 - w) 7
 
--- the work tables that the last two calls leave
+-- the work tables that the last calls leave
 abbrev pub lastWork : List (List ℕ)
-lastWork = workLent ∷ workLeft 1042 ∷ []
+lastWork =
+    workLent ∷ workLent ∷ workLeft 1124 ∷ workLeft 1055 ∷ workLeft 1055 ∷ workLeft 1055 ∷ workLeft 1055 ∷ workLeft 1055 ∷ []
+
+-- the lists for touched columns that the last calls leave
+abbrev pub lastTouched : List (List ℕ)
+lastTouched =
+    [] ∷ [] ∷ (1 ∷ 3 ∷ 4 ∷ 9 ∷ 9 ∷ 9 ∷ []) ∷ [] ∷ (1 ∷ 2 ∷ 9 ∷ 9 ∷ 9 ∷ 9 ∷ []) ∷ (1 ∷ 2 ∷ 9 ∷ 9 ∷ 9 ∷ 9 ∷ []) ∷ [] ∷ (1 ∷ 2 ∷ 9 ∷ 9 ∷ 9 ∷ 9 ∷ []) ∷ []
+
+-- the lists for labels that the last calls leave
+abbrev pub lastLabels : List (List ℕ)
+lastLabels =
+    [] ∷ [] ∷ (1 ∷ 1 ∷ 1 ∷ 9 ∷ 9 ∷ 9 ∷ []) ∷ [] ∷ (1 ∷ 1 ∷ 9 ∷ 9 ∷ 9 ∷ 9 ∷ []) ∷ (1 ∷ 1 ∷ 9 ∷ 9 ∷ 9 ∷ 9 ∷ []) ∷ [] ∷ (1 ∷ 1 ∷ 9 ∷ 9 ∷ 9 ∷ 9 ∷ []) ∷ []
 
 -- the calls of a run
 unfoldable pub eventCalls : List Event → List Call
@@ -152,6 +175,6 @@ listing =
 abbrev pub laterListing : List (List ℕ)
 laterListing = (1 ∷ 3 ∷ 1 ∷ 2 ∷ 3 ∷ 1 ∷ []) ∷ (2 ∷ 3 ∷ 2 ∷ 2 ∷ 3 ∷ 1 ∷ []) ∷ (3 ∷ 0 ∷ 3 ∷ 3 ∷ []) ∷ (4 ∷ 0 ∷ 4 ∷ 1 ∷ []) ∷ (5 ∷ 0 ∷ 5 ∷ 1 ∷ []) ∷ []
 
--- and after the last opening
+-- and after the last addition
 abbrev pub lastListing : List (List ℕ)
-lastListing = (1 ∷ 0 ∷ 1 ∷ 1 ∷ []) ∷ []
+lastListing = (1 ∷ 2 ∷ 1 ∷ 2 ∷ 2 ∷ 1 ∷ []) ∷ (2 ∷ 0 ∷ 2 ∷ 2 ∷ []) ∷ []

@@ -1,5 +1,5 @@
 -- Document 01's instances as one table, over the definitions that the entries' contracts cite: effect, factorFor, acceptedBy, touchedBy, labelsBy,
--- entriesBy, gradeOf, pathList, columnList. proofs/Instances.antt has the terms, by computing.
+-- entriesBy, gradeOf, pathList, columnList; then instances of document 02's limits. proofs/Instances.antt has the terms, by computing.
 -- Assumes nothing: these are definitions.
 use mathlib.Core.Path.{_≡_}
 use mathlib.Core.List.{List, [], _∷_}
@@ -7,12 +7,13 @@ use Prim.Native.Nat.{ℕ}
 use Rattle.lists.specs.Lists.{upFrom}
 use Rattle.symbolic.specs.Columns.{Register}
 use Rattle.symbolic.specs.Factor.{factorFor, parentOf}
-use Rattle.symbolic.specs.Batch.{gradeOf}
-use Rattle.tables.specs.Tables.{Sizes}
+use Rattle.symbolic.specs.Grades.{Limits, limitsOf, oldLimits, gradeOf}
+use Rattle.tables.specs.Tables.{Tables, Sizes, State, sizesOf, tablesOf}
 use Rattle.calls.specs.Refusals.{Refusal, refusal, accepted}
-use Rattle.calls.specs.Calls.{Change, adding, removing, opening, changing}
+use Rattle.calls.specs.Calls.{Change, adding, removing, askParent, opening, changing, checking, asking, callOf, workOnly}
 use Rattle.calls.specs.Changes.{effect, touchedBy, labelsBy, entriesBy, registerAfter}
 use Rattle.calls.specs.Questions.{pathList, columnList}
+use Rattle.calls.specs.Numbers.{soundRefusal, refusalOf}
 use Rattle.calls.specs.Steps.{acceptedBy}
 use Rattle.history.specs.Example.{answered}
 
@@ -24,7 +25,7 @@ sizesWith m f = record { m = m; n = 8; f = f; c = 64 }
 
 -- the register of an accepted opening
 abbrev pub opened : (m : ℕ) → Register
-opened m = registerAfter (record { m = 0; columns = [] }) (opening (sizesWith m 0))
+opened m = registerAfter (record { m = 0; columns = [] }) (opening (sizesWith m 0) (limitsOf 0 0 0))
 
 -- the register after a change
 abbrev pub after : Register → Change → Register
@@ -76,12 +77,12 @@ pub record StarredInstances : Type 0 where
   pub batch-touched : touchedBy (opened 5) three ≡ 1 ∷ 2 ∷ 3 ∷ 4 ∷ []
   pub batch-labels : labelsBy (opened 5) three ≡ 2 ∷ 3 ∷ 3 ∷ 3 ∷ []
   pub batch-entries : entriesBy (opened 5) three ≡ 8
-  pub batch-answer : acceptedBy (opened 5) (changing three) ≡ answered 0 0 4 8 1
+  pub batch-answer : acceptedBy oldLimits (opened 5) (changing three) ≡ answered 0 0 4 8 1
   pub batch-register : after (opened 5) three ≡ listed
   -- 4. "Then remove 2: touched 1 3 4, entries 4; L_1 is 1:2 3:1, L_3 is 3:3 with parent 0, L_4 is 4:1"
   pub removal-touched : touchedBy listed (removing (2 ∷ [])) ≡ 1 ∷ 3 ∷ 4 ∷ []
   pub removal-entries : entriesBy listed (removing (2 ∷ [])) ≡ 4
-  pub removal-answer : acceptedBy listed (changing (removing (2 ∷ []))) ≡ answered 0 0 3 4 1
+  pub removal-answer : acceptedBy oldLimits listed (changing (removing (2 ∷ []))) ≡ answered 0 0 3 4 1
   pub removal-1 : ColumnIs (after listed (removing (2 ∷ []))) 1 3 (1 ∷ 2 ∷ 3 ∷ 1 ∷ [])
   pub removal-3 : ColumnIs (after listed (removing (2 ∷ []))) 3 0 (3 ∷ 3 ∷ [])
   pub removal-4 : ColumnIs (after listed (removing (2 ∷ []))) 4 0 (4 ∷ 1 ∷ [])
@@ -93,11 +94,11 @@ pub record StarredInstances : Type 0 where
   -- 7. "Case 3 with F = 9 is accepted, with F = 8 refused by 16"
   pub room-9 : refusalBy (sizesWith 5 9) (opened 5) three ≡ accepted
   pub room-8 : refusalBy (sizesWith 5 8) (opened 5) three ≡ refusal 16 0
-  -- 8. "255 entries give grade 1, 256 give 2"
-  pub grade-1 : gradeOf 255 ≡ 1
-  pub grade-2 : gradeOf 256 ≡ 2
-  pub answer-255 : acceptedBy (opened 24) (changing entries255) ≡ answered 0 0 24 255 1
-  pub answer-256 : acceptedBy (opened 24) (changing entries256) ≡ answered 0 0 24 256 2
+  -- 8. "255 entries give grade 1, 256 give 2": by the old limits
+  pub grade-1 : gradeOf oldLimits 255 ≡ 1
+  pub grade-2 : gradeOf oldLimits 256 ≡ 2
+  pub answer-255 : acceptedBy oldLimits (opened 24) (changing entries255) ≡ answered 0 0 24 255 1
+  pub answer-256 : acceptedBy oldLimits (opened 24) (changing entries256) ≡ answered 0 0 24 256 2
 
 -- ---- the ninth: run by a test program, and computed here too
 
@@ -111,3 +112,45 @@ pub record NinthInstance : Type 0 where
   pub equal-rows : refusalBy (sizesWith 5 9) listed (adding (4 ∷ []) (2 ∷ []) (4 ∷ 4 ∷ [])) ≡ refusal 14 1
   -- "Path of 1 in case 2: 1 3 4"
   pub path : pathList listed 1 ≡ 1 ∷ 3 ∷ 4 ∷ []
+
+-- ---- limits
+
+-- tables of no place, too short for any call
+abbrev pub noTables : Tables
+noTables = tablesOf [] [] [] [] [] [] [] []
+
+-- a record with given limits
+abbrev pub recordWith : Limits → State
+recordWith g = record { sizes = sizesWith 5 9; limits = g; free = 0; bookFree = 0 }
+
+-- the number of an opening with given sizes and limits, where no table is long enough
+abbrev pub openingBy : Sizes → (grade2 grade3 grade4 : ℕ) → Refusal
+openingBy l a b c = refusalOf (recordWith oldLimits) noTables (callOf (opening l (limitsOf a b c)) (workOnly []))
+
+-- what an opening's limits are refused by, what they give, and what they are in a later record
+pub record LimitInstances : Type 0 where
+  -- "Limits that break this get 20 at opening", before 5; "Three zeros mean the old ones"
+  pub opening-000 : openingBy (sizesWith 5 9) 0 0 0 ≡ refusal 5 0
+  pub opening-007 : openingBy (sizesWith 5 9) 0 0 7 ≡ refusal 20 0
+  pub opening-012 : openingBy (sizesWith 5 9) 0 1 2 ≡ refusal 20 0
+  pub opening-123 : openingBy (sizesWith 5 9) 1 2 3 ≡ refusal 20 0
+  pub opening-223 : openingBy (sizesWith 5 9) 2 2 3 ≡ refusal 20 0
+  pub opening-232 : openingBy (sizesWith 5 9) 2 3 2 ≡ refusal 20 0
+  pub opening-234 : openingBy (sizesWith 5 9) 2 3 4 ≡ refusal 5 0
+  pub opening-most : openingBy (sizesWith 5 9) 2 3 4294967295 ≡ refusal 5 0
+  -- "after 4"
+  pub opening-1 : openingBy (sizesOf 0 8 9 64) 1 2 3 ≡ refusal 1 0
+  pub opening-2 : openingBy (sizesOf 5 0 9 64) 1 2 3 ≡ refusal 2 0
+  pub opening-3 : openingBy (sizesOf 5 8 4 64) 1 2 3 ≡ refusal 3 0
+  pub opening-4 : openingBy (sizesOf 5 8 9 0) 1 2 3 ≡ refusal 4 0
+  -- "every grade is read from them"
+  pub answer-255 : acceptedBy (limitsOf 2 255 256) (opened 24) (changing entries255) ≡ answered 0 0 24 255 3
+  pub answer-256 : acceptedBy (limitsOf 2 255 256) (opened 24) (changing entries256) ≡ answered 0 0 24 256 4
+  pub answer-beyond : acceptedBy (limitsOf 4194304 4194305 4294967295) (opened 24) (changing entries256) ≡ answered 0 0 24 256 1
+  -- "later they, and zeros, are unsound": in a change and a question too, and after 5
+  pub later-000 : (t : Tables) → soundRefusal (recordWith (limitsOf 0 0 0)) t checking ≡ refusal 6 0
+  pub later-change : (t : Tables) → soundRefusal (recordWith (limitsOf 0 0 0)) t (changing three) ≡ refusal 6 0
+  pub later-question : (t : Tables) → soundRefusal (recordWith (limitsOf 0 0 0)) t (asking (askParent 1) 0) ≡ refusal 6 0
+  pub later-short : refusalOf (recordWith (limitsOf 0 0 0)) noTables (callOf checking (workOnly [])) ≡ refusal 5 0
+  pub later-123 : (t : Tables) → soundRefusal (recordWith (limitsOf 1 2 3)) t checking ≡ refusal 6 0
+  pub later-233 : (t : Tables) → soundRefusal (recordWith (limitsOf 2 3 3)) t checking ≡ refusal 6 0

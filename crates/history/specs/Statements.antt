@@ -14,6 +14,7 @@ use Rattle.symbolic.specs.Definition.{IsFactor, OnPath}
 use Rattle.symbolic.specs.Factor.{factorFor}
 use Rattle.symbolic.specs.Chains.{ChainTo}
 use Rattle.symbolic.specs.Change.{idsOf}
+use Rattle.symbolic.specs.Grades.{Limits, limitsOf, areLimits, gradeOf}
 use Rattle.book.specs.Book as book
 use Rattle.tables.specs.Stored.{recordsOf, holdsFrom}
 use Rattle.tables.specs.Tables.{Tables, Sizes, longEnough, storedIn, bookIn, isSound}
@@ -24,7 +25,7 @@ use Rattle.calls.specs.Changes.{effect, IsExchange}
 use Rattle.calls.specs.Numbers.{callEarly, callRefusal}
 use Rattle.calls.specs.Steps.{Answer, refusedBy, acceptedBy, listsAfter, workAfter, World, bookedIn, Transition}
 use Rattle.history.specs.Runs.{Event, Run, Plain, plainAfter, Begun}
-use Rattle.history.specs.Example.{askedSizes, listedCalls, listedAnswers, listedTouched, listedLabels, laterCalls, laterAnswers, laterTouched, laterLabels, laterLists, lastCalls, lastAnswers, workLeft, lastWork, eventCalls, eventAnswers, eventTouched, eventLabels, eventWork, eventLists, shown, listing, laterListing, lastListing}
+use Rattle.history.specs.Example.{askedSizes, listedCalls, listedAnswers, listedTouched, listedLabels, laterCalls, laterAnswers, laterTouched, laterLabels, laterLists, lastCalls, lastAnswers, workLeft, lastWork, lastTouched, lastLabels, eventCalls, eventAnswers, eventTouched, eventLabels, eventWork, eventLists, shown, listing, laterListing, lastListing}
 
 -- ---- what holds of record and tables against a plain register
 
@@ -55,9 +56,11 @@ IsFactorOf r M P = IsFactor (r .m) (λ j i. startingWith j i (live r)) M P
 
 -- what holds of record and tables after a list of calls, against the register by then
 pub record Consistent (p : Plain) (v : World) : Type 0 where
-  -- the sizes are in range, the record has them, and the tables are long enough for them
+  -- the sizes are in range and the limits keep the rule, the record has them, and the tables are long enough for them
   pub in-range : sizesRefusal bounds (p .sizes) ≡ accepted
   pub sizes : v .state .sizes ≡ p .sizes
+  pub in-order : areLimits (p .limits) ≡ true
+  pub limits : v .state .limits ≡ p .limits
   pub rows : p .register .m ≡ p .sizes .m
   pub long : longEnough (p .sizes) (v .tables) ≡ true
   -- demand 3: tables sound
@@ -112,12 +115,12 @@ pub record AltersJust (p : Plain) (u : World) (e : Event) (c : Change) (v : Worl
 
 -- what holds of one call, from world u to world v, against the register before it
 pub record Justified (p : Plain) (u : World) (e : Event) (v : World) : Type 0 where
-  -- number, position and every other number, from the register
+  -- number, position and every other number, from the register, sizes and limits
   pub answer : e .answer ≡
-      pick (isAccepted (plainRefusal p (u .tables) (e .call))) (acceptedBy (p .register) (e .call .entry)) (refusedBy (plainRefusal p (u .tables) (e .call)))
-  -- so never 6, and 1 to 4 only at openings
+      pick (isAccepted (plainRefusal p (u .tables) (e .call))) (acceptedBy (p .limits) (p .register) (e .call .entry)) (refusedBy (plainRefusal p (u .tables) (e .call)))
+  -- so never 6, and 1 to 4 and 20 only at openings
   pub never-unsound : e .answer .number ≢ 6
-  pub sizes-at-openings : isOpening (e .call .entry) ≡ false → (e .answer .number ≡ 0) ⊎ (5 ≤ e .answer .number)
+  pub at-openings : isOpening (e .call .entry) ≡ false → (e .answer .number ≡ 0) ⊎ ((5 ≤ e .answer .number) × (e .answer .number ≢ 20))
   -- every lent list, from the register: the report, a question's list, the work table
   pub left : e .left ≡
       pick (isAccepted (plainRefusal p (u .tables) (e .call)))
@@ -125,6 +128,8 @@ pub record Justified (p : Plain) (u : World) (e : Event) (v : World) : Type 0 wh
       (withWork (e .call .lent) (workAfter (p .sizes) (u .tables) (e .call)))
   -- a refused call, a check or a question leaves record and tables
   pub unchanged : (e .answer .number ≢ 0) ⊎ ((isChange (e .call .entry) || isOpening (e .call .entry)) ≡ false) → v ≡ u
+  -- "every grade is read from" the limits
+  pub graded : e .answer .grade ≡ gradeOf (p .limits) (e .answer .entries)
   -- what an accepted change reports and alters
   pub reports : e .answer .number ≡ 0 → (c : Change) → e .call .entry ≡ changing c → ReportsJust p e c
   pub alters : e .answer .number ≡ 0 → (c : Change) → e .call .entry ≡ changing c → AltersJust p u e c v
@@ -149,7 +154,7 @@ RunSplits =
 
 -- what a world holds, in place of a register
 abbrev pub plainOf : World → Plain
-plainOf u = record { sizes = u .state .sizes; register = bookedIn u }
+plainOf u = record { sizes = u .state .sizes; limits = u .state .limits; register = bookedIn u }
 
 -- "On sound tables that no such list has left, what demand 3 says of an accepted batch holds too, with what they hold in place of the register": an
 -- accepted batch has passed 1 to 6, so that its tables are in range, long enough and sound is a conclusion here
@@ -161,11 +166,11 @@ AnySound =
 -- every accepted opening leaves sound tables
 abbrev pub OpeningSound : Type 0
 OpeningSound =
-    (u : World) (l : Sizes) (w : Lent) (a : Answer) (x : Lent) (v : World) → Transition u (callOf (opening l) w) a x v → a .number ≡ 0 →
+    (u : World) (l : Sizes) (g : Limits) (w : Lent) (a : Answer) (x : Lent) (v : World) → Transition u (callOf (opening l g) w) a x v → a .number ≡ 0 →
     isSound (v .state) (v .tables) ≡ true
 
 -- ---- a run that is, so that nothing above is empty: the listed example, with a refused addition among the others; then a check, every question and a
--- removal; then a refused and an accepted opening
+-- removal; then openings with limits, refused and accepted, and batches graded by them
 
 -- the run, with its calls, answers, lists and listings as Example.antt has them
 pub record ConcreteRun : Type 0 where
@@ -175,6 +180,7 @@ pub record ConcreteRun : Type 0 where
   pub end : World
   pub begun : Begun start plain
   pub asked : begun .asked ≡ askedSizes
+  pub limits : begun .limits ≡ limitsOf 0 0 0
   pub run : Run start events end
   pub calls : eventCalls events ≡ listedCalls
   pub answers : eventAnswers events ≡ listedAnswers
@@ -191,10 +197,12 @@ pub record ConcreteRun : Type 0 where
   pub later-lists : eventLists later ≡ laterLists
   pub later-work : all (λ w. same w (workLeft 1124)) (eventWork later) ≡ true
   pub later-shows : shown last ≡ laterListing
-  pub openings : List Event
+  pub last-events : List Event
   pub reopened : World
-  pub last-run : Run last openings reopened
-  pub last-calls : eventCalls openings ≡ lastCalls
-  pub last-answers : eventAnswers openings ≡ lastAnswers
-  pub last-work : eventWork openings ≡ lastWork
+  pub last-run : Run last last-events reopened
+  pub last-calls : eventCalls last-events ≡ lastCalls
+  pub last-answers : eventAnswers last-events ≡ lastAnswers
+  pub last-touched : eventTouched last-events ≡ lastTouched
+  pub last-labels : eventLabels last-events ≡ lastLabels
+  pub last-work : eventWork last-events ≡ lastWork
   pub last-shows : shown reopened ≡ lastListing

@@ -8,6 +8,7 @@ use native.Mathlib.Omega.{arith}
 use lib.ListN.{length, take}
 use Rattle.tables.specs.Tables.{Tables, Sizes, State, sizesOf}
 use Rattle.calls.specs.Calls.{adding}
+use Rattle.symbolic.specs.Grades.{limitsOf}
 use Rattle.factor.specs.Entries.{stateOf, worldOf, openingAnswer, OpenStep}
 use Rattle.factor.specs.Batches.{CanChange}
 use Rattle.factor.specs.declared.Factor.{Factor}
@@ -56,7 +57,7 @@ adds line u i n rows {out₀} {out} {x} {v} e f a =
 -- ---- open
 
 module _ (l : Sizes) (t : Tables) (w : List ℕ) (x₀ : Factor) (a b out₀ : List ℕ) (t′ : Tables) (w′ out : List ℕ) (ready : Ready (memoryOf x₀ t w a b)) where
-  by-opening : (o : Opening) (x : Printed) → OpenStep l t w o t′ w′ → OpeningPrinted x₀ o out₀ out x →
+  by-opening : (o : Opening) (x : Printed) → OpenStep l (limitsOf 0 0 0) t w o t′ w′ → OpeningPrinted x₀ o out₀ out x →
       Answers (λ bs v. OpenAnswered (memoryOf x₀ t w a b) l bs v) out₀ out x (memoryOf (x .factor) t′ w′ a b)
   by-opening (Opened y) x s p =
       subst (λ (f : Factor). Answers (λ bs v. OpenAnswered (memoryOf x₀ t w a b) l bs v) out₀ out x (memoryOf f t′ w′ a b)) (sym (p .factor-is))
@@ -65,9 +66,9 @@ module _ (l : Sizes) (t : Tables) (w : List ℕ) (x₀ : Factor) (a b out₀ : L
         says = record { answer = openingAnswer (Opened y); step = s (stateOf x₀); printed = refl; touched = refl; labels = refl };
         written = p .line;
         usable =
-            let h : y .m ≤ length (t .heads) = opened-fits l t w y t′ w′ s in
+            let h : y .m ≤ length (t .heads) = opened-fits l (limitsOf 0 0 0) t w y t′ w′ s in
             let g : Lengths (memoryOf x₀ t w a b) = ready .lengths in
-            inr (opened-can l t w y t′ w′ s a b (omega (arith, g .heads, g .touched)) (omega (arith, g .heads, g .labels)));
+            inr (opened-can l (limitsOf 0 0 0) t w y t′ w′ s a b (omega (arith, g .heads, g .touched)) (omega (arith, g .heads, g .labels)));
       })
   by-opening (Refused n) x s p =
       subst (λ (f : Factor). Answers (λ bs v. OpenAnswered (memoryOf x₀ t w a b) l bs v) out₀ out x (memoryOf f t′ w′ a b)) (sym (p .factor-is))
@@ -76,14 +77,14 @@ module _ (l : Sizes) (t : Tables) (w : List ℕ) (x₀ : Factor) (a b out₀ : L
         says = record {
           answer = openingAnswer (Refused n);
           step = s (stateOf x₀);
-          printed = no-answer (openingAnswer (Refused n)) (refused-number l t w n t′ w′ s);
+          printed = no-answer (openingAnswer (Refused n)) (refused-number l (limitsOf 0 0 0) t w n t′ w′ s);
           touched = refl;
           labels = refl;
         };
         written = p .line;
         usable =
-            subst (λ (y : Tables). IsReady (memoryOf x₀ y w′ a b)) (sym (refused-tables l t w n t′ w′ s))
-            (subst (λ (y : List ℕ). IsReady (memoryOf x₀ t y a b)) (sym (refused-work l t w n t′ w′ s)) (ready .usable));
+            subst (λ (y : Tables). IsReady (memoryOf x₀ y w′ a b)) (sym (refused-tables l (limitsOf 0 0 0) t w n t′ w′ s))
+            (subst (λ (y : List ℕ). IsReady (memoryOf x₀ t y a b)) (sym (refused-work l (limitsOf 0 0 0) t w n t′ w′ s)) (ready .usable));
       })
 
   pub opens : (line : List ℕ) (x : Printed) → OpenPrinted l t w x₀ out₀ t′ w′ out x → commandOf line ≡ Open (l .m) (l .n) (l .f) (l .c) →

@@ -6,6 +6,7 @@ use mathlib.Core.List.{List, [], _∷_}
 use Prim.Native.Nat.{ℕ}
 use lib.ListN.{length}
 use Rattle.tables.specs.Tables.{Tables, Sizes, sizesOf}
+use Rattle.symbolic.specs.Grades.{limitsOf}
 use Rattle.calls.specs.Calls.{Change, adding, removing, opening, changing, workOnly, reportLists, callOf}
 use Rattle.calls.specs.Steps.{Answer, World, Transition}
 use Rattle.factor.specs.Entries.{worldOf, OpenStep}
@@ -58,10 +59,10 @@ pub record Ready (u : Memory) : Type 0 where
 
 -- ---- what it answers
 
--- an opening: the lists of a batch stay
+-- an opening, which hands over no limits: the lists of a batch stay
 pub record OpenAnswered (u : Memory) (asked : Sizes) (bytes : List ℕ) (v : Memory) : Type 0 where
   pub answer : Answer
-  pub step : Transition (u .world) (callOf (opening asked) (workOnly (u .work))) answer (workOnly (v .work)) (v .world)
+  pub step : Transition (u .world) (callOf (opening asked (limitsOf 0 0 0)) (workOnly (u .work))) answer (workOnly (v .work)) (v .world)
   pub printed : bytes ≡ answerLine answer
   pub touched : v .touched ≡ u .touched
   pub labels : v .labels ≡ u .labels
@@ -112,5 +113,5 @@ pub record OpeningPrinted (x₀ : Factor) (opened : Opening) (out₀ out : List 
 -- an opening, whatever factor there was, with the line of its answer
 pub record OpenPrinted (asked : Sizes) (t : Tables) (work : List ℕ) (x₀ : Factor) (out₀ : List ℕ) (t′ : Tables) (work′ out : List ℕ) (x : Printed) : Type 0 where
   pub opened : Opening
-  pub step : OpenStep asked t work opened t′ work′
+  pub step : OpenStep asked (limitsOf 0 0 0) t work opened t′ work′
   pub printed : OpeningPrinted x₀ opened out₀ out x

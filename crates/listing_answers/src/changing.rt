@@ -42,7 +42,7 @@ fn opened_line(out: &mut [u8], factor: Factor, opened: Opening) -> Printed
     }
 }
 
-// Opens a factor; refused, the one before stays.
+// Opens a factor, with the default limits of grades; refused, the one before stays.
 pub fn open_line(
     factor: Factor,
     heads: &mut [u32],
@@ -68,6 +68,9 @@ pub fn open_line(
         n,
         f,
         c,
+        0,
+        0,
+        0,
         heads,
         parents,
         rows,

@@ -20,7 +20,7 @@ pub struct Printed {
     pub end: usize,
 }
 
-// The factor before an accepted opening: all sizes 0.
+// The factor before an accepted opening: all numbers 0.
 pub fn closed() -> Factor
     ensures { λ r. ⌜ stateOf r ≡ noState ⌝ }
 {
@@ -31,6 +31,9 @@ pub fn closed() -> Factor
         c: 0,
         free: 0,
         book_free: 0,
+        grade2: 0,
+        grade3: 0,
+        grade4: 0,
     }
 }
 

@@ -16,11 +16,11 @@ use Rattle.symbolic.specs.Columns.{Register, live}
 use Rattle.symbolic.specs.Factor.{factorFor, columnAt, parentOf, patternFrom, nonZero, sizeOf}
 use Rattle.symbolic.proofs.Build.{counts-length}
 use Rattle.tables.specs.Tables.{Sizes}
-use Rattle.calls.specs.Calls.{askParent, askColumn, asking}
+use Rattle.calls.specs.Calls.{askParent, askColumn}
 use Rattle.calls.specs.Questions.{columnList}
 use Rattle.calls.specs.Refusals.{accepted, isAccepted, rowRefusal}
 use Rattle.calls.specs.Numbers.{askRefusal}
-use Rattle.calls.specs.Steps.{Answer, refusedBy, acceptedBy}
+use Rattle.calls.specs.Steps.{Answer, refusedBy}
 use Rattle.questions.specs.Asked.{replyOf, repliedTo, replied, listLeft}
 use Rattle.questions.specs.declared.Reply.{Reply}
 
@@ -54,7 +54,7 @@ module _ (r : Register) (j : ℕ) (low : 1 ≤ j) (high : j ≤ r .m) where
     pub parent-answered : replyOf a ≡ replied r (askParent j) → a .value ≡ parentOf (factorFor r) j
     parent-answered e = ap (λ (x : Answer). x .value) (e ∙ taken)
       where
-        taken : replied r (askParent j) ≡ acceptedBy r (asking (askParent j) 0)
+        taken : replied r (askParent j) ≡ replyOf (record { number = 0; value = parentOf (factorFor r) j })
         taken = rw row-taken refl
 
     module _ (list : List ℕ) (room : length (columnList r j) ≤ length list) where
@@ -66,7 +66,7 @@ module _ (r : Register) (j : ℕ) (low : 1 ≤ j) (high : j ≤ r .m) where
       pub column-answered : replyOf a ≡ repliedTo r (askColumn j) 0 list → a .value ≡ sizeOf (columnAt (factorFor r) j)
       column-answered e =
           ap (λ (x : Answer). x .value)
-          (e ∙ ap (λ (z : Bool). pick z (acceptedBy r (asking (askColumn j) 0)) (refusedBy (askRefusal r (askColumn j) 0 list))) column-taken)
+          (e ∙ ap (λ (z : Bool). pick z (replyOf (record { number = 0; value = sizeOf (columnAt (factorFor r) j) })) (refusedBy (askRefusal r (askColumn j) 0 list))) column-taken)
 
       column-list : listLeft r (askColumn j) 0 list ≡ columnList r j ++ drop (0 + length (columnList r j)) list
       column-list = ap (λ (z : Bool). pick z (writtenAt 0 (columnList r j) list) list) column-taken

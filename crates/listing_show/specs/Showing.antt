@@ -10,6 +10,7 @@ use lib.ListN.{take}
 use Rattle.lists.specs.Lists.{pick}
 use Rattle.symbolic.specs.Columns.{Register}
 use Rattle.symbolic.specs.Factor.{factorFor, parentOf}
+use Rattle.symbolic.specs.Grades.{limitsOf}
 use Rattle.tables.specs.Tables.{Tables, State, registerOf, sizesOf}
 use Rattle.calls.specs.Refusals.{isAccepted, bounds, sizesRefusal}
 use Rattle.calls.specs.Questions.{columnList}
@@ -38,9 +39,9 @@ shownBy u =
     pick (isAccepted (sizesRefusal bounds (u .state .sizes))) (shownTo (registerOf (u .state) (u .tables)) (u .state .sizes .m))
     (answerLine (refusedBy (sizesRefusal bounds (u .state .sizes))))
 
--- "Before an accepted open the sizes are 0"
+-- "Before an accepted open the sizes are 0", as all other numbers of the record
 abbrev pub noState : State
-noState = record { sizes = sizesOf 0 0 0 0; free = 0; bookFree = 0 }
+noState = record { sizes = sizesOf 0 0 0 0; limits = limitsOf 0 0 0; free = 0; bookFree = 0 }
 
 -- ---- what the functions ask and promise
 

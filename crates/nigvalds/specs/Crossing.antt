@@ -5,6 +5,7 @@ use mathlib.Core.List.{List}
 use Prim.Native.Nat.{ℕ}
 use lib.Dec.{eqb}
 use Rattle.lists.specs.Lists.{pick}
+use Rattle.symbolic.specs.Grades.{Limits}
 use Rattle.tables.specs.Tables.{Tables, Sizes}
 use Rattle.reader.specs.declared.Entry.{Entry}
 use Rattle.reader.specs.declared.Entry.the-variants.{Of, End}
@@ -19,7 +20,7 @@ use Rattle.nigvalds.specs.declared.Read.{Read}
 
 -- a record of zeros
 abbrev pub noFactor : Factor
-noFactor = record { m = 0; n = 0; f = 0; c = 0; free = 0; «book_free» = 0 }
+noFactor = record { m = 0; n = 0; f = 0; c = 0; free = 0; «book_free» = 0; grade2 = 0; grade3 = 0; grade4 = 0 }
 
 -- the struct of an answer: accepted, number 0 and the record; refused, the number and a record of zeros
 abbrev pub openedFrom : Opening → Opened
@@ -31,8 +32,8 @@ abbrev pub openingOf : Opened → Opening
 openingOf x = pick (eqb (x .number) 0) (accepted (x .factor)) (refused (x .number))
 
 -- OPEN: the struct stands for an answer of the entry, and has zeros where it says nothing
-pub record OpenedStep (asked : Sizes) (t : Tables) (work : List ℕ) (r : Opened) (t′ : Tables) (work′ : List ℕ) : Type 0 where
-  pub step : OpenStep asked t work (openingOf r) t′ work′
+pub record OpenedStep (asked : Sizes) (limits : Limits) (t : Tables) (work : List ℕ) (r : Opened) (t′ : Tables) (work′ : List ℕ) : Type 0 where
+  pub step : OpenStep asked limits t work (openingOf r) t′ work′
   pub plain : r ≡ openedFrom (openingOf r)
 
 -- ---- readings

@@ -10,7 +10,7 @@ use book::Row;
 use factor::Factor;
 use questions::Reply;
 
-// Whether the tables are sound: 0, 6 for no, or 1 to 5.
+// Whether the tables are sound, and the record's limits: 0, 6 for no, or 1 to 5.
 #[no_mangle]
 pub extern "C" fn nigvalds_check(
     factor: Factor,

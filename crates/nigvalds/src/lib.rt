@@ -2,6 +2,7 @@
 // its contract is that of the entry. An answer that is an enum crosses as a struct of numbers, by the definitions of specs/.
 ghost use mathlib.Core.Path.{_≡_};
 ghost use Rattle.reader.specs.Reading.{entryAt};
+ghost use Rattle.symbolic.specs.Grades.{limitsOf};
 ghost use Rattle.tables.specs.Tables.{sizesOf, tablesOf};
 ghost use Rattle.nigvalds.specs.Crossing.{OpenedStep, openedFrom, readFrom};
 
@@ -43,6 +44,9 @@ fn opened_from(x: Opening) -> Opened
                 c: 0,
                 free: 0,
                 book_free: 0,
+                grade2: 0,
+                grade3: 0,
+                grade4: 0,
             },
         },
     }
@@ -66,13 +70,17 @@ fn read_from(x: Entry) -> Read
     }
 }
 
-// Opens: a fresh factor from four sizes, all tables written. F = 0 means 16 × m.
+// Opens: a fresh factor from four sizes and three limits of grades, all tables written. F = 0 means 16 × m, three zeros for the limits mean 256, 4,096 and
+// 65,536; limits that break the rule are refused by 20.
 #[no_mangle]
 pub extern "C" fn nigvalds_open(
     m: u32,
     n: u32,
     f: u32,
     c: u32,
+    grade2: u32,
+    grade3: u32,
+    grade4: u32,
     heads: &mut [u32],
     parents: &mut [u16],
     rows: &mut [u16],
@@ -83,13 +91,16 @@ pub extern "C" fn nigvalds_open(
     book_next: &mut [u32],
     work: &mut [u32],
 ) -> Opened
-    ensures { λ r. ⌜ OpenedStep (sizesOf m n f c) (tablesOf (now (heads .entry)) (now (parents .entry)) (now (rows .entry)) (now (counts .entry)) (now (next .entry)) (now («book_heads» .entry)) (now («book_rows» .entry)) (now («book_next» .entry))) (now (work .entry)) r (tablesOf (now (heads .exit)) (now (parents .exit)) (now (rows .exit)) (now (counts .exit)) (now (next .exit)) (now («book_heads» .exit)) (now («book_rows» .exit)) (now («book_next» .exit))) (now (work .exit)) ⌝ }
+    ensures { λ r. ⌜ OpenedStep (sizesOf m n f c) (limitsOf grade2 grade3 grade4) (tablesOf (now (heads .entry)) (now (parents .entry)) (now (rows .entry)) (now (counts .entry)) (now (next .entry)) (now («book_heads» .entry)) (now («book_rows» .entry)) (now («book_next» .entry))) (now (work .entry)) r (tablesOf (now (heads .exit)) (now (parents .exit)) (now (rows .exit)) (now (counts .exit)) (now (next .exit)) (now («book_heads» .exit)) (now («book_rows» .exit)) (now («book_next» .exit))) (now (work .exit)) ⌝ }
 {
     let x = Factor::open(
         m,
         n,
         f,
         c,
+        grade2,
+        grade3,
+        grade4,
         heads,
         parents,
         rows,

@@ -11,10 +11,10 @@ use Rattle.symbolic.specs.Factor.{factorFor, columnAt, parentOf}
 use Rattle.pool.specs.Chains.{chain, Linked}
 use Rattle.columns.specs.Commit.{HoldsFrom}
 use Rattle.calls.specs.Refusals.{isAccepted}
-use Rattle.calls.specs.Calls.{Question, asking}
+use Rattle.calls.specs.Calls.{Question}
 use Rattle.calls.specs.Questions.{response}
 use Rattle.calls.specs.Numbers.{askRefusal}
-use Rattle.calls.specs.Steps.{Answer, refusedBy, acceptedBy}
+use Rattle.calls.specs.Steps.{Answer, refusedBy}
 use Rattle.questions.specs.declared.Reply.{Reply}
 
 -- a reply as an answer: what a question does not have is 0
@@ -50,9 +50,9 @@ pub record CanFollow (parents : List ℕ) : Type 0 where
 
 -- ---- the reply, and the list afterwards
 
--- the answer that a register gives to a question whose list is written from a place on, accepted or refused
+-- the answer that a register gives to a question whose list is written from a place on, accepted or refused; it has no entries, so no limits play a part
 abbrev pub repliedTo : Register → Question → (place : ℕ) → (list : List ℕ) → Answer
-repliedTo r q p xs = pick (isAccepted (askRefusal r q p xs)) (acceptedBy r (asking q p)) (refusedBy (askRefusal r q p xs))
+repliedTo r q p xs = pick (isAccepted (askRefusal r q p xs)) (replyOf (record { number = 0; value = response r q .value })) (refusedBy (askRefusal r q p xs))
 
 -- the same of a question that has no list
 abbrev pub replied : Register → Question → Answer

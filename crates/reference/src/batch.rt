@@ -4,6 +4,7 @@ ghost use Prim.Native.Nat.{_≤_};
 ghost use lib.ListN.{length};
 ghost use Rattle.reference.specs.Ranges.{IsRow, Served};
 use crate::Holds;
+use crate::Limits;
 use crate::Live;
 use crate::Rows;
 use crate::Sizes;
@@ -177,19 +178,15 @@ pub fn entries(pattern: &Square, label_of: &Rows, m: usize) -> usize
     total
 }
 
-// 1 for 1 to 255 entries, 2 for 256 to 4,095, 3 for 4,096 to 65,535, 4 for more; 0 for none.
-pub fn grade(entries: usize) -> usize {
-    if entries == 0 {
-        return 0;
+// The largest grade whose first entries are at most these, tried from 4 down. Those of grade 1 are 1, so it is 0 for none.
+pub fn grade(limits: Limits, entries: usize) -> usize {
+    let first = [1, limits.grade2, limits.grade3, limits.grade4];
+    let mut grade = 4;
+    while 0 < grade {
+        if first[grade - 1] <= entries {
+            return grade;
+        }
+        grade -= 1;
     }
-    if entries <= 255 {
-        return 1;
-    }
-    if entries <= 4095 {
-        return 2;
-    }
-    if entries <= 65535 {
-        return 3;
-    }
-    4
+    0
 }

@@ -24,12 +24,20 @@ pub type Square = [u8; 4096];
 // A row or a label for each row.
 pub type Rows = [u16; 64];
 
-// Rows, ids, factor records, book records.
+// The first entries of grades 2, 3 and 4.
+pub struct Limits {
+    pub grade2: usize,
+    pub grade3: usize,
+    pub grade4: usize,
+}
+
+// What an opening fixes: rows, ids, factor records, book records, and the limits that grades are read from.
 pub struct Sizes {
     pub m: usize,
     pub n: usize,
     pub f: usize,
     pub c: usize,
+    pub limits: Limits,
 }
 
 // A number, 0 for none, and the position of the column that it is given for.
@@ -72,28 +80,53 @@ fn refused(number: usize, position: usize) -> Answer
 }
 
 // An F of 0 means 16 * m.
-fn meant(asked: Sizes) -> Sizes {
-    if asked.f != 0 {
+fn records_meant(m: usize, f: usize) -> usize {
+    if f != 0 {
+        return f;
+    }
+    if 4096 < m {
+        return f;
+    }
+    16 * m
+}
+
+// Three zeros mean the old limits.
+fn limits_meant(asked: Limits) -> Limits {
+    if asked.grade4 != 0 {
         return asked;
     }
-    if 4096 < asked.m {
+    if asked.grade3 != 0 {
         return asked;
     }
-    Sizes {
-        m: asked.m,
-        n: asked.n,
-        f: 16 * asked.m,
-        c: asked.c,
+    if asked.grade2 != 0 {
+        return asked;
+    }
+    Limits {
+        grade2: 256,
+        grade3: 4096,
+        grade4: 65536,
     }
 }
 
-// Opens: no column is live. Refused by 1 to 4, and by 5 where these tables do not serve the sizes; then the sizes before serve on.
+fn meant(asked: Sizes) -> Sizes {
+    let f = records_meant(asked.m, asked.f);
+    let limits = limits_meant(asked.limits);
+    Sizes {
+        m: asked.m,
+        n: asked.n,
+        f,
+        c: asked.c,
+        limits,
+    }
+}
+
+// Opens: no column is live. Refused by 1 to 4 and 20, and by 5 where these tables do not serve the sizes; then the sizes before serve on.
 pub fn open(live: &mut Live, before: Sizes, asked: Sizes) -> Opened
     requires { ⌜ Served (before .m) (before .n) ⌝ }
     ensures { λ r. ⌜ Served (r .sizes .m) (r .sizes .n) ⌝ }
 {
     let sizes = meant(asked);
-    let number = refusals::of_sizes(sizes);
+    let number = refusals::of_opening(sizes);
     if number != 0 {
         return Opened {
             number,
@@ -122,19 +155,19 @@ fn reported(
     touched: &mut Rows,
     labels: &mut Rows,
     label_of: &Rows,
-    m: usize,
+    sizes: Sizes,
 ) -> Answer
-    requires { ⌜ m ≤ 64 ⌝ }
+    requires { ⌜ Served (sizes .m) (sizes .n) ⌝ }
     ensures { λ r. ⌜ r .touched ≤ 64 ⌝ }
 {
-    let count = batch::report(touched, labels, label_of, m);
-    let entries = batch::entries(pattern, label_of, m);
+    let count = batch::report(touched, labels, label_of, sizes.m);
+    let entries = batch::entries(pattern, label_of, sizes.m);
     Answer {
         number: 0,
         position: 0,
         touched: count,
         entries,
-        grade: batch::grade(entries),
+        grade: batch::grade(sizes.limits, entries),
     }
 }
 
@@ -174,7 +207,7 @@ fn added(
 {
     let mut label_of = [0u16; 64];
     batch::label(holds, live, pattern, &mut label_of, ids, sizes);
-    reported(pattern, touched, labels, &label_of, sizes.m)
+    reported(pattern, touched, labels, &label_of, sizes)
 }
 
 // Adds a batch. Touched columns and labels are those of the tree after it.
@@ -191,7 +224,7 @@ pub fn add(
     requires { ⌜ Served (sizes .m) (sizes .n) ⌝ }
     ensures { λ r. ⌜ r .touched ≤ 64 ⌝ }
 {
-    let number = refusals::of_sizes(sizes);
+    let number = refusals::of_record(sizes);
     if number != 0 {
         return refused(number, 0);
     }
@@ -227,14 +260,13 @@ fn removed(
     requires { ⌜ Served (sizes .m) (sizes .n) × (length (now ids) ≤ 64) ⌝ }
     ensures { λ r. ⌜ r .touched ≤ 64 ⌝ }
 {
-    let m = sizes.m;
     let mut pattern = [0u8; 4096];
     let mut label_of = [0u16; 64];
     pattern::fills(holds, live, &mut pattern, sizes);
     batch::label(holds, live, &pattern, &mut label_of, ids, sizes);
     batch::leave(live, ids, sizes.n);
     pattern::fills(holds, live, &mut pattern, sizes);
-    reported(&pattern, touched, labels, &label_of, m)
+    reported(&pattern, touched, labels, &label_of, sizes)
 }
 
 // Removes a batch. Touched columns and labels are those of the tree before it.
@@ -249,7 +281,7 @@ pub fn remove(
     requires { ⌜ Served (sizes .m) (sizes .n) ⌝ }
     ensures { λ r. ⌜ r .touched ≤ 64 ⌝ }
 {
-    let number = refusals::of_sizes(sizes);
+    let number = refusals::of_record(sizes);
     if number != 0 {
         return refused(number, 0);
     }

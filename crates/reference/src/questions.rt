@@ -1,5 +1,5 @@
-// The questions, of a pattern that `fills` wrote for the live columns: 1 to 4 by the sizes, 17 for a row or column outside 1 to m, 18 where the list
-// ends before the answer does.
+// The questions, of a pattern that `fills` wrote for the live columns: 1 to 4 and 6 by the record, 17 for a row or column outside 1 to m, 18 where the
+// list ends before the answer does.
 ghost use mathlib.Core.Path.{_≡_};
 ghost use Prim.Native.Nat.{_≤_};
 ghost use lib.ListN.{length};
@@ -30,7 +30,7 @@ pub fn multiplicity(
 ) -> Reply
     requires { ⌜ Served (sizes .m) (sizes .n) ⌝ }
 {
-    let number = refusals::of_sizes(sizes);
+    let number = refusals::of_record(sizes);
     if number != 0 {
         return refused(number);
     }
@@ -54,7 +54,7 @@ pub fn multiplicity(
 pub fn parent(pattern: &Square, sizes: Sizes, j: usize) -> Reply
     requires { ⌜ Served (sizes .m) (sizes .n) ⌝ }
 {
-    let number = refusals::of_sizes(sizes);
+    let number = refusals::of_record(sizes);
     if number != 0 {
         return refused(number);
     }
@@ -91,7 +91,7 @@ pub fn path(pattern: &Square, list: &mut [u32], sizes: Sizes, at: usize, j: usiz
     requires { ⌜ Served (sizes .m) (sizes .n) ⌝ }
     ensures { λ r. ⌜ r .value ≤ 64 ⌝ }
 {
-    let number = refusals::of_sizes(sizes);
+    let number = refusals::of_record(sizes);
     if number != 0 {
         return refused(number);
     }
@@ -164,7 +164,7 @@ pub fn column(
     requires { ⌜ Served (sizes .m) (sizes .n) ⌝ }
     ensures { λ r. ⌜ r .value ≤ 64 ⌝ }
 {
-    let number = refusals::of_sizes(sizes);
+    let number = refusals::of_record(sizes);
     if number != 0 {
         return refused(number);
     }

@@ -4,6 +4,7 @@ ghost use Prim.Native.Nat.{_+_, _≤_, _<_};
 ghost use lib.ListN.{length};
 ghost use Rattle.reference.specs.Ranges.{Served};
 use crate::Holds;
+use crate::Limits;
 use crate::Live;
 use crate::Refusal;
 use crate::Sizes;
@@ -26,7 +27,7 @@ pub fn exceeds(most: usize, number: usize, more: usize) -> bool {
 }
 
 // 1 to 4: m, n, F or C outside its range.
-pub fn of_sizes(sizes: Sizes) -> usize {
+fn of_sizes(sizes: Sizes) -> usize {
     if is_outside(sizes.m, 1, 4096) {
         return 1;
     }
@@ -40,6 +41,35 @@ pub fn of_sizes(sizes: Sizes) -> usize {
         return 4;
     }
     0
+}
+
+// Whether the limits keep the rule: the first is at least 2 and each exceeds the one before.
+fn keep_rule(limits: Limits) -> bool {
+    if limits.grade4 <= limits.grade3 {
+        return false;
+    }
+    if limits.grade3 <= limits.grade2 {
+        return false;
+    }
+    2 <= limits.grade2
+}
+
+// 1 to 4, then 20 of an opening: limits that break the rule.
+pub fn of_opening(sizes: Sizes) -> usize {
+    let number = of_sizes(sizes);
+    if number != 0 {
+        return number;
+    }
+    if keep_rule(sizes.limits) { 0 } else { 20 }
+}
+
+// 1 to 4, then 6 of every later call: such limits are unsound. The columns always are sound.
+pub fn of_record(sizes: Sizes) -> usize {
+    let number = of_sizes(sizes);
+    if number != 0 {
+        return number;
+    }
+    if keep_rule(sizes.limits) { 0 } else { 6 }
 }
 
 // ---- each column, by position

@@ -1,5 +1,5 @@
--- The four sizes and the eight tables as the definitions of numbers 1 to 5 read them; the records that an opening with F = 0 gets; when the tables of L
--- and those of the book are long enough, each group by itself; the room that an answer asks for. The numbers are in calls, Refusals.
+-- The four sizes and the eight tables as the definitions of numbers 1 to 5 read them; the records that an opening with F = 0 gets; the limits of the grades;
+-- when the tables of L and those of the book are long enough, each group by itself; the room that an answer asks for. The numbers are in calls, Refusals.
 -- Assumes nothing: these are definitions.
 use mathlib.Core.Path.{_≡_}
 use mathlib.Core.Bool.{Bool, _&&_, not}
@@ -8,8 +8,10 @@ use Prim.Native.Nat.{ℕ}
 use lib.Dec.{leb, eqb}
 use lib.ListN.{length}
 use Rattle.lists.specs.Lists.{pick}
+use Rattle.symbolic.specs.Grades as symbolic
 use Rattle.calls.specs.Calls.{defaultRecords}
 use Rattle.calls.specs.Refusals.{Bounds, isAccepted, roomFor}
+use Rattle.refusals.specs.declared.limits.Limits.{Limits}
 
 -- the four largest sizes as one record
 abbrev pub largest : (m n f c : ℕ) → Bounds
@@ -18,6 +20,10 @@ largest m n f c = record { m = m; n = n; f = f; c = c }
 -- the records that an opening gets for those it asks, for an m whose 16 × m fits 32 bits; number 1 refuses any other, whatever F is
 abbrev pub recordsFor : (m f : ℕ) → ℕ
 recordsFor m f = pick (leb m 268435455 && eqb f 0) (defaultRecords m) f
+
+-- limits, as the definitions have them
+abbrev pub limitsIn : Limits → symbolic.Limits
+limitsIn x = record { grade2 = x .grade2; grade3 = x .grade3; grade4 = x .grade4 }
 
 -- ---- long enough: the tables of L, those of the book
 

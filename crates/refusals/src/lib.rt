@@ -1,5 +1,5 @@
-// The numbers that a call is refused by, with their positions, found in document 01's order. Tables are shared, never written. In order: sizes and
-// their default (1 to 4), tables and lists (5), the parts of a batch, an addition (7 to 15), a removal (7 to 11), questions (17, 18).
+// The numbers that a call is refused by, with their positions, found in their order. Tables are shared, never written. In order: sizes and their default
+// (1 to 4), tables and lists (5), the parts of a batch, an addition (7 to 15), a removal (7 to 11), questions (17, 18). limits.rt has 20.
 ghost use mathlib.Core.Path.{_≡_};
 ghost use mathlib.Core.Bool.{not};
 ghost use Prim.Native.Nat.{_+_, _≤_, _<_};
@@ -11,6 +11,9 @@ ghost use Rattle.book.specs.Book.{isBooked};
 ghost use Rattle.refusals.specs.Early.{largest, recordsFor, factorLong, bookLong, NoRoom};
 ghost use Rattle.refusals.specs.Parts.{IsNumber, before, idRefusal, rowsPart, countRefusal, columnRefusal, leavingRefusal, InStep, HasPlace};
 ghost use Rattle.refusals.specs.Found.{found, HasBook, ColumnsFound, AddFound, IdsFound, RemoveFound};
+
+pub mod limits;
+
 use book::Id;
 use pool::Rec;
 

@@ -29,6 +29,6 @@ pub record CanReadThrough (s : Stored) (b : book.Book) (work : List ℕ) : Type 
 abbrev pub madeReady : (work : List ℕ) → (m f c : ℕ) → List ℕ
 madeReady w m f c = cleared (cleared w 0 (8 * m + f)) (bookMarks m f) c
 
--- "Tables are sound if ..": the book is, and the stored columns are the definition's for the columns that count
+-- what the tables hold is sound: the book is, and the stored columns are the definition's for the columns that count
 abbrev pub areSound : Stored → book.Book → Bool
 areSound s b = book.isSound (length (s .heads)) b && isSoundFor (liveIn s b) s

@@ -1,4 +1,5 @@
-// Decides number 6: for any contents of all tables, whether they are sound, in time proportional to m + n + F + C. Every chain is walked once, with marks.
+// Decides number 6 as far as tables go: for any contents of all of them, whether they are sound, in time proportional to m + n + F + C. Every chain is walked
+// once, with marks. (The record's limits are tested in `factor`.)
 // Columns of L are read by rising number: what the definition gives for a column is counted from the book and from its children, which were read before.
 ghost use mathlib.Core.Path.{_≡_};
 ghost use Prim.Native.Nat.{_+_, _*_, _-_, _≤_};
@@ -280,7 +281,7 @@ pub fn make_ready(work: &mut [u32], m: usize, f: usize, c: usize)
     workspace::clear(work, 8 * m + 4 * f + 1024, c);
 }
 
-// Decides number 6: whether all tables are sound, for any contents. The work table was made ready, and holds anything in its first W places after.
+// Whether what all tables hold is sound, for any contents. The work table was made ready, and holds anything in its first W places after.
 pub fn read_through(
     heads: &[u32],
     parents: &[u16],

@@ -14,6 +14,7 @@ pub mod Labels
 pub mod Bags
 pub mod Order
 pub mod Sizes
+pub mod Grades
 pub mod Theorems
 pub mod Instances
 pub mod Fresh

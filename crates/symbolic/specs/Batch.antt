@@ -1,10 +1,10 @@
--- A batch's touched columns, labels, entries and grade in a given tree: "in the tree after the call when adding, before it when removing". An exchange,
+-- A batch's touched columns, labels and entries in a given tree: "in the tree after the call when adding, before it when removing". An exchange,
 -- in which columns leave and others enter, touches what the leaving ones touch in the tree before and the entering ones in the tree after.
 -- Assumes nothing: these are definitions.
 use mathlib.Core.Bool.{Bool, _||_}
 use mathlib.Core.List.{List, [], _∷_}
 use Prim.Native.Nat.{ℕ, zero, suc, _+_, _-_}
-use lib.Dec.{ltb, eqb}
+use lib.Dec.{eqb}
 use lib.ListN.{length, getD}
 use Rattle.lists.specs.Lists.{pick, any, among}
 use Rattle.symbolic.specs.Columns.{Column, smallest}
@@ -62,7 +62,3 @@ labelsOf fs cs (j ∷ js) = labelOf fs cs j ∷ labelsOf fs cs js
 unfoldable pub entriesOf : List FactorColumn → (columns : List ℕ) → ℕ
 entriesOf fs [] = 0
 entriesOf fs (j ∷ js) = sizeOf (columnAt fs j) + entriesOf fs js
-
--- "Grade 1 is for 1 to 255 entries, 2 for 256 to 4,095, 3 for 4,096 to 65,535, 4 for more"; 0 for no entry
-abbrev pub gradeOf : (entries : ℕ) → ℕ
-gradeOf n = pick (eqb n 0) 0 (pick (ltb n 256) 1 (pick (ltb n 4096) 2 (pick (ltb n 65536) 3 4)))

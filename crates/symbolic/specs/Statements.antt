@@ -5,12 +5,14 @@ use mathlib.Core.Logic.{_⊎_, _≢_, _↔_}
 use mathlib.Core.Bool.{true, false}
 use mathlib.Core.List.{List, _++_}
 use Prim.Native.Nat.{ℕ, _+_, _≤_, _<_}
+use lib.Dec.{ltb, eqb}
 use lib.ListN.{length}
-use Rattle.lists.specs.Lists.{Mem, all, among, noRepeats, rises}
+use Rattle.lists.specs.Lists.{pick, Mem, all, among, noRepeats, rises}
 use Rattle.symbolic.specs.Columns.{Column, smallest, holds, fitsRows, startingWith}
 use Rattle.symbolic.specs.Factor.{factorOf, columnAt, multiplicity, parentOf, inPattern, isChild, pathOf, sizeSum}
 use Rattle.symbolic.specs.Definition.{IsFactor, OnPath}
 use Rattle.symbolic.specs.Batch.{atPosition, passes, isTouched, touched, labelOf, entriesOf}
+use Rattle.symbolic.specs.Grades.{Limits, areLimits, oldLimits, gradeOf}
 use Rattle.symbolic.specs.Chains.{ChainTo, Closed}
 use Rattle.symbolic.specs.Change.{idsOf, without, columnsOf, Bag}
 use Rattle.symbolic.specs.Steps.{StepsAt}
@@ -164,3 +166,16 @@ SizesLocal =
     (m : ℕ) (R W : List Column) →
     sizeSum (factorOf m (R ++ W)) + entriesOf (factorOf m R) (touched (factorOf m (R ++ W)) W) ≡
     sizeSum (factorOf m R) + entriesOf (factorOf m (R ++ W)) (touched (factorOf m (R ++ W)) W)
+
+-- ---- 9. grades
+
+-- "the first entries of grades 2, 3 and 4": by limits that keep the rule a grade is at least 2, 3 or 4 exactly from the first, second or third limit on
+abbrev pub GradeFrom : Type 0
+GradeFrom =
+    (g : Limits) (n : ℕ) → areLimits g ≡ true →
+    ((1 ≤ gradeOf g n) ↔ (1 ≤ n)) × ((2 ≤ gradeOf g n) ↔ (g .grade2 ≤ n)) × ((3 ≤ gradeOf g n) ↔ (g .grade3 ≤ n)) × ((4 ≤ gradeOf g n) ↔ (g .grade4 ≤ n)) ×
+    (gradeOf g n ≤ 4)
+
+-- by the old limits, "Grade 1 is for 1 to 255 entries, 2 for 256 to 4,095, 3 for 4,096 to 65,535, 4 for more"; 0 for no entry
+abbrev pub OldGrades : Type 0
+OldGrades = (n : ℕ) → gradeOf oldLimits n ≡ pick (eqb n 0) 0 (pick (ltb n 256) 1 (pick (ltb n 4096) 2 (pick (ltb n 65536) 3 4)))

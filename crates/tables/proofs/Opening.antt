@@ -15,6 +15,7 @@ use Rattle.lists.proofs.Rising.{up-length, up-at}
 use Rattle.lists.proofs.Place.{over-length}
 use Rattle.symbolic.specs.Columns.{Column, live}
 use Rattle.symbolic.specs.Factor.{factorOf, columnAt}
+use Rattle.symbolic.specs.Grades.{Limits, areLimits}
 use Rattle.symbolic.proofs.Fresh.{fresh-parent, fresh-column}
 use Rattle.pool.specs.Chains.{chain, Linked}
 use Rattle.pool.specs.Whole.{Pool}
@@ -51,8 +52,8 @@ openedStored l =
 padded : (xs : List ℕ) (m f : ℕ) → length xs ≡ m → m ≤ f → length (xs ++ replicate (f - m) 0) ≡ f
 padded xs m f e h = omega (arith, length-append xs (replicate (f - m) 0), length-replicate {A = ℕ} (f - m) 0)
 
-module _ (l : Sizes) (t : Tables) (h : l .m ≤ l .f) where
-  pub opened-stored : storedIn (openedState l) (openedTables l t) ≡ openedStored l
+module _ (l : Sizes) (g : Limits) (t : Tables) (h : l .m ≤ l .f) where
+  pub opened-stored : storedIn (openedState l g) (openedTables l t) ≡ openedStored l
   opened-stored =
       let a : take (l .m) (openedTables l t .heads) ≡ upFrom 1 (l .m) = take-over (l .m) (upFrom 1 (l .m)) (t .heads) (up-length 1 (l .m)) in
       let b : take (l .m) (openedTables l t .parents) ≡ replicate (l .m) 0 = take-over (l .m) (replicate (l .m) 0) (t .parents) (length-replicate (l .m) 0) in
@@ -64,7 +65,7 @@ module _ (l : Sizes) (t : Tables) (h : l .m ≤ l .f) where
       take-over (l .f) (openedNexts (l .m) (l .f)) (t .next) (opened-length (l .m) (l .f) h) in
       λ i. record { heads = a i; parents = b i; rows = c i; counts = d i; next = e i; free = freeHead (l .m) (l .f) }
 
-  pub opened-book : bookIn (openedState l) (openedTables l t) ≡ opened (l .n) (l .c)
+  pub opened-book : bookIn (openedState l g) (openedTables l t) ≡ opened (l .n) (l .c)
   opened-book =
       let a : take (l .n) (openedTables l t .bookHeads) ≡ replicate (l .n) 0 = take-over (l .n) (replicate (l .n) 0) (t .bookHeads) (length-replicate (l .n) 0) in
       let b : take (l .c) (openedTables l t .bookRows) ≡ replicate (l .c) 0 = take-over (l .c) (replicate (l .c) 0) (t .bookRows) (length-replicate (l .c) 0) in
@@ -146,19 +147,20 @@ module _ (l : Sizes) (h : l .m ≤ l .f) where
 
 -- ---- all tables
 
+module _ (l : Sizes) (g : Limits) (t : Tables) (h : l .m ≤ l .f) where
+  pub opened-columns : registerOf (openedState l g) (openedTables l t) .columns ≡ []
+  opened-columns = ap (λ (b : book.Book). book.columnsIn b) (opened-book l g t h) ∙ booked.opened-columns (l .n) (l .c)
+
+  pub opened-sound : areLimits g ≡ true → isSound (openedState l g) (openedTables l t) ≡ true
+  opened-sound r =
+      let b : book.isSound (l .m) (bookIn (openedState l g) (openedTables l t)) ≡ true =
+      ap (λ (b : book.Book). book.isSound (l .m) b) (opened-book l g t h) ∙ booked.opened-sound (l .m) (l .n) (l .c) in
+      let s : isSoundFor (live (registerOf (openedState l g) (openedTables l t))) (storedIn (openedState l g) (openedTables l t)) ≡ true =
+      ap (λ (cs : List Column). isSoundFor cs (storedIn (openedState l g) (openedTables l t))) opened-columns ∙
+      ap (λ (x : Stored). isSoundFor [] x) (opened-stored l g t h) ∙ opened-stored-sound l h in
+      both-and r (both-and b s)
+
 module _ (l : Sizes) (t : Tables) (h : l .m ≤ l .f) where
-  pub opened-columns : registerOf (openedState l) (openedTables l t) .columns ≡ []
-  opened-columns = ap (λ (b : book.Book). book.columnsIn b) (opened-book l t h) ∙ booked.opened-columns (l .n) (l .c)
-
-  pub opened-sound : isSound (openedState l) (openedTables l t) ≡ true
-  opened-sound =
-      let b : book.isSound (l .m) (bookIn (openedState l) (openedTables l t)) ≡ true =
-      ap (λ (b : book.Book). book.isSound (l .m) b) (opened-book l t h) ∙ booked.opened-sound (l .m) (l .n) (l .c) in
-      let s : isSoundFor (live (registerOf (openedState l) (openedTables l t))) (storedIn (openedState l) (openedTables l t)) ≡ true =
-      ap (λ (cs : List Column). isSoundFor cs (storedIn (openedState l) (openedTables l t))) opened-columns ∙
-      ap (λ (x : Stored). isSoundFor [] x) (opened-stored l t h) ∙ opened-stored-sound l h in
-      both-and b s
-
   pub opened-long : longEnough l t ≡ true → longEnough l (openedTables l t) ≡ true
   opened-long z =
       let g : Long l t = long-facts l t z in

@@ -15,10 +15,11 @@ use Rattle.lists.proofs.Tests.{and-both, both-and}
 use Rattle.lists.proofs.Member.{all-at, all-make}
 use Rattle.symbolic.specs.Columns.{Column, live, fitsRows}
 use Rattle.symbolic.specs.Factor.{factorOf, factorFor}
+use Rattle.symbolic.specs.Grades.{areLimits}
 use Rattle.book.specs.Book as book
 use Rattle.book.proofs.Sound.{columns-fit, columns-rows}
 use Rattle.tables.specs.Stored.{isSoundFor, holdsFrom}
-use Rattle.tables.specs.Tables.{Tables, Sizes, State, longEnough, storedIn, bookIn, registerOf, isSound}
+use Rattle.tables.specs.Tables.{Tables, Sizes, State, longEnough, storedIn, bookIn, registerOf, holdsSound, isSound}
 use Rattle.tables.specs.Stays.{TailsStay}
 use Rattle.tables.proofs.Stored.{sound-holds}
 
@@ -88,11 +89,18 @@ tails-long l t u s z =
 -- ---- sound
 
 module _ (s : State) (t : Tables) where
+  pub sound-limits : isSound s t ≡ true → areLimits (s .limits) ≡ true
+  sound-limits h = and-both (areLimits (s .limits)) (holdsSound s t) h .0
+
+  sound-held : isSound s t ≡ true → (book.isSound (s .sizes .m) (bookIn s t) ≡ true) × (isSoundFor (live (registerOf s t)) (storedIn s t) ≡ true)
+  sound-held h =
+      and-both (book.isSound (s .sizes .m) (bookIn s t)) (isSoundFor (live (registerOf s t)) (storedIn s t)) (and-both (areLimits (s .limits)) (holdsSound s t) h .1)
+
   pub sound-book : isSound s t ≡ true → book.isSound (s .sizes .m) (bookIn s t) ≡ true
-  sound-book h = and-both (book.isSound (s .sizes .m) (bookIn s t)) (isSoundFor (live (registerOf s t)) (storedIn s t)) h .0
+  sound-book h = sound-held h .0
 
   pub sound-stored : isSound s t ≡ true → isSoundFor (live (registerOf s t)) (storedIn s t) ≡ true
-  sound-stored h = and-both (book.isSound (s .sizes .m) (bookIn s t)) (isSoundFor (live (registerOf s t)) (storedIn s t)) h .1
+  sound-stored h = sound-held h .1
 
   -- every booked column has 1 to 256 rows, rising, within 1 to m
   pub sound-fits : isSound s t ≡ true → all (book.columnFits (s .sizes .m)) (registerOf s t .columns) ≡ true

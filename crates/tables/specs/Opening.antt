@@ -1,16 +1,17 @@
 -- What an opening writes: "At opening column j has record j, and the free chains rise. Table places beyond the sizes keep their content."
--- The record of sizes and free heads, and all eight tables; `over` keeps what stands beyond. proofs/Opening.antt shows that they are sound.
+-- The record of sizes, limits and free heads, and all eight tables; `over` keeps what stands beyond. proofs/Opening.antt shows that they are sound.
 -- Assumes nothing: these are definitions.
 use mathlib.Core.List.{_++_}
 use Prim.Native.Nat.{_-_}
 use lib.ListN.{replicate}
 use Rattle.lists.specs.Lists.{over, upFrom}
+use Rattle.symbolic.specs.Grades.{Limits}
 use Rattle.pool.specs.Opening.{openedNexts, freeHead}
 use Rattle.tables.specs.Tables.{Tables, Sizes, State}
 
--- the record of an accepted opening: its sizes, and the heads of the two free chains
-abbrev pub openedState : Sizes → State
-openedState l = record { sizes = l; free = freeHead (l .m) (l .f); bookFree = freeHead 0 (l .c) }
+-- the record of an accepted opening: its sizes and limits, and the heads of the two free chains
+abbrev pub openedState : Sizes → Limits → State
+openedState l g = record { sizes = l; limits = g; free = freeHead (l .m) (l .f); bookFree = freeHead 0 (l .c) }
 
 -- the tables after an accepted opening: column j has record j and parent 0, no id is live, all other records are free
 abbrev pub openedTables : Sizes → Tables → Tables

@@ -1,5 +1,5 @@
--- The eight lent tables, the four sizes and the two free heads; when the tables are long enough, and when they are sound. The book is read through
--- its own definitions, the stored columns through Stored.antt. A later table or size enters here.
+-- The eight lent tables, the four sizes, the limits of the grades and the two free heads; when the tables are long enough, and when they are sound. The book
+-- is read through its own definitions, the stored columns through Stored.antt. A later table or size enters here.
 -- Assumes nothing: these are definitions.
 use mathlib.Core.Bool.{Bool, _&&_}
 use mathlib.Core.List.{List}
@@ -7,6 +7,7 @@ use Prim.Native.Nat.{ℕ}
 use lib.Dec.{leb}
 use lib.ListN.{length, take}
 use Rattle.symbolic.specs.Columns.{Register, live}
+use Rattle.symbolic.specs.Grades.{Limits, areLimits}
 use Rattle.book.specs.Book as book
 use Rattle.tables.specs.Stored.{Stored, isSoundFor}
 
@@ -38,9 +39,10 @@ abbrev pub tablesOf : (heads parents rows counts next bookHeads bookRows bookNex
 tablesOf hs ps rs cs ns bh br bn =
     record { heads = hs; parents = ps; rows = rs; counts = cs; next = ns; bookHeads = bh; bookRows = br; bookNext = bn }
 
--- the record of sizes and free heads
+-- the record of sizes, limits and free heads
 pub record State : Type 0 where
   pub sizes : Sizes
+  pub limits : Limits
   pub free : ℕ
   pub bookFree : ℕ
 
@@ -71,6 +73,10 @@ bookIn s t =
 abbrev pub registerOf : State → Tables → Register
 registerOf s t = book.registerIn (s .sizes .m) (bookIn s t)
 
--- "Tables are sound if ..": the book is sound, and the stored columns are the definition's for the live columns
+-- what the tables hold is sound: the book is, and the stored columns are the definition's for the live columns
+abbrev pub holdsSound : State → Tables → Bool
+holdsSound s t = book.isSound (s .sizes .m) (bookIn s t) && isSoundFor (live (registerOf s t)) (storedIn s t)
+
+-- "Tables are sound if .."; limits that break the rule, "later they, and zeros, are unsound"
 abbrev pub isSound : State → Tables → Bool
-isSound s t = book.isSound (s .sizes .m) (bookIn s t) && isSoundFor (live (registerOf s t)) (storedIn s t)
+isSound s t = areLimits (s .limits) && holdsSound s t

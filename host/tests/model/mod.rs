@@ -16,6 +16,32 @@ pub struct Sizes {
     pub c: u32,
 }
 
+/// "three limits, the first entries of grades 2, 3 and 4".
+pub type Limits = [u32; 3];
+
+/// "the old ones".
+pub const OLD_LIMITS: Limits = [256, 4096, 65536];
+
+/// "The first must be at least 2 and each must exceed the one before".
+pub fn are_limits(limits: Limits) -> bool {
+    limits[0] >= 2 && limits.windows(2).all(|w| w[1] > w[0])
+}
+
+/// "Three zeros mean the old ones, which the factor then keeps".
+pub fn limits_for(asked: Limits) -> Limits {
+    if asked == [0; 3] {
+        OLD_LIMITS
+    } else {
+        asked
+    }
+}
+
+/// The grade of some entries: the last one whose first entries are reached, 0 for none.
+pub fn grade(limits: Limits, entries: u32) -> u32 {
+    let firsts = [(1, 1), (2, limits[0]), (3, limits[1]), (4, limits[2])];
+    firsts.iter().filter(|(_, first)| entries >= *first).map(|(grade, _)| *grade).max().unwrap_or(0)
+}
+
 /// Rows with their multiplicities, rising, and the parent.
 #[derive(Clone, Debug, PartialEq, Eq)]
 pub struct Pattern {
@@ -77,7 +103,7 @@ pub struct Report {
 }
 
 /// The report of a batch whose columns, by position, start at these rows, in this tree, with this factor after the call.
-pub fn report(tree: &[Pattern], after: &[Pattern], starts: &[u32]) -> Report {
+pub fn report(limits: Limits, tree: &[Pattern], after: &[Pattern], starts: &[u32]) -> Report {
     let mut labels: BTreeMap<u32, u16> = BTreeMap::new();
     for (k, start) in starts.iter().enumerate() {
         path(tree, *start).iter().for_each(|j| {
@@ -85,12 +111,32 @@ pub fn report(tree: &[Pattern], after: &[Pattern], starts: &[u32]) -> Report {
         });
     }
     let entries = labels.keys().map(|j| after[*j as usize - 1].entries.len() as u32).sum();
-    let grade = [256, 4096, 65536].iter().filter(|most| entries >= **most).count() as u32 + 1;
-    Report { touched: labels.keys().map(|j| *j as u16).collect(), labels: labels.values().copied().collect(), entries, grade }
+    let touched = labels.keys().map(|j| *j as u16).collect();
+    Report { touched, labels: labels.values().copied().collect(), entries, grade: grade(limits, entries) }
 }
 
 /// Number and position.
 pub type Number = (u32, u32);
+
+/// The sizes that an opening gets for those it asks: F = 0 means 16 × m.
+pub fn sizes_for(asked: Sizes) -> Sizes {
+    let f = if asked.f == 0 { asked.m.saturating_mul(16) } else { asked.f };
+    Sizes { f, ..asked }
+}
+
+/// The number of an opening, 0 if it is accepted; 1 to 4, then 20, "after 4", then 5 for sizes for which what is lent is not long enough.
+pub fn open_number(asked: Sizes, limits: Limits, is_long_for: impl Fn(Sizes) -> bool) -> u32 {
+    let s = sizes_for(asked);
+    let checks = [
+        (1, (1..=4096).contains(&s.m)),
+        (2, (1..=16384).contains(&s.n)),
+        (3, (s.m..=1048576).contains(&s.f)),
+        (4, (1..=262144).contains(&s.c)),
+        (20, are_limits(limits_for(limits))),
+        (5, is_long_for(s)),
+    ];
+    checks.iter().find(|(_, holds)| !holds).map_or(0, |(number, _)| *number)
+}
 
 /// The number of an addition, 0 if it is accepted; 7 to 16.
 pub fn add_number(s: Sizes, live: &Live, ids: &[u32], counts: &[u32], rows: &[u32]) -> Number {

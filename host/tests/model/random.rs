@@ -1,5 +1,5 @@
 //! Random numbers that are the same in every run, and random batches.
-use super::{Live, Sizes};
+use super::{Limits, Live, Sizes};
 
 /// A generator (xorshift).
 pub struct Random(u64);
@@ -18,7 +18,7 @@ impl Random {
 
     /// From low to high, both included.
     pub fn within(&mut self, low: u32, high: u32) -> u32 {
-        low + (self.next() % (high - low + 1) as u64) as u32
+        low + (self.next() % ((high - low) as u64 + 1)) as u32
     }
 
     /// True once in so many calls.
@@ -49,6 +49,46 @@ impl Random {
     pub fn sizes(&mut self) -> Sizes {
         let m = self.within(1, 14);
         Sizes { m, n: self.within(1, 12), f: m + self.within(0, m * 4), c: self.within(1, 40) }
+    }
+
+    /// Sizes with a slip now and then, and F = 0 at times.
+    pub fn any_sizes(&mut self) -> Sizes {
+        let mut s = self.sizes();
+        if self.once_in(4) {
+            s.f = 0;
+        }
+        if self.once_in(3) {
+            let odd = self.one(&[0, 4097, 16385, 262145, 1048577, u32::MAX]);
+            match self.within(1, 4) {
+                1 => s.m = odd,
+                2 => s.n = odd,
+                3 => s.f = odd,
+                _ => s.c = odd,
+            }
+        }
+        s
+    }
+
+    /// Limits that an opening accepts: none, small ones that small factors reach, or any.
+    pub fn limits(&mut self) -> Limits {
+        let most = match self.within(1, 4) {
+            1 => return [0; 3],
+            2 => 10,
+            3 => 60,
+            _ => u32::MAX - 1,
+        };
+        let firsts = self.rising(3, most);
+        [firsts[0] + 1, firsts[1] + 1, firsts[2] + 1]
+    }
+
+    /// Limits with a slip now and then, most of which an opening refuses.
+    pub fn any_limits(&mut self) -> Limits {
+        let mut limits = self.limits();
+        if self.once_in(3) {
+            let (k, other) = (self.within(0, 2) as usize, self.within(0, 2) as usize);
+            limits[k] = self.one(&[0, 1, 2, limits[other], u32::MAX]);
+        }
+        limits
     }
 
     /// Ids, counts and rows of an addition, mostly acceptable, with a slip now and then.

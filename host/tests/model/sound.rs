@@ -1,5 +1,5 @@
 //! Soundness of tables by the words of its definition.
-use super::{factor, Live, Pattern};
+use super::{are_limits, factor, Live, Pattern};
 use nigvalds::lent::{Record, Tables};
 
 // The records of a chain, if all lie in range and it ends.
@@ -54,10 +54,10 @@ pub fn records(r: Record, t: &Tables) -> Vec<Vec<usize>> {
     t.heads[..r.m as usize].iter().map(|h| chain(&t.next, r.f as usize, *h).expect("sound tables")).collect()
 }
 
-/// "Tables are sound if ..", of tables that are long enough.
+/// "Tables are sound if ..", of tables that are long enough. Limits that break the rule of an opening, "and zeros, are unsound".
 pub fn is_sound(r: Record, t: &Tables) -> bool {
     match (live(r, t), stored(r, t)) {
-        (Some(live), Some(stored)) => stored == factor(r.m, &live),
+        (Some(live), Some(stored)) => are_limits([r.grade2, r.grade3, r.grade4]) && stored == factor(r.m, &live),
         _ => false,
     }
 }

@@ -1,13 +1,15 @@
 //! Lent tables and lists beside the plain register: each call is made on the library, and everything that it answers and leaves is compared.
 use super::random::Random;
-use super::{add_number, added, factor, path, remove_number, report, size, sound, Live, Number, Pattern, Sizes};
-use nigvalds::lent::{work_places, Changed, Record, Tables};
+use super::{add_number, added, factor, limits_for, open_number, path, remove_number, report, size, sizes_for, sound};
+use super::{Limits, Live, Number, Pattern, Sizes};
+use nigvalds::lent::{work_places, Changed, Opened, Record, Tables};
 
 /// Places that tables and lists have beyond what the sizes need.
 pub const BEYOND: usize = 3;
 
 pub struct World {
     pub sizes: Sizes,
+    pub limits: Limits,
     pub live: Live,
     pub record: Record,
     pub tables: Tables,
@@ -16,15 +18,20 @@ pub struct World {
     pub labels: Vec<u16>,
 }
 
+/// Limits as the library takes them.
+pub fn handed([grade2, grade3, grade4]: Limits) -> nigvalds::Limits {
+    nigvalds::Limits { grade2, grade3, grade4 }
+}
+
 fn narrow(list: Vec<u32>) -> Vec<u16> {
     list.into_iter().map(|x| x as u16).collect()
 }
 
 impl World {
     /// Tables of any contents, opened.
-    pub fn open(s: Sizes, random: &mut Random) -> World {
+    pub fn open(s: Sizes, limits: Limits, random: &mut Random) -> World {
         let (m, n, f, c) = (s.m as usize + BEYOND, s.n as usize + BEYOND, s.f as usize + BEYOND, s.c as usize + BEYOND);
-        let mut tables = Tables {
+        let tables = Tables {
             heads: random.contents(m),
             parents: narrow(random.contents(m)),
             rows: narrow(random.contents(f)),
@@ -34,26 +41,47 @@ impl World {
             book_rows: narrow(random.contents(c)),
             book_next: random.contents(c),
         };
-        let mut work = random.contents(work_places(s.m, s.n, s.f, s.c) + BEYOND);
-        let (before, work_before) = (tables.clone(), work.clone());
-        let opened = tables.open(s.m, s.n, s.f, s.c, &mut work);
-        assert_eq!(opened.number, 0);
-        assert_eq!((opened.record.m, opened.record.n, opened.record.f, opened.record.c), (s.m, s.n, s.f, s.c));
+        let work = random.contents(work_places(s.m, s.n, s.f, s.c) + BEYOND);
         let (touched, labels) = (narrow(random.contents(m)), narrow(random.contents(m)));
-        let world = World { sizes: s, live: Live::new(), record: opened.record, tables, work, touched, labels };
-        world.is_as(&before, &work_before);
+        let mut world = World { sizes: s, limits, live: Live::new(), record: Record::default(), tables, work, touched, labels };
+        assert_eq!(world.reopen(s, limits), 0);
         world
+    }
+
+    /// Opens anew in the tables there are. Gives the number.
+    pub fn reopen(&mut self, s: Sizes, limits: Limits) -> u32 {
+        let expected = open_number(s, limits, |s| self.is_long_for(s));
+        let (tables, work) = (self.tables.clone(), self.work.clone());
+        let opened = self.tables.open(s.m, s.n, s.f, s.c, handed(limits), &mut self.work);
+        if expected != 0 {
+            assert_eq!(opened, Opened { number: expected, record: Record::default() });
+            assert!(self.tables == tables && self.work == work);
+            return expected;
+        }
+        assert_eq!(opened.number, 0);
+        (self.sizes, self.limits, self.live, self.record) = (sizes_for(s), limits_for(limits), Live::new(), opened.record);
+        self.is_as(&tables, &work);
+        0
+    }
+
+    // The tables and the work table have the places that these sizes need.
+    fn is_long_for(&self, s: Sizes) -> bool {
+        let (m, n, f, c, t) = (s.m as usize, s.n as usize, s.f as usize, s.c as usize, &self.tables);
+        let factor = t.heads.len() >= m && t.parents.len() >= m && t.rows.len() >= f && t.counts.len() >= f && t.next.len() >= f;
+        let book = t.book_heads.len() >= n && t.book_rows.len() >= c && t.book_next.len() >= c;
+        factor && book && self.work.len() >= work_places(s.m, s.n, s.f, s.c)
     }
 
     fn places(&self) -> usize {
         work_places(self.sizes.m, self.sizes.n, self.sizes.f, self.sizes.c)
     }
 
-    // Sound tables of the register; nothing beyond the sizes has changed, and the work table is zero within its places.
+    // Sound tables of the register, its sizes and limits; nothing beyond the sizes has changed, and the work table is zero within its places.
     fn is_as(&self, before: &Tables, work: &[u32]) {
         assert!(sound::is_sound(self.record, &self.tables));
         assert_eq!(sound::live(self.record, &self.tables).as_ref(), Some(&self.live));
-        let (s, t) = (self.sizes, &self.tables);
+        let (s, t, r) = (self.sizes, &self.tables, self.record);
+        assert_eq!(([r.m, r.n, r.f, r.c], [r.grade2, r.grade3, r.grade4]), ([s.m, s.n, s.f, s.c], self.limits));
         assert_eq!(t.heads[s.m as usize..], before.heads[s.m as usize..]);
         assert_eq!(t.parents[s.m as usize..], before.parents[s.m as usize..]);
         assert_eq!(t.rows[s.f as usize..], before.rows[s.f as usize..]);
@@ -117,7 +145,7 @@ impl World {
         }
         self.live = after;
         self.record = answer.record;
-        let said = report(tree, &self.factor(), starts);
+        let said = report(self.limits, tree, &self.factor(), starts);
         let k = said.touched.len();
         assert_eq!((answer.touched as usize, answer.entries, answer.grade), (k, said.entries, said.grade));
         assert_eq!((&self.touched[..k], &self.labels[..k]), (&said.touched[..], &said.labels[..]));

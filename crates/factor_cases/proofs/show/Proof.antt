@@ -27,6 +27,9 @@ slice-aggregate-write-all c = search needs
 write-all-requires : tie.Need-write-all-requires Inv-loop2 μ-loop2 Inv-loop μ-loop
 write-all-requires c κs = search needs
 
+show-limits-requires : tie.Need-show-limits-requires Inv-loop2 μ-loop2 Inv-loop μ-loop
+show-limits-requires c κs = search needs
+
 loop-holds : tie.Need-loop-holds Inv-loop2 μ-loop2 Inv-loop μ-loop
 loop-holds c = search needs
 
@@ -71,6 +74,7 @@ show-spec =
     answer-requires
     slice-aggregate-write-all
     write-all-requires
+    show-limits-requires
     loop-holds
     places-requires
     loop2-holds

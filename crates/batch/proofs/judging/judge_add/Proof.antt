@@ -7,6 +7,7 @@ use native.Mathlib.Omega.{arith}
 use borrow.Author.Needs.{needs}
 use borrow.Author.Tests.{eq-eqb, ne-eqb}
 use lib.ListN.{length}
+use Rattle.symbolic.specs.Grades.{Limits}
 use Rattle.tables.specs.Tables.{Tables, tablesOf}
 use Rattle.calls.specs.Refusals.{isAccepted, batchOf}
 use Rattle.calls.specs.Steps.{bookedIn}
@@ -39,11 +40,11 @@ tablesAt s br =
     tablesOf (s .args .heads .now) (s .args .parents .now) (s .args .rows .now) (s .args .counts .now) (s .args .next .now) (s .args .book-heads .now) br (s .args .book-next .now)
 
 -- 7 to 15 did not apply
-accepted-at : (c : tie.Else1) (br : List ℕ) →
-    CanFind (cutWorld (tablesAt (at-plan c) br) (at-plan c .args .free .0) (at-plan c .args .book-free .0)) (at-plan c .args .work .now) →
+accepted-at : (c : tie.Else1) (lim : Limits) (br : List ℕ) →
+    CanFind (cutWorld (tablesAt (at-plan c) br) lim (at-plan c .args .free .0) (at-plan c .args .book-free .0)) (at-plan c .args .work .now) →
     isAccepted (addFound (length (at-plan c .args .heads .now)) (bookWhole (tablesAt (at-plan c) br) (at-plan c .args .book-free .0))
     (at-plan c .args .ids .now) (at-plan c .args .row-counts .now) (at-plan c .args .row-list .now)) ≡ true
-accepted-at c br can =
+accepted-at c lim br can =
     let x = searched (c .before) in
     ap isAccepted (sym (x .find-add .ensures br (book-sound can))) ∙ eq-eqb (x .find-add .result .number) 0 (c .if1 .left)
 
@@ -57,7 +58,7 @@ refused-requires : tie.Need-refused-requires
 refused-requires c κs = search needs
 
 returns : tie.Need-returns
-returns c br can =
+returns c lim br can =
     let x = searched (c .before .before) in
     let s = entry (x .before) in
     add-refused can (s .args .ids .now) (s .args .row-counts .now) (s .args .row-list .now)
@@ -69,9 +70,9 @@ plan-add-requires c κs =
     let s = at-plan (c .before) in
     let br : List ℕ = s .pre .book-rows in
     record {
-      R = bookedIn (cutWorld (tablesAt s br) (s .args .free .0) (s .args .book-free .0)) .columns;
+      R = bookedIn (cutWorld (tablesAt s br) (s .pre .limits) (s .args .free .0) (s .args .book-free .0)) .columns;
       W = batchOf (s .args .ids .now) (s .args .row-counts .now) (s .args .row-list .now);
-      can = add-can (s .pre .can) (s .args .ids .now) (s .args .row-counts .now) (s .args .row-list .now) (accepted-at (c .before) br (s .pre .can));
+      can = add-can (s .pre .can) (s .args .ids .now) (s .args .row-counts .now) (s .args .row-list .now) (accepted-at (c .before) (s .pre .limits) br (s .pre .can));
     }
 
 planned-requires : tie.Need-planned-requires
@@ -81,15 +82,15 @@ same-length : tie.Need-same-length
 same-length c = search needs
 
 returns-2 : tie.Need-returns-2
-returns-2 c br can =
+returns-2 c lim br can =
     let p = plans (c .before .before) in
     let no = p .before .before in
     let s = at-plan no in
     let ids = s .args .ids .now in
     let ns = s .args .row-counts .now in
     let rs = s .args .row-list .now in
-    let ok = accepted-at no br can in
-    let u = bookedIn (cutWorld (tablesAt s br) (s .args .free .0) (s .args .book-free .0)) .columns in
+    let ok = accepted-at no lim br can in
+    let u = bookedIn (cutWorld (tablesAt s br) lim (s .args .free .0) (s .args .book-free .0)) .columns in
     let e = c .planned .ensures in
     add-planned can ids ns rs ok (p .plan-add .ensures u (batchOf ids ns rs) (add-can can ids ns rs ok)) (c .before .if2 .taken)
     (ap verdictNumber e) (ap (λ (v : Verdict). v .plan .first .0) e) (ap (λ (v : Verdict). v .plan .count) e) (ap (λ (v : Verdict). v .plan .entries) e) (ap (λ (v : Verdict). v .plan .used) e)
@@ -101,15 +102,15 @@ same-length-2 : tie.Need-same-length-2
 same-length-2 c = search needs
 
 returns-3 : tie.Need-returns-3
-returns-3 c br can =
+returns-3 c lim br can =
     let p = plans (c .before .before) in
     let no = p .before .before in
     let s = at-plan no in
     let ids = s .args .ids .now in
     let ns = s .args .row-counts .now in
     let rs = s .args .row-list .now in
-    let ok = accepted-at no br can in
-    let u = bookedIn (cutWorld (tablesAt s br) (s .args .free .0) (s .args .book-free .0)) .columns in
+    let ok = accepted-at no lim br can in
+    let u = bookedIn (cutWorld (tablesAt s br) lim (s .args .free .0) (s .args .book-free .0)) .columns in
     add-full can ids ns rs ok (p .plan-add .ensures u (batchOf ids ns rs) (add-can can ids ns rs ok)) (c .before .if2 .left) (ap verdictNumber (c .refused2 .ensures))
 
 pub judge-add-spec : {M : Type 1} → statement M

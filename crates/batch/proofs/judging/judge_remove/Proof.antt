@@ -46,7 +46,7 @@ refused-requires : tie.Need-refused-requires
 refused-requires c κs = search needs
 
 returns : tie.Need-returns
-returns c f g can =
+returns c lim f g can =
     let x = c .before .before .before in
     let s = entry x in
     remove-refused can (s .args .ids .now)
@@ -56,7 +56,7 @@ returns c f g can =
 plan-remove-requires : tie.Need-plan-remove-requires
 plan-remove-requires c κs =
     let s = at-plan (c .before) in
-    let cs = bookedIn (cutWorld (tablesAt s) (s .pre .free) (s .pre .book-free)) .columns in
+    let cs = bookedIn (cutWorld (tablesAt s) (s .pre .limits) (s .pre .free) (s .pre .book-free)) .columns in
     record {
       R = without (s .args .ids .now) cs;
       W = columnsOf (s .args .ids .now) cs;
@@ -70,13 +70,13 @@ same-length : tie.Need-same-length
 same-length c = search needs
 
 returns-2 : tie.Need-returns-2
-returns-2 c f g can =
+returns-2 c lim f g can =
     let p = plans c in
     let no = p .before .before in
     let s = at-plan no in
     let ids = s .args .ids .now in
     let ok = accepted-at no g in
-    let cs = bookedIn (cutWorld (tablesAt s) f g) .columns in
+    let cs = bookedIn (cutWorld (tablesAt s) lim f g) .columns in
     let e = c .planned .ensures in
     remove-planned can ids ok (p .plan-remove .ensures (without ids cs) (columnsOf ids cs) (remove-can can ids ok 0 0))
     (ap verdictNumber e) (ap (λ (v : Verdict). v .plan .first .0) e) (ap (λ (v : Verdict). v .plan .count) e) (ap (λ (v : Verdict). v .plan .entries) e) (ap (λ (v : Verdict). v .plan .used) e)

@@ -5,6 +5,7 @@ use mathlib.Core.List.{List}
 use Prim.Native.Nat.{ℕ}
 use lib.ListN.{length}
 use Rattle.tables.specs.Tables.{tablesOf}
+use Rattle.symbolic.specs.Grades.{Limits}
 use Rattle.symbolic.specs.Columns.{Register}
 use Rattle.calls.specs.Calls.{Change, adding}
 use Rattle.calls.specs.Changes.{effect, touchedBy}
@@ -28,10 +29,10 @@ changed c = c .before .before .before .before .before .before
 
 -- ---- the world and the change
 
-abbrev worldAt : tie.Start → World
-worldAt s =
+abbrev worldAt : tie.Start → Limits → World
+worldAt s lim =
     cutWorld (tablesOf (s .args .heads .now) (s .args .parents .now) (s .args .rows .now) (s .args .counts .now) (s .args .next .now) (s .args .book-heads .now) (s .args .book-rows .now) (s .args .book-next .now))
-    (s .args .free .0) (s .args .book-free .0)
+    lim (s .args .free .0) (s .args .book-free .0)
 
 abbrev changeAt : tie.Start → Change
 changeAt s = adding (s .args .ids .now) (s .args .row-counts .now) (s .args .row-list .now)
@@ -39,7 +40,7 @@ changeAt s = adding (s .args .ids .now) (s .args .row-counts .now) (s .args .row
 write-plan-requires : tie.Need-write-plan-requires
 write-plan-requires c κs =
     let s = entry c in
-    let r : Register = bookedIn (worldAt s) in
+    let r : Register = bookedIn (worldAt s (s .pre .limits)) in
     let k : Change = changeAt s in
     record {
       cs = r .columns;
@@ -89,11 +90,11 @@ same-length-10 : tie.Need-same-length-10
 same-length-10 c = wrote (changed c .before) .write-plan .kept .1 .1 .1 .1 .1 .1 .1 .0
 
 returns : tie.Need-returns
-returns c w can =
+returns c lim w can =
     let y = changed c in
     let x = wrote (y .before) in
     let s = entry (x .before) in
-    let r : Register = bookedIn (worldAt s) in
+    let r : Register = bookedIn (worldAt s lim) in
     let k : Change = changeAt s in
     batch-written can (x .write-plan .kept .1 .1 .1 .1 .0)
     (x .write-plan .ensures (r .columns) (effect r k .register .columns) (effect r k .label) (touchedBy r k) w (can .count) (can .entries) (write-can can))

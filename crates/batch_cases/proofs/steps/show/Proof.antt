@@ -25,6 +25,9 @@ word-requires c κs = search needs
 end-requires : tie.Need-end-requires Inv-loop μ-loop
 end-requires c κs = search needs
 
+row-count-requires : tie.Need-row-count-requires Inv-loop μ-loop
+row-count-requires c κs = search needs
+
 loop-holds : tie.Need-loop-holds Inv-loop μ-loop
 loop-holds c = search needs
 
@@ -54,6 +57,7 @@ show-spec =
     write-all-requires
     word-requires
     end-requires
+    row-count-requires
     loop-holds
     add-j
     show-column-requires

@@ -10,6 +10,9 @@ Inv-loop p pattern m j₀ j = j ≤ m
 abbrev μ-loop : tie.MeasureT-loop
 μ-loop p pattern m j₀ j = m - j
 
+row-count-requires : tie.Need-row-count-requires Inv-loop μ-loop
+row-count-requires c κs = search needs
+
 loop-holds : tie.Need-loop-holds Inv-loop μ-loop
 loop-holds c = search needs
 
@@ -37,6 +40,7 @@ same-columns-spec =
     (tie.spec
     Inv-loop
     μ-loop
+    row-count-requires
     loop-holds
     add-j
     same-column-requires

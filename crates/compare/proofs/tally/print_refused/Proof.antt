@@ -5,10 +5,10 @@ use Rattle.compare.proofs.tally.print_refused.Statement.{statement}
 use Rattle.compare.proofs.tally.print_refused.Tie as tie
 
 abbrev Inv-loop : tie.InvT-loop
-Inv-loop numbers k₀ t3 t4 k = k ≤ 19
+Inv-loop numbers k₀ t3 t4 k = k ≤ 21
 
 abbrev μ-loop : tie.MeasureT-loop
-μ-loop numbers k₀ t3 t4 k = 19 - k
+μ-loop numbers k₀ t3 t4 k = 21 - k
 
 loop-holds : tie.Need-loop-holds Inv-loop μ-loop
 loop-holds c = search needs

@@ -1,14 +1,21 @@
--- `Factor::open` meets its contract: refused by 1 to 5 with everything as lent, or all tables are written. Assumes nothing.
+-- `Factor::open` meets its contract: refused by 1 to 5 or 20 with everything as lent, or all tables are written. Assumes nothing.
 use mathlib.Core.Path.{refl}
 use borrow.Author.Needs.{needs}
+use Rattle.symbolic.specs.Grades.{Limits, limitsOf}
 use Rattle.tables.specs.Tables.{Tables, tablesOf}
 use Rattle.factor.proofs.Openings.{open-refused, open-writes, open-done}
 use Rattle.factor.proofs.Factor.open.Statement.{statement}
 use Rattle.factor.proofs.Factor.open.Tie as tie
 
 -- ---- the places, named
+abbrev ruled : tie.After-early → tie.After-are-limits
+ruled c = c .before .before .before .before .before .before .before .before .before .before
+
+abbrev limited : tie.After-are-limits → tie.After-default-limits
+limited c = c .before
+
 abbrev sized : tie.After-early → tie.After-default-records
-sized c = c .before .before .before .before .before .before .before .before .before .before
+sized c = limited (ruled c) .before
 
 abbrev entry : tie.After-default-records → tie.Start
 entry c = c .before .before .before .before .before .before .before .before .before .before
@@ -16,8 +23,17 @@ entry c = c .before .before .before .before .before .before .before .before .bef
 abbrev tablesAt : tie.Start → Tables
 tablesAt s = tablesOf (s .args .heads .now) (s .args .parents .now) (s .args .rows .now) (s .args .counts .now) (s .args .next .now) (s .args .book-heads .now) (s .args .book-rows .now) (s .args .book-next .now)
 
+abbrev limitsAt : tie.Start → Limits
+limitsAt s = limitsOf (s .args .grade2) (s .args .grade3) (s .args .grade4)
+
 default-records-requires : tie.Need-default-records-requires
 default-records-requires c κs = search needs
+
+default-limits-requires : tie.Need-default-limits-requires
+default-limits-requires c κs = search needs
+
+are-limits-requires : tie.Need-are-limits-requires
+are-limits-requires c κs = search needs
 
 early-requires : tie.Need-early-requires
 early-requires c κs = search needs
@@ -53,14 +69,16 @@ returns : tie.Need-returns
 returns c =
     let e : tie.After-early = c .before in
     let s : tie.Start = entry (sized e) in
-    open-refused (s .args .m) (s .args .n) (s .args .f) (s .args .c) (tablesAt s) (s .args .work .now) (sized e .default-records .ensures) (e .early .ensures) (c .if1 .taken)
+    open-refused (s .args .m) (s .args .n) (s .args .f) (s .args .c) (limitsAt s) (tablesAt s) (s .args .work .now) (sized e .default-records .ensures)
+    (limited (ruled e) .default-limits .ensures) (ruled e .are-limits .ensures) (e .early .ensures) (c .if1 .taken)
 
 write-requires : tie.Need-write-requires
 write-requires c κs =
     let x : tie.Else1 = c .before .before .before .before .before .before .before .before .before in
     let e : tie.After-early = x .before in
     let s : tie.Start = entry (sized e) in
-    open-writes (s .args .m) (s .args .n) (s .args .f) (s .args .c) (tablesAt s) (s .args .work .now) (sized e .default-records .ensures) (e .early .ensures) (x .if1 .left)
+    open-writes (s .args .m) (s .args .n) (s .args .f) (s .args .c) (limitsAt s) (tablesAt s) (s .args .work .now) (sized e .default-records .ensures)
+    (limited (ruled e) .default-limits .ensures) (ruled e .are-limits .ensures) (e .early .ensures) (x .if1 .left)
 
 abbrev written : tie.After-slice-known18 → tie.After-write
 written c = c .before .before .before .before .before .before .before .before .before .before .before .before .before .before .before .before .before .before
@@ -98,13 +116,16 @@ returns-2 c =
     let x : tie.Else1 = d .before .before .before .before .before .before .before .before .before .before in
     let e : tie.After-early = x .before in
     let s : tie.Start = entry (sized e) in
-    open-done (s .args .m) (s .args .n) (s .args .f) (s .args .c) (tablesAt s) (s .args .work .now) (sized e .default-records .ensures) (e .early .ensures) (x .if1 .left) (d .write .ensures)
+    open-done (s .args .m) (s .args .n) (s .args .f) (s .args .c) (limitsAt s) (tablesAt s) (s .args .work .now) (sized e .default-records .ensures)
+    (limited (ruled e) .default-limits .ensures) (ruled e .are-limits .ensures) (e .early .ensures) (x .if1 .left) (d .write .ensures)
 
 pub open-spec : {M : Type 1} → statement M
 open-spec =
     tie.close
     (tie.spec
     default-records-requires
+    default-limits-requires
+    are-limits-requires
     early-requires
     same-length
     same-length-2

@@ -1,16 +1,18 @@
--- `admission::read_through` meets its contract: the work table is made ready, the tables are read through within their sizes, and the first W work places are
--- cleared.
+-- `admission::read_through` meets its contract: the work table is made ready, the tables are read through within their sizes, the first W work places are
+-- cleared, and the limits are tested.
 -- Assumes nothing.
 use mathlib.Core.Path.{_≡_, sym, ap, _∙_}
 use mathlib.Core.List.{List}
 use Prim.Native.Nat.{ℕ}
 use native.Mathlib.Omega.{arith}
 use borrow.Author.Needs.{needs}
+use borrow.Author.Tests.{not-true, not-false}
+use Rattle.workspace.specs.Regions.{zeroFirst}
 use Rattle.soundness.specs.ReadThrough.{madeReady}
 use Rattle.tables.specs.Tables.{Tables, State, tablesOf}
 use Rattle.calls.specs.Refusals.{workFor}
 use Rattle.factor.specs.Entries.{stateOf}
-use Rattle.factor.proofs.Cutting.{Cut, cut, read-sound, can-read-through, read-room, read-clears}
+use Rattle.factor.proofs.Cutting.{Cut, cut, read-unsound, read-limits, can-read-through, read-room, read-clears}
 use Rattle.factor.proofs.admission.read_through.Statement.{statement}
 use Rattle.factor.proofs.admission.read_through.Tie as tie
 
@@ -93,18 +95,37 @@ clear-requires c κs =
     let d : tie.After-make-ready = lent r in
     omega (arith, read-room (stateAt (entry d)) (entry d .pre) (ready-is d) (r .read-through .ensures .1), c .work-need .ensures)
 
+-- the first W work places are zero
+work-is : (k : tie.After-clear) → k .clear .last .0 ≡ zeroFirst (workFor (stateAt (entry (lent (read (k .before)))) .sizes)) (entry (lent (read (k .before))) .args .work .now)
+work-is k =
+    let n : tie.After-work-need = k .before in
+    let r : tie.After-read-through = read n in
+    let d : tie.After-make-ready = lent r in
+    let s : tie.Start = entry d in
+    k .clear .ensures ∙ read-clears (stateAt s) (s .pre) (ready-is d) (r .read-through .ensures .1) (n .work-need .ensures)
+
 same-length : tie.Need-same-length
 same-length c = search needs
 
 returns : tie.Need-returns
 returns c =
-    let k : tie.After-clear = c .before .before in
-    let n : tie.After-work-need = k .before in
-    let r : tie.After-read-through = read n in
-    let d : tie.After-make-ready = lent r in
-    let s : tie.Start = entry d in
-    let o = r .read-through .ensures .1 in
-    (r .read-through .ensures .0 ∙ read-sound (stateAt s) (s .pre), k .clear .ensures ∙ read-clears (stateAt s) (s .pre) (ready-is d) o (n .work-need .ensures))
+    let k : tie.After-clear = c .before .before .before in
+    let r : tie.After-read-through = read (k .before) in
+    let s : tie.Start = entry (lent r) in
+    (read-unsound (stateAt s) (s .pre) (r .read-through .ensures .0) (not-true (r .read-through .result) (c .if1 .taken)), work-is k)
+
+are-limits-requires : tie.Need-are-limits-requires
+are-limits-requires c κs = search needs
+
+same-length-2 : tie.Need-same-length-2
+same-length-2 c = search needs
+
+returns-2 : tie.Need-returns-2
+returns-2 c =
+    let k : tie.After-clear = c .before .before .before .before in
+    let r : tie.After-read-through = read (k .before) in
+    let s : tie.Start = entry (lent r) in
+    (read-limits (stateAt s) (s .pre) (r .read-through .ensures .0) (not-false (r .read-through .result) (c .before .if1 .left)) (c .are-limits .ensures), work-is k)
 
 pub read-through-spec : {M : Type 1} → statement M
 read-through-spec =
@@ -127,4 +148,7 @@ read-through-spec =
     work-need-requires
     clear-requires
     same-length
-    returns)
+    returns
+    are-limits-requires
+    same-length-2
+    returns-2)
