@@ -1,7 +1,7 @@
 # make check               prove the listing program and all below it, and run it on the example
 # make test                the gate (rt ci), then header, C example, Rust package, an installation, the picture, paths in proofs and crates.txt
 # make install PREFIX=DIR  archive, header and pkg-config file
-# make bench               the library beside plain C, a table of ratios
+# make bench               the library beside plain C, tables of ratios
 # make picture             docs/pattern.svg, from the example's stored run
 PREFIX ?= /usr/local
 CC ?= cc

@@ -2,36 +2,19 @@
      inner   a batch on tables known to be sound: plain C's inner way; the library's unchecked entries, run by bench_driver
      check   reading all tables through
      public  a batch with all input checked first
+   A second table has questions (questions.c).
    usage: bench [seed [passes]] */
-#include "plain.h"
+#include "measure.h"
 #include "ours.h"
+#include "plain.h"
+#include "questions.h"
 #include "workload.h"
 #include <stdio.h>
 #include <stdlib.h>
 #include <string.h>
-#include <time.h>
 
 enum { INNER, OUR_INNER, CHECK, OUR_CHECK, PUBLIC, OUR_PUBLIC, KINDS };
-static const char *shape_name[] = {"nested", "band"};
 static uint16_t touched[4096], labels[4096];
-
-/* processor time in microseconds: other programs on the machine do not count */
-static double now(void) { struct timespec t; clock_gettime(CLOCK_PROCESS_CPUTIME_ID, &t); return 1e6 * t.tv_sec + 1e-3 * t.tv_nsec; }
-static void die(const char *why) { printf("FAIL: %s\n", why); exit(1); }
-static int rising(const void *a, const void *b) { double x = *(const double *)a, y = *(const double *)b; return x < y ? -1 : x > y; }
-static double median(double *t, size_t n) { qsort(t, n, sizeof *t, rising); return t[n / 2]; }
-
-/* the same columns, parents and entries */
-static int same(const Fac *a, const Fac *b)
-{
-    for (uint32_t j = 0; j < a->m; j++) {
-        uint32_t p = a->fhead[j], q = b->fhead[j];
-        for (; p && q; p = a->fnext[p - 1], q = b->fnext[q - 1])
-            if (a->frow[p - 1] != b->frow[q - 1] || a->fmult[p - 1] != b->fmult[q - 1]) return 0;
-        if (p || q || a->parent[j] != b->parent[j]) return 0;
-    }
-    return 1;
-}
 
 static Ans plain_batch(Fac *f, const Flat *x, size_t b, int public)
 {
@@ -110,5 +93,6 @@ int main(int argc, char **argv)
            "---|---|---|---|---|---|---|---|---|---|---|---|---|---|");
     for (int shape = 0; shape < 2; shape++) for (int q = 0; q < 2; q++) for (int z = 0; z < 3; z++) row(shape, ms[q], rs[z], pairs[shape][z], seed, passes, 0);
     for (int z = 0; z < 3; z++) row(NESTED, 4096, rs[z], pairs[NESTED][z], seed, passes, 1);
+    questions(seed, passes);
     return 0;
 }

@@ -1,13 +1,5 @@
 /* The proved library over the tables of plain.h: the public entries by the host interface, the unchecked ones by the crate bench_driver. */
 #include "ours.h"
-#include "nigvalds.h"
-
-typedef struct { uint32_t number, done; nigvalds_factor factor; } Ran;
-
-/* crates/bench_driver: a check, then the batches of the plan by the unchecked entries */
-Ran bench_run_batches(nigvalds_factor factor, NIGVALDS_CHANGED_TABLES, uint16_t *touched, size_t touched_length, uint16_t *labels, size_t labels_length,
-                         const uint32_t *plan, size_t plan_length, const uint32_t *ids, size_t ids_length, const uint32_t *row_counts,
-                         size_t row_counts_length, const uint32_t *row_list, size_t row_list_length);
 
 #define TABLES(f)                                                                                                                                   \
     (f)->fhead, (f)->m, (f)->parent, (f)->m, (f)->frow, (f)->F, (f)->fmult, (f)->F, (f)->fnext, (f)->F, (f)->bhead, (f)->n, (f)->brow, (f)->C,      \
@@ -37,3 +29,10 @@ Ans ours_public(Fac *f, const Flat *x, size_t b, uint16_t *touched, uint16_t *la
 }
 
 uint32_t ours_check(Fac *f) { return nigvalds_check(record(f), TABLES(f)).number; }
+
+uint32_t ours_meets(Fac *f, uint32_t i, uint32_t *list, size_t places) { return nigvalds_meets(record(f), TABLES(f), list, places, i, 0).value; }
+
+Asked ours_meets_all(Fac *f, const uint32_t *rows, size_t n, uint32_t *list, size_t places)
+{ return bench_meets(record(f), TABLES(f), list, places, rows, n); }
+
+Asked ours_common_all(Fac *f, const uint32_t *rows, size_t n, size_t r) { return bench_common(record(f), TABLES(f), rows, n, r); }

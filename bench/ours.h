@@ -1,8 +1,25 @@
 /* The proved library over the tables of plain.h. */
 #ifndef OURS_H
 #define OURS_H
+#include "nigvalds.h"
 #include "plain.h"
 #include "workload.h"
+
+/* ---- crates/bench_driver: each begins with a check, which may refuse it, and then uses the unchecked entries */
+
+typedef struct { uint32_t number, done; nigvalds_factor factor; } Ran;
+typedef struct { uint32_t number, done; uint64_t sum; } Asked; /* how many questions were asked, and the sum of their values */
+
+/* the batches of the plan, in order */
+Ran bench_run_batches(nigvalds_factor factor, NIGVALDS_CHANGED_TABLES, uint16_t *touched, size_t touched_length, uint16_t *labels, size_t labels_length,
+                      const uint32_t *plan, size_t plan_length, const uint32_t *ids, size_t ids_length, const uint32_t *row_counts,
+                      size_t row_counts_length, const uint32_t *row_list, size_t row_list_length);
+/* the columns that meet each row of row_list, from place 0 of list on */
+Asked bench_meets(nigvalds_factor factor, NIGVALDS_READ_TABLES, uint32_t *list, size_t list_length, const uint32_t *row_list, size_t row_list_length);
+/* the common row of each r rows of row_list, one group after another */
+Asked bench_common(nigvalds_factor factor, NIGVALDS_READ_TABLES, const uint32_t *row_list, size_t row_list_length, size_t r);
+
+/* ---- the same over the tables of plain.h, and the public entries */
 
 /* a list of batches by the unchecked entries: the number that refused one, or 0 */
 uint32_t ours_run(Fac *f, const Flat *x, uint16_t *touched, uint16_t *labels);
@@ -10,4 +27,9 @@ uint32_t ours_run(Fac *f, const Flat *x, uint16_t *touched, uint16_t *labels);
 Ans ours_public(Fac *f, const Flat *x, size_t b, uint16_t *touched, uint16_t *labels);
 /* 0 when sound, or the number */
 uint32_t ours_check(Fac *f);
+/* the columns that meet row i by the public entry: how many, or 0 where it is refused */
+uint32_t ours_meets(Fac *f, uint32_t i, uint32_t *list, size_t places);
+/* questions by the unchecked entries: the columns that meet each of n rows; the common rows of n rows, r at a time */
+Asked ours_meets_all(Fac *f, const uint32_t *rows, size_t n, uint32_t *list, size_t places);
+Asked ours_common_all(Fac *f, const uint32_t *rows, size_t n, size_t r);
 #endif

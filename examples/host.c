@@ -1,4 +1,4 @@
-/* A host of Nigvalds: opens a factor, adds and removes columns, asks, reads columns, meets refusals, and opens anew with limits of its own. */
+/* A host of Nigvalds: opens a factor, adds and removes columns, asks, reads columns, is refused, and opens anew with limits of its own. */
 #include <inttypes.h>
 #include <stdio.h>
 
@@ -44,6 +44,49 @@ static void path(nigvalds_factor factor, uint32_t j) {
     printf(", first place still %" PRIu32 "\n", list[0]);
 }
 
+/* The columns that meet row i, in a list of so many places. */
+static void meets(nigvalds_factor factor, uint32_t i, size_t places) {
+    uint32_t list[M];
+    nigvalds_reply r = nigvalds_meets_in(&tables, factor, list, places, i, 0);
+    printf("columns that meet %" PRIu32 ":", i);
+    for (uint32_t k = 0; k < r.value; k++) {
+        printf(" %" PRIu32, list[k]);
+    }
+    if (r.number != NIGVALDS_ACCEPTED) {
+        printf(" no %" PRIu32 ", %s", r.number, nigvalds_refusal_text(r.number));
+    }
+    printf("\n");
+}
+
+/* The smallest row on the paths of some rows. */
+static void common(nigvalds_factor factor, const uint32_t *rows, size_t count) {
+    nigvalds_reply r = nigvalds_common_in(&tables, factor, rows, count);
+    printf("common row of");
+    for (size_t k = 0; k < count; k++) {
+        printf(" %" PRIu32, rows[k]);
+    }
+    if (r.number != NIGVALDS_ACCEPTED) {
+        printf(": no %" PRIu32 ", %s\n", r.number, nigvalds_refusal_text(r.number));
+        return;
+    }
+    printf(": %" PRIu32 "\n", r.value);
+}
+
+/* Both, and what refuses them. */
+static void meet(nigvalds_factor factor) {
+    const uint32_t rows[] = {1, 2, 4, 5, 6};
+    meets(factor, 4, M);
+    meets(factor, 3, 3);
+    meets(factor, 3, 2);
+    meets(factor, 6, 0);
+    common(factor, rows, 1);
+    common(factor, rows, 2);
+    common(factor, rows, 3);
+    common(factor, rows, 4);
+    common(factor, rows, 5);
+    common(factor, rows, 0);
+}
+
 /* Numbers that questions answer. */
 static void ask(nigvalds_factor factor) {
     uint32_t list[4];
@@ -87,6 +130,7 @@ int main(void) {
     show(factor);
     path(factor, 1);
     ask(factor);
+    meet(factor);
 
     const uint32_t id[] = {4}, count[] = {2}, pair[] = {4, 4}, repeated[] = {3, 3};
     report("add 4 with rows 4 4", nigvalds_add_in(&tables, factor, id, 1, count, 1, pair, 2));
@@ -95,6 +139,7 @@ int main(void) {
     report("remove 2", a);
     factor = a.factor;
     show(factor);
+    meets(factor, 4, M);
 
     printf("check: %" PRIu32 "\n", nigvalds_check_in(&tables, factor).number);
     tables.parents[0] = 2;

@@ -15,8 +15,8 @@
  * TABLES. The host owns all memory. Rows are 1 to m, ids 1 to n, factor records 1 to F, book records 1 to C; what belongs to number k stands at place k - 1.
  * A factor column is a chain of records from its head, rows rising; next 0 ends it. The book keeps the rows of each live column likewise. Tables may be longer
  * than the sizes ask: places beyond keep their content. Rows, parents, multiplicities and the lists of touched columns and labels have 16-bit places; heads,
- * nexts, the work table, the lists of a batch and the answers of path and column 32-bit ones. The host may read all tables at any time, store them and lend
- * them again with their record.
+ * nexts, the work table, the lists of a batch, the rows that a question names and the answers of path, column and meets 32-bit ones. The host may read all
+ * tables at any time, store them and lend them again with their record.
  *
  * WHAT IS PROMISED. Every function is proved to meet its contract (crates/nigvalds), asks nothing of the contents or lengths of what is lent, always returns,
  * allocates nothing and keeps no pointer. There is no global state: calls on different tables, each with its own work table and lists, may run in parallel. A
@@ -28,7 +28,8 @@
  *   - what a call may write (a pointer without const) overlaps nothing else that is lent to the same call, and nobody else uses it meanwhile.
  *
  * COST. Each function says its class:
- *   - whole: in proportion to m + n + F + C. Every call but a reading reads all tables through, or writes them all; a batch also pays for what it touches;
+ *   - whole: in proportion to m + n + F + C. Every call but a reading reads all tables through, or writes them all; a batch also pays for what it touches, a
+ *     question for what it reads;
  *   - constant: a few loads.
  *
  * AFTER NUMBER 6 the tables are as they were lent: something else has written them, or the record is not theirs, or its limits of the grades break the rule
@@ -45,7 +46,7 @@
 extern "C" {
 #endif
 
-#define NIGVALDS_VERSION "0.2.0"
+#define NIGVALDS_VERSION "0.3.0"
 
 /* ---- sizes */
 
@@ -53,7 +54,7 @@ extern "C" {
 #define NIGVALDS_MOST_IDS 16384u      /* n: 1 to this */
 #define NIGVALDS_MOST_RECORDS 1048576u /* F: m to this */
 #define NIGVALDS_MOST_BOOKED 262144u  /* C: 1 to this */
-#define NIGVALDS_MOST_COLUMNS 64u     /* columns in a batch */
+#define NIGVALDS_MOST_COLUMNS 64u     /* columns in a batch, and rows that nigvalds_common is given */
 #define NIGVALDS_MOST_COLUMN_ROWS 256u /* rows in a column */
 
 /* F when an opening asks for 0. */
@@ -79,7 +80,7 @@ enum {
     NIGVALDS_BOOKED = 4,
     NIGVALDS_SHORT = 5,
     NIGVALDS_UNSOUND = 6, /* in check, the answer no */
-    NIGVALDS_SHAPE = 7,
+    NIGVALDS_SHAPE = 7, /* batches and common alone */
     NIGVALDS_ID_OUTSIDE = 8,
     NIGVALDS_ID_REPEATED = 9,
     NIGVALDS_ID_LIVE = 10,
@@ -89,10 +90,10 @@ enum {
     NIGVALDS_ROW_ORDER = 14,
     NIGVALDS_BOOK_FULL = 15,
     NIGVALDS_FACTOR_FULL = 16,
-    NIGVALDS_ASKED_OUTSIDE = 17,
-    NIGVALDS_LIST_ENDS = 18,
-    NIGVALDS_NO_COMMAND = 19, /* the listing program alone */
-    NIGVALDS_LIMITS = 20      /* an opening alone */
+    NIGVALDS_ASKED_OUTSIDE = 17, /* questions alone */
+    NIGVALDS_LIST_ENDS = 18,     /* path, column and meets alone */
+    NIGVALDS_NO_COMMAND = 19,    /* the listing program alone */
+    NIGVALDS_LIMITS = 20         /* an opening alone */
 };
 
 /* What a number says, in plain words. */
@@ -105,7 +106,7 @@ static inline const char *nigvalds_refusal_text(uint32_t number) {
     case NIGVALDS_BOOKED: return "C is outside 1 to 262,144";
     case NIGVALDS_SHORT: return "a table or list that is needed is too short";
     case NIGVALDS_UNSOUND: return "the tables are not sound";
-    case NIGVALDS_SHAPE: return "not 1 to 64 columns, or not as many counts as ids";
+    case NIGVALDS_SHAPE: return "not 1 to 64 columns or rows named, or not as many counts as ids";
     case NIGVALDS_ID_OUTSIDE: return "an id is outside 1 to n";
     case NIGVALDS_ID_REPEATED: return "an id stands earlier in the batch";
     case NIGVALDS_ID_LIVE: return "an id to add is live";
@@ -190,7 +191,8 @@ nigvalds_changed nigvalds_add(nigvalds_factor factor, NIGVALDS_CHANGED_TABLES, u
 nigvalds_changed nigvalds_remove(nigvalds_factor factor, NIGVALDS_CHANGED_TABLES, uint16_t *touched, size_t touched_length, uint16_t *labels,
                                  size_t labels_length, const uint32_t *ids, size_t ids_length);
 
-/* Whether the tables are sound and the record's limits keep the rule: number 0, 6 for no, or 1 to 5 where sizes or tables cannot be used; value 0. Cost: whole. */
+/* Whether the tables are sound and the record's limits keep the rule: number 0, 6 for no, or 1 to 5 where sizes or tables cannot be used; value 0. Refusals
+   1 to 6. Cost: whole. */
 nigvalds_reply nigvalds_check(nigvalds_factor factor, NIGVALDS_READ_TABLES);
 
 /* The multiplicity of row i in column j, 0 when absent. Refusals 1 to 6 and 17. Cost: whole. */
@@ -205,6 +207,16 @@ nigvalds_reply nigvalds_path(nigvalds_factor factor, NIGVALDS_READ_TABLES, uint3
 
 /* Column j likewise, row then multiplicity, two places an entry, and its number of entries. Refusals 1 to 6, 17, 18. Cost: whole. */
 nigvalds_reply nigvalds_column(nigvalds_factor factor, NIGVALDS_READ_TABLES, uint32_t *list, size_t list_length, uint32_t j, size_t place);
+
+/* The columns whose pattern holds row i, ascending, a column to a place from the given place of the list on, and the number of places filled. The last is i
+   itself; i places are always enough. Refusals 1 to 6, 17, 18. Cost: whole; after the read-through the parents of the rows below i, the chains, up to row i, of the
+   columns whose parent is below i and holds i, and i places of the work table to clear: no second pass over F. */
+nigvalds_reply nigvalds_meets(nigvalds_factor factor, NIGVALDS_READ_TABLES, uint32_t *list, size_t list_length, uint32_t i, size_t place);
+
+/* The smallest row that lies on the paths of all rows of row_list, 1 to 64 of them, or 0 where there is none. A path starts with its own row, so one row alone
+   gives itself; a row may be named again. Refusals 1 to 7 and 17; no row, or more than 64, is 7 whatever the rows are. Cost: whole; after the read-through the
+   rows on the paths named, up to where they join. */
+nigvalds_reply nigvalds_common(nigvalds_factor factor, NIGVALDS_READ_TABLES, const uint32_t *row_list, size_t row_list_length);
 
 /* The entry at a record: start at heads[j - 1], go on at the entry's next. Reads nothing else and checks nothing; a record that is 0, past a table or free
    gives the end. On sound tables a column ends after at most m entries; on others a chain may run in a circle, so count. Cost: constant. */
@@ -291,6 +303,14 @@ static inline nigvalds_reply nigvalds_path_in(const nigvalds_tables *t, nigvalds
 
 static inline nigvalds_reply nigvalds_column_in(const nigvalds_tables *t, nigvalds_factor factor, uint32_t *list, size_t list_length, uint32_t j, size_t place) {
     return nigvalds_column(factor, NIGVALDS_PARTS(t), list, list_length, j, place);
+}
+
+static inline nigvalds_reply nigvalds_meets_in(const nigvalds_tables *t, nigvalds_factor factor, uint32_t *list, size_t list_length, uint32_t i, size_t place) {
+    return nigvalds_meets(factor, NIGVALDS_PARTS(t), list, list_length, i, place);
+}
+
+static inline nigvalds_reply nigvalds_common_in(const nigvalds_tables *t, nigvalds_factor factor, const uint32_t *row_list, size_t row_list_length) {
+    return nigvalds_common(factor, NIGVALDS_PARTS(t), row_list, row_list_length);
 }
 
 static inline nigvalds_entry nigvalds_read_in(const nigvalds_tables *t, uint32_t record) {

@@ -157,7 +157,7 @@ class Model:
 
     def callee(self, path, dots):
         fits = [g for g in self.fns if g.name == path[-1] and bool(dots) == bool(g.params and g.params[0][0] == 'self')]
-        for test in (lambda g: len(path) > 1 and not dots and path[-2] in (g.module, g.owner, g.crate if not g.module else ''),
+        for test in (lambda g: len(path) > 1 and not dots and path[-2] in (g.module, g.owner, g.crate if not g.module else '') and path[-3:-2] in ([], ['crate'], [g.crate]),
                      lambda g: g.crate == self.f.crate and (dots or len(path) == 1), lambda g: dots):
             some = [g for g in fits if test(g)]
             own = [g for g in some if g.crate == self.f.crate] or some

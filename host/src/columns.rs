@@ -1,4 +1,4 @@
-//! What is read of a factor: entries of a column, whole columns, paths.
+//! What is read of a factor: entries of a column, whole columns, paths, and the columns that meet a row.
 use crate::lent::Tables;
 use std::fmt;
 
@@ -93,27 +93,39 @@ impl<'a> Iterator for Columns<'a> {
     }
 }
 
-/// The rows of a path, from its column up to the root.
-pub struct Path {
-    rows: std::vec::IntoIter<u32>,
+// An answer that the library writes to a list, a row or column to a place: a type with its documentation.
+macro_rules! listed {
+    ($($(#[$doc:meta])* $name:ident;)*) => {
+        $($(#[$doc])*
+        pub struct $name {
+            places: std::vec::IntoIter<u32>,
+        }
+
+        impl $name {
+            pub(crate) fn new(places: Vec<u32>) -> $name {
+                $name { places: places.into_iter() }
+            }
+        }
+
+        impl Iterator for $name {
+            type Item = u32;
+
+            fn next(&mut self) -> Option<u32> {
+                self.places.next()
+            }
+
+            fn size_hint(&self) -> (usize, Option<usize>) {
+                self.places.size_hint()
+            }
+        }
+
+        impl ExactSizeIterator for $name {})*
+    };
 }
 
-impl Path {
-    pub(crate) fn new(rows: Vec<u32>) -> Path {
-        Path { rows: rows.into_iter() }
-    }
+listed! {
+    /// The rows of a path, from its column up to the root.
+    Path;
+    /// The columns whose pattern holds a row, rising; the last is the row's own.
+    Meets;
 }
-
-impl Iterator for Path {
-    type Item = u32;
-
-    fn next(&mut self) -> Option<u32> {
-        self.rows.next()
-    }
-
-    fn size_hint(&self) -> (usize, Option<usize>) {
-        self.rows.size_hint()
-    }
-}
-
-impl ExactSizeIterator for Path {}

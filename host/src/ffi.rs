@@ -114,6 +114,8 @@ declare! {
     fn nigvalds_parent(factor: Record; read read; j: u32) -> Reply;
     fn nigvalds_path(factor: Record; read read; list: *mut u32, list_length: usize, j: u32, place: usize) -> Reply;
     fn nigvalds_column(factor: Record; read read; list: *mut u32, list_length: usize, j: u32, place: usize) -> Reply;
+    fn nigvalds_meets(factor: Record; read read; list: *mut u32, list_length: usize, i: u32, place: usize) -> Reply;
+    fn nigvalds_common(factor: Record; read read; row_list: *const u32, row_list_length: usize) -> Reply;
 }
 
 extern "C" {

@@ -142,6 +142,17 @@ impl Tables {
         read!(self, work; nigvalds_column(record) list.as_mut_ptr(), list.len(), j, place)
     }
 
+    /// The columns whose pattern holds row i, ascending, a column to a place from the given place of the list on. The value is the number of places filled;
+    /// 17 for a row outside 1 to m, then 18 for a list that ends before the answer does.
+    pub fn meets(&self, record: Record, work: &mut [u32], list: &mut [u32], i: u32, place: usize) -> Reply {
+        read!(self, work; nigvalds_meets(record) list.as_mut_ptr(), list.len(), i, place)
+    }
+
+    /// The smallest row that lies on the paths of all of these rows, 0 where there is none; 7 for no row or more than 64, then 17 for one outside 1 to m.
+    pub fn common(&self, record: Record, work: &mut [u32], rows: &[u32]) -> Reply {
+        read!(self, work; nigvalds_common(record) rows.as_ptr(), rows.len())
+    }
+
     /// The entry at a record.
     pub fn read(&self, record: u32) -> Read {
         // SAFETY: each pointer comes from a vector of its length, and the library only reads.

@@ -20,7 +20,7 @@ mod ffi;
 pub mod lent;
 mod refusal;
 
-pub use columns::{Column, Columns, Entries, Entry, Path};
+pub use columns::{Column, Columns, Entries, Entry, Meets, Path};
 pub use lent::Limits;
 pub use refusal::Refusal;
 
@@ -163,6 +163,39 @@ impl Factor {
         let reply = self.tables.column(self.record, &mut self.work.borrow_mut(), &mut list, j, 0);
         answered(reply.number, 0)?;
         Ok(list.chunks_exact(2).take(reply.value as usize).map(|e| Entry { row: e[0], multiplicity: e[1] }).collect())
+    }
+
+    /// The columns whose pattern holds row i, rising; the last is i itself. A row outside 1 to m is refused by [`Refusal::AskedOutside`].
+    ///
+    /// ```
+    /// # let mut factor = nigvalds::Factor::open(5, 8, 0, 16)?;
+    /// factor.add(&[(1, &[1, 3]), (2, &[1, 4]), (3, &[2, 3])])?;
+    /// assert_eq!(factor.meets(4)?.collect::<Vec<_>>(), [1, 3, 4]);
+    /// assert_eq!(factor.meets(6).err(), Some(nigvalds::Refusal::AskedOutside));
+    /// # Ok::<(), nigvalds::Refusal>(())
+    /// ```
+    pub fn meets(&self, i: u32) -> Result<Meets, Refusal> {
+        let mut list = vec![0; self.record.m as usize];
+        let reply = self.tables.meets(self.record, &mut self.work.borrow_mut(), &mut list, i, 0);
+        answered(reply.number, 0)?;
+        list.truncate(reply.value as usize);
+        Ok(Meets::new(list))
+    }
+
+    /// The smallest row that lies on the paths of all of these rows; none where there is no such row. A path starts with its own row, so one row alone gives
+    /// itself, and a row may be named again. No row or more than 64 are refused by [`Refusal::Shape`], then one outside 1 to m by [`Refusal::AskedOutside`].
+    ///
+    /// ```
+    /// # let mut factor = nigvalds::Factor::open(5, 8, 0, 16)?;
+    /// factor.add(&[(1, &[1, 3]), (2, &[1, 4]), (3, &[2, 3])])?; // paths 1 3 4 and 2 3 4; 5 is alone
+    /// assert_eq!(factor.common(&[1, 2])?, Some(3));
+    /// assert_eq!(factor.common(&[1, 5])?, None);
+    /// assert_eq!(factor.common(&[]), Err(nigvalds::Refusal::Shape));
+    /// # Ok::<(), nigvalds::Refusal>(())
+    /// ```
+    pub fn common(&self, rows: &[u32]) -> Result<Option<u32>, Refusal> {
+        let reply = self.tables.common(self.record, &mut self.work.borrow_mut(), rows);
+        answered(reply.number, 0).map(|()| (reply.value != 0).then_some(reply.value))
     }
 
     /// All columns, read entry by entry without a look at the rest of the tables.

@@ -70,7 +70,7 @@ refusals! {
     4 Booked "C is outside 1 to 262,144";
     5 Short "a table or list that is needed is too short";
     6 Unsound "the tables are not sound";
-    7 Shape "not 1 to 64 columns, or not as many counts as ids";
+    7 Shape "not 1 to 64 columns or rows named, or not as many counts as ids";
     8 IdOutside { position } "an id is outside 1 to n";
     9 IdRepeated { position } "an id stands earlier in the batch";
     10 IdLive { position } "an id to add is live";

@@ -90,6 +90,13 @@ fn calls_agree(record: Record, t: &mut Tables, w: &World) -> bool {
     assert_eq!(t.parent(record, &mut work, 1).number, number);
     assert_eq!(t.path(record, &mut work, &mut list, 1, 0).number, number);
     assert_eq!(t.column(record, &mut work, &mut list, 1, 0).number, number);
+    assert_eq!(t.common(record, &mut work, &[1]).number, number);
+    let reply = t.meets(record, &mut work, &mut list, record.m, 0);
+    assert_eq!(reply.number, number);
+    if sound {
+        let columns: Vec<u32> = (1..=record.m).filter(|j| t.multiplicity(record, &mut work, record.m, *j).value != 0).collect();
+        assert_eq!(list[..reply.value as usize], columns);
+    }
     assert_eq!(*t, before);
     if !sound {
         assert_eq!(t.add(record, &mut work, &mut touched, &mut labels, &[1], &[1], &[1]).number, 6);

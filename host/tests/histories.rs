@@ -30,9 +30,11 @@ fn random_histories() {
             numbers[number as usize] += 1;
             if random.once_in(10) {
                 world.ask();
+                world.ask_meeting(&mut random);
             }
         }
         world.ask();
+        world.ask_meeting(&mut random);
     }
     for number in [0, 1, 2, 3, 4, 5, 7, 8, 9, 10, 11, 12, 13, 14, 15, 16, 20] {
         assert!(numbers[number] > 20, "number {number} came up {} times", numbers[number]);

@@ -125,12 +125,14 @@ struct Lent {
     list: Vec<u32>,
 }
 
-const CALLS: [fn(Record, &mut Lent) -> Reply; 7] = [
+const CALLS: [fn(Record, &mut Lent) -> Reply; 9] = [
     |r, x| x.tables.check(r, &mut x.work),
     |r, x| x.tables.multiplicity(r, &mut x.work, 1, 1),
     |r, x| x.tables.parent(r, &mut x.work, 1),
     |r, x| x.tables.path(r, &mut x.work, &mut x.list, 1, 0),
     |r, x| x.tables.column(r, &mut x.work, &mut x.list, 1, 0),
+    |r, x| x.tables.meets(r, &mut x.work, &mut x.list, 1, 0),
+    |r, x| x.tables.common(r, &mut x.work, &[1]),
     |r, x| number_alone(x.tables.add(r, &mut x.work, &mut x.touched, &mut x.labels, &[4], &[1], &[1]), r),
     |r, x| number_alone(x.tables.remove(r, &mut x.work, &mut x.touched, &mut x.labels, &[1]), r),
 ];

@@ -2,7 +2,7 @@
 mod model;
 
 use model::random::Random;
-use model::world::World;
+use model::world::{World, CUTS};
 use model::{Sizes, OLD_LIMITS};
 use nigvalds::lent::{work_places, Record, Tables};
 use nigvalds::{Factor, Limits, Refusal};
@@ -60,17 +60,7 @@ fn short_tables_and_lists() {
     let full = Tables::for_sizes(s.m, s.n, s.f, s.c);
     let places = work_places(s.m, s.n, s.f, s.c);
     let open = |t: &mut Tables, places: usize| t.open(s.m, s.n, s.f, s.c, Limits::default(), &mut vec![1; places]);
-    let cuts: [fn(&mut Tables); 8] = [
-        |t| t.heads.truncate(4),
-        |t| t.parents.truncate(4),
-        |t| t.rows.truncate(8),
-        |t| t.counts.truncate(8),
-        |t| t.next.truncate(8),
-        |t| t.book_heads.truncate(7),
-        |t| t.book_rows.truncate(15),
-        |t| t.book_next.truncate(15),
-    ];
-    for cut in cuts {
+    for cut in CUTS {
         let mut t = full.clone();
         cut(&mut t);
         let before = t.clone();

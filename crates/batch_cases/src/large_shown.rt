@@ -1,4 +1,5 @@
 // What the large case prints: the report of a batch, the state of the tables, the answers to questions.
+use crate::large_rows::about_rows;
 use crate::large_tables;
 use crate::large_tables::BookHeads;
 use crate::large_tables::BookNext;
@@ -233,6 +234,18 @@ pub fn ask(
         book_next,
         work,
         10,
+    );
+    about_rows(
+        record,
+        heads,
+        parents,
+        rows,
+        counts,
+        next,
+        book_heads,
+        book_rows,
+        book_next,
+        work,
     );
     let mut k: usize = 0;
     while k < 6 {

@@ -253,3 +253,60 @@ pub fn column(
         0,
     )
 }
+
+pub fn meets(
+    record: Factor,
+    heads: &Heads,
+    parents: &Parents,
+    rows: &Rows,
+    counts: &Rows,
+    next: &Next,
+    book_heads: &BookHeads,
+    book_rows: &BookRows,
+    book_next: &BookNext,
+    work: &mut Work,
+    list: &mut [u32],
+    i: u32,
+) -> Reply {
+    record.meets(
+        heads,
+        parents,
+        rows,
+        counts,
+        next,
+        book_heads,
+        book_rows,
+        book_next,
+        work,
+        list,
+        Row(i),
+        0,
+    )
+}
+
+pub fn common(
+    record: Factor,
+    heads: &Heads,
+    parents: &Parents,
+    rows: &Rows,
+    counts: &Rows,
+    next: &Next,
+    book_heads: &BookHeads,
+    book_rows: &BookRows,
+    book_next: &BookNext,
+    work: &mut Work,
+    row_list: &[u32],
+) -> Reply {
+    record.common(
+        heads,
+        parents,
+        rows,
+        counts,
+        next,
+        book_heads,
+        book_rows,
+        book_next,
+        work,
+        row_list,
+    )
+}

@@ -1,7 +1,8 @@
 // Batches through the factor's public entries, as lines: the document's instances, grades by other limits, batches whose paths merge, a refusal of each
-// number, and 64 columns of 256 rows each in a factor of 4,096 rows. A batch gives `ok touched entries grade`, then its touched columns and labels, or
+// number, questions about rows, and 64 columns of 256 rows each in a factor of 4,096 rows. A batch gives `ok touched entries grade`, then its touched columns and labels, or
 // `no number position`.
 mod large;
+mod large_rows;
 mod large_shown;
 mod large_tables;
 mod lines;
@@ -123,6 +124,32 @@ fn asked(h: Host) {
     steps::multiplicity(h, 5, 6);
 }
 
+// The columns that meet each row, in full, in a list too short, from a place past it, and of no row.
+fn met(h: Host) {
+    steps::meets(h, 0, 1);
+    steps::meets(h, 1, 2);
+    steps::meets(h, 3, 3);
+    steps::meets(h, 2, 4);
+    steps::meets(h, 5, 5);
+    steps::meets(h, 4, 3);
+    steps::meets(h, 6, 5);
+    steps::meets(h, 7, 1);
+    steps::meets(h, 0, 0);
+    steps::meets(h, 7, 6);
+}
+
+// The smallest row on the paths of two rows, of three, of one, of one twice, of rows whose paths do not join, and with a row outside 1 to m.
+fn joined(h: Host) {
+    steps::common(h, &[1, 2]);
+    steps::common(h, &[1, 2, 4]);
+    steps::common(h, &[2]);
+    steps::common(h, &[2, 2]);
+    steps::common(h, &[4, 1]);
+    steps::common(h, &[1, 5]);
+    steps::common(h, &[0]);
+    steps::common(h, &[1, 5, 6]);
+}
+
 // 2 and 9: the listed example with its questions, a removal that repeats an id, rows 4 4, and every column removed.
 fn emptied() {
     title(b"2");
@@ -130,6 +157,9 @@ fn emptied() {
     show(h);
     title(b"questions");
     asked(h);
+    title(b"questions about rows");
+    met(h);
+    joined(h);
     title(b"9");
     remove(h, &[3, 3]);
     add(h, &[4], &[2], &[4, 4]);

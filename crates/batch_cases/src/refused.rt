@@ -1,7 +1,8 @@
-// Batches that are refused, by each number from 7 to 16, on the listed example of three columns: ids 1 to 3 are live, m is 5, n is 8. Openings that are
-// refused by 20.
+// Batches that are refused, by each number from 7 to 16, on the listed example of three columns: ids 1 to 3 are live, m is 5, n is 8. Openings
+// refused by 20; questions about the paths of some rows refused by 7.
 use crate::lines::title;
 use crate::steps::add;
+use crate::steps::common;
 use crate::steps::open;
 use crate::steps::open_with;
 use crate::steps::remove;
@@ -22,6 +23,18 @@ fn shapes(before: Host) -> Host {
     h = remove(h, none);
     h = remove(h, all);
     h
+}
+
+// 7 by a question: no row, more than 64, these also outside 1 to m; and not by 64.
+fn named(h: Host) {
+    title(b"7 of a question");
+    let many = [4u32; 65];
+    let outside = [6u32; 65];
+    let all = &many[..];
+    common(h, &all[..0]);
+    common(h, all);
+    common(h, &outside);
+    common(h, &all[..64]);
 }
 
 // 8, 9 and 10 by an addition, at each position.
@@ -114,6 +127,7 @@ fn limits() {
 
 pub fn all(before: Host) {
     let mut h = shapes(before);
+    named(h);
     h = ids_to_add(h);
     h = ids_to_remove(h);
     h = counts(h);

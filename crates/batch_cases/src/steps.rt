@@ -103,6 +103,24 @@ pub fn column(h: Host, at: usize, j: u32) {
     lines::end();
 }
 
+pub fn meets(h: Host, at: usize, i: u32) {
+    let mut list = [9u32; 6];
+    let asked = case_tables::meeting::meets(h, &mut list, i, at);
+    io::write_all(1, b"meets");
+    lines::reply(asked.reply);
+    io::write_all(1, b":");
+    lines::places(&list);
+    lines::end();
+}
+
+// The smallest row on the paths of all rows that are named.
+pub fn common(h: Host, rows: &[u32]) {
+    let asked = case_tables::meeting::common(h, rows);
+    io::write_all(1, b"common");
+    lines::reply(asked.reply);
+    lines::end();
+}
+
 // The multiplicity of i in column j, and the parent of j.
 pub fn multiplicity(h: Host, i: u32, j: u32) {
     io::write_all(1, b"multiplicity and parent");

@@ -1,5 +1,5 @@
--- An accepted check leaves tables and a work table that a batch may change (`checked-can`), if the lists of the report have their places (`lists-fit`).
--- Assumes nothing.
+-- An accepted check leaves tables and a work table that every question may use (`checked-use`), and that a batch may change (`checked-can`) if the lists of the
+-- report have their places (`lists-fit`). Assumes nothing.
 use mathlib.Core.Path.{_≡_, refl, sym, ap, _∙_, subst}
 use mathlib.Core.Bool.{Bool, true, false, not}
 use mathlib.Core.List.{List}
@@ -20,6 +20,7 @@ use Rattle.calls.specs.Steps.{Answer, World, Transition}
 use Rattle.calls.proofs.Choices.{or-both, unless-holds}
 use Rattle.calls.proofs.Numbers.{Ready, early-facts}
 use Rattle.calls.proofs.Steps.{Accepted, step-taken}
+use Rattle.factor.specs.Admission.{CanUse}
 use Rattle.factor.specs.Batches.{CanChange}
 
 pub lists-fit : (m : ℕ) (a b : List ℕ) {y : Bool} → y ≡ not (listsLong m a b) → y ≡ false → (m ≤ length a) × (m ≤ length b)
@@ -34,9 +35,8 @@ module _ (s : State) (t : Tables) (w : List ℕ) where
   abbrev call : Call
   call = callOf checking (workOnly w)
 
-  pub checked-can : (z : Answer) (w′ : List ℕ) → Transition here call z (workOnly w′) here → z .number ≡ 0 →
-      (a b : List ℕ) → s .sizes .m ≤ length a → s .sizes .m ≤ length b → CanChange s t w′ a b
-  checked-can z w′ o d a b x y =
+  pub checked-use : (z : Answer) (w′ : List ℕ) → Transition here call z (workOnly w′) here → z .number ≡ 0 → CanUse s t w′
+  checked-use z w′ o d =
       let l : Sizes = s .sizes in
       let g : Accepted here call z (workOnly w′) here = step-taken here call z (workOnly w′) here o d in
       let e : Refusal = callEarly l t call in
@@ -52,6 +52,8 @@ module _ (s : State) (t : Tables) (w : List ℕ) where
         usable = record { sizes = r .sizes; long = r .room .tables; sound = unless-holds (isSound s t) 6 0 refl sound };
         room = subst (λ (n : ℕ). workFor l ≤ n) (sym (ap length all ∙ cleared-length w 0 (workFor l) h)) (r .room .work);
         zero = subst (λ (v : List ℕ). IsZero v 0 (workFor l)) (sym all) (cleared-zero w 0 (workFor l) h);
-        touched-long = x;
-        labels-long = y;
       }
+
+  pub checked-can : (z : Answer) (w′ : List ℕ) → Transition here call z (workOnly w′) here → z .number ≡ 0 →
+      (a b : List ℕ) → s .sizes .m ≤ length a → s .sizes .m ≤ length b → CanChange s t w′ a b
+  checked-can z w′ o d a b x y = record { can-use = checked-use z w′ o d; touched-long = x; labels-long = y }

@@ -1,11 +1,12 @@
-// Batches one after another through the unchecked entries, as a proved caller runs them, for the benchmark alone: the tables are read through once, then
-// each batch costs only what it touches. No part of the product's interface.
+// Batches one after another through the unchecked entries, as a proved caller runs them, and in asking.rt questions, for the benchmark alone: the tables are
+// read through once, then each batch costs only what it touches. No part of the product's interface.
 ghost use mathlib.Core.Path.{_≡_};
 ghost use Rattle.tables.specs.Tables.{tablesOf};
 ghost use Rattle.factor.specs.Entries.{stateOf};
 ghost use Rattle.factor.specs.Batches.{CanChange};
 ghost use Rattle.bench_driver.specs.Runs.{Continues};
 
+mod asking;
 mod plan;
 
 use factor::Changed;

@@ -9,14 +9,14 @@ use Prim.Native.Nat.{ℕ, suc, _+_, _<_}
 use native.Mathlib.Omega.{arith}
 use lib.Dec.{ltb, leb, eqb}
 use lib.ListN.{length, take, drop}
-use Rattle.lists.specs.Lists.{isIn, among}
+use Rattle.lists.specs.Lists.{isIn, all, among}
 use Rattle.lists.proofs.Tests.{cases}
 use Rattle.symbolic.specs.Columns.{Register}
 use Rattle.symbolic.specs.Factor.{factorFor, sizeSum}
 use Rattle.symbolic.specs.Change.{added}
 use Rattle.tables.specs.Tables.{Tables, Sizes, State, longEnough, registerOf, isSound}
 use Rattle.calls.specs.Refusals.{Refusal, accepted, isAccepted, orElse, unless, bounds, sizesRefusal, workFor, shortRefusal, earlyRefusal, batchOf, inRegister, rowsRefusal, columnsRefusal, rowSum, roomRefusal, idsRefusal, rowRefusal, roomFor}
-use Rattle.calls.specs.Calls.{Change, adding, removing, Question, askMultiplicity, askParent, askPath, askColumn, Entry, opening, changing, checking, asking, Call, isOpening, withDefault, sizesAfter, keepsRule}
+use Rattle.calls.specs.Calls.{Change, adding, removing, Question, askMultiplicity, askParent, askPath, askColumn, askMeets, askCommon, Entry, opening, changing, checking, asking, Call, isOpening, withDefault, sizesAfter, keepsRule}
 use Rattle.calls.specs.Changes.{effect}
 use Rattle.calls.specs.Questions.{response}
 use Rattle.calls.specs.Numbers.{hasLists, callEarly, soundRefusal, ownRefusal, callRefusal, refusalOf}
@@ -172,6 +172,10 @@ question-number r (askMultiplicity i j) = number-or 7 18 (rowRefusal (r .m) i) (
 question-number r (askParent j) = row-number (r .m) j
 question-number r (askPath j) = row-number (r .m) j
 question-number r (askColumn j) = row-number (r .m) j
+question-number r (askMeets i) = row-number (r .m) i
+question-number r (askCommon is) =
+    number-or 7 18 (unless (isIn 1 64 (length is)) 7 0) (unless (all (isIn 1 (r .m)) is) 17 0) (number-unless 7 18 (isIn 1 64 (length is)) 7 0 (omega arith) (omega arith))
+    (number-unless 7 18 (all (isIn 1 (r .m)) is) 17 0 (omega arith) (omega arith))
 
 own-number : (l : Sizes) (r : Register) (e : Entry) (xs : List ℕ) → NumberIn 7 18 (ownRefusal l r e xs)
 own-number l r (opening k g) xs = number-none 7 18

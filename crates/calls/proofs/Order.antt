@@ -24,7 +24,7 @@ use Rattle.symbolic.proofs.Bags as bags
 use Rattle.symbolic.proofs.Theorems.{order-free}
 use Rattle.tables.specs.Tables.{Sizes}
 use Rattle.calls.specs.Refusals.{isAccepted, orElse, batchOf, inRegister, columnsRefusal, roomRefusal, idsRefusal, roomFor}
-use Rattle.calls.specs.Calls.{Change, adding, removing, Question, askMultiplicity, askParent, askPath, askColumn, Entry, opening, changing, checking, asking, Call}
+use Rattle.calls.specs.Calls.{Change, adding, removing, Question, askMultiplicity, askParent, askPath, askColumn, askMeets, askCommon, Entry, opening, changing, checking, asking, Call}
 use Rattle.calls.specs.Changes.{Effect, effect, touchedBy, labelled, labelsBy, entriesBy}
 use Rattle.calls.specs.Questions.{Response, response}
 use Rattle.calls.specs.Numbers.{ownRefusal, callRefusal}
@@ -136,6 +136,8 @@ module _ (r s : Register) (e : r .m ≡ s .m) (b : Bag (r .columns) (s .columns)
   bag-response (askParent j) = rw (bag-factor r s e b, e)
   bag-response (askPath j) = rw (bag-factor r s e b, e)
   bag-response (askColumn j) = rw (bag-factor r s e b, e)
+  bag-response (askMeets i) = rw (bag-factor r s e b, e)
+  bag-response (askCommon is) = rw (bag-factor r s e b, e)
 
   -- 7 to 18
   pub bag-number : (l : Sizes) (k : Call) → callRefusal l r k ≡ callRefusal l s k

@@ -16,12 +16,14 @@ pub data Change : Type 0 where
   adding : (ids rowCounts rows : List ℕ) → Change
   removing : (ids : List ℕ) → Change
 
--- "Multiplicity of row i in column j .. Parent of j. Path of j. Column j"
+-- "Multiplicity of row i in column j .. Parent of j. Path of j. Column j"; document 02: the columns that meet a row, the common row of some rows
 pub data Question : Type 0 where
   askMultiplicity : (row column : ℕ) → Question
   askParent : (column : ℕ) → Question
   askPath : (column : ℕ) → Question
   askColumn : (column : ℕ) → Question
+  askMeets : (row : ℕ) → Question
+  askCommon : (rows : List ℕ) → Question
 
 -- an entry with its numbers; place: where a question's list is written from on, 0 for a question that has none
 pub data Entry : Type 0 where

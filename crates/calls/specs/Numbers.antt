@@ -28,7 +28,7 @@ callEarly l t k =
 abbrev pub soundRefusal : State → Tables → Entry → Refusal
 soundRefusal s t e = unless (isOpening e || isSound s t) 6 0
 
--- 17, then 18 "the list ends before the answer does": of a question whose list is written from a place on
+-- 7 and 17, then 18 "the list ends before the answer does": of a question whose list is written from a place on
 abbrev pub askRefusal : Register → Question → (place : ℕ) → (list : List ℕ) → Refusal
 askRefusal r q p xs = orElse (response r q .refusal) (roomFor xs p (length (response r q .list)))
 

@@ -1,4 +1,4 @@
--- What a question answers, from the register alone: its refusal but for the room in its list, the list and the number.
+-- What a question answers, from the register alone: its refusal but for the room in its list, the list and the value.
 -- Assumes nothing: these are definitions.
 use mathlib.Core.List.{List, []}
 use Prim.Native.Nat.{ℕ}
@@ -6,8 +6,9 @@ use lib.ListN.{length}
 use Rattle.lists.specs.Lists.{pairsOf}
 use Rattle.symbolic.specs.Columns.{Register}
 use Rattle.symbolic.specs.Factor.{factorFor, columnAt, multiplicity, parentOf, patternOf, multiplicitiesOf, pathOf, sizeOf}
-use Rattle.calls.specs.Refusals.{Refusal, orElse, rowRefusal}
-use Rattle.calls.specs.Calls.{Question, askMultiplicity, askParent, askPath, askColumn}
+use Rattle.symbolic.specs.Meeting.{meeting, commonOf}
+use Rattle.calls.specs.Refusals.{Refusal, orElse, rowRefusal, namedRefusal}
+use Rattle.calls.specs.Calls.{Question, askMultiplicity, askParent, askPath, askColumn, askMeets, askCommon}
 
 -- "Path of j", a row to a place
 abbrev pub pathList : Register → (j : ℕ) → List ℕ
@@ -17,16 +18,23 @@ pathList r j = pathOf (factorFor r) j
 abbrev pub columnList : Register → (j : ℕ) → List ℕ
 columnList r j = pairsOf (patternOf (columnAt (factorFor r) j)) (multiplicitiesOf (columnAt (factorFor r) j))
 
--- what a question answers: 17 or none; the list that it writes, [] for a question that has none; its number
+-- "all factor columns whose pattern holds" row i, a column to a place
+abbrev pub meetsList : Register → (i : ℕ) → List ℕ
+meetsList r i = meeting (factorFor r) i
+
+-- what a question answers: 7, 17 or none; the list that it writes, [] for a question that has none; its value
 pub record Response : Type 0 where
   pub refusal : Refusal
   pub list : List ℕ
   pub value : ℕ
 
--- EACH QUESTION: a multiplicity ("0 when absent"), a parent, a path or a column with "their number of entries"
+-- EACH QUESTION: a multiplicity ("0 when absent"), a parent, a path or a column with "their number of entries"; the columns that meet a row "with the number
+-- of places filled", the common row of some rows
 abbrev pub response : Register → Question → Response
 response r (askMultiplicity i j) =
     record { refusal = orElse (rowRefusal (r .m) i) (rowRefusal (r .m) j); list = []; value = multiplicity (factorFor r) i j }
 response r (askParent j) = record { refusal = rowRefusal (r .m) j; list = []; value = parentOf (factorFor r) j }
 response r (askPath j) = record { refusal = rowRefusal (r .m) j; list = pathList r j; value = length (pathList r j) }
 response r (askColumn j) = record { refusal = rowRefusal (r .m) j; list = columnList r j; value = sizeOf (columnAt (factorFor r) j) }
+response r (askMeets i) = record { refusal = rowRefusal (r .m) i; list = meetsList r i; value = length (meetsList r i) }
+response r (askCommon is) = record { refusal = namedRefusal (r .m) is; list = []; value = commonOf (factorFor r) is }

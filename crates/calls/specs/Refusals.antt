@@ -6,7 +6,7 @@ use mathlib.Core.List.{List, [], _∷_}
 use Prim.Native.Nat.{ℕ, suc, _+_}
 use lib.Dec.{ltb, leb, eqb}
 use lib.ListN.{length, take, drop}
-use Rattle.lists.specs.Lists.{pick, isIn, among, sumOf}
+use Rattle.lists.specs.Lists.{pick, isIn, all, among, sumOf}
 use Rattle.symbolic.specs.Columns.{Column, Register}
 use Rattle.symbolic.specs.Factor.{factorFor, sizeSum}
 use Rattle.symbolic.specs.Change.{idsOf, added}
@@ -136,11 +136,15 @@ idsRefusal r n p bs (i ∷ is) =
 abbrev pub removeRefusal : Sizes → Register → (ids : List ℕ) → Refusal
 removeRefusal l r is = orElse (unless (isIn 1 64 (length is)) 7 0) (idsRefusal r (l .n) 1 [] is)
 
--- ---- 17 and 18, questions
+-- ---- 7, 17 and 18, questions
 
 -- "17: row or column outside 1 to m"
 abbrev pub rowRefusal : (m row : ℕ) → Refusal
 rowRefusal m i = unless (isIn 1 m i) 17 0
+
+-- document 02: "An empty or longer list of rows falls under 7, a row out of range under 17": of up to 64 rows that are named
+abbrev pub namedRefusal : (m : ℕ) → (rows : List ℕ) → Refusal
+namedRefusal m is = orElse (unless (isIn 1 64 (length is)) 7 0) (unless (all (isIn 1 m) is) 17 0)
 
 -- "the list ends before the answer does": the answer takes so many places from the given one on
 abbrev pub roomFor : (list : List ℕ) → (place places : ℕ) → Refusal

@@ -1,5 +1,7 @@
 // A factor of at most 64 rows with its tables, held by value: each public entry of the factor on them, for programs that run cases. The work table is
-// made anew for each call and holds no zeros before it.
+// made anew for each call and holds no zeros before it. In meeting.rt are the questions about rows.
+pub mod meeting;
+
 ghost use Prim.Native.Nat.{_≤_};
 use book::Row;
 use factor::Changed;

@@ -1,4 +1,4 @@
-// Numbers from a seed, by a linear congruence modulo 2^32, and what is drawn from them: ids, rows, counts, sizes, limits.
+// Numbers from a seed, by a linear congruence modulo 2^32, and what is drawn from them: ids, rows, counts, sizes of batches, rows that are named, limits.
 ghost use Prim.Native.Nat.{_≤_};
 use crate::pair::Three;
 use reference::Live;
@@ -191,6 +191,39 @@ pub fn damage(seed: &mut u64, rows: &mut RowList, m: u32, s: usize) {
     let at = draw(seed, (s - 1) as u32) as usize;
     if at < 4200 {
         rows[at] = draw(seed, m + 1);
+    }
+}
+
+// ---- rows that are named
+
+// Any rows of 1 to m.
+pub fn name_rows(seed: &mut u64, list: &mut Ids, m: u32) {
+    let mut t: usize = 0;
+    while t < 65 {
+        list[t] = after(draw(seed, m), m);
+        t += 1;
+    }
+}
+
+// Writes one of the first r rows anew, by 0 or m + 1.
+pub fn name_outside(seed: &mut u64, list: &mut Ids, m: u32, r: u32)
+    requires { ⌜ m ≤ 64 ⌝ }
+{
+    if r < 1 {
+        return;
+    }
+    let at = draw(seed, r - 1) as usize;
+    if at < 65 {
+        list[at] = if chance(seed, 1) { 0 } else { m + 1 };
+    }
+}
+
+// The rows 1 to 65.
+pub fn all_rows(list: &mut Ids) {
+    let mut t: u32 = 0;
+    while t < 65 {
+        list[t as usize] = t + 1;
+        t += 1;
     }
 }
 

@@ -5,12 +5,14 @@ use crate::pair::Pair;
 use crate::pair::add;
 use crate::pair::open;
 use crate::pair::remove;
+use crate::rows;
 
 // Calls before any opening are refused by 1; then openings are refused by 1 to 5.
 fn unopened(p: Pair) -> Pair {
     let mut q = add(p, &[1], &[1], &[1]);
     q = remove(q, &[1]);
     q = asked::path(q, 1, 0, 8);
+    q = rows::asked(q, 1);
     q = open(q, 0, 1, 0, 1);
     q = open(q, 4097, 1, 0, 1);
     q = open(q, 1, 16385, 0, 0);
@@ -28,7 +30,7 @@ fn listed(p: Pair) -> Pair {
     add(q, &[3], &[2], &[2, 3])
 }
 
-// Its questions, with 17 and 18 among them.
+// Its questions, with 7, 17 and 18 among them.
 fn questions(p: Pair) -> Pair {
     let mut q = asked::path(p, 1, 0, 3);
     q = asked::path(q, 1, 1, 3);
@@ -38,6 +40,7 @@ fn questions(p: Pair) -> Pair {
     q = asked::parent(q, 0);
     q = asked::multiplicity(q, 4, 1);
     q = asked::multiplicity(q, 4, 6);
+    q = rows::asked(q, 2);
     asked::check(q)
 }
 
@@ -72,7 +75,9 @@ fn removals(p: Pair) -> Pair {
 fn staying(p: Pair) -> Pair {
     let mut q = open(p, 4, 2, 10, 6);
     q = add(q, &[1, 2], &[3, 3], &[1, 3, 4, 1, 2, 4]);
+    q = rows::asked(q, 3);
     q = remove(q, &[2]);
+    q = rows::asked(q, 4);
     remove(q, &[1])
 }
 
@@ -85,7 +90,9 @@ fn merging(p: Pair) -> Pair {
         &[1, 4, 7, 2, 4, 3, 5, 8, 6, 9],
     );
     q = add(q, &[4, 6], &[2, 2], &[4, 6, 5, 7]);
+    q = rows::asked(q, 5);
     q = remove(q, &[6, 1, 5]);
+    q = rows::asked(q, 6);
     remove(q, &[2, 4, 3])
 }
 
@@ -153,7 +160,9 @@ fn remove_half(p: Pair, first: u32) -> Pair
 fn many(p: Pair) -> Pair {
     let mut q = open(p, 64, 64, 0, 128);
     q = add_many(q);
+    q = rows::asked(q, 7);
     q = remove_half(q, 2);
+    q = rows::asked(q, 8);
     remove_half(q, 1)
 }
 

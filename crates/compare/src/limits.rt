@@ -7,6 +7,7 @@ use crate::pair::open;
 use crate::pair::open_with;
 use crate::pair::overwrite;
 use crate::pair::remove;
+use crate::rows;
 
 // ---- batches
 
@@ -104,6 +105,7 @@ fn every_call(p: Pair) -> Pair {
     q = asked::parent(q, 1);
     q = asked::path(q, 1, 0, 8);
     q = asked::column(q, 1, 0, 1);
+    q = rows::asked(q, 9);
     asked::check(q)
 }
 

@@ -3,9 +3,12 @@
 mod asked;
 mod draw;
 mod fixed;
+mod kept;
 mod limits;
+mod meeting;
 mod pair;
 mod random;
+mod rows;
 mod same;
 mod tally;
 

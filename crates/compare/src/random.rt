@@ -7,6 +7,7 @@ use crate::draw::chance;
 use crate::draw::draw;
 use crate::pair;
 use crate::pair::Pair;
+use crate::rows;
 
 // ---- openings
 
@@ -198,7 +199,7 @@ fn step(p: Pair, seed: &mut u64, rows: u32, ids: u32, density: u32) -> Pair {
     ask(p, seed)
 }
 
-// An opening, then as many calls.
+// An opening, then as many calls, then the questions about rows, which draw from a copy of the seed: what follows them is the same without them.
 pub fn history(p: Pair, seed: &mut u64, rows: u32, ids: u32, density: u32, calls: u32) -> Pair {
     let mut q = open(p, seed, rows, ids);
     let mut k: u32 = 0;
@@ -206,7 +207,7 @@ pub fn history(p: Pair, seed: &mut u64, rows: u32, ids: u32, density: u32, calls
         q = step(q, seed, rows, ids, density);
         k += 1;
     }
-    q
+    rows::asked(q, *seed)
 }
 
 // As many histories, with densities from 1 to 8.

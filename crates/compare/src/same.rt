@@ -29,7 +29,7 @@ pub fn numbers(what: &[u8], ours: u32, theirs: usize) -> bool {
 }
 
 // One place of two lists.
-fn places(what: &[u8], place: usize, ours: u32, theirs: u32) -> bool {
+pub fn places(what: &[u8], place: usize, ours: u32, theirs: u32) -> bool {
     if ours == theirs {
         return true;
     }

@@ -13,6 +13,12 @@ pub struct Tally {
     pub numbers: [u32; 21],
     // Accepted batches by their grade, 0 to 4.
     pub grades: [u32; 5],
+    // Questions for the columns that meet a row, by their number, 0 to 20.
+    pub meets: [u32; 21],
+    // Questions for the smallest row on all paths, by their number, but for those that `apart` counts.
+    pub common: [u32; 21],
+    // Those of them whose answer is 0, since the paths do not join.
+    pub apart: u32,
 }
 
 impl Tally {
@@ -24,6 +30,9 @@ impl Tally {
             differences: 0,
             numbers: [0; 21],
             grades: [0; 5],
+            meets: [0; 21],
+            common: [0; 21],
+            apart: 0,
         }
     }
 
@@ -49,6 +58,32 @@ impl Tally {
         if grade < 5 {
             let k = grade as usize;
             t.grades[k] = more(t.grades[k]);
+        }
+        t
+    }
+
+    // One question more for the columns that meet a row, with its number.
+    pub fn met(self, number: u32) -> Self {
+        let mut t = self;
+        if number < 21 {
+            let k = number as usize;
+            t.meets[k] = more(t.meets[k]);
+        }
+        t
+    }
+
+    // One question more for the smallest row on all paths, with its number and that row.
+    pub fn joined(self, number: u32, row: u32) -> Self {
+        let mut t = self;
+        if number == 0 {
+            if row == 0 {
+                t.apart = more(t.apart);
+                return t;
+            }
+        }
+        if number < 21 {
+            let k = number as usize;
+            t.common[k] = more(t.common[k]);
         }
         t
     }
@@ -81,9 +116,26 @@ fn print_refused(numbers: &[u32; 21]) {
     }
 }
 
+// The questions about rows. 2 to 5 come up for none of them.
+fn print_questions(meets: &[u32; 21], common: &[u32; 21], apart: u32) {
+    line(b"columns of a row given:", meets[0]);
+    line(b"columns of a row refused by 1:", meets[1]);
+    line(b"columns of a row refused by 6:", meets[6]);
+    line(b"columns of a row refused by 17:", meets[17]);
+    line(b"columns of a row refused by 18:", meets[18]);
+    line(b"common row given:", common[0]);
+    line(b"common row 0:", apart);
+    line(b"common row refused by 1:", common[1]);
+    line(b"common row refused by 6:", common[6]);
+    line(b"common row refused by 7:", common[7]);
+    line(b"common row refused by 17:", common[17]);
+}
+
 pub fn print(t: Tally) {
     let numbers = t.numbers;
     let grades = t.grades;
+    let meets = t.meets;
+    let common = t.common;
     line(b"calls", t.calls);
     line(b"accepted", numbers[0]);
     line(b"accepted batches", t.batches);
@@ -93,5 +145,6 @@ pub fn print(t: Tally) {
     line(b"of grade 4:", grades[4]);
     line(b"columns compared", t.columns);
     print_refused(&numbers);
+    print_questions(&meets, &common, t.apart);
     line(b"calls that differ", t.differences);
 }

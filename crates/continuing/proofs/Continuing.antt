@@ -52,9 +52,11 @@ module _ (l : Sizes) (g : Limits) (t : Tables) (w : List ℕ) where
       let e : zeroFirst (workFor d) w ≡ cleared w 0 (workFor d) = first-cleared (workFor d) w (r .room .work) in
       let h : 0 + workFor d ≤ length w = omega (arith, r .room .work) in
       record {
-        usable = record { sizes = r .sizes; long = opened-long d t (f .f-low) (r .room .tables); sound = opened-sound d (limitsFor g) t (f .f-low) (r .limits) };
-        room = subst (λ (n : ℕ). workFor d ≤ n) (sym (ap length e ∙ cleared-length w 0 (workFor d) h)) (r .room .work);
-        zero = subst (λ (z : List ℕ). IsZero z 0 (workFor d)) (sym e) (cleared-zero w 0 (workFor d) h);
+        can-use = record {
+          usable = record { sizes = r .sizes; long = opened-long d t (f .f-low) (r .room .tables); sound = opened-sound d (limitsFor g) t (f .f-low) (r .limits) };
+          room = subst (λ (n : ℕ). workFor d ≤ n) (sym (ap length e ∙ cleared-length w 0 (workFor d) h)) (r .room .work);
+          zero = subst (λ (z : List ℕ). IsZero z 0 (workFor d)) (sym e) (cleared-zero w 0 (workFor d) h);
+        };
         touched-long = x;
         labels-long = y;
       }
@@ -133,17 +135,17 @@ module _ {s : State} {t : Tables} {w a b : List ℕ} (can : CanChange s t w a b)
   batch-early : isAccepted (earlyRefusal (s .sizes) true t w (listsLong (s .sizes .m) a b)) ≡ true
   batch-early =
       let l : Sizes = s .sizes in
-      both-or (sizesRefusal bounds l) (orElse (shortRefusal l t w) (unless (listsLong (l .m) a b) 5 0)) (ap isAccepted (can .usable .sizes))
-      (both-or (shortRefusal l t w) (unless (listsLong (l .m) a b) 5 0) (rw (can .usable .long, le-leb _ _ (can .room)) refl)
+      both-or (sizesRefusal bounds l) (orElse (shortRefusal l t w) (unless (listsLong (l .m) a b) 5 0)) (ap isAccepted (can .can-use .usable .sizes))
+      (both-or (shortRefusal l t w) (unless (listsLong (l .m) a b) 5 0) (rw (can .can-use .usable .long, le-leb _ _ (can .can-use .room)) refl)
       (rw (le-leb _ _ (can .touched-long), le-leb _ _ (can .labels-long)) refl))
 
   first : w ≡ zeroFirst (workFor (s .sizes)) w
-  first = sym (first-same (workFor (s .sizes)) w (can .room) (can .zero))
+  first = sym (first-same (workFor (s .sizes)) w (can .can-use .room) (can .can-use .zero))
 
   pub change-step : (c : Change) (z : Answer) (x : Lent) (v : World) → BatchStep (record { state = s; tables = t }) c (reportLists w a b) z x v →
       Transition (record { state = s; tables = t }) (callOf (changing c) (reportLists w a b)) z x v
   change-step c z x v o =
-      change-whole (record { state = s; tables = t }) c (reportLists w a b) batch-early (can .usable .sound) z x v
+      change-whole (record { state = s; tables = t }) c (reportLists w a b) batch-early (can .can-use .usable .sound) z x v
       (subst (λ (q : List ℕ). BatchStep (record { state = s; tables = t }) c (reportLists q a b) z x v) first o)
 
   -- the lists keep their lengths, so the next batch may follow
@@ -153,24 +155,22 @@ module _ {s : State} {t : Tables} {w a b : List ℕ} (can : CanChange s t w a b)
     same-can e f g h =
         let m : v .state .sizes .m ≡ s .sizes .m = ap (λ (l : Sizes). l .m) f in
         record {
-          usable = record {
-            sizes = rw f (can .usable .sizes);
-            long = rw f g;
-            sound = h;
+          can-use = record {
+            usable = record { sizes = rw f (can .can-use .usable .sizes); long = rw f g; sound = h };
+            room = rw (e, f) (can .can-use .room);
+            zero = rw (e, f) (can .can-use .zero);
           };
-          room = rw (e, f) (can .room);
-          zero = rw (e, f) (can .zero);
           touched-long = omega (arith, can .touched-long);
           labels-long = omega (arith, can .labels-long);
         }
 
     exchanged-can : (c : Change) → w′ ≡ w → Exchanged (record { state = s; tables = t }) c v → CanChange (v .state) (v .tables) w′ a′ b′
-    exchanged-can c e m = same-can e (m .sizes) (tails-long (s .sizes) t (v .tables) (m .tails) (can .usable .long)) (m .sound)
+    exchanged-can c e m = same-can e (m .sizes) (tails-long (s .sizes) t (v .tables) (m .tails) (can .can-use .usable .long)) (m .sound)
 
     left-can : w′ ≡ w → v ≡ record { state = s; tables = t } → CanChange (v .state) (v .tables) w′ a′ b′
     left-can e f =
-        same-can e (ap (λ (y : World). y .state .sizes) f) (ap (λ (y : World). longEnough (s .sizes) (y .tables)) f ∙ can .usable .long)
-        (ap (λ (y : World). isSound (y .state) (y .tables)) f ∙ can .usable .sound)
+        same-can e (ap (λ (y : World). y .state .sizes) f) (ap (λ (y : World). longEnough (s .sizes) (y .tables)) f ∙ can .can-use .usable .long)
+        (ap (λ (y : World). isSound (y .state) (y .tables)) f ∙ can .can-use .usable .sound)
 
     change-by : (c : Change) (z : Answer) (n : Bool) → BatchOutcome n (record { state = s; tables = t }) c (reportLists w a b) z (reportLists w′ a′ b′) v →
         CanChange (v .state) (v .tables) w′ a′ b′

@@ -1,19 +1,21 @@
 -- Numbers 1 to 6 and 20 by the tests that the code makes, one law for each return; and what a call may rely on once it is admitted. Assumes nothing.
-use mathlib.Core.Path.{_≡_, refl, sym, ap, _∙_}
+use mathlib.Core.Path.{_≡_, refl, sym, ap, _∙_, subst}
 use mathlib.Core.Logic.{_≢_, inl, inr}
 use mathlib.Core.Bool.{Bool, true, false, _&&_, not, true≢false}
 use mathlib.Core.List.{List}
-use Prim.Native.Nat.{ℕ}
+use Prim.Native.Nat.{ℕ, _+_, _≤_}
+use native.Mathlib.Omega.{arith}
 use lib.Dec.{leb}
 use lib.ListN.{length}
 use borrow.Author.Tests.{eq-eqb, ne-eqb, not-true, not-false}
 use Rattle.lists.specs.Lists.{pick}
-use Rattle.workspace.specs.Regions.{zeroFirst}
+use Rattle.workspace.specs.Regions.{IsZero, cleared, zeroFirst}
+use Rattle.workspace.proofs.Regions.{cleared-length, cleared-zero, first-cleared}
 use Rattle.tables.specs.Tables.{Tables, Sizes, State, longEnough, isSound}
 use Rattle.calls.specs.Refusals.{Refusal, accepted, isAccepted, orElse, unless, bounds, sizesRefusal, workFor, shortRefusal, earlyRefusal}
 use Rattle.calls.proofs.Choices.{or-both, or-first, or-second, unless-holds}
 use Rattle.calls.proofs.Refusals.{HasRoom, early-passed}
-use Rattle.factor.specs.Admission.{admission, Admitted, HasPlaces, Usable}
+use Rattle.factor.specs.Admission.{admission, Admitted, HasPlaces, Usable, CanUse}
 
 -- ---- a choice by its number
 
@@ -124,3 +126,21 @@ module _ {s : State} {t : Tables} {w : List ℕ} {z : Bool} {n : ℕ} {w′ : Li
     admitted-usable =
         let p : (sizesRefusal bounds (s .sizes) ≡ accepted) × (true ≡ true) × HasRoom (s .sizes) t w × (z ≡ true) = early-passed (s .sizes) true t w z (both .0) in
         record { sizes = p .0; long = p .2 .tables; sound = unless-holds (isSound s t) 6 0 refl (both .1) }
+
+    -- and its work table is the lent one with the first W places zero
+    has-room : HasRoom (s .sizes) t w
+    has-room = early-passed (s .sizes) true t w z (both .0) .2
+
+    pub admitted-work : w′ ≡ zeroFirst (workFor (s .sizes)) w
+    admitted-work = a .left ∙ ap (λ (q : Bool). pick q (zeroFirst (workFor (s .sizes)) w) w) (both .0)
+
+    pub admitted-use : CanUse s t w′
+    admitted-use =
+        let W : ℕ = workFor (s .sizes) in
+        let e : w′ ≡ cleared w 0 W = admitted-work ∙ first-cleared W w (has-room .work) in
+        let room : 0 + W ≤ length w = omega (arith, has-room .work) in
+        record {
+          usable = admitted-usable;
+          room = subst (λ (k : ℕ). W ≤ k) (sym (ap length e ∙ cleared-length w 0 W room)) (has-room .work);
+          zero = subst (λ (x : List ℕ). IsZero x 0 W) (sym e) (cleared-zero w 0 W room);
+        }

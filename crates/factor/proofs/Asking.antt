@@ -1,6 +1,6 @@
 -- The step of a call that is no opening, from its admission: refused by 1 to 6 (`refused-early`), a check (`check-step`), a question that was admitted
--- and answered (`list-step`, `plain-step`). `Admits` says of a call that its 1 to 6 are those of an admission. Assumes nothing.
-use mathlib.Core.Path.{_≡_, refl, sym, ap, _∙_}
+-- and answered (`list-step`, `kept-step`, `plain-step`). `Admits` says of a call that its 1 to 6 are those of an admission. Assumes nothing.
+use mathlib.Core.Path.{_≡_, refl, sym, ap, _∙_, subst}
 use mathlib.Core.Logic.{_≢_, inl, inr}
 use mathlib.Core.Bool.{Bool, true, false, _&&_}
 use mathlib.Core.List.{List, []}
@@ -156,6 +156,12 @@ module _ (s : State) (t : Tables) (w : List ℕ) {n : ℕ} {w′ : List ℕ} (a 
     list-step p xs e f =
         let new : List ℕ = writtenAt p (response (registerOf s t) q .list) xs in
         asked-step (admits-ask s t q p (workAndList w xs)) a d e refl (λ z. ap (workAndList w′) (f ∙ picked new xs z)) (λ z. ap (workAndList w′) (f ∙ picked new xs z))
+
+    -- the same where the question used the work table and left it as it was
+    pub kept-step : (p : ℕ) (xs : List ℕ) {ys v : List ℕ} → b ≡ repliedTo (registerOf s t) q p xs → ys ≡ listLeft (registerOf s t) q p xs → v ≡ w′ →
+        Transition here (callOf (asking q p) (workAndList w xs)) b (workAndList v ys) here
+    kept-step p xs {ys} e f g =
+        subst (λ (v : List ℕ). Transition here (callOf (asking q p) (workAndList w xs)) b (workAndList v ys) here) (sym g) (list-step p xs e f)
 
     -- a question that has none
     pub plain-step : response (registerOf s t) q .list ≡ [] → b ≡ replied (registerOf s t) q →

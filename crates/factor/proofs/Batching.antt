@@ -34,11 +34,11 @@ module _ (s : Factor) (t : Tables) {w a b : List ℕ} (c : CanChange (stateOf s)
   l = stateOf s .sizes
 
   pub change-long : Long (stateOf s .sizes) t
-  change-long = long-facts l t (c .usable .long)
+  change-long = long-facts l t (c .can-use .usable .long)
 
   pub change-can : CanBatch (cutWorld (cutTables (stateOf s .sizes) t) (stateOf s .limits) (s .free) (s .«book_free»)) w a b
   change-can =
-      lift-can change-long (stateOf s .limits) (s .free) (s .«book_free») (c .usable .sizes) (c .usable .sound) (c .room) (c .zero) (c .touched-long) (c .labels-long)
+      lift-can change-long (stateOf s .limits) (s .free) (s .«book_free») (c .can-use .usable .sizes) (c .can-use .usable .sound) (c .can-use .room) (c .can-use .zero) (c .touched-long) (c .labels-long)
 
   pub change-step : (k : Change) (lent : Lent) (y : Tables) (x : Batch) (lists : Lent) → y .heads ≡ take (s .m) (t .heads) →
       BatchStep (cutWorld (cutTables (stateOf s .sizes) t) (stateOf s .limits) (s .free) (s .«book_free»)) k lent (batchAnswer x) lists (cutWorld y (stateOf s .limits) (x .free .0) (x .«book_free» .0)) →

@@ -4,17 +4,13 @@ use mathlib.Core.Path.{_≡_, refl, sym, ap, _∙_, subst}
 use mathlib.Core.Logic.{_≢_}
 use mathlib.Core.Bool.{Bool, true, false, not}
 use mathlib.Core.List.{List}
-use Prim.Native.Nat.{ℕ, _+_, _≤_}
-use native.Mathlib.Omega.{arith}
+use Prim.Native.Nat.{ℕ, _≤_}
 use lib.ListN.{length}
-use Rattle.lists.specs.Lists.{pick}
-use Rattle.workspace.specs.Regions.{IsZero, cleared, zeroFirst}
-use Rattle.workspace.proofs.Regions.{cleared-length, cleared-zero, first-cleared}
 use Rattle.tables.specs.Tables.{Tables, Sizes, State}
-use Rattle.calls.specs.Refusals.{accepted, isAccepted, bounds, sizesRefusal, workFor, listsLong, earlyRefusal}
+use Rattle.calls.specs.Refusals.{isAccepted, listsLong, earlyRefusal}
 use Rattle.calls.specs.Calls.{Change, changing, Lent, reportLists, withWork, Call, callOf}
 use Rattle.calls.specs.Steps.{Answer, World, Transition}
-use Rattle.calls.proofs.Refusals.{HasRoom, lists-facts, early-passed}
+use Rattle.calls.proofs.Refusals.{lists-facts, early-passed}
 use Rattle.batch.specs.Outcome.{BatchStep}
 use Rattle.batch.proofs.Whole.{change-whole}
 use Rattle.factor.specs.Entries.{stateOf, worldOf}
@@ -22,7 +18,7 @@ use Rattle.factor.specs.Admission.{Admitted}
 use Rattle.factor.specs.Batches.{CanChange, changedAnswer}
 use Rattle.factor.specs.declared.Factor.{Factor}
 use Rattle.factor.specs.declared.Changed.{Changed}
-use Rattle.factor.proofs.Admitting.{admitted-early, admitted-usable}
+use Rattle.factor.proofs.Admitting.{admitted-early, admitted-usable, admitted-work, admitted-use}
 use Rattle.factor.proofs.Asking.{Admits, refused-early}
 
 -- ---- the test of a batch's lists
@@ -44,40 +40,18 @@ module _ (s : State) (t : Tables) (w a b : List ℕ) {y : Bool} (e : y ≡ not (
   -- ---- admitted
 
   module _ {n : ℕ} {w′ : List ℕ} (m : Admitted s t w (not y) n w′) (d : n ≡ 0) where
-    passed : (sizesRefusal bounds (s .sizes) ≡ accepted) × (true ≡ true) × HasRoom (s .sizes) t w × (not y ≡ true)
-    passed = early-passed l true t w (not y) (admitted-early m d)
-
-    has-room : HasRoom (s .sizes) t w
-    has-room = passed .2
-
     lists-long : (s .sizes .m ≤ length a) × (s .sizes .m ≤ length b)
-    lists-long = lists-facts (l .m) a b (long-is ∙ passed .3)
-
-    pub work-first : w′ ≡ zeroFirst (workFor (s .sizes)) w
-    work-first = m .left ∙ ap (λ (q : Bool). pick q (zeroFirst (workFor l) w) w) (admitted-early m d)
-
-    work-cleared : w′ ≡ cleared w 0 (workFor (s .sizes))
-    work-cleared = work-first ∙ first-cleared (workFor l) w (has-room .work)
-
-    room : 0 + workFor (s .sizes) ≤ length w
-    room = omega (arith, has-room .work)
+    lists-long = lists-facts (l .m) a b (long-is ∙ early-passed l true t w (not y) (admitted-early m d) .3)
 
     pub admitted-can : CanChange s t w′ a b
-    admitted-can =
-        record {
-          usable = admitted-usable m d;
-          room = subst (λ (n : ℕ). workFor l ≤ n) (sym (ap length work-cleared ∙ cleared-length w 0 (workFor l) room)) (has-room .work);
-          zero = subst (λ (x : List ℕ). IsZero x 0 (workFor l)) (sym work-cleared) (cleared-zero w 0 (workFor l) room);
-          touched-long = lists-long .0;
-          labels-long = lists-long .1;
-        }
+    admitted-can = record { can-use = admitted-use m d; touched-long = lists-long .0; labels-long = lists-long .1 }
 
     pub changed-whole : (c : Change) (z : Answer) (x : Lent) (v : World) → BatchStep (record { state = s; tables = t }) c (reportLists w′ a b) z x v →
         Transition (record { state = s; tables = t }) (callOf (changing c) (reportLists w a b)) z x v
     changed-whole c z x v o =
         let u : World = record { state = s; tables = t } in
         change-whole u c (reportLists w a b) (ap (λ (q : Bool). isAccepted (earlyRefusal l true t w q)) long-is ∙ admitted-early m d) (admitted-usable m d .sound) z x v
-        (subst (λ (q : List ℕ). BatchStep u c (reportLists q a b) z x v) work-first o)
+        (subst (λ (q : List ℕ). BatchStep u c (reportLists q a b) z x v) (admitted-work m d) o)
 
 -- ---- refused by 1 to 6
 

@@ -21,7 +21,8 @@ use Rattle.calls.specs.Refusals.{accepted, isAccepted, bounds, sizesRefusal, wo
 use Rattle.calls.proofs.Refusals.{InRange, sizes-facts}
 use Rattle.soundness.specs.ReadThrough.{CanReadThrough, madeReady, areSound}
 use Rattle.questions.specs.Asked.{ColumnsFor, ParentsFor, CanAsk, CanFollow}
-use Rattle.questions.proofs.Reading.{stored-columns, stored-parents, can-ask, can-follow}
+use Rattle.questions.specs.Meeting.{TreeFor, CanMeet}
+use Rattle.questions.proofs.Reading.{stored-columns, stored-parents, can-ask, can-follow, can-climb}
 use Rattle.factor.specs.Admission.{HasPlaces, Usable}
 
 -- ---- lengths
@@ -82,6 +83,19 @@ module _ {s : State} {t : Tables} (u : Usable s t) where
 
   pub usable-follow : CanFollow (storedIn s t .parents)
   usable-follow = can-follow (storedIn s t) (registerOf s t) rows-are stored (cut-sized sizes) narrow
+
+  pub usable-tree : TreeFor (storedIn s t .heads) (storedIn s t .parents) (storedIn s t .rows) (storedIn s t .counts) (storedIn s t .next) (registerOf s t)
+  usable-tree = record { columns-are = usable-columns; parents-are = usable-parents }
+
+  -- with a zero work table: columns can be marked in it
+  pub usable-meet : {w : List ℕ} → workFor (s .sizes) ≤ length w → IsZero w 0 (workFor (s .sizes)) →
+      CanMeet (storedIn s t .heads) (storedIn s t .parents) (storedIn s t .rows) (storedIn s t .counts) (storedIn s t .next) w
+  usable-meet {w} p z =
+      record {
+        climb = can-climb (storedIn s t) (registerOf s t) rows-are stored (cut-sized sizes) narrow;
+        room = omega (arith, p, sizes .heads);
+        zero = zero-part w 0 (workFor (s .sizes)) 0 (length (storedIn s t .heads)) z (omega arith) (omega (arith, sizes .heads));
+      }
 
 -- ---- read through
 

@@ -6,7 +6,7 @@ use mathlib.Core.List.{List}
 use Prim.Native.Nat.{ℕ, _≤_}
 use lib.ListN.{length}
 use Rattle.lists.specs.Lists.{pick}
-use Rattle.workspace.specs.Regions.{zeroFirst}
+use Rattle.workspace.specs.Regions.{IsZero, zeroFirst}
 use Rattle.tables.specs.Tables.{Tables, Sizes, State, longEnough, isSound}
 use Rattle.calls.specs.Refusals.{Refusal, accepted, isAccepted, orElse, unless, bounds, sizesRefusal, workFor, earlyRefusal}
 
@@ -30,3 +30,9 @@ pub record Usable (s : State) (t : Tables) : Type 0 where
   pub sizes : sizesRefusal bounds (s .sizes) ≡ accepted
   pub long : longEnough (s .sizes) t ≡ true
   pub sound : isSound s t ≡ true
+
+-- the same with a work table whose first W places are zero: for a question that marks columns in it
+pub record CanUse (s : State) (t : Tables) (work : List ℕ) : Type 0 where
+  pub usable : Usable s t
+  pub room : workFor (s .sizes) ≤ length work
+  pub zero : IsZero work 0 (workFor (s .sizes))

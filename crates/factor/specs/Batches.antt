@@ -3,18 +3,14 @@
 use mathlib.Core.List.{List}
 use Prim.Native.Nat.{ℕ, _≤_}
 use lib.ListN.{length}
-use Rattle.workspace.specs.Regions.{IsZero}
 use Rattle.tables.specs.Tables.{Tables, State}
-use Rattle.calls.specs.Refusals.{workFor}
 use Rattle.calls.specs.Steps.{Answer}
-use Rattle.factor.specs.Admission.{Usable}
+use Rattle.factor.specs.Admission.{CanUse}
 use Rattle.factor.specs.declared.Changed.{Changed}
 
 -- usable tables, a work table whose first W places are zero, and lists long enough for the report
 pub record CanChange (s : State) (t : Tables) (work touched labels : List ℕ) : Type 0 where
-  pub usable : Usable s t
-  pub room : workFor (s .sizes) ≤ length work
-  pub zero : IsZero work 0 (workFor (s .sizes))
+  pub can-use : CanUse s t work
   pub touched-long : s .sizes .m ≤ length touched
   pub labels-long : s .sizes .m ≤ length labels
 

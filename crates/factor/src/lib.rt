@@ -1,5 +1,5 @@
-// The factor's public entries: opening, the check of all tables, questions, and in batches.rt adding and removing. Each refuses unusable input by number
-// and fixes everything lent. A caller that has proved its tables sound uses the unchecked twins of unchecked.rt.
+// The factor's public entries: opening, the check of all tables, questions, in meeting.rt two more of them, and in batches.rt adding and removing. Each refuses
+// unusable input by number and fixes everything lent. A caller that has proved its tables sound uses the unchecked twins of unchecked.rt.
 ghost use Rattle.symbolic.specs.Grades.{limitsOf};
 ghost use Rattle.tables.specs.Tables.{sizesOf, tablesOf};
 ghost use Rattle.questions.specs.Asked.{replyOf};
@@ -12,6 +12,7 @@ ghost use Rattle.factor.specs.Entries.{worldOf, OpenStep};
 mod admission;
 mod batches;
 mod fresh;
+mod meeting;
 mod unchecked;
 
 use book::Row;

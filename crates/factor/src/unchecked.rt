@@ -1,14 +1,15 @@
-// The unchecked twins, all of them: their premise is that sizes are in range and tables long enough and sound; for a batch also that the first W work places
-// are zero and its lists long enough. A question needs no work table and reads no more than its answer takes; a batch costs what it touches.
+// The unchecked twins, all of them: their premise is that sizes are in range and tables long enough and sound; for a batch and for the columns that meet a row also
+// that the first W work places are zero, for a batch that its lists are long enough. Other questions take no work table. A batch costs what it touches, a question
+// what it reads; include/nigvalds.h says what the columns that meet a row and a common row cost after the read-through.
 ghost use mathlib.Core.Path.{_≡_};
 ghost use Rattle.tables.specs.Tables.{registerOf, tablesOf};
 ghost use Rattle.calls.specs.Calls.{reportLists};
 ghost use Rattle.calls.specs.Calls.Change.{adding, removing};
-ghost use Rattle.calls.specs.Calls.Question.{askMultiplicity, askParent, askPath, askColumn};
+ghost use Rattle.calls.specs.Calls.Question.{askMultiplicity, askParent, askPath, askColumn, askMeets, askCommon};
 ghost use Rattle.batch.specs.Outcome.{BatchStep};
 ghost use Rattle.questions.specs.Asked.{replyOf, repliedTo, replied, listLeft};
 ghost use Rattle.factor.specs.Entries.{stateOf, worldOf};
-ghost use Rattle.factor.specs.Admission.{Usable};
+ghost use Rattle.factor.specs.Admission.{Usable, CanUse};
 ghost use Rattle.factor.specs.Batches.{CanChange, changedAnswer};
 use crate::Changed;
 use crate::Factor;
@@ -138,6 +139,62 @@ impl Factor {
             j,
             place,
         )
+    }
+
+    // The columns that meet row i, from the given place of the list on, and their number. The first W work places are zero, and so again afterwards.
+    pub fn meets_unchecked(
+        self,
+        heads: &[u32],
+        parents: &[u16],
+        rows: &[u16],
+        counts: &[u16],
+        next: &[u32],
+        book_heads: &[u32],
+        book_rows: &[u16],
+        book_next: &[u32],
+        work: &mut [u32],
+        list: &mut [u32],
+        i: Row,
+        place: usize,
+    ) -> Reply
+        requires { ⌜ CanUse (stateOf self) (tablesOf (now heads) (now parents) (now rows) (now counts) (now next) (now «book_heads») (now «book_rows») (now «book_next»)) (now work) ⌝ }
+        ensures reply { λ a. ⌜ replyOf a ≡ repliedTo (registerOf (stateOf self) (tablesOf (now (heads .entry)) (now (parents .entry)) (now (rows .entry)) (now (counts .entry)) (now (next .entry)) (now («book_heads» .entry)) (now («book_rows» .entry)) (now («book_next» .entry)))) (askMeets (i .0)) place (now (list .entry)) ⌝ }
+        ensures written { λ a. ⌜ now (list .exit) ≡ listLeft (registerOf (stateOf self) (tablesOf (now (heads .entry)) (now (parents .entry)) (now (rows .entry)) (now (counts .entry)) (now (next .entry)) (now («book_heads» .entry)) (now («book_rows» .entry)) (now («book_next» .entry)))) (askMeets (i .0)) place (now (list .entry)) ⌝ }
+        ensures kept { λ a. ⌜ now (work .exit) ≡ now (work .entry) ⌝ }
+    {
+        let m = self.m as usize;
+        let f = self.f as usize;
+        questions::meeting::meets(
+            &heads[..m],
+            &parents[..m],
+            &rows[..f],
+            &counts[..f],
+            &next[..f],
+            work,
+            list,
+            i,
+            place,
+        )
+    }
+
+    // The smallest row on the paths of all of the rows, 1 to 64 of them; 0 where there is none.
+    pub fn common_unchecked(
+        self,
+        heads: &[u32],
+        parents: &[u16],
+        rows: &[u16],
+        counts: &[u16],
+        next: &[u32],
+        book_heads: &[u32],
+        book_rows: &[u16],
+        book_next: &[u32],
+        row_list: &[u32],
+    ) -> Reply
+        requires { ⌜ Usable (stateOf self) (tablesOf (now heads) (now parents) (now rows) (now counts) (now next) (now «book_heads») (now «book_rows») (now «book_next»)) ⌝ }
+        ensures { λ a. ⌜ replyOf a ≡ replied (registerOf (stateOf self) (tablesOf (now (heads .entry)) (now (parents .entry)) (now (rows .entry)) (now (counts .entry)) (now (next .entry)) (now («book_heads» .entry)) (now («book_rows» .entry)) (now («book_next» .entry)))) (askCommon (now («row_list» .entry))) ⌝ }
+    {
+        let m = self.m as usize;
+        questions::ancestors::common(&parents[..m], row_list)
     }
 
     // Adds a batch: each id with as many rows of the list as its count says. Numbers 7 to 16 refuse it, and then nothing changes.

@@ -1,5 +1,7 @@
 // Opens a factor, then lays tables with three columns, and for each damages the record's limits of the grades, then every table one place at a time with
-// several values: a line for the limits and for each place, a character for each value, what `check` answers: '.' for sound, its number else.
+// several values: a line for the limits and for each place, a character for each value, what `check` answers: '.' for sound, its number else; 'm' or 'c' where
+// the columns that meet a row, or the common row of two, are not refused by the same number.
+use book::Row;
 use factor::Factor;
 use factor::Opening;
 
@@ -29,8 +31,8 @@ fn sign(number: u32) -> u8 {
     }
 }
 
-// What check answers.
-fn answer(record: Factor, t: Tables) -> u8 {
+// Check's number.
+fn checked(record: Factor, t: Tables) -> u32 {
     let heads = t.heads;
     let parents = t.parents;
     let rows = t.rows;
@@ -51,7 +53,74 @@ fn answer(record: Factor, t: Tables) -> u8 {
         &book_next,
         &mut work,
     );
-    sign(reply.number)
+    reply.number
+}
+
+// The number of the question for the columns that meet row 3.
+fn met(record: Factor, t: Tables) -> u32 {
+    let heads = t.heads;
+    let parents = t.parents;
+    let rows = t.rows;
+    let counts = t.counts;
+    let next = t.next;
+    let book_heads = t.book_heads;
+    let book_rows = t.book_rows;
+    let book_next = t.book_next;
+    let mut work = [7u32; 1124];
+    let mut list = [9u32; 5];
+    let reply = record.meets(
+        &heads,
+        &parents,
+        &rows,
+        &counts,
+        &next,
+        &book_heads,
+        &book_rows,
+        &book_next,
+        &mut work,
+        &mut list,
+        Row(3),
+        0,
+    );
+    reply.number
+}
+
+// The number of the question for the smallest row on the paths of rows 1 and 2.
+fn joined(record: Factor, t: Tables) -> u32 {
+    let heads = t.heads;
+    let parents = t.parents;
+    let rows = t.rows;
+    let counts = t.counts;
+    let next = t.next;
+    let book_heads = t.book_heads;
+    let book_rows = t.book_rows;
+    let book_next = t.book_next;
+    let mut work = [7u32; 1124];
+    let reply = record.common(
+        &heads,
+        &parents,
+        &rows,
+        &counts,
+        &next,
+        &book_heads,
+        &book_rows,
+        &book_next,
+        &mut work,
+        &[1, 2],
+    );
+    reply.number
+}
+
+// What check answers, or which question does not answer with it.
+fn answer(record: Factor, t: Tables) -> u8 {
+    let number = checked(record, t);
+    if met(record, t) != number {
+        return b'm';
+    }
+    if joined(record, t) != number {
+        return b'c';
+    }
+    sign(number)
 }
 
 // A value as 16 bits hold it, or 0.

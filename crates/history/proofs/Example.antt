@@ -1,10 +1,8 @@
--- The listed example, step by step, on tables with one place more than the sizes ask: the world after the opening and after each accepted batch, what a
--- batch leaves, and the transitions, all by computing. Which free records are taken is this example's choice.
+-- The listed example, step by step, on the worlds of ExampleWorlds.antt: the event of each call, the transitions and the run, all by computing.
 -- Assumes nothing.
 use mathlib.Core.Path.{refl}
-use mathlib.Core.List.{List, [], _∷_, _++_}
+use mathlib.Core.List.{List, [], _∷_}
 use Prim.Native.Nat.{ℕ}
-use lib.ListN.{replicate}
 use Rattle.lists.specs.Lists.{all, any, among, noRepeats, allZero, same, sumOf, valuesAt, rises, upFrom, pairsOf}
 use Rattle.symbolic.specs.Columns.{startingWith}
 use Rattle.symbolic.specs.Factor.{childrenWith, countsFrom, firstAbove, buildFrom, patternFrom, nonZero, pathFrom, sizeSum}
@@ -15,96 +13,15 @@ use Rattle.pool.specs.Chains.{chainFrom, lastOf}
 use Rattle.pool.specs.Whole.{chains}
 use Rattle.book.specs.Book.{columnsFrom}
 use Rattle.tables.specs.Stored.{holdsFrom}
-use Rattle.calls.specs.Refusals.{batchOf, rowsRefusal, columnsRefusal, idsRefusal}
-use Rattle.calls.specs.Calls.{Change, removing, askMultiplicity, askParent, askPath, askColumn, checking, workOnly, Call, callOf}
-use Rattle.calls.specs.Changes.{labelled}
-use Rattle.calls.specs.Steps.{Answer, World, Exchanged, Transition}
-use Rattle.calls.proofs.Exchanges.{exchange-passed}
-use Rattle.history.specs.Runs.{Event, Run, Begun, Plain}
 use Rattle.tables.specs.Tables.{Sizes}
-use Rattle.tables.specs.Opening.{openedState, openedTables}
+use Rattle.calls.specs.Refusals.{batchOf, rowsRefusal, columnsRefusal, idsRefusal}
+use Rattle.calls.specs.Calls.{Change, removing, askMultiplicity, askParent, askPath, askColumn, askMeets, askCommon, checking, workOnly, Call, callOf}
+use Rattle.calls.specs.Changes.{labelled}
+use Rattle.calls.specs.Steps.{Answer, Transition}
+use Rattle.history.specs.Runs.{Event, Run, Begun, Plain}
 use Rattle.history.specs.Example.{askedSizes, workLent, listLent, add, change, ask, askFrom, openWith, answered, valued, workLeft, lastSizes, eventCalls, eventAnswers, eventTouched, eventLabels, eventWork, eventLists, shownFrom}
 use Rattle.history.specs.Statements.{ConcreteRun}
-
--- ---- the worlds
-
-abbrev worldOf : (free bookFree : ℕ) → (heads parents rows counts next bookHeads bookRows bookNext : List ℕ) → World
-worldOf f g hs ps rs cs ns bh br bn =
-    record {
-      state = record { sizes = askedSizes; limits = oldLimits; free = f; bookFree = g };
-      tables = record {
-        heads = hs ++ (8 ∷ []);
-        parents = ps ++ (8 ∷ []);
-        rows = rs ++ (8 ∷ []);
-        counts = cs ++ (8 ∷ []);
-        next = ns ++ (8 ∷ []);
-        bookHeads = bh ++ (8 ∷ []);
-        bookRows = br ++ (8 ∷ []);
-        bookNext = bn ++ (8 ∷ []);
-      };
-    }
-
--- before the opening: any content
-abbrev world0 : World
-world0 = worldOf 0 0 (replicate 5 8) (replicate 5 8) (replicate 9 8) (replicate 9 8) (replicate 9 8) (replicate 8 8) (replicate 16 8) (replicate 16 8)
-
--- opened
-abbrev world1 : World
-world1 =
-    worldOf 6 1 (1 ∷ 2 ∷ 3 ∷ 4 ∷ 5 ∷ []) (0 ∷ 0 ∷ 0 ∷ 0 ∷ 0 ∷ [])
-    (1 ∷ 2 ∷ 3 ∷ 4 ∷ 5 ∷ 0 ∷ 0 ∷ 0 ∷ 0 ∷ []) (1 ∷ 1 ∷ 1 ∷ 1 ∷ 1 ∷ 0 ∷ 0 ∷ 0 ∷ 0 ∷ []) (0 ∷ 0 ∷ 0 ∷ 0 ∷ 0 ∷ 7 ∷ 8 ∷ 9 ∷ 0 ∷ [])
-    (0 ∷ 0 ∷ 0 ∷ 0 ∷ 0 ∷ 0 ∷ 0 ∷ 0 ∷ []) (0 ∷ 0 ∷ 0 ∷ 0 ∷ 0 ∷ 0 ∷ 0 ∷ 0 ∷ 0 ∷ 0 ∷ 0 ∷ 0 ∷ 0 ∷ 0 ∷ 0 ∷ 0 ∷ [])
-    (2 ∷ 3 ∷ 4 ∷ 5 ∷ 6 ∷ 7 ∷ 8 ∷ 9 ∷ 10 ∷ 11 ∷ 12 ∷ 13 ∷ 14 ∷ 15 ∷ 16 ∷ 0 ∷ [])
-
--- {1,3} under id 1: record 6 is taken
-abbrev world2 : World
-world2 =
-    worldOf 7 3 (1 ∷ 2 ∷ 3 ∷ 4 ∷ 5 ∷ []) (3 ∷ 0 ∷ 0 ∷ 0 ∷ 0 ∷ [])
-    (1 ∷ 2 ∷ 3 ∷ 4 ∷ 5 ∷ 3 ∷ 0 ∷ 0 ∷ 0 ∷ []) (2 ∷ 1 ∷ 2 ∷ 1 ∷ 1 ∷ 1 ∷ 0 ∷ 0 ∷ 0 ∷ []) (6 ∷ 0 ∷ 0 ∷ 0 ∷ 0 ∷ 0 ∷ 8 ∷ 9 ∷ 0 ∷ [])
-    (1 ∷ 0 ∷ 0 ∷ 0 ∷ 0 ∷ 0 ∷ 0 ∷ 0 ∷ []) (1 ∷ 3 ∷ 0 ∷ 0 ∷ 0 ∷ 0 ∷ 0 ∷ 0 ∷ 0 ∷ 0 ∷ 0 ∷ 0 ∷ 0 ∷ 0 ∷ 0 ∷ 0 ∷ [])
-    (2 ∷ 0 ∷ 4 ∷ 5 ∷ 6 ∷ 7 ∷ 8 ∷ 9 ∷ 10 ∷ 11 ∷ 12 ∷ 13 ∷ 14 ∷ 15 ∷ 16 ∷ 0 ∷ [])
-
--- {1,4} under id 2: records 7 and 8
-abbrev world3 : World
-world3 =
-    worldOf 9 5 (1 ∷ 2 ∷ 3 ∷ 4 ∷ 5 ∷ []) (3 ∷ 0 ∷ 4 ∷ 0 ∷ 0 ∷ [])
-    (1 ∷ 2 ∷ 3 ∷ 4 ∷ 5 ∷ 3 ∷ 4 ∷ 4 ∷ 0 ∷ []) (3 ∷ 1 ∷ 2 ∷ 2 ∷ 1 ∷ 1 ∷ 1 ∷ 1 ∷ 0 ∷ []) (6 ∷ 0 ∷ 8 ∷ 0 ∷ 0 ∷ 7 ∷ 0 ∷ 0 ∷ 0 ∷ [])
-    (1 ∷ 3 ∷ 0 ∷ 0 ∷ 0 ∷ 0 ∷ 0 ∷ 0 ∷ []) (1 ∷ 3 ∷ 1 ∷ 4 ∷ 0 ∷ 0 ∷ 0 ∷ 0 ∷ 0 ∷ 0 ∷ 0 ∷ 0 ∷ 0 ∷ 0 ∷ 0 ∷ 0 ∷ [])
-    (2 ∷ 0 ∷ 4 ∷ 0 ∷ 6 ∷ 7 ∷ 8 ∷ 9 ∷ 10 ∷ 11 ∷ 12 ∷ 13 ∷ 14 ∷ 15 ∷ 16 ∷ 0 ∷ [])
-
--- {2,3} under id 3: record 9, the last
-abbrev world4 : World
-world4 =
-    worldOf 0 7 (1 ∷ 2 ∷ 3 ∷ 4 ∷ 5 ∷ []) (3 ∷ 3 ∷ 4 ∷ 0 ∷ 0 ∷ [])
-    (1 ∷ 2 ∷ 3 ∷ 4 ∷ 5 ∷ 3 ∷ 4 ∷ 4 ∷ 3 ∷ []) (3 ∷ 2 ∷ 3 ∷ 2 ∷ 1 ∷ 1 ∷ 1 ∷ 1 ∷ 1 ∷ []) (6 ∷ 9 ∷ 8 ∷ 0 ∷ 0 ∷ 7 ∷ 0 ∷ 0 ∷ 0 ∷ [])
-    (1 ∷ 3 ∷ 5 ∷ 0 ∷ 0 ∷ 0 ∷ 0 ∷ 0 ∷ []) (1 ∷ 3 ∷ 1 ∷ 4 ∷ 2 ∷ 3 ∷ 0 ∷ 0 ∷ 0 ∷ 0 ∷ 0 ∷ 0 ∷ 0 ∷ 0 ∷ 0 ∷ 0 ∷ [])
-    (2 ∷ 0 ∷ 4 ∷ 0 ∷ 6 ∷ 0 ∷ 8 ∷ 9 ∷ 10 ∷ 11 ∷ 12 ∷ 13 ∷ 14 ∷ 15 ∷ 16 ∷ 0 ∷ [])
-
--- id 2 dropped: its records 7 and 8 of L, and 3 and 4 of the book, are free
-abbrev world5 : World
-world5 =
-    worldOf 7 3 (1 ∷ 2 ∷ 3 ∷ 4 ∷ 5 ∷ []) (3 ∷ 3 ∷ 0 ∷ 0 ∷ 0 ∷ [])
-    (1 ∷ 2 ∷ 3 ∷ 4 ∷ 5 ∷ 3 ∷ 0 ∷ 0 ∷ 3 ∷ []) (2 ∷ 2 ∷ 3 ∷ 1 ∷ 1 ∷ 1 ∷ 0 ∷ 0 ∷ 1 ∷ []) (6 ∷ 9 ∷ 0 ∷ 0 ∷ 0 ∷ 0 ∷ 8 ∷ 0 ∷ 0 ∷ [])
-    (1 ∷ 0 ∷ 5 ∷ 0 ∷ 0 ∷ 0 ∷ 0 ∷ 0 ∷ []) (1 ∷ 3 ∷ 0 ∷ 0 ∷ 2 ∷ 3 ∷ 0 ∷ 0 ∷ 0 ∷ 0 ∷ 0 ∷ 0 ∷ 0 ∷ 0 ∷ 0 ∷ 0 ∷ [])
-    (2 ∷ 0 ∷ 4 ∷ 7 ∷ 6 ∷ 0 ∷ 8 ∷ 9 ∷ 10 ∷ 11 ∷ 12 ∷ 13 ∷ 14 ∷ 15 ∷ 16 ∷ 0 ∷ [])
-
--- ---- what each accepted batch leaves
-
-first-exchanged : Exchanged world1 (add 1 (1 ∷ 3 ∷ [])) world2
-unfolding all any among noRepeats allZero same valuesAt rises upFrom startingWith childrenWith countsFrom firstAbove buildFrom patternFrom nonZero pathFrom passing chainFrom lastOf chains columnsFrom holdsFrom batchOf
-first-exchanged = exchange-passed world1 (add 1 (1 ∷ 3 ∷ [])) world2 refl refl refl refl
-
-second-exchanged : Exchanged world2 (add 2 (1 ∷ 4 ∷ [])) world3
-unfolding all any among noRepeats allZero same valuesAt rises upFrom startingWith childrenWith countsFrom firstAbove buildFrom patternFrom nonZero pathFrom passing chainFrom lastOf chains columnsFrom holdsFrom batchOf
-second-exchanged = exchange-passed world2 (add 2 (1 ∷ 4 ∷ [])) world3 refl refl refl refl
-
-third-exchanged : Exchanged world3 (add 3 (2 ∷ 3 ∷ [])) world4
-unfolding all any among noRepeats allZero same valuesAt rises upFrom startingWith childrenWith countsFrom firstAbove buildFrom patternFrom nonZero pathFrom passing chainFrom lastOf chains columnsFrom holdsFrom batchOf
-third-exchanged = exchange-passed world3 (add 3 (2 ∷ 3 ∷ [])) world4 refl refl refl refl
-
-removal-exchanged : Exchanged world4 (removing (2 ∷ [])) world5
-unfolding all any among noRepeats allZero same valuesAt rises upFrom startingWith childrenWith countsFrom firstAbove buildFrom patternFrom nonZero pathFrom passing chainFrom lastOf chains columnsFrom holdsFrom without columnOf columnsOf
-removal-exchanged = exchange-passed world4 (removing (2 ∷ [])) world5 refl refl refl refl
+use Rattle.history.proofs.ExampleWorlds.{world0, world1, world2, world3, world4, world5, world6, fresh, full, first-exchanged, second-exchanged, third-exchanged, removal-exchanged, returned-exchanged, filled-exchanged, emptied-exchanged, refilled-exchanged}
 
 -- ---- the run
 
@@ -129,6 +46,9 @@ checked = record { call = callOf checking (workOnly workLent); answer = answered
 abbrev question : Call → (value : ℕ) → (list : List ℕ) → Event
 question k v xs = record { call = k; answer = valued v; left = record { work = workLeft 1124; touched = []; labels = []; list = xs } }
 
+abbrev turned : Call → (number : ℕ) → Event
+turned k n = record { call = k; answer = answered n 0 0 0 0; left = record { work = workLeft 1124; touched = []; labels = []; list = k .lent .list } }
+
 abbrev path : Event
 path = question (askFrom (askPath 1) 1) 3 (9 ∷ 1 ∷ 3 ∷ 4 ∷ 9 ∷ 9 ∷ [])
 
@@ -140,6 +60,24 @@ multiplicity = question (ask (askMultiplicity 3 1)) 1 []
 
 abbrev parent : Event
 parent = question (ask (askParent 1)) 3 []
+
+abbrev meets : Event
+meets = question (askFrom (askMeets 4) 2) 3 (9 ∷ 9 ∷ 1 ∷ 3 ∷ 4 ∷ 9 ∷ [])
+
+abbrev joined : Event
+joined = question (ask (askCommon (1 ∷ 2 ∷ []))) 3 []
+
+abbrev apart : Event
+apart = question (ask (askCommon (1 ∷ 5 ∷ []))) 0 []
+
+abbrev noneNamed : Event
+noneNamed = turned (ask (askCommon [])) 7
+
+abbrev outside : Event
+outside = turned (askFrom (askMeets 6) 0) 17
+
+abbrev noRoom : Event
+noRoom = turned (askFrom (askMeets 4) 4) 18
 
 abbrev removal : Event
 removal =
@@ -161,51 +99,6 @@ twoRows = opened lastSizes (limitsOf 2 3 4) (answered 0 0 0 0 0) (workLeft 1055)
 
 abbrev plainTwo : Event
 plainTwo = opened lastSizes (limitsOf 0 0 0) (answered 0 0 0 0 0) (workLeft 1055)
-
--- {1,4} under id 4: the records of id 2 are taken again
-abbrev world6 : World
-world6 =
-    worldOf 0 7 (1 ∷ 2 ∷ 3 ∷ 4 ∷ 5 ∷ []) (3 ∷ 3 ∷ 4 ∷ 0 ∷ 0 ∷ [])
-    (1 ∷ 2 ∷ 3 ∷ 4 ∷ 5 ∷ 3 ∷ 4 ∷ 4 ∷ 3 ∷ []) (3 ∷ 2 ∷ 3 ∷ 2 ∷ 1 ∷ 1 ∷ 1 ∷ 1 ∷ 1 ∷ []) (6 ∷ 9 ∷ 8 ∷ 0 ∷ 0 ∷ 7 ∷ 0 ∷ 0 ∷ 0 ∷ [])
-    (1 ∷ 0 ∷ 5 ∷ 3 ∷ 0 ∷ 0 ∷ 0 ∷ 0 ∷ []) (1 ∷ 3 ∷ 1 ∷ 4 ∷ 2 ∷ 3 ∷ 0 ∷ 0 ∷ 0 ∷ 0 ∷ 0 ∷ 0 ∷ 0 ∷ 0 ∷ 0 ∷ 0 ∷ [])
-    (2 ∷ 0 ∷ 4 ∷ 0 ∷ 6 ∷ 0 ∷ 8 ∷ 9 ∷ 10 ∷ 11 ∷ 12 ∷ 13 ∷ 14 ∷ 15 ∷ 16 ∷ 0 ∷ [])
-
--- tables opened anew for two rows, the places past them as they were
-abbrev fresh : Limits → World
-fresh g = record { state = openedState lastSizes g; tables = openedTables lastSizes (world6 .tables) }
-
--- {1,2} under id 1: record 3, the last, and both records of the book
-abbrev full : Limits → World
-full g =
-    record {
-      state = record { sizes = lastSizes; limits = g; free = 0; bookFree = 0 };
-      tables = record {
-        heads = 1 ∷ 2 ∷ 3 ∷ 4 ∷ 5 ∷ 8 ∷ [];
-        parents = 2 ∷ 0 ∷ 4 ∷ 0 ∷ 0 ∷ 8 ∷ [];
-        rows = 1 ∷ 2 ∷ 2 ∷ 4 ∷ 5 ∷ 3 ∷ 4 ∷ 4 ∷ 3 ∷ 8 ∷ [];
-        counts = 2 ∷ 2 ∷ 1 ∷ 2 ∷ 1 ∷ 1 ∷ 1 ∷ 1 ∷ 1 ∷ 8 ∷ [];
-        next = 3 ∷ 0 ∷ 0 ∷ 0 ∷ 0 ∷ 7 ∷ 0 ∷ 0 ∷ 0 ∷ 8 ∷ [];
-        bookHeads = 1 ∷ 0 ∷ 5 ∷ 3 ∷ 0 ∷ 0 ∷ 0 ∷ 0 ∷ 8 ∷ [];
-        bookRows = 1 ∷ 2 ∷ 1 ∷ 4 ∷ 2 ∷ 3 ∷ 0 ∷ 0 ∷ 0 ∷ 0 ∷ 0 ∷ 0 ∷ 0 ∷ 0 ∷ 0 ∷ 0 ∷ 8 ∷ [];
-        bookNext = 2 ∷ 0 ∷ 4 ∷ 0 ∷ 6 ∷ 0 ∷ 8 ∷ 9 ∷ 10 ∷ 11 ∷ 12 ∷ 13 ∷ 14 ∷ 15 ∷ 16 ∷ 0 ∷ 8 ∷ [];
-      };
-    }
-
-returned-exchanged : Exchanged world5 (add 4 (1 ∷ 4 ∷ [])) world6
-unfolding all any among noRepeats allZero same valuesAt rises upFrom startingWith childrenWith countsFrom firstAbove buildFrom patternFrom nonZero pathFrom passing chainFrom lastOf chains columnsFrom holdsFrom batchOf
-returned-exchanged = exchange-passed world5 (add 4 (1 ∷ 4 ∷ [])) world6 refl refl refl refl
-
-filled-exchanged : Exchanged (fresh (limitsOf 2 3 4)) (add 1 (1 ∷ 2 ∷ [])) (full (limitsOf 2 3 4))
-unfolding all any among noRepeats allZero same valuesAt rises upFrom startingWith childrenWith countsFrom firstAbove buildFrom patternFrom nonZero pathFrom passing chainFrom lastOf chains columnsFrom holdsFrom batchOf
-filled-exchanged = exchange-passed (fresh (limitsOf 2 3 4)) (add 1 (1 ∷ 2 ∷ [])) (full (limitsOf 2 3 4)) refl refl refl refl
-
-emptied-exchanged : Exchanged (full (limitsOf 2 3 4)) (removing (1 ∷ [])) (fresh (limitsOf 2 3 4))
-unfolding all any among noRepeats allZero same valuesAt rises upFrom startingWith childrenWith countsFrom firstAbove buildFrom patternFrom nonZero pathFrom passing chainFrom lastOf chains columnsFrom holdsFrom batchOf without columnOf columnsOf
-emptied-exchanged = exchange-passed (full (limitsOf 2 3 4)) (removing (1 ∷ [])) (fresh (limitsOf 2 3 4)) refl refl refl refl
-
-refilled-exchanged : Exchanged (fresh oldLimits) (add 1 (1 ∷ 2 ∷ [])) (full oldLimits)
-unfolding all any among noRepeats allZero same valuesAt rises upFrom startingWith childrenWith countsFrom firstAbove buildFrom patternFrom nonZero pathFrom passing chainFrom lastOf chains columnsFrom holdsFrom batchOf
-refilled-exchanged = exchange-passed (fresh oldLimits) (add 1 (1 ∷ 2 ∷ [])) (full oldLimits) refl refl refl refl
 
 abbrev returned : Event
 returned = event (add 4 (1 ∷ 4 ∷ [])) (answered 0 0 3 6 1) (1 ∷ 3 ∷ 4 ∷ 9 ∷ 9 ∷ 9 ∷ []) (1 ∷ 1 ∷ 1 ∷ 9 ∷ 9 ∷ 9 ∷ [])
@@ -282,6 +175,30 @@ parent-step : Transition world4 (parent .call) (parent .answer) (parent .left) w
 unfolding all any among noRepeats allZero same sumOf valuesAt rises upFrom startingWith childrenWith countsFrom firstAbove buildFrom patternFrom nonZero pathFrom sizeSum passing labelFrom labelled entriesOf idsOf chainFrom lastOf chains columnsFrom holdsFrom batchOf rowsRefusal columnsRefusal
 parent-step = (refl, refl, refl)
 
+meets-step : Transition world4 (meets .call) (meets .answer) (meets .left) world4
+unfolding all any among noRepeats allZero same sumOf valuesAt rises upFrom startingWith childrenWith countsFrom firstAbove buildFrom patternFrom nonZero pathFrom sizeSum passing labelFrom labelled entriesOf idsOf chainFrom lastOf chains columnsFrom holdsFrom batchOf rowsRefusal columnsRefusal
+meets-step = (refl, refl, refl)
+
+joined-step : Transition world4 (joined .call) (joined .answer) (joined .left) world4
+unfolding all any among noRepeats allZero same sumOf valuesAt rises upFrom startingWith childrenWith countsFrom firstAbove buildFrom patternFrom nonZero pathFrom sizeSum passing labelFrom labelled entriesOf idsOf chainFrom lastOf chains columnsFrom holdsFrom batchOf rowsRefusal columnsRefusal
+joined-step = (refl, refl, refl)
+
+apart-step : Transition world4 (apart .call) (apart .answer) (apart .left) world4
+unfolding all any among noRepeats allZero same sumOf valuesAt rises upFrom startingWith childrenWith countsFrom firstAbove buildFrom patternFrom nonZero pathFrom sizeSum passing labelFrom labelled entriesOf idsOf chainFrom lastOf chains columnsFrom holdsFrom batchOf rowsRefusal columnsRefusal
+apart-step = (refl, refl, refl)
+
+none-named-step : Transition world4 (noneNamed .call) (noneNamed .answer) (noneNamed .left) world4
+unfolding all any among noRepeats allZero same sumOf valuesAt rises upFrom startingWith childrenWith countsFrom firstAbove buildFrom patternFrom nonZero pathFrom sizeSum passing labelFrom labelled entriesOf idsOf chainFrom lastOf chains columnsFrom holdsFrom batchOf rowsRefusal columnsRefusal
+none-named-step = (refl, refl, refl)
+
+outside-step : Transition world4 (outside .call) (outside .answer) (outside .left) world4
+unfolding all any among noRepeats allZero same sumOf valuesAt rises upFrom startingWith childrenWith countsFrom firstAbove buildFrom patternFrom nonZero pathFrom sizeSum passing labelFrom labelled entriesOf idsOf chainFrom lastOf chains columnsFrom holdsFrom batchOf rowsRefusal columnsRefusal
+outside-step = (refl, refl, refl)
+
+no-room-step : Transition world4 (noRoom .call) (noRoom .answer) (noRoom .left) world4
+unfolding all any among noRepeats allZero same sumOf valuesAt rises upFrom startingWith childrenWith countsFrom firstAbove buildFrom patternFrom nonZero pathFrom sizeSum passing labelFrom labelled entriesOf idsOf chainFrom lastOf chains columnsFrom holdsFrom batchOf rowsRefusal columnsRefusal
+no-room-step = (refl, refl, refl)
+
 removal-step : Transition world4 (removal .call) (removal .answer) (removal .left) world5
 unfolding all any among noRepeats allZero same sumOf valuesAt rises upFrom startingWith childrenWith countsFrom firstAbove buildFrom patternFrom nonZero pathFrom sizeSum passing labelFrom labelled entriesOf idsOf chainFrom lastOf chains columnsFrom holdsFrom batchOf rowsRefusal columnsRefusal idsRefusal without columnOf columnsOf
 removal-step = (refl, refl, removal-exchanged)
@@ -334,10 +251,10 @@ concrete-run =
       touched = refl;
       labels = refl;
       shows = refl;
-      later = checked ∷ path ∷ column ∷ multiplicity ∷ parent ∷ removal ∷ [];
+      later = checked ∷ path ∷ column ∷ multiplicity ∷ parent ∷ meets ∷ joined ∷ apart ∷ noneNamed ∷ outside ∷ noRoom ∷ removal ∷ [];
       last = world5;
       later-run =
-          (world4, (checked-step, (world4, (path-step, (world4, (column-step, (world4, (multiplicity-step, (world4, (parent-step, (world5, (removal-step, refl))))))))))));
+          (world4, (checked-step, (world4, (path-step, (world4, (column-step, (world4, (multiplicity-step, (world4, (parent-step, (world4, (meets-step, (world4, (joined-step, (world4, (apart-step, (world4, (none-named-step, (world4, (outside-step, (world4, (no-room-step, (world5, (removal-step, refl))))))))))))))))))))))));
       later-calls = refl;
       later-answers = refl;
       later-touched = refl;

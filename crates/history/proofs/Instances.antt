@@ -1,15 +1,15 @@
--- Document 01's instances, all by computing: each side of each line is unfolded to a number or a list. The largest is a factor of 24 columns.
+-- Document 01's instances and document 02's, all by computing: each side of each line is unfolded to a number or a list. The largest is a factor of 24 columns.
 -- Nothing else is unfolded so far; elsewhere the factor stays shut.
 -- Assumes nothing.
 use mathlib.Core.Path.{refl}
-use Rattle.lists.specs.Lists.{any, among, sumOf, upFrom, pairsOf}
+use Rattle.lists.specs.Lists.{all, any, among, sumOf, upFrom, pairsOf}
 use Rattle.symbolic.specs.Columns.{startingWith}
 use Rattle.symbolic.specs.Factor.{childrenWith, countsFrom, firstAbove, buildFrom, patternFrom, nonZero, pathFrom, sizeSum}
 use Rattle.symbolic.specs.Batch.{passing, labelFrom, entriesOf}
 use Rattle.symbolic.specs.Change.{idsOf, without, columnOf, columnsOf}
 use Rattle.calls.specs.Refusals.{batchOf, rowsRefusal, columnsRefusal, idsRefusal}
 use Rattle.calls.specs.Changes.{labelled}
-use Rattle.history.specs.Instances.{StarredInstances, NinthInstance, LimitInstances}
+use Rattle.history.specs.Instances.{StarredInstances, NinthInstance, LimitInstances, MeetingInstances}
 
 pub starred-instances : StarredInstances
 unfolding any among sumOf upFrom startingWith childrenWith countsFrom firstAbove buildFrom patternFrom nonZero pathFrom sizeSum passing labelFrom labelled entriesOf idsOf without columnOf columnsOf batchOf rowsRefusal columnsRefusal pairsOf
@@ -72,4 +72,38 @@ limit-instances =
       later-short = refl;
       later-123 = λ t. refl;
       later-233 = λ t. refl;
+    }
+
+pub meeting-instances : MeetingInstances
+unfolding all among startingWith childrenWith countsFrom firstAbove buildFrom pathFrom passing batchOf
+meeting-instances =
+    record {
+      meets-1 = refl;
+      meets-2 = refl;
+      meets-3 = refl;
+      meets-4 = refl;
+      meets-5 = refl;
+      places = refl;
+      common-12 = refl;
+      common-31 = refl;
+      common-124 = refl;
+      common-15 = refl;
+      common-125 = refl;
+      common-answer = refl;
+      common-1 = refl;
+      common-55 = refl;
+      common-212 = refl;
+      rows-0 = refl;
+      rows-64 = refl;
+      rows-65 = refl;
+      row-0 = refl;
+      row-6 = refl;
+      rows-16 = refl;
+      rows-01 = refl;
+      place-3 = refl;
+      place-4 = refl;
+      place-7 = refl;
+      order-7 = refl;
+      order-17 = refl;
+      order-5 = refl;
     }

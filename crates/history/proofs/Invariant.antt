@@ -1,5 +1,6 @@
 -- What record, tables and plain register have in common between calls (`Inv`): sizes in range, the same limits, tables long enough and sound, and the same
--- columns up to order, ids once. It gives `Consistent` (`inv-consistent`); an accepted opening sets it up (`inv-opened`), and Steps.antt shows that every call keeps it.
+-- columns up to order, ids once. It gives `Consistent` (`inv-consistent`); an accepted opening sets it up (`inv-opened`), any accepted call has found it
+-- (`inv-found`), and Steps.antt shows that every call keeps it.
 -- Assumes nothing.
 use mathlib.Core.Path.{_≡_, refl, sym, ap, _∙_, subst}
 use mathlib.Core.Bool.{true}
@@ -23,10 +24,10 @@ use Rattle.calls.specs.Refusals.{accepted, isAccepted, bounds, sizesRefusal}
 use Rattle.calls.specs.Calls.{opening, Lent, callOf, withDefault}
 use Rattle.calls.specs.Steps.{World, bookedIn}
 use Rattle.calls.proofs.Refusals.{InRange, sizes-facts}
-use Rattle.calls.proofs.Numbers.{Ready}
+use Rattle.calls.proofs.Numbers.{Ready, Found}
 use Rattle.calls.proofs.Order.{bag-factor}
 use Rattle.history.specs.Runs.{Plain}
-use Rattle.history.specs.Statements.{Consistent}
+use Rattle.history.specs.Statements.{Consistent, plainOf}
 use Rattle.history.proofs.Reports.{held-factor}
 
 pub record Inv (p : Plain) (u : World) : Type 0 where
@@ -42,6 +43,11 @@ pub record Inv (p : Plain) (u : World) : Type 0 where
 -- the book's ids stand once, whatever the tables hold
 pub book-once : (u : World) → noRepeats (idsOf (bookedIn u .columns)) ≡ true
 book-once u = ids-distinct (bookIn (u .state) (u .tables))
+
+-- what an accepted call has found in any world: the world holds it of itself
+pub inv-found : (u : World) → Found (u .state) (u .tables) → Inv (plainOf u) u
+inv-found u f =
+    record { in-range = f .in-range; sizes = refl; limits = refl; rows = refl; long = f .long; sound = f .sound; bag = λ g. refl; once = book-once u }
 
 -- ---- what it gives
 

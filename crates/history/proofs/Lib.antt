@@ -1,7 +1,9 @@
 pub mod Reports
 pub mod Invariant
 pub mod Steps
+pub mod Asking
 pub mod Theorems
+pub mod ExampleWorlds
 pub mod Example
 pub mod Instances
 pub mod Corollaries

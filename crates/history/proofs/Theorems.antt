@@ -1,5 +1,5 @@
 -- The theorems about calls: a term of each statement of specs/Statements.antt but the example's. What is shown stands in Invariant.antt (what holds
--- between calls) and Steps.antt (that each call keeps it, and answers by the register).
+-- between calls), Steps.antt (that each call keeps it, and answers by the register) and Asking.antt (what an accepted question answers on any tables).
 -- Assumes nothing.
 use mathlib.Core.Path.{_≡_, refl, sym, subst}
 use mathlib.Core.Bool.{false}
@@ -15,9 +15,10 @@ use Rattle.calls.proofs.Choices.{or-both}
 use Rattle.calls.proofs.Numbers.{Ready, early-facts, Found, accepted-found}
 use Rattle.calls.proofs.Steps.{Accepted, step-taken, change-of}
 use Rattle.history.specs.Runs.{Run, Plain, plainAfter, Begun}
-use Rattle.history.specs.Statements.{Demand3, RunSplits, plainOf, AnySound, OpeningSound}
-use Rattle.history.proofs.Invariant.{Inv, book-once, inv-consistent, openedPlain, openedWorld, inv-opened}
+use Rattle.history.specs.Statements.{Demand3, RunSplits, plainOf, AnySound, OpeningSound, MeetsStand, CommonLies}
+use Rattle.history.proofs.Invariant.{Inv, inv-found, inv-consistent, openedPlain, openedWorld, inv-opened}
 use Rattle.history.proofs.Steps.{inv-justified, inv-step, inv-run}
+use Rattle.history.proofs.Asking.{meets-filled, common-answered}
 
 -- ---- an accepted opening
 
@@ -59,6 +60,13 @@ unfolding plainAfter
 any-sound u e v s n b =
     let t : Accepted u (e .call) (e .answer) (e .left) v = step-taken u (e .call) (e .answer) (e .left) v s n in
     let f : Found (u .state) (u .tables) = accepted-found (u .state) (u .tables) (e .call) (subst (λ (i : Entry). isOpening i ≡ false) (sym (change-of (e .call .entry) b .1)) refl) (t .number) in
-    let i : Inv (plainOf u) u =
-    record { in-range = f .in-range; sizes = refl; limits = refl; rows = refl; long = f .long; sound = f .sound; bag = λ f. refl; once = book-once u } in
+    let i : Inv (plainOf u) u = inv-found u f in
     (inv-consistent i, inv-justified i e v s, inv-consistent (inv-step i e v s))
+
+-- ---- the questions of a delivery run
+
+pub meets-stand : MeetsStand
+meets-stand u e v i p s q n = meets-filled u e v i p s q n
+
+pub common-lies : CommonLies
+common-lies u e v is p s q n = common-answered u e v is p s q n

@@ -1,6 +1,6 @@
 -- Document 01's listed example, as calls: "open 5 8 9 16", "add 1 1 3", "add 2 1 4", "add 3 2 3", with one more addition among them that is refused; then
--- a check, every question and the removal of 2, which is case 4 of the instances; then openings with limits, refused ones, after which the old ones grade on,
--- and accepted ones; and what the listing shows of record and tables.
+-- a check, every question, with refused ones among them, and the removal of 2, which is case 4 of the instances; then openings with limits, refused ones,
+-- after which the old ones grade on, and accepted ones; and what the listing shows of record and tables.
 -- Assumes nothing: these are definitions.
 use mathlib.Core.List.{List, [], _∷_, _++_}
 use Prim.Native.Nat.{ℕ, zero, suc, _-_}
@@ -9,7 +9,7 @@ use Rattle.lists.specs.Lists.{at, valuesAt, pairsOf}
 use Rattle.symbolic.specs.Grades.{Limits, limitsOf}
 use Rattle.tables.specs.Stored.{Stored, recordsOf}
 use Rattle.tables.specs.Tables.{Sizes, storedIn}
-use Rattle.calls.specs.Calls.{Change, adding, removing, Question, askMultiplicity, askParent, askPath, askColumn, opening, changing, checking, asking, workOnly, reportLists, workAndList, Call, callOf}
+use Rattle.calls.specs.Calls.{Change, adding, removing, Question, askMultiplicity, askParent, askPath, askColumn, askMeets, askCommon, opening, changing, checking, asking, workOnly, reportLists, workAndList, Call, callOf}
 use Rattle.calls.specs.Steps.{Answer, World}
 use Rattle.history.specs.Runs.{Event}
 
@@ -49,10 +49,13 @@ openWith l g = callOf (opening l g) (workOnly workLent)
 abbrev pub listedCalls : List Call
 listedCalls = change (add 1 (1 ∷ 3 ∷ [])) ∷ change (add 1 (2 ∷ [])) ∷ change (add 2 (1 ∷ 4 ∷ [])) ∷ change (add 3 (2 ∷ 3 ∷ [])) ∷ []
 
--- check; path of 1, from place 1 on; column 1, multiplicity of row 3 in it, its parent; removal of 2
+-- check; path of 1, from place 1 on; column 1, multiplicity of row 3 in it, its parent; the columns that meet row 4, from place 2 on; the common row of 1 and 2,
+-- and of 1 and 5; of no row; the columns that meet a row 6, and those that meet row 4 where the list has two places left; removal of 2
 abbrev pub laterCalls : List Call
 laterCalls =
-    callOf checking (workOnly workLent) ∷ askFrom (askPath 1) 1 ∷ askFrom (askColumn 1) 0 ∷ ask (askMultiplicity 3 1) ∷ ask (askParent 1) ∷ change (removing (2 ∷ [])) ∷ []
+    callOf checking (workOnly workLent) ∷ askFrom (askPath 1) 1 ∷ askFrom (askColumn 1) 0 ∷ ask (askMultiplicity 3 1) ∷ ask (askParent 1) ∷
+    askFrom (askMeets 4) 2 ∷ ask (askCommon (1 ∷ 2 ∷ [])) ∷ ask (askCommon (1 ∷ 5 ∷ [])) ∷ ask (askCommon []) ∷ askFrom (askMeets 6) 0 ∷ askFrom (askMeets 4) 4 ∷
+    change (removing (2 ∷ [])) ∷ []
 
 -- two rows
 abbrev pub lastSizes : Sizes
@@ -78,9 +81,12 @@ listedAnswers = answered 0 0 2 3 1 ∷ answered 10 1 0 0 0 ∷ answered 0 0 3 6 
 abbrev pub valued : ℕ → Answer
 valued v = record { number = 0; position = 0; touched = 0; entries = 0; grade = 0; value = v }
 
--- sound; a path of three rows, a column of three entries, multiplicity 1, parent 3; three columns touched, four entries
+-- sound; a path of three rows, a column of three entries, multiplicity 1, parent 3; three columns, common row 3, none; refused by 7, 17 and 18; three columns
+-- touched, four entries
 abbrev pub laterAnswers : List Answer
-laterAnswers = answered 0 0 0 0 0 ∷ valued 3 ∷ valued 3 ∷ valued 1 ∷ valued 3 ∷ answered 0 0 3 4 1 ∷ []
+laterAnswers =
+    answered 0 0 0 0 0 ∷ valued 3 ∷ valued 3 ∷ valued 1 ∷ valued 3 ∷ valued 3 ∷ valued 3 ∷ valued 0 ∷ answered 7 0 0 0 0 ∷ answered 17 0 0 0 0 ∷
+    answered 18 0 0 0 0 ∷ answered 0 0 3 4 1 ∷ []
 
 -- refused by 1 and by 20; six entries, still of grade 1; three entries and two, of grades 3 and 2 by limits 2, 3 and 4; three entries, of grade 1 again
 abbrev pub lastAnswers : List Answer
@@ -96,17 +102,18 @@ listedTouched = (1 ∷ 3 ∷ 9 ∷ 9 ∷ 9 ∷ 9 ∷ []) ∷ listLent ∷ (1 ∷
 abbrev pub listedLabels : List (List ℕ)
 listedLabels = (1 ∷ 1 ∷ 9 ∷ 9 ∷ 9 ∷ 9 ∷ []) ∷ listLent ∷ (1 ∷ 1 ∷ 1 ∷ 9 ∷ 9 ∷ 9 ∷ []) ∷ (1 ∷ 1 ∷ 1 ∷ 9 ∷ 9 ∷ 9 ∷ []) ∷ []
 
--- the lists for touched columns that the later calls leave
+-- the lists for touched columns that the later calls leave: the removal, which is the twelfth, alone has one
 abbrev pub laterTouched : List (List ℕ)
-laterTouched = [] ∷ [] ∷ [] ∷ [] ∷ [] ∷ (1 ∷ 3 ∷ 4 ∷ 9 ∷ 9 ∷ 9 ∷ []) ∷ []
+laterTouched = replicate 11 [] ++ ((1 ∷ 3 ∷ 4 ∷ 9 ∷ 9 ∷ 9 ∷ []) ∷ [])
 
 -- the lists for labels that the later calls leave
 abbrev pub laterLabels : List (List ℕ)
-laterLabels = [] ∷ [] ∷ [] ∷ [] ∷ [] ∷ (1 ∷ 1 ∷ 1 ∷ 9 ∷ 9 ∷ 9 ∷ []) ∷ []
+laterLabels = replicate 11 [] ++ ((1 ∷ 1 ∷ 1 ∷ 9 ∷ 9 ∷ 9 ∷ []) ∷ [])
 
 -- the lists of questions that the later calls leave
 abbrev pub laterLists : List (List ℕ)
-laterLists = [] ∷ (9 ∷ 1 ∷ 3 ∷ 4 ∷ 9 ∷ 9 ∷ []) ∷ (1 ∷ 3 ∷ 3 ∷ 1 ∷ 4 ∷ 1 ∷ []) ∷ [] ∷ [] ∷ [] ∷ []
+laterLists =
+    [] ∷ (9 ∷ 1 ∷ 3 ∷ 4 ∷ 9 ∷ 9 ∷ []) ∷ (1 ∷ 3 ∷ 3 ∷ 1 ∷ 4 ∷ 1 ∷ []) ∷ [] ∷ [] ∷ (9 ∷ 9 ∷ 1 ∷ 3 ∷ 4 ∷ 9 ∷ []) ∷ [] ∷ [] ∷ [] ∷ listLent ∷ listLent ∷ [] ∷ []
 
 -- the work table that calls leave: its first W places zero, the rest as lent; as lent under 1 and 20; W is 1,055 for two rows
 abbrev pub workLeft : (w : ℕ) → List ℕ

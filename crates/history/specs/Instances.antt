@@ -1,21 +1,23 @@
 -- Document 01's instances as one table, over the definitions that the entries' contracts cite: effect, factorFor, acceptedBy, touchedBy, labelsBy,
--- entriesBy, gradeOf, pathList, columnList; then instances of document 02's limits. proofs/Instances.antt has the terms, by computing.
+-- entriesBy, gradeOf, pathList, columnList; then instances of document 02's limits and questions. proofs/Instances.antt has the terms, by computing.
 -- Assumes nothing: these are definitions.
 use mathlib.Core.Path.{_≡_}
 use mathlib.Core.List.{List, [], _∷_}
 use Prim.Native.Nat.{ℕ}
+use lib.ListN.{replicate}
 use Rattle.lists.specs.Lists.{upFrom}
 use Rattle.symbolic.specs.Columns.{Register}
 use Rattle.symbolic.specs.Factor.{factorFor, parentOf}
 use Rattle.symbolic.specs.Grades.{Limits, limitsOf, oldLimits, gradeOf}
+use Rattle.symbolic.specs.Meeting.{commonOf}
 use Rattle.tables.specs.Tables.{Tables, Sizes, State, sizesOf, tablesOf}
 use Rattle.calls.specs.Refusals.{Refusal, refusal, accepted}
-use Rattle.calls.specs.Calls.{Change, adding, removing, askParent, opening, changing, checking, asking, callOf, workOnly}
+use Rattle.calls.specs.Calls.{Change, adding, removing, askParent, askMeets, askCommon, opening, changing, checking, asking, callOf, workOnly}
 use Rattle.calls.specs.Changes.{effect, touchedBy, labelsBy, entriesBy, registerAfter}
-use Rattle.calls.specs.Questions.{pathList, columnList}
-use Rattle.calls.specs.Numbers.{soundRefusal, refusalOf}
+use Rattle.calls.specs.Questions.{pathList, columnList, meetsList}
+use Rattle.calls.specs.Numbers.{soundRefusal, askRefusal, refusalOf}
 use Rattle.calls.specs.Steps.{acceptedBy}
-use Rattle.history.specs.Example.{answered}
+use Rattle.history.specs.Example.{answered, valued}
 
 -- ---- the changes: lent lists play no part here
 
@@ -154,3 +156,44 @@ pub record LimitInstances : Type 0 where
   pub later-short : refusalOf (recordWith (limitsOf 0 0 0)) noTables (callOf checking (workOnly [])) ≡ refusal 5 0
   pub later-123 : (t : Tables) → soundRefusal (recordWith (limitsOf 1 2 3)) t checking ≡ refusal 6 0
   pub later-233 : (t : Tables) → soundRefusal (recordWith (limitsOf 2 3 3)) t checking ≡ refusal 6 0
+
+-- ---- the columns that meet a row, the common row of some rows
+
+-- what the questions of a delivery run give in the listed state, and the order of their refusals
+pub record MeetingInstances : Type 0 where
+  -- "all factor columns whose pattern holds it, ascending": row i's own column is the last
+  pub meets-1 : meetsList listed 1 ≡ 1 ∷ []
+  pub meets-2 : meetsList listed 2 ≡ 2 ∷ []
+  pub meets-3 : meetsList listed 3 ≡ 1 ∷ 2 ∷ 3 ∷ []
+  pub meets-4 : meetsList listed 4 ≡ 1 ∷ 3 ∷ 4 ∷ []
+  pub meets-5 : meetsList listed 5 ≡ 5 ∷ []
+  -- "with the number of places filled"
+  pub places : acceptedBy oldLimits listed (asking (askMeets 4) 2) ≡ valued 3
+  -- "the smallest row that lies on all their paths, or 0 where there is none"
+  pub common-12 : commonOf (factorFor listed) (1 ∷ 2 ∷ []) ≡ 3
+  pub common-31 : commonOf (factorFor listed) (3 ∷ 1 ∷ []) ≡ 3
+  pub common-124 : commonOf (factorFor listed) (1 ∷ 2 ∷ 4 ∷ []) ≡ 4
+  pub common-15 : commonOf (factorFor listed) (1 ∷ 5 ∷ []) ≡ 0
+  pub common-125 : commonOf (factorFor listed) (1 ∷ 2 ∷ 5 ∷ []) ≡ 0
+  pub common-answer : acceptedBy oldLimits listed (asking (askCommon (1 ∷ 2 ∷ [])) 0) ≡ valued 3
+  -- a path starts with its own row: one row alone gives itself, and so does a row named again
+  pub common-1 : commonOf (factorFor listed) (1 ∷ []) ≡ 1
+  pub common-55 : commonOf (factorFor listed) (5 ∷ 5 ∷ []) ≡ 5
+  pub common-212 : commonOf (factorFor listed) (2 ∷ 1 ∷ 2 ∷ []) ≡ 3
+  -- "An empty or longer list of rows falls under 7": 64 rows are not too many, repeated or not
+  pub rows-0 : askRefusal listed (askCommon []) 0 [] ≡ refusal 7 0
+  pub rows-64 : askRefusal listed (askCommon (replicate 64 5)) 0 [] ≡ accepted
+  pub rows-65 : askRefusal listed (askCommon (replicate 65 5)) 0 [] ≡ refusal 7 0
+  -- "a row out of range under 17", whichever of the rows it is
+  pub row-0 : askRefusal listed (askMeets 0) 0 (replicate 6 9) ≡ refusal 17 0
+  pub row-6 : askRefusal listed (askMeets 6) 0 (replicate 6 9) ≡ refusal 17 0
+  pub rows-16 : askRefusal listed (askCommon (1 ∷ 6 ∷ [])) 0 [] ≡ refusal 17 0
+  pub rows-01 : askRefusal listed (askCommon (0 ∷ 1 ∷ [])) 0 [] ≡ refusal 17 0
+  -- "a short answer list under 18": three columns have room from place 3 of six on, not from place 4 on, nor past the end
+  pub place-3 : askRefusal listed (askMeets 4) 3 (replicate 6 9) ≡ accepted
+  pub place-4 : askRefusal listed (askMeets 4) 4 (replicate 6 9) ≡ refusal 18 0
+  pub place-7 : askRefusal listed (askMeets 5) 7 (replicate 6 9) ≡ refusal 18 0
+  -- "in that order": 65 rows out of range give 7, a row out of range with a short list 17; and 5 comes before all of them
+  pub order-7 : askRefusal listed (askCommon (replicate 65 6)) 0 [] ≡ refusal 7 0
+  pub order-17 : askRefusal listed (askMeets 6) 7 (replicate 6 9) ≡ refusal 17 0
+  pub order-5 : refusalOf (recordWith oldLimits) noTables (callOf (asking (askCommon []) 0) (workOnly [])) ≡ refusal 5 0

@@ -5,22 +5,23 @@ use mathlib.Core.Path.{_≡_}
 use mathlib.Core.Logic.{_⊎_, _≢_, _↔_}
 use mathlib.Core.Bool.{true, false, _||_}
 use mathlib.Core.List.{List, [], _∷_, _++_}
-use Prim.Native.Nat.{ℕ, _≤_, _<_}
+use Prim.Native.Nat.{ℕ, _+_, _≤_, _<_}
 use lib.Dec.{eqb}
-use lib.ListN.{length, take}
-use Rattle.lists.specs.Lists.{pick, Mem, all, same, among, noRepeats, at, valuesAt, rises}
+use lib.ListN.{length, take, drop}
+use Rattle.lists.specs.Lists.{pick, isIn, Mem, all, same, among, noRepeats, at, valuesAt, rises}
 use Rattle.symbolic.specs.Columns.{Column, smallest, startingWith, Register, live}
 use Rattle.symbolic.specs.Definition.{IsFactor, OnPath}
 use Rattle.symbolic.specs.Factor.{factorFor}
 use Rattle.symbolic.specs.Chains.{ChainTo}
 use Rattle.symbolic.specs.Change.{idsOf}
 use Rattle.symbolic.specs.Grades.{Limits, limitsOf, areLimits, gradeOf}
+use Rattle.symbolic.specs.Meeting.{IsCommon}
 use Rattle.book.specs.Book as book
 use Rattle.tables.specs.Stored.{recordsOf, holdsFrom}
 use Rattle.tables.specs.Tables.{Tables, Sizes, longEnough, storedIn, bookIn, isSound}
 use Rattle.tables.specs.Stays.{ColumnStays, EntriesKeep, TailsStay}
 use Rattle.calls.specs.Refusals.{Refusal, accepted, isAccepted, orElse, bounds, sizesRefusal}
-use Rattle.calls.specs.Calls.{Change, opening, changing, Lent, withWork, Call, callOf, isOpening, isChange}
+use Rattle.calls.specs.Calls.{Change, askMeets, askCommon, opening, changing, asking, Lent, withWork, Call, callOf, isOpening, isChange}
 use Rattle.calls.specs.Changes.{effect, IsExchange}
 use Rattle.calls.specs.Numbers.{callEarly, callRefusal}
 use Rattle.calls.specs.Steps.{Answer, refusedBy, acceptedBy, listsAfter, workAfter, World, bookedIn, Transition}
@@ -169,8 +170,51 @@ OpeningSound =
     (u : World) (l : Sizes) (g : Limits) (w : Lent) (a : Answer) (x : Lent) (v : World) → Transition u (callOf (opening l g) w) a x v → a .number ≡ 0 →
     isSound (v .state) (v .tables) ≡ true
 
--- ---- a run that is, so that nothing above is empty: the listed example, with a refused addition among the others; then a check, every question and a
--- removal; then openings with limits, refused and accepted, and batches graded by them
+-- ---- document 02's questions of a delivery run, on any tables: an accepted question has passed 1 to 6, so that they are sound is a conclusion here too
+
+-- "written as a path is, with the number of places filled": what fills the lent list from a place on
+abbrev pub filled : Event → (place : ℕ) → List ℕ
+filled e p = take (e .answer .value) (drop p (e .left .list))
+
+-- what an accepted question for the columns that meet row i has written from place p on, against what the tables hold
+pub record FilledJust (u : World) (e : Event) (i p : ℕ) : Type 0 where
+  -- it has passed 17: the row is one of 1 to m
+  pub row : isIn 1 (u .state .sizes .m) i ≡ true
+  -- "with the number of places filled"
+  pub counted : length (filled e p) ≡ e .answer .value
+  -- "ascending", up to row i, whose own column is the last
+  pub ascending : rises 1 i (filled e p) ≡ true
+  pub own-last : (js : List ℕ) × (filled e p ≡ js ++ (i ∷ []))
+  -- "all factor columns whose pattern holds it": those whose chain in the tables has the row
+  pub exactly : (j : ℕ) → 1 ≤ j → j ≤ u .state .sizes .m → Mem j (filled e p) ↔ Stands u i j
+  -- "and the rest of the list keeps its content"
+  pub length-stays : length (e .left .list) ≡ length (e .call .lent .list)
+  pub front-stays : take p (e .left .list) ≡ take p (e .call .lent .list)
+  pub rest-stays : drop (p + e .answer .value) (e .left .list) ≡ drop (p + e .answer .value) (e .call .lent .list)
+
+-- an accepted question for the columns that meet a row lists just those; "Neither changes a table but the work table"
+abbrev pub MeetsStand : Type 0
+MeetsStand =
+    (u : World) (e : Event) (v : World) (i p : ℕ) → Transition u (e .call) (e .answer) (e .left) v → e .call .entry ≡ asking (askMeets i) p →
+    e .answer .number ≡ 0 → Consistent (plainOf u) u × (v ≡ u) × FilledJust u e i p
+
+-- what an accepted question for the common row of some rows answers, against the parents that the tables hold
+pub record CommonJust (u : World) (e : Event) (rows : List ℕ) : Type 0 where
+  -- it has passed 7 and 17: "up to 64 rows", at least one, each of 1 to m
+  pub few : isIn 1 64 (length rows) ≡ true
+  pub in-range : all (isIn 1 (u .state .sizes .m)) rows ≡ true
+  -- "the smallest row that lies on all their paths, or 0 where there is none"
+  pub smallest-on-all : IsCommon (heldParent u) rows (e .answer .value)
+  pub list-stays : e .left .list ≡ e .call .lent .list
+
+-- an accepted question for the common row of some rows answers just that; "Neither changes a table but the work table"
+abbrev pub CommonLies : Type 0
+CommonLies =
+    (u : World) (e : Event) (v : World) (rows : List ℕ) (p : ℕ) → Transition u (e .call) (e .answer) (e .left) v → e .call .entry ≡ asking (askCommon rows) p →
+    e .answer .number ≡ 0 → Consistent (plainOf u) u × (v ≡ u) × CommonJust u e rows
+
+-- ---- a run that is, so that nothing above is empty: the listed example, with a refused addition among the others; then a check, every question, refused
+-- ones too, and a removal; then openings with limits, refused and accepted, and batches graded by them
 
 -- the run, with its calls, answers, lists and listings as Example.antt has them
 pub record ConcreteRun : Type 0 where

@@ -43,7 +43,7 @@ pub can-show : (x : Factor) (t : Tables) (w a b : List ℕ) {places room : ℕ} 
 can-show x t w a b r p q =
     elim (r .usable) [
       | inl e ↦ record { usable = inl e; few = omega (arith, ap (λ (s : State). s .sizes .m) e); entries = omega arith; fits = q }
-      | inr c ↦ record { usable = inr (c .usable); few = omega (arith, c .touched-long, r .lengths .touched); entries = omega arith; fits = q }
+      | inr c ↦ record { usable = inr (c .can-use .usable); few = omega (arith, c .touched-long, r .lengths .touched); entries = omega arith; fits = q }
     ]
 
 -- ---- add

@@ -39,7 +39,7 @@ no-answer a d =
 -- ---- m says whether a factor is open
 
 pub ready-none : (u : Memory) → IsReady u → u .world .state .sizes .m ≡ 0 → u .world .state ≡ noState
-ready-none u r e = elim r [ inl q ↦ q | inr c ↦ absurd (omega (arith, usable-some (c .usable))) ]
+ready-none u r e = elim r [ inl q ↦ q | inr c ↦ absurd (omega (arith, usable-some (c .can-use .usable))) ]
 
 pub ready-some : (u : Memory) → IsReady u → u .world .state .sizes .m ≢ 0 → CanChange (u .world .state) (u .world .tables) (u .work) (u .touched) (u .labels)
 ready-some u r d = elim r [ inl q ↦ absurd (d (ap (λ (s : State). s .sizes .m) q)) | inr c ↦ c ]

@@ -3,7 +3,7 @@ ghost use Rattle.tables.specs.Tables.{tablesOf};
 ghost use Rattle.questions.specs.Asked.{replyOf};
 ghost use Rattle.calls.specs.Calls.{callOf, workOnly, workAndList};
 ghost use Rattle.calls.specs.Calls.Entry.{checking, asking};
-ghost use Rattle.calls.specs.Calls.Question.{askMultiplicity, askParent, askPath, askColumn};
+ghost use Rattle.calls.specs.Calls.Question.{askMultiplicity, askParent, askPath, askColumn, askMeets, askCommon};
 ghost use Rattle.calls.specs.Steps.{Transition};
 ghost use Rattle.factor.specs.Entries.{worldOf};
 use book::Row;
@@ -170,5 +170,71 @@ pub extern "C" fn nigvalds_column(
         list,
         Row(j),
         place,
+    )
+}
+
+// The columns whose pattern holds row i, ascending, a column to a place from the given place of the list on, and the number of places filled.
+#[no_mangle]
+pub extern "C" fn nigvalds_meets(
+    factor: Factor,
+    heads: &[u32],
+    parents: &[u16],
+    rows: &[u16],
+    counts: &[u16],
+    next: &[u32],
+    book_heads: &[u32],
+    book_rows: &[u16],
+    book_next: &[u32],
+    work: &mut [u32],
+    list: &mut [u32],
+    i: u32,
+    place: usize,
+) -> Reply
+    ensures { λ r. ⌜ Transition (worldOf factor (tablesOf (now (heads .entry)) (now (parents .entry)) (now (rows .entry)) (now (counts .entry)) (now (next .entry)) (now («book_heads» .entry)) (now («book_rows» .entry)) (now («book_next» .entry)))) (callOf (asking (askMeets i) place) (workAndList (now (work .entry)) (now (list .entry)))) (replyOf r) (workAndList (now (work .exit)) (now (list .exit))) (worldOf factor (tablesOf (now (heads .entry)) (now (parents .entry)) (now (rows .entry)) (now (counts .entry)) (now (next .entry)) (now («book_heads» .entry)) (now («book_rows» .entry)) (now («book_next» .entry)))) ⌝ }
+{
+    factor.meets(
+        heads,
+        parents,
+        rows,
+        counts,
+        next,
+        book_heads,
+        book_rows,
+        book_next,
+        work,
+        list,
+        Row(i),
+        place,
+    )
+}
+
+// The smallest row that lies on the paths of all of the rows, 1 to 64 of them; 0 where there is none.
+#[no_mangle]
+pub extern "C" fn nigvalds_common(
+    factor: Factor,
+    heads: &[u32],
+    parents: &[u16],
+    rows: &[u16],
+    counts: &[u16],
+    next: &[u32],
+    book_heads: &[u32],
+    book_rows: &[u16],
+    book_next: &[u32],
+    work: &mut [u32],
+    row_list: &[u32],
+) -> Reply
+    ensures { λ r. ⌜ Transition (worldOf factor (tablesOf (now (heads .entry)) (now (parents .entry)) (now (rows .entry)) (now (counts .entry)) (now (next .entry)) (now («book_heads» .entry)) (now («book_rows» .entry)) (now («book_next» .entry)))) (callOf (asking (askCommon (now («row_list» .entry))) 0) (workOnly (now (work .entry)))) (replyOf r) (workOnly (now (work .exit))) (worldOf factor (tablesOf (now (heads .entry)) (now (parents .entry)) (now (rows .entry)) (now (counts .entry)) (now (next .entry)) (now («book_heads» .entry)) (now («book_rows» .entry)) (now («book_next» .entry)))) ⌝ }
+{
+    factor.common(
+        heads,
+        parents,
+        rows,
+        counts,
+        next,
+        book_heads,
+        book_rows,
+        book_next,
+        work,
+        row_list,
     )
 }

@@ -1,19 +1,25 @@
--- What each return of a question answers, for every register whose tables these are: 17, 18, or the value with what is written. First for any question: one
+-- What each return of a question answers, for every register whose tables these are: 7, 17, 18, or the value with what is written. First for any question: one
 -- without a list, one whose list is written from a place on. Then question by question, a law for each return.
 -- Assumes nothing.
 use mathlib.Core.Path.{_≡_, refl, sym, ap, _∙_, subst}
+use mathlib.Core.Logic.{_≢_}
+use mathlib.Core.Bool.{false}
 use mathlib.Core.List.{List, []}
 use Prim.Native.Nat.{ℕ, _≤_}
+use lib.Dec.{eqb}
 use lib.ListN.{length}
+use borrow.Author.Tests.{ne-eqb}
 use Rattle.lists.specs.Lists.{at, writtenAt}
 use Rattle.symbolic.specs.Columns.{Register}
 use Rattle.symbolic.specs.Factor.{factorFor, columnAt, sizeOf, multiplicity}
-use Rattle.calls.specs.Refusals.{Refusal, refusal, accepted, orElse, rowRefusal, roomFor}
-use Rattle.calls.specs.Calls.{Question, askMultiplicity, askParent, askPath, askColumn}
-use Rattle.calls.specs.Questions.{pathList, columnList, response}
+use Rattle.symbolic.specs.Meeting.{commonOf}
+use Rattle.calls.specs.Refusals.{Refusal, refusal, accepted, orElse, rowRefusal, namedRefusal, roomFor}
+use Rattle.calls.specs.Calls.{Question, askMultiplicity, askParent, askPath, askColumn, askMeets, askCommon}
+use Rattle.calls.specs.Questions.{pathList, columnList, meetsList, response}
 use Rattle.calls.specs.Numbers.{askRefusal}
 use Rattle.questions.specs.Asked.{ColumnsFor, ParentsFor, RepliesAt, Replies, Leaves}
-use Rattle.questions.proofs.Replies.{refused-reply, refused-list, accepted-reply, accepted-list}
+use Rattle.questions.specs.Meeting.{TreeFor}
+use Rattle.questions.proofs.Replies.{named-refusal, refused-reply, refused-list, accepted-reply, accepted-list}
 
 -- a row's test by the register
 row-at : {k m : ℕ} (e : k ≡ m) (i : ℕ) {x : Refusal} → rowRefusal m i ≡ x → rowRefusal k i ≡ x
@@ -25,8 +31,9 @@ module _ (Fits : Register → Type 0) (q : Question) (empty : (r : Register) →
   abbrev after : (r : Register) → Refusal → Refusal
   after r x = orElse x (roomFor [] 0 (length (response r q .list)))
 
-  pub plain-refused : ((r : Register) → Fits r → response r q .refusal ≡ refusal 17 0) → Replies Fits q (record { number = 17; value = 0 })
-  plain-refused h r f = refused-reply r q 0 [] 17 refl (ap (after r) (h r f))
+  pub plain-refused : (n : ℕ) → eqb n 0 ≡ false → ((r : Register) → Fits r → response r q .refusal ≡ refusal n 0) →
+      Replies Fits q (record { number = n; value = 0 })
+  plain-refused n t h r f = refused-reply r q 0 [] n t (ap (after r) (h r f) ∙ rw t refl)
 
   pub plain-answer : (n : ℕ) → ((r : Register) → Fits r → response r q .refusal ≡ accepted) → ((r : Register) → Fits r → n ≡ response r q .value) →
       Replies Fits q (record { number = 0; value = n })
@@ -67,12 +74,12 @@ module _ (hs rs cs ns : List ℕ) (i j : ℕ) where
   first-row h r f = ap (λ (y : Refusal). orElse y (rowRefusal (r .m) j)) (row-at (f .size) i h)
 
   pub multiplicity-row : rowRefusal (length hs) i ≡ refusal 17 0 → Replies (ColumnsFor hs rs cs ns) (askMultiplicity i j) (record { number = 17; value = 0 })
-  multiplicity-row h = plain-refused (ColumnsFor hs rs cs ns) (askMultiplicity i j) (λ r. refl) (λ r f. first-row h r f)
+  multiplicity-row h = plain-refused (ColumnsFor hs rs cs ns) (askMultiplicity i j) (λ r. refl) 17 refl (λ r f. first-row h r f)
 
   module _ (a : rowRefusal (length hs) i ≡ accepted) where
     pub multiplicity-column : rowRefusal (length hs) j ≡ refusal 17 0 → Replies (ColumnsFor hs rs cs ns) (askMultiplicity i j) (record { number = 17; value = 0 })
     multiplicity-column h =
-        plain-refused (ColumnsFor hs rs cs ns) (askMultiplicity i j) (λ r. refl) (λ r f. first-row a r f ∙ row-at (f .size) j h)
+        plain-refused (ColumnsFor hs rs cs ns) (askMultiplicity i j) (λ r. refl) 17 refl (λ r f. first-row a r f ∙ row-at (f .size) j h)
 
     pub multiplicity-answer : (n : ℕ) → rowRefusal (length hs) j ≡ accepted → ((r : Register) → ColumnsFor hs rs cs ns r → n ≡ multiplicity (factorFor r) i j) →
         Replies (ColumnsFor hs rs cs ns) (askMultiplicity i j) (record { number = 0; value = n })
@@ -83,10 +90,24 @@ module _ (hs rs cs ns : List ℕ) (i j : ℕ) where
 
 module _ (ps : List ℕ) (j : ℕ) where
   pub parent-row : rowRefusal (length ps) j ≡ refusal 17 0 → Replies (ParentsFor ps) (askParent j) (record { number = 17; value = 0 })
-  parent-row h = plain-refused (ParentsFor ps) (askParent j) (λ r. refl) (λ r f. row-at (f .size) j h)
+  parent-row h = plain-refused (ParentsFor ps) (askParent j) (λ r. refl) 17 refl (λ r f. row-at (f .size) j h)
 
   pub parent-answer : rowRefusal (length ps) j ≡ accepted → 1 ≤ j → j ≤ length ps → Replies (ParentsFor ps) (askParent j) (record { number = 0; value = at ps j })
   parent-answer h a b = plain-answer (ParentsFor ps) (askParent j) (λ r. refl) (at ps j) (λ r f. row-at (f .size) j h) (λ r f. f .parent j a b)
+
+-- ---- a common row
+
+module _ (ps rs : List ℕ) {n : ℕ} (e : n ≡ namedRefusal (length ps) rs .number) where
+  common-first : (r : Register) → ParentsFor ps r → namedRefusal (r .m) rs ≡ refusal n 0
+  common-first r f = ap (λ (m : ℕ). namedRefusal m rs) (f .size) ∙ named-refusal (length ps) rs e
+
+  pub common-refused : n ≢ 0 → Replies (ParentsFor ps) (askCommon rs) (record { number = n; value = 0 })
+  common-refused t = plain-refused (ParentsFor ps) (askCommon rs) (λ r. refl) n (ne-eqb n 0 t) common-first
+
+  pub common-answer : (x : ℕ) → n ≡ 0 → ((r : Register) → ParentsFor ps r → x ≡ commonOf (factorFor r) rs) →
+      Replies (ParentsFor ps) (askCommon rs) (record { number = 0; value = x })
+  common-answer x t v =
+      plain-answer (ParentsFor ps) (askCommon rs) (λ r. refl) x (λ r f. common-first r f ∙ ap (λ (k : ℕ). refusal k 0) t) v
 
 -- ---- a path
 
@@ -121,3 +142,20 @@ module _ (hs rs cs ns : List ℕ) (j p : ℕ) (xs : List ℕ) where
         ((r : Register) → ColumnsFor hs rs cs ns r → ys ≡ writtenAt p (columnList r j) xs) →
         RepliesAt (ColumnsFor hs rs cs ns) (askColumn j) p xs (record { number = 0; value = n }) × Leaves (ColumnsFor hs rs cs ns) (askColumn j) p xs ys
     column-answer n ys h u w = list-answer (ColumnsFor hs rs cs ns) (length hs) (λ r f. f .size) (askColumn j) j (λ r. refl) p xs a k v n ys h u w
+
+-- ---- the columns that meet a row
+
+module _ (hs ps rs cs ns : List ℕ) (i p : ℕ) (xs : List ℕ) where
+  pub meets-row : rowRefusal (length hs) i ≡ refusal 17 0 →
+      RepliesAt (TreeFor hs ps rs cs ns) (askMeets i) p xs (record { number = 17; value = 0 }) × Leaves (TreeFor hs ps rs cs ns) (askMeets i) p xs xs
+  meets-row h = list-row (TreeFor hs ps rs cs ns) (length hs) (λ r f. f .columns-are .size) (askMeets i) i (λ r. refl) p xs h
+
+  module _ (a : rowRefusal (length hs) i ≡ accepted) (n : ℕ) (v : (r : Register) → TreeFor hs ps rs cs ns r → n ≡ length (meetsList r i)) where
+    pub meets-room : roomFor xs p n ≡ refusal 18 0 →
+        RepliesAt (TreeFor hs ps rs cs ns) (askMeets i) p xs (record { number = 18; value = 0 }) × Leaves (TreeFor hs ps rs cs ns) (askMeets i) p xs xs
+    meets-room h = list-room (TreeFor hs ps rs cs ns) (length hs) (λ r f. f .columns-are .size) (askMeets i) i (λ r. refl) p xs a n v h
+
+    pub meets-answer : (ys : List ℕ) → roomFor xs p n ≡ accepted → ((r : Register) → TreeFor hs ps rs cs ns r → ys ≡ writtenAt p (meetsList r i) xs) →
+        RepliesAt (TreeFor hs ps rs cs ns) (askMeets i) p xs (record { number = 0; value = n }) × Leaves (TreeFor hs ps rs cs ns) (askMeets i) p xs ys
+    meets-answer ys h w =
+        list-answer (TreeFor hs ps rs cs ns) (length hs) (λ r f. f .columns-are .size) (askMeets i) i (λ r. refl) p xs a n v n ys h v w

@@ -1,4 +1,6 @@
 pub mod Replies
 pub mod Following
+pub mod Nearing
 pub mod Reading
 pub mod Answers
+pub mod Marking

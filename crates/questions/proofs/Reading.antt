@@ -23,6 +23,7 @@ use Rattle.columns.proofs.Holding.{holds-rises, holds-count, holds-pairs}
 use Rattle.columns.proofs.Copying.{entries-length}
 use Rattle.calls.specs.Questions.{columnList}
 use Rattle.questions.specs.Asked.{ColumnsFor, ParentsFor, CanAsk, CanFollow}
+use Rattle.questions.specs.Meeting.{CanClimb}
 
 pattern-short : (a : ℕ) (ns : List ℕ) → length (patternFrom a ns) ≤ length ns
 unfolding patternFrom
@@ -97,3 +98,8 @@ module _ (s : Stored) (r : Register) (e : r .m ≡ length (s .heads)) (z : isSou
 
     pub can-follow : CanFollow (s .parents)
     can-follow = record { register = r; followed = stored-parents (d .parents-long); narrow = omega (arith, d .parents-long) }
+
+    -- columns and parents together
+    pub can-climb : CanClimb (s .heads) (s .parents) (s .rows) (s .counts) (s .next)
+    unfolding can-ask
+    can-climb = record { ask = can-ask; parents-are = stored-parents (d .parents-long) }

@@ -1,5 +1,5 @@
--- A question's reply by the tests that the code makes: 17 for a row outside (`row-out`, `row-in`), 18 for too little room (`room-out`, `room-in`), and what
--- a refused or an accepted question replies and leaves of its list. Assumes nothing.
+-- A question's reply by the tests that the code makes: 17 for a row outside (`row-out`, `row-in`), 7 or 17 for rows that are named (`named-refusal`,
+-- `named-in`), 18 for too little room (`room-out`, `room-in`), and what a refused or an accepted question replies and leaves of its list. Assumes nothing.
 use mathlib.Core.Path.{_≡_, refl, sym, ap, _∙_}
 use mathlib.Core.Bool.{Bool, true, false, not, false≢true}
 use mathlib.Core.List.{List, [], _++_, append-nil}
@@ -11,10 +11,10 @@ use lib.Seq.{drop-drop, drop-length}
 use borrow.Author.Tests.{leb-true}
 use borrow.Rule.Slice.PartAt.{part-to-end}
 use borrow.Rule.Slice.PartMut.{putMid}
-use Rattle.lists.specs.Lists.{isIn, over, writtenAt}
+use Rattle.lists.specs.Lists.{isIn, all, over, writtenAt}
 use Rattle.lists.proofs.Tests.{in-range}
 use Rattle.symbolic.specs.Columns.{Register}
-use Rattle.calls.specs.Refusals.{refusal, accepted, isAccepted, unless, rowRefusal, roomFor}
+use Rattle.calls.specs.Refusals.{refusal, accepted, isAccepted, orElse, unless, rowRefusal, namedRefusal, roomFor}
 use Rattle.calls.specs.Calls.{Question}
 use Rattle.calls.specs.Questions.{response}
 use Rattle.calls.specs.Numbers.{askRefusal}
@@ -39,6 +39,29 @@ module _ (m i : ℕ) {x : Bool} (e : x ≡ not (isAccepted (rowRefusal m i))) wh
 
   pub row-in : x ≡ false → (rowRefusal m i ≡ accepted) × (1 ≤ i) × (i ≤ m)
   row-in h = let z : isIn 1 m i ≡ true = test-in (isIn 1 m i) 17 refl e h in (ap (λ (b : Bool). unless b 17 0) z, in-range 1 m i z .0, in-range 1 m i z .1)
+
+-- ---- 7 and 17, of rows that are named
+
+-- a refusal by two tests has no position
+named-none : (z y : Bool) → orElse (unless z 7 0) (unless y 17 0) ≡ refusal (orElse (unless z 7 0) (unless y 17 0) .number) 0
+named-none true true = refl
+named-none true false = refl
+named-none false y = refl
+
+named-both : (z y : Bool) → orElse (unless z 7 0) (unless y 17 0) .number ≡ 0 → (z ≡ true) × (y ≡ true)
+named-both true true h = (refl, refl)
+named-both true false h = absurd (omega arith)
+named-both false y h = absurd (omega arith)
+
+module _ (m : ℕ) (rs : List ℕ) {n : ℕ} (e : n ≡ namedRefusal m rs .number) where
+  pub named-refusal : namedRefusal m rs ≡ refusal n 0
+  named-refusal = named-none (isIn 1 64 (length rs)) (all (isIn 1 m) rs) ∙ ap (λ (k : ℕ). refusal k 0) (sym e)
+
+  -- rows that are not refused: at least one, all in range
+  pub named-in : n ≡ 0 → (1 ≤ length rs) × (all (isIn 1 m) rs ≡ true)
+  named-in t =
+      let w : (isIn 1 64 (length rs) ≡ true) × (all (isIn 1 m) rs ≡ true) = named-both (isIn 1 64 (length rs)) (all (isIn 1 m) rs) (sym e ∙ t) in
+      (in-range 1 64 (length rs) (w .0) .0, w .1)
 
 -- ---- 18
 

@@ -1,5 +1,5 @@
-// Questions on sound stored columns: a multiplicity, a parent, a path, a column. They cost only what they read. A promise is for every register whose
-// columns, or parents, the tables hold.
+// Questions on sound stored columns: a multiplicity, a parent, a path, a column; in meeting.rt the columns that meet a row, in ancestors.rt the common row of
+// some rows. A promise is for every register whose columns, or parents, or both, the tables hold.
 ghost use mathlib.Core.Path.{_≡_};
 ghost use Prim.Native.Nat.{_≤_};
 ghost use lib.ListN.{length};
@@ -8,6 +8,10 @@ ghost use Rattle.symbolic.specs.Columns.{Register};
 ghost use Rattle.calls.specs.Questions.{pathList};
 ghost use Rattle.calls.specs.Calls.Question.{askMultiplicity, askParent, askPath, askColumn};
 ghost use Rattle.questions.specs.Asked.{ColumnsFor, ParentsFor, CanAsk, CanFollow, RepliesAt, Replies, Leaves};
+
+pub mod ancestors;
+pub mod meeting;
+
 use book::Row;
 use pool::Rec;
 
@@ -31,14 +35,14 @@ pub fn multiplicity(
     ensures { λ a. ⌜ Replies (ColumnsFor (now (heads .entry)) (now (rows .entry)) (now (counts .entry)) (now (next .entry))) (askMultiplicity (i .0) (j .0)) a ⌝ }
 {
     let m = heads.len() as u32;
-    if refusals::row_outside(m, i.0) {
+    if refusals::asked::row_outside(m, i.0) {
         return Reply {
             number: 17,
             value: 0,
         };
     }
     let k = j.0;
-    if refusals::row_outside(m, k) {
+    if refusals::asked::row_outside(m, k) {
         return Reply {
             number: 17,
             value: 0,
@@ -59,7 +63,7 @@ pub fn parent(parents: &[u16], j: Row) -> Reply
 {
     let m = parents.len() as u32;
     let k = j.0;
-    if refusals::row_outside(m, k) {
+    if refusals::asked::row_outside(m, k) {
         return Reply {
             number: 17,
             value: 0,
@@ -107,14 +111,14 @@ pub fn path(parents: &[u16], list: &mut [u32], j: Row, place: usize) -> Reply
     ensures written { λ a. ⌜ Leaves (ParentsFor (now (parents .entry))) (askPath (j .0)) place (now (list .entry)) (now (list .exit)) ⌝ }
 {
     let m = parents.len() as u32;
-    if refusals::row_outside(m, j.0) {
+    if refusals::asked::row_outside(m, j.0) {
         return Reply {
             number: 17,
             value: 0,
         };
     }
     let n = path_length(parents, j);
-    if refusals::room_outside(list.len(), place, n) {
+    if refusals::asked::room_outside(list.len(), place, n) {
         return Reply {
             number: 18,
             value: 0,
@@ -144,7 +148,7 @@ pub fn column(
 {
     let m = heads.len() as u32;
     let k = j.0;
-    if refusals::row_outside(m, k) {
+    if refusals::asked::row_outside(m, k) {
         return Reply {
             number: 17,
             value: 0,
@@ -153,7 +157,7 @@ pub fn column(
     let head = Rec(heads[(k - 1) as usize]);
     let n = pool::count(next, head, m);
     let places = 2 * n as usize;
-    if refusals::room_outside(list.len(), place, places) {
+    if refusals::asked::room_outside(list.len(), place, places) {
         return Reply {
             number: 18,
             value: 0,

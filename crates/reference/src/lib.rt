@@ -3,6 +3,7 @@
 // The tables serve 64 rows and 256 ids: id i holds row j if place (i - 1) * 64 + (j - 1) is 1, and row i is in L_j if place (j - 1) * 64 + (i - 1) is.
 pub mod batch;
 pub mod columns;
+pub mod meeting;
 pub mod pattern;
 pub mod questions;
 pub mod refusals;

@@ -13,7 +13,7 @@ use crate::pattern;
 use crate::refusals;
 use crate::tree;
 
-fn refused(number: usize) -> Reply
+pub fn refused(number: usize) -> Reply
     ensures { λ r. ⌜ r .value ≡ 0 ⌝ }
 {
     Reply { number, value: 0 }

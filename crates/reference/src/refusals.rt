@@ -11,7 +11,7 @@ use crate::Sizes;
 use crate::columns;
 use crate::columns::wide;
 
-fn is_outside(x: usize, low: usize, high: usize) -> bool {
+pub fn is_outside(x: usize, low: usize, high: usize) -> bool {
     if x < low {
         return true;
     }

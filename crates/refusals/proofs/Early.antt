@@ -1,5 +1,5 @@
 -- The numbers 1 to 5 by the tests that the code makes, in its order: each law is one return. Then, for callers, the definitions' refusals from the
--- answers of `sizes`, `short`, `short_lists`, `row_outside` and `room_outside`, and that the default F changes no number.
+-- answers of `sizes`, `short`, `short_lists`, `asked::row_outside` and `asked::room_outside`, and that the default F changes no number.
 -- Assumes nothing.
 use mathlib.Core.Path.{_≡_, refl, sym, ap, _∙_}
 use mathlib.Core.Logic.{inl, inr}
@@ -120,7 +120,7 @@ sizes-refusal l {r} e =
 pub short-refusal : (l : Sizes) (t : Tables) (w : List ℕ) {x : Bool} → x ≡ not (isAccepted (shortRefusal l t w)) → shortRefusal l t w ≡ unless (not x) 5 0
 short-refusal l t w e = test-refusal (longEnough l t && leb (workFor l) (length w)) 5 refl e
 
--- 17 and 18, from the answers of `row_outside` and `room_outside`
+-- 17 and 18, from the answers of `asked::row_outside` and `asked::room_outside`
 pub row-refusal : (m i : ℕ) {x : Bool} → x ≡ not (isAccepted (rowRefusal m i)) → rowRefusal m i ≡ unless (not x) 17 0
 row-refusal m i e = test-refusal (isIn 1 m i) 17 refl e
 

@@ -1,5 +1,6 @@
 pub mod Tests
 pub mod Early
+pub mod Named
 pub mod Parts
 pub mod Positions
 pub mod Finding

@@ -1,23 +1,25 @@
 // The numbers that a call is refused by, with their positions, found in their order. Tables are shared, never written. In order: sizes and their default
-// (1 to 4), tables and lists (5), the parts of a batch, an addition (7 to 15), a removal (7 to 11), questions (17, 18). limits.rt has 20.
+// (1 to 4), tables and lists (5), the parts of a batch, an addition (7 to 15), a removal (7 to 11). asked.rt has those of questions (7, 17, 18),
+// limits.rt 20.
 ghost use mathlib.Core.Path.{_≡_};
 ghost use mathlib.Core.Bool.{not};
 ghost use Prim.Native.Nat.{_+_, _≤_, _<_};
 ghost use lib.ListN.{length, getD, drop};
 ghost use Rattle.tables.specs.Tables.{sizesOf, tablesOf};
 ghost use Rattle.lists.specs.Lists.{isIn, among};
-ghost use Rattle.calls.specs.Refusals.{refusal, isAccepted, sizesRefusal, shortRefusal, listsLong, rowRefusal};
+ghost use Rattle.calls.specs.Refusals.{refusal, isAccepted, sizesRefusal, shortRefusal, listsLong};
 ghost use Rattle.book.specs.Book.{isBooked};
-ghost use Rattle.refusals.specs.Early.{largest, recordsFor, factorLong, bookLong, NoRoom};
+ghost use Rattle.refusals.specs.Early.{largest, recordsFor, factorLong, bookLong};
 ghost use Rattle.refusals.specs.Parts.{IsNumber, before, idRefusal, rowsPart, countRefusal, columnRefusal, leavingRefusal, InStep, HasPlace};
 ghost use Rattle.refusals.specs.Found.{found, HasBook, ColumnsFound, AddFound, IdsFound, RemoveFound};
 
+pub mod asked;
 pub mod limits;
 
 use book::Id;
 use pool::Rec;
 
-// The most columns in a batch.
+// The most columns in a batch, and the most rows that a question names.
 pub const MOST_COLUMNS: usize = 64;
 
 // The most rows in a column.
@@ -179,7 +181,7 @@ pub fn short_lists(touched: &[u16], labels: &[u16], m: u32) -> bool
     labels.len() < m as usize
 }
 
-// Whether a batch of r columns has too few or too many.
+// Whether r columns of a batch, or r rows that are named, are too few or too many.
 fn shape_outside(r: usize) -> bool
     ensures { λ a. ⌜ a ≡ not (isIn 1 64 r) ⌝ }
 {
@@ -379,21 +381,4 @@ pub fn find_remove(book_heads: &[u32], ids: &[u32]) -> Refusal
         return refused(7);
     }
     ids_refusal(book_heads, ids)
-}
-
-// Whether a row or column is outside 1 to m.
-pub fn row_outside(m: u32, row: u32) -> bool
-    ensures { λ r. ⌜ r ≡ not (isAccepted (rowRefusal m row)) ⌝ }
-{
-    outside(1, m, row)
-}
-
-// Whether a list of len places ends before an answer of so many places, from a given one on, does.
-pub fn room_outside(len: usize, place: usize, places: usize) -> bool
-    ensures { λ r. ⌜ NoRoom len place places r ⌝ }
-{
-    if len < place {
-        return true;
-    }
-    len - place < places
 }

@@ -7,8 +7,10 @@ pub mod Columns
 pub mod Patterns
 pub mod Paths
 pub mod Passing
+pub mod Common
 pub mod Touched
 pub mod Exchange
+pub mod Meeting
 pub mod Locality
 pub mod Labels
 pub mod Bags

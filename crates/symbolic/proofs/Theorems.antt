@@ -1,5 +1,5 @@
 -- A term of every statement of specs/Statements.antt, in its order. The mathematics stands in the other files, over the definition's sentences alone
--- (Laws, Walks, Two, Steps) or over the computed factor (Build, Columns, Patterns, Paths, Touched, Locality, Labels, Bags, Order, Sizes); Grades is about numbers alone. Assumes nothing.
+-- (Laws, Walks, Two, Steps) or over the computed factor (Build, Columns, Patterns, Paths, Passing, Common, Touched, Meeting, Locality, Labels, Bags, Order, Sizes); Grades is about numbers alone. Assumes nothing.
 use mathlib.Core.Path.{_≡_, refl, sym, subst}
 use mathlib.Core.Logic.{_⊎_, inl, inr, _≢_}
 use mathlib.Core.Bool.{true}
@@ -13,7 +13,7 @@ use Rattle.lists.proofs.Member.{all-at}
 use Rattle.symbolic.specs.Columns.{Column, smallest, holds, fitsRows}
 use Rattle.symbolic.specs.Factor.{factorOf, multiplicity, parentOf, inPattern, isChild}
 use Rattle.symbolic.specs.Batch.{passes, atPosition, labelOf}
-use Rattle.symbolic.specs.Statements.{Defined, Unique, DiagonalStands, ParentAbove, ParentHolds, Equation31, Growth, Locality, UpdateSteps, DowndateSteps, OrderFree, RemovalSplits, MultiplicityBound, ChainRule, PatternClosed, PatternLeast, PathIs, TouchedIs, TouchedRises, LabelIs, LabelsFollow, SizesGrow, SizesLocal, GradeFrom, OldGrades}
+use Rattle.symbolic.specs.Statements.{Defined, Unique, DiagonalStands, ParentAbove, ParentHolds, Equation31, Growth, Locality, UpdateSteps, DowndateSteps, OrderFree, RemovalSplits, MultiplicityBound, ChainRule, PatternClosed, PatternLeast, PathIs, TouchedIs, TouchedRises, LabelIs, LabelsFollow, SizesGrow, SizesLocal, GradeFrom, OldGrades, MeetingIs, MeetingRises, MeetingEnds, CommonIs}
 use Rattle.symbolic.proofs.Laws.{diagonal-in, start-in, pattern-cases, row-above, parent-contains, pattern-fill}
 use Rattle.symbolic.proofs.Walks.{walk-of, edge-in, walk-in, pattern-within}
 use Rattle.symbolic.proofs.Two.{Agree, factor-agrees}
@@ -28,6 +28,8 @@ use Rattle.symbolic.proofs.Bags.{bag-splits}
 use Rattle.symbolic.proofs.Order.{factor-bag, count-bound}
 use Rattle.symbolic.proofs.Sizes.{sizes-grow-sum, sizes-local-sum}
 use Rattle.symbolic.proofs.Grades.{grade-begins, old-grade}
+use Rattle.symbolic.proofs.Meeting.{meeting-defined, meeting-rise, meeting-last}
+use Rattle.symbolic.proofs.Common.{common-least}
 
 -- ---- the definition
 
@@ -174,3 +176,17 @@ grade-from = grade-begins
 
 pub old-grades : OldGrades
 old-grades = old-grade
+
+-- ---- 10. the columns that meet a row, and the common row
+
+pub meeting-is : MeetingIs
+meeting-is = meeting-defined
+
+pub meeting-rises : MeetingRises
+meeting-rises = meeting-rise
+
+pub meeting-ends : MeetingEnds
+meeting-ends = meeting-last
+
+pub common-is : CommonIs
+common-is = common-least

@@ -2,6 +2,7 @@ pub mod Columns
 pub mod Factor
 pub mod Definition
 pub mod Batch
+pub mod Meeting
 pub mod Grades
 pub mod Chains
 pub mod Change

@@ -3,15 +3,16 @@
 use mathlib.Core.Path.{_≡_}
 use mathlib.Core.Logic.{_⊎_, _≢_, _↔_}
 use mathlib.Core.Bool.{true, false}
-use mathlib.Core.List.{List, _++_}
+use mathlib.Core.List.{List, [], _∷_, _++_}
 use Prim.Native.Nat.{ℕ, _+_, _≤_, _<_}
 use lib.Dec.{ltb, eqb}
 use lib.ListN.{length}
-use Rattle.lists.specs.Lists.{pick, Mem, all, among, noRepeats, rises}
+use Rattle.lists.specs.Lists.{pick, isIn, Mem, all, among, noRepeats, rises}
 use Rattle.symbolic.specs.Columns.{Column, smallest, holds, fitsRows, startingWith}
 use Rattle.symbolic.specs.Factor.{factorOf, columnAt, multiplicity, parentOf, inPattern, isChild, pathOf, sizeSum}
 use Rattle.symbolic.specs.Definition.{IsFactor, OnPath}
 use Rattle.symbolic.specs.Batch.{atPosition, passes, isTouched, touched, labelOf, entriesOf}
+use Rattle.symbolic.specs.Meeting.{meeting, commonOf, IsCommon}
 use Rattle.symbolic.specs.Grades.{Limits, areLimits, oldLimits, gradeOf}
 use Rattle.symbolic.specs.Chains.{ChainTo, Closed}
 use Rattle.symbolic.specs.Change.{idsOf, without, columnsOf, Bag}
@@ -179,3 +180,25 @@ GradeFrom =
 -- by the old limits, "Grade 1 is for 1 to 255 entries, 2 for 256 to 4,095, 3 for 4,096 to 65,535, 4 for more"; 0 for no entry
 abbrev pub OldGrades : Type 0
 OldGrades = (n : ℕ) → gradeOf oldLimits n ≡ pick (eqb n 0) 0 (pick (ltb n 256) 1 (pick (ltb n 4096) 2 (pick (ltb n 65536) 3 4)))
+
+-- ---- 10. the columns that meet a row, and the common row; which they are is said of all multiplicities M and parents P that are as the definition says
+
+-- a column is listed exactly if the row stands in it
+abbrev pub MeetingIs : Type 0
+MeetingIs =
+    (m : ℕ) (cs : List Column) (M : ℕ → ℕ → ℕ) (P : ℕ → ℕ) → IsFactor m (λ j i. startingWith j i cs) M P → (i j : ℕ) → 1 ≤ i → i ≤ m →
+    (among j (meeting (factorOf m cs) i) ≡ true) ↔ ((1 ≤ j) × (j ≤ m) × (0 < M i j))
+
+-- "ascending": the list rises, up to row i
+abbrev pub MeetingRises : Type 0
+MeetingRises = (m : ℕ) (cs : List Column) (i : ℕ) → 1 ≤ i → i ≤ m → rises 1 i (meeting (factorOf m cs) i) ≡ true
+
+-- row i's own column is the last, so the list is never empty
+abbrev pub MeetingEnds : Type 0
+MeetingEnds = (m : ℕ) (cs : List Column) (i : ℕ) → 1 ≤ i → i ≤ m → (js : List ℕ) × (meeting (factorOf m cs) i ≡ js ++ (i ∷ []))
+
+-- the common row of some rows lies on all their paths and no smaller one does; 0 exactly if none does
+abbrev pub CommonIs : Type 0
+CommonIs =
+    (m : ℕ) (cs : List Column) (M : ℕ → ℕ → ℕ) (P : ℕ → ℕ) → IsFactor m (λ j i. startingWith j i cs) M P →
+    (is : List ℕ) → 1 ≤ length is → all (isIn 1 m) is ≡ true → IsCommon P is (commonOf (factorOf m cs) is)

@@ -1,6 +1,6 @@
 -- Where each region of the work table starts, by the sizes m, n, F and C; W is document 01's. A region has m places where nothing else is said.
 -- A batch and the read-through use the same table at different times, so each has its own regions. That they follow one another and fill no more
--- than W places: proofs/Starts.antt. Assumes nothing: these are definitions.
+-- than W places: proofs/Starts.antt. A question that marks columns uses the first m places. Assumes nothing: these are definitions.
 use Prim.Native.Nat.{ℕ, _+_, _*_}
 
 -- "W = 8 × m + 4 × F + C + n + 1,024"

@@ -134,6 +134,18 @@ impl Random {
         }
     }
 
+    /// Rows that a question names, some of them again, with a slip now and then: a row out of range, no row, more than 64.
+    pub fn named(&mut self, m: u32) -> Vec<u32> {
+        let most = self.one(&[1, 2, 3, 8, 64]);
+        let count = if self.once_in(12) { self.one(&[0, 65, 66, 200]) } else { self.within(1, most) };
+        let mut rows: Vec<u32> = (0..count).map(|_| self.within(1, m)).collect();
+        if self.once_in(8) && !rows.is_empty() {
+            let k = self.within(0, count - 1) as usize;
+            rows[k] = self.one(&[0, m + 1, 65536 + rows[k], u32::MAX]);
+        }
+        rows
+    }
+
     /// Ids of a removal.
     pub fn removal(&mut self, s: Sizes, live: &Live) -> Vec<u32> {
         let mut left: Vec<u32> = live.keys().copied().collect();

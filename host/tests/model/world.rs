@@ -7,6 +7,18 @@ use nigvalds::lent::{work_places, Changed, Opened, Record, Tables};
 /// Places that tables and lists have beyond what the sizes need.
 pub const BEYOND: usize = 3;
 
+/// Each cuts one table to a place less than the sizes 5, 8, 9 and 16 need.
+pub const CUTS: [fn(&mut Tables); 8] = [
+    |t| t.heads.truncate(4),
+    |t| t.parents.truncate(4),
+    |t| t.rows.truncate(8),
+    |t| t.counts.truncate(8),
+    |t| t.next.truncate(8),
+    |t| t.book_heads.truncate(7),
+    |t| t.book_rows.truncate(15),
+    |t| t.book_next.truncate(15),
+];
+
 pub struct World {
     pub sizes: Sizes,
     pub limits: Limits,
@@ -93,7 +105,8 @@ impl World {
         self.is_cleared(work);
     }
 
-    fn is_cleared(&self, work: &[u32]) {
+    /// The work table, lent with these contents, is zero within its places and as lent beyond.
+    pub fn is_cleared(&self, work: &[u32]) {
         let k = self.places();
         assert!(self.work[..k].iter().all(|x| *x == 0));
         assert_eq!(self.work[k..], work[k..]);
@@ -174,7 +187,7 @@ impl World {
         }
     }
 
-    /// Every question on every row and column, and the reader.
+    /// Multiplicity, parent, path and column of every row and column, and the reader; `ask_meeting` has the other questions.
     pub fn ask(&mut self) {
         let patterns = self.factor();
         assert_eq!(self.tables.check(self.record, &mut self.work).number, 0);

@@ -13,6 +13,9 @@ abbrev μ-loop : tie.MeasureT-loop
 lengths-requires : tie.Need-lengths-requires Inv-loop μ-loop
 lengths-requires c κs = search needs
 
+about-rows-requires : tie.Need-about-rows-requires Inv-loop μ-loop
+about-rows-requires c κs = search needs
+
 loop-holds : tie.Need-loop-holds Inv-loop μ-loop
 loop-holds c = search needs
 
@@ -50,6 +53,7 @@ ask-spec =
     Inv-loop
     μ-loop
     lengths-requires
+    about-rows-requires
     loop-holds
     mul-multiplicity
     array-read-multiplicity

@@ -30,7 +30,7 @@ abbrev tablesAt : tie.Start → Tables
 tablesAt s = tablesOf (s .args .heads .now) (s .args .parents .now) (s .args .rows .now) (s .args .counts .now) (s .args .next .now) (s .args .book-heads .now) (s .args .book-rows .now) (s .args .book-next .now)
 
 lengths : (c : tie.After-remove-arg) → Cut (stateAt (entry c)) (tablesAt (entry c))
-lengths c = let s : tie.Start = entry c in cut (stateAt s) (tablesAt s) (s .pre .usable .long)
+lengths c = let s : tie.Start = entry c in cut (stateAt s) (tablesAt s) (s .pre .can-use .usable .long)
 
 long : (c : tie.After-remove-arg) → Long (stateAt (entry c) .sizes) (tablesAt (entry c))
 long c = let s : tie.Start = entry c in change-long (s .args .self) (tablesAt s) (s .pre)

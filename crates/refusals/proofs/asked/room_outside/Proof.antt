@@ -1,7 +1,7 @@
--- `refusals::room_outside` meets its contract: no sum is made, so that none wraps. Assumes nothing.
+-- `asked::room_outside` meets its contract: no sum is made, so that none wraps. Assumes nothing.
 use Rattle.refusals.proofs.Tests.{room-past, room-left}
-use Rattle.refusals.proofs.room_outside.Statement.{statement}
-use Rattle.refusals.proofs.room_outside.Tie as tie
+use Rattle.refusals.proofs.asked.room_outside.Statement.{statement}
+use Rattle.refusals.proofs.asked.room_outside.Tie as tie
 
 returns : tie.Need-returns
 returns c = room-past _ _ _ (c .if1 .taken)

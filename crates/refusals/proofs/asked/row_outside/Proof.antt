@@ -1,11 +1,11 @@
--- `refusals::row_outside` meets its contract: 17 is the one test. Assumes nothing.
+-- `asked::row_outside` meets its contract: 17 is the one test. Assumes nothing.
 use mathlib.Core.Path.{refl, sym, ap, _∙_}
 use mathlib.Core.Bool.{not}
 use borrow.Author.Needs.{needs}
 use Rattle.lists.specs.Lists.{isIn}
 use Rattle.refusals.proofs.Tests.{unless-accepted}
-use Rattle.refusals.proofs.row_outside.Statement.{statement}
-use Rattle.refusals.proofs.row_outside.Tie as tie
+use Rattle.refusals.proofs.asked.row_outside.Statement.{statement}
+use Rattle.refusals.proofs.asked.row_outside.Tie as tie
 
 outside-requires : tie.Need-outside-requires
 outside-requires c κs = search needs

@@ -1,0 +1,43 @@
+-- `common_unchecked` meets its contract: within their sizes usable tables can be followed, and are those of the register that the book holds. Assumes nothing.
+use mathlib.Core.Path.{sym}
+use borrow.Author.Needs.{needs}
+use Rattle.tables.specs.Tables.{Tables, State, registerOf, tablesOf}
+use Rattle.factor.specs.Entries.{stateOf}
+use Rattle.factor.proofs.Cutting.{Cut, cut, usable-follow, usable-parents}
+use Rattle.factor.proofs.Factor.common_unchecked.Statement.{statement}
+use Rattle.factor.proofs.Factor.common_unchecked.Tie as tie
+
+abbrev entry : tie.After-common-arg → tie.Start
+entry c = c .before .before .before .before .before .before .before .before .before .before .before
+
+abbrev stateAt : tie.Start → State
+stateAt s = stateOf (s .args .self)
+
+abbrev tablesAt : tie.Start → Tables
+tablesAt s = tablesOf (s .args .heads .now) (s .args .parents .now) (s .args .rows .now) (s .args .counts .now) (s .args .next .now) (s .args .book-heads .now) (s .args .book-rows .now) (s .args .book-next .now)
+
+lengths : (c : tie.After-common-arg) → Cut (stateAt (entry c)) (tablesAt (entry c))
+lengths c = let s : tie.Start = entry c in cut (stateAt s) (tablesAt s) (s .pre .long)
+
+cast-m : tie.Need-cast-m
+cast-m c = search needs
+
+slice-aggregate-common : tie.Need-slice-aggregate-common
+slice-aggregate-common c = sym (lengths c .parents)
+
+common-requires : tie.Need-common-requires
+common-requires c κs = usable-follow (entry c .pre)
+
+returns : tie.Need-returns
+returns c =
+    let s : tie.Start = entry (c .before) in
+    c .common .ensures (registerOf (stateAt s) (tablesAt s)) (usable-parents (s .pre))
+
+pub common-unchecked-spec : {M : Type 1} → statement M
+common-unchecked-spec =
+    tie.close
+    (tie.spec
+    cast-m
+    slice-aggregate-common
+    common-requires
+    returns)
