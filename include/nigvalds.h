@@ -46,7 +46,7 @@
 extern "C" {
 #endif
 
-#define NIGVALDS_VERSION "0.3.0"
+#define NIGVALDS_VERSION "0.4.0"
 
 /* ---- sizes */
 
@@ -141,8 +141,9 @@ typedef struct nigvalds_opened {
     nigvalds_factor factor;
 } nigvalds_opened;
 
-/* A batch: touched is how many columns the lists report, entries the sum of their sizes after the call, grade 1 to 4 by the entries: 1 and one more
-   for each limit that they reach. factor is the record after the call, under a refusal the one that was given. */
+/* A batch: touched is how many columns the lists report, entries the sum of their sizes, to size the work on values by: for an addition the sizes after the
+   call, for a removal those before it. grade is 1 to 4 by the entries: 1 and one more for each limit that they reach. factor is the record after the call, under a
+   refusal the one that was given. */
 typedef struct nigvalds_changed {
     uint32_t number, position;
     uint32_t touched, entries, grade;
@@ -187,7 +188,8 @@ nigvalds_changed nigvalds_add(nigvalds_factor factor, NIGVALDS_CHANGED_TABLES, u
                               size_t labels_length, const uint32_t *ids, size_t ids_length, const uint32_t *row_counts, size_t row_counts_length,
                               const uint32_t *row_list, size_t row_list_length);
 
-/* Removes the columns of a batch of ids, and reports likewise. Refusals 1 to 9 and 11. Cost: whole, and the records on its paths. */
+/* Removes the columns of a batch of ids, and reports likewise, with the entries that the touched columns had before. Refusals 1 to 9 and 11. Cost: whole, and the
+   records on its paths. */
 nigvalds_changed nigvalds_remove(nigvalds_factor factor, NIGVALDS_CHANGED_TABLES, uint16_t *touched, size_t touched_length, uint16_t *labels,
                                  size_t labels_length, const uint32_t *ids, size_t ids_length);
 

@@ -45,7 +45,7 @@ pub struct Changed {
     pub position: u32,
     /// How many columns the lists report.
     pub touched: u32,
-    /// The sum of their sizes after the call.
+    /// The sum of their sizes: for an addition those after the call, for a removal those before it.
     pub entries: u32,
     /// 1 to 4, by the entries and the limits in the record; 0 where it is refused.
     pub grade: u32,

@@ -52,7 +52,7 @@ pub struct Report<'a> {
     pub touched: &'a [u16],
     /// For each, the largest position in the batch whose path passes through it.
     pub labels: &'a [u16],
-    /// The sum of the sizes of the touched columns after the call.
+    /// What to size the work on values by: the sum of the touched columns' sizes, for an addition those after the call, for a removal those before it.
     pub entries: u32,
     /// 1 to 4, by the entries: 1, and one more for each of the factor's [`Limits`] that they reach.
     pub grade: u32,
@@ -118,7 +118,7 @@ impl Factor {
         self.report(changed)
     }
 
-    /// Removes the columns of these ids, as one batch.
+    /// Removes the columns of these ids, as one batch. The report's entries are those that the touched columns had before.
     pub fn remove(&mut self, ids: &[u32]) -> Result<Report<'_>, Refusal> {
         let changed = self.tables.remove(self.record, self.work.get_mut(), &mut self.touched, &mut self.labels, ids);
         self.report(changed)

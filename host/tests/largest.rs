@@ -30,7 +30,7 @@ fn largest_batch() {
     let live: Live = columns.iter().enumerate().map(|(k, rows)| (16321 + k as u32, rows.clone())).collect();
     let expected = factor(M, &live);
     let starts: Vec<u32> = columns.iter().map(|rows| rows[0]).collect();
-    let said = report(OLD_LIMITS, &expected, &expected, &starts);
+    let said = report(OLD_LIMITS, &expected, &starts);
     let mut f = largest();
     let r = f.add(&batch(16321, &columns)).unwrap();
     assert_eq!((r.touched, r.labels, r.entries, r.grade), (&said.touched[..], &said.labels[..], said.entries, 4));
@@ -39,7 +39,7 @@ fn largest_batch() {
     assert_eq!(f.check(), Ok(()));
     let ids: Vec<u32> = live.keys().copied().collect();
     let r = f.remove(&ids).unwrap();
-    assert_eq!((r.touched, r.labels, r.entries), (&said.touched[..], &said.labels[..], said.touched.len() as u32));
+    assert_eq!((r.touched, r.labels, r.entries, r.grade), (&said.touched[..], &said.labels[..], said.entries, 4));
     assert!(patterns(&f) == factor(M, &Live::new()));
 }
 

@@ -222,11 +222,11 @@ fn grades() {
     assert_eq!(grade_of([1048577, 1048578, MAX], 100000), 1);
 }
 
-// A removal's grade is read from them too.
+// A removal's grade is read from them too, by the sizes before it: 6 entries, of which 4 are left.
 #[test]
 fn grades_of_removals() {
-    for (limits, number) in [([5, 6, 7], 1), ([4, 5, 6], 2), ([3, 4, 5], 3), ([2, 3, 4], 4)] {
+    for (limits, number) in [([7, 8, 9], 1), ([6, 7, 8], 2), ([5, 6, 7], 3), ([2, 5, 7], 3), ([4, 5, 6], 4)] {
         let report = example(limits).remove(&[2]).map(|r| (r.entries, r.grade));
-        assert_eq!(report, Ok((4, number)));
+        assert_eq!(report, Ok((6, number)));
     }
 }

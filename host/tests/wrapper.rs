@@ -16,7 +16,7 @@ fn listing() {
     assert_eq!(numbers, [(2, 3, 1), (3, 6, 1), (3, 5, 1)]);
     assert_eq!(format!("{factor:?}"), LISTING);
     let r = factor.remove(&[2]).unwrap();
-    assert_eq!((r.touched, r.entries), (&[1, 3, 4][..], 4));
+    assert_eq!((r.touched, r.entries), (&[1, 3, 4][..], 6));
     assert_eq!(format!("{factor:?}"), "1 3 1:2 3:1\n2 3 2:2 3:1\n3 0 3:3\n4 0 4:1\n5 0 5:1\n");
 }
 

@@ -168,7 +168,8 @@ pub fn add(
     accepting(verdict, after, grade2, grade3, grade4)
 }
 
-// Removes the columns of a batch of ids. Numbers 7 to 11 refuse it, and then nothing changes. The grade as in an addition.
+// Removes the columns of a batch of ids. Numbers 7 to 11 refuse it, and then nothing changes. Its entries are those before it, and
+// the grade is read from them, as in an addition.
 pub fn remove(
     heads: &[u32],
     parents: &mut [u16],

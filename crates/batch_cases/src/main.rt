@@ -52,12 +52,14 @@ fn batches() {
     show(batch(open(5, 8, 8, 16)));
 }
 
-// 5: one column twice under two ids, one removed.
+// 5: one column twice under two ids, one removed. It enters again: either way column 3 counts too, though the batch changes nothing in it.
 fn twice() {
     title(b"5");
     let h = open(5, 8, 9, 16);
     let both = add(h, &[1, 2], &[2, 2], &[1, 3, 1, 3]);
-    show(remove(both, &[1]));
+    let one = remove(both, &[1]);
+    show(one);
+    add(one, &[1], &[2], &[1, 3]);
 }
 
 // 8: 255 entries, and 256: {1 .. 22} fills 253, and each column of one row adds 1.
@@ -104,6 +106,16 @@ fn limits() {
     add(h, &[1, 2, 3], &[1, 1, 1], &[1, 2, 3]);
     add(h, &[1, 2, 3], &[3, 1, 1], &[1, 2, 3, 4, 5]);
     add(h, &[1, 2], &[3, 2], &[1, 2, 3, 4, 5]);
+}
+
+// Grades of 4's removal, whose columns have 6 entries before it and 4 after it, and of the same column as an addition: both by 6. Then of all columns, which
+// have 8 entries before and 4 after.
+fn limits_removed() {
+    title(b"limits 2 5 7");
+    let all = batch(open_with(5, 8, 0, 16, 2, 5, 7));
+    let two = remove(all, &[2]);
+    add(two, &[2], &[2], &[1, 4]);
+    remove(all, &[1, 2, 3]);
 }
 
 // Paths and columns in full, in a list too short, from a place past it, and of no row.
@@ -207,6 +219,7 @@ fn main() {
     twice();
     grades();
     limits();
+    limits_removed();
     emptied();
     staying();
     merging();

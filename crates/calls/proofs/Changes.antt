@@ -1,6 +1,7 @@
 -- What a change does to a register: what an addition and a removal touch (`touched-adding`, `touched-removing`), that touched columns rise, and, where the
 -- change is accepted and the columns fit and have distinct ids: a removal's batch and what stays are what there was (`removal-bag`), the columns after it fit,
--- and a column that is not touched is the same before and after (`untouched-same`). Assumes nothing.
+-- a column that is not touched is the same before and after (`untouched-same`), and the entries of an addition are the sizes after it, those of a removal
+-- the sizes before it (`adding-entries`, `removing-entries`). Assumes nothing.
 use mathlib.Core.Path.{_≡_, refl, sym, ap, _∙_, subst}
 use mathlib.Core.Logic.{inl, inr}
 use mathlib.Core.Bool.{Bool, true, false, true≢false}
@@ -12,17 +13,17 @@ use Rattle.lists.proofs.Tests.{refute}
 use Rattle.lists.proofs.Member.{mem-left, mem-right, mem-either, all-at, all-make}
 use Rattle.symbolic.specs.Columns.{Column, Register, live}
 use Rattle.symbolic.specs.Factor.{FactorColumn, factorOf, factorFor, columnAt}
-use Rattle.symbolic.specs.Batch.{isTouched, touched, exchanged}
+use Rattle.symbolic.specs.Batch.{isTouched, touched, exchanged, sizeSumOf, entriesOf}
 use Rattle.symbolic.specs.Change.{idsOf, without, columnsOf, added, removed, Bag}
 use Rattle.symbolic.proofs.Build.{factor-length}
 use Rattle.symbolic.proofs.Bags.{bag-mem}
 use Rattle.symbolic.proofs.Exchange.{exchanged-entering, exchanged-leaving, exchanged-rises}
-use Rattle.symbolic.proofs.Theorems.{locality, order-free, removal-splits, touched-is}
+use Rattle.symbolic.proofs.Theorems.{locality, order-free, removal-splits, touched-is, addition-entries, removal-entries}
 use Rattle.book.specs.Book.{columnFits}
 use Rattle.tables.specs.Tables.{Sizes}
 use Rattle.calls.specs.Refusals.{isAccepted, batchOf}
 use Rattle.calls.specs.Calls.{Change, adding, removing}
-use Rattle.calls.specs.Changes.{Effect, effect, IsExchange, touchedBy}
+use Rattle.calls.specs.Changes.{Effect, effect, IsExchange, touchedBy, entriesBy}
 use Rattle.calls.proofs.Refusals.{add-facts, RemoveFits, remove-facts}
 
 -- ---- what a change touches
@@ -110,3 +111,17 @@ module _ (l : Sizes) (r : Register) (u : noRepeats (idsOf (r .columns)) ≡ true
       let q : among j (touched (factorFor r) W) ≡ false = ap (λ (js : List ℕ). among j js) (sym (touched-removing r is)) ∙ t in
       locality (r .m) R W j a b (untouched (r .m) (R ++ W) W j a b (ap (λ (fs : List FactorColumn). among j (touched fs W)) (sym e) ∙ q)) ∙
       ap (λ (fs : List FactorColumn). columnAt fs j) (sym e)
+
+-- ---- entries
+
+pub adding-entries : (r : Register) (is ns rs : List ℕ) →
+    entriesBy r (adding is ns rs) ≡ sizeSumOf (factorFor (effect r (adding is ns rs) .register)) (touchedBy r (adding is ns rs))
+adding-entries r is ns rs = addition-entries (r .m) (r .columns) (batchOf is ns rs) (touchedBy r (adding is ns rs))
+
+pub removing-entries : (l : Sizes) (r : Register) (is : List ℕ) → noRepeats (idsOf (r .columns)) ≡ true → isAccepted (effect r (removing is) .refusal l) ≡ true →
+    entriesBy r (removing is) ≡ sizeSumOf (factorFor r) (touchedBy r (removing is))
+removing-entries l r is u h =
+    let e : factorFor r ≡ factorOf (r .m) (without is (r .columns) ++ columnsOf is (r .columns)) = removal-factor l r is u (remove-facts l r is h) in
+    let js : List ℕ = touchedBy r (removing is) in
+    ap (λ (fs : List FactorColumn). entriesOf fs (factorFor (removed r is)) js) e ∙ removal-entries (r .m) (without is (r .columns)) (columnsOf is (r .columns)) js ∙
+    ap (λ (fs : List FactorColumn). sizeSumOf fs js) (sym e)

@@ -191,8 +191,9 @@ module _ (r s : Register) (e : r .m ≡ s .m) (b : Bag (r .columns) (s .columns)
 
     pub bag-entries : (c : Change) → entriesBy r c ≡ entriesBy s c
     bag-entries c =
-        ap (λ (fs : List FactorColumn). entriesOf fs (touchedBy r c)) (bag-factor-after r s e b c) ∙
-        ap (λ (js : List ℕ). entriesOf (factorFor (effect s c .register)) js) (bag-touched c)
+        ap (λ (fs : List FactorColumn). entriesOf fs (factorFor (effect r c .register)) (touchedBy r c)) (bag-factor r s e b) ∙
+        ap (λ (fs : List FactorColumn). entriesOf (factorFor s) fs (touchedBy r c)) (bag-factor-after r s e b c) ∙
+        ap (λ (js : List ℕ). entriesOf (factorFor s) (factorFor (effect s c .register)) js) (bag-touched c)
 
     -- ---- answers and lists
 

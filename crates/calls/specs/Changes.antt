@@ -72,9 +72,9 @@ labelled f (j ∷ js) = f j ∷ labelled f js
 abbrev pub labelsBy : Register → Change → List ℕ
 labelsBy r c = labelled (effect r c .label) (touchedBy r c)
 
--- "the sum of the sizes of the touched columns' patterns after the call"
+-- "the entries": the sum over the touched columns of the larger of a column's sizes before and after the call: those after an addition, those before a removal
 abbrev pub entriesBy : Register → Change → ℕ
-entriesBy r c = entriesOf (factorFor (effect r c .register)) (touchedBy r c)
+entriesBy r c = entriesOf (factorFor r) (factorFor (effect r c .register)) (touchedBy r c)
 
 -- ---- the plain register
 

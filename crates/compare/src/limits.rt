@@ -20,7 +20,7 @@ fn few(p: Pair) -> Pair {
     remove(q, &[1, 2, 3, 4])
 }
 
-// Batches of 10 and 15 entries: {1, 2, 3, 4} fills 10, and with {1, 5} it fills 15.
+// Batches of 10 and 15 entries: {1, 2, 3, 4} fills 10, and with {1, 5} it fills 15. Their removal has 15 too, though it leaves 5.
 fn more(p: Pair) -> Pair {
     let mut q = add(p, &[1], &[4], &[1, 2, 3, 4]);
     q = add(q, &[2], &[2], &[1, 5]);

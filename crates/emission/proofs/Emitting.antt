@@ -4,7 +4,7 @@ use mathlib.Core.Path.{_≡_, refl, sym, ap, subst, _∙_}
 use mathlib.Core.Logic.{inl, inr, _≢_}
 use mathlib.Core.Bool.{true, false, true≢false}
 use mathlib.Core.List.{List, []}
-use Prim.Native.Nat.{ℕ, suc, _+_, _-_, _*_, _≤_, _<_}
+use Prim.Native.Nat.{ℕ, suc, _+_, _-_, _*_, _≤_, _<_, max}
 use native.Mathlib.Omega.{arith}
 use lib.Dec.{eqb}
 use lib.ListN.{length, getD, drop, set, length-append, length-drop}
@@ -32,7 +32,7 @@ use Rattle.emission.specs.declared.Emission.{Emission}
 use Rattle.emission.proofs.Plans.{plan-suits, plan-becomes, kind-none}
 use Rattle.emission.proofs.Left.{left-start, left-end}
 use Rattle.emission.proofs.Clearing.{Clearing, clearing-start, between, beyond, row-is, row-low, row-high, row-above, place-is, place-some, after-past, clearing-next, clearing-frame, clearing-done}
-use Rattle.emission.proofs.Turning.{Fields, fields, Going, Progress, Turned, going-short, going-pass}
+use Rattle.emission.proofs.Turning.{pattern-short, Fields, fields, Going, Progress, Turned, going-short, going-pass}
 use Rattle.emission.proofs.Planning.{value-is, turn-inside, turn-plan, planned-turned}
 
 pub record Emitting (rows counts next w₀ : List ℕ) (m n j used avail : ℕ) (old new : List ℕ) (w : List ℕ) (walk : Walk) (i : ℕ) : Type 0 where
@@ -53,6 +53,7 @@ going-table g e =
       parts = g .parts;
       taken-size = rw e (g .taken-size);
       used-low = g .used-low;
+      behind = g .behind;
       room = g .room;
     }
 
@@ -61,7 +62,7 @@ module _ {rows counts next w₀ : List ℕ} {m n j head used avail : ℕ} {old n
   chain-short = sym (values-length rows (chain next head)) ∙ ap length (can .old-rows)
 
   abbrev first-walk : Walk
-  first-walk = record { at = record { 0 = head }; used = used; size = 0; parent = record { 0 = 0 }; avail = record { 0 = avail }; fits = true }
+  first-walk = record { at = record { 0 = head }; behind = 0; used = used; size = 0; parent = record { 0 = 0 }; avail = record { 0 = avail }; fits = true }
 
   start-going : Going rows counts next m j used avail old new 0 w₀ first-walk
   start-going =
@@ -74,6 +75,7 @@ module _ {rows counts next w₀ : List ℕ} {m n j head used avail : ℕ} {old n
         parts = refl;
         taken-size = sym (ap (ofKind 1) none ∙ kind-none 1);
         used-low = omega arith;
+        behind = omega (arith, chain-short);
         room = omega (arith, chain-short, can .room);
       }
 
@@ -85,6 +87,7 @@ module _ {rows counts next w₀ : List ℕ} {m n j head used avail : ℕ} {old n
         progress = record {
           linked = can .linked;
           small = omega (arith, going-short can start-going);
+          behind = start-going .behind;
           used-low = omega arith;
           used-high = omega (arith, can .room);
           going = λ e. start-going;
@@ -99,7 +102,10 @@ module _ {rows counts next w₀ : List ℕ} {m n j head used avail : ℕ} {old n
 
     -- the records to come can be passed over
     pub emitting-pass : CanPass rows next walk
-    emitting-pass = record { linked = g .progress .linked; rows-long = can .rows-long; small = g .progress .small }
+    emitting-pass = record { linked = g .progress .linked; rows-long = can .rows-long; small = g .progress .small; behind-small = behind-short }
+      where
+        behind-short : walk .behind + length (chain next (walk .at .0)) < 4294967296
+        behind-short = omega (arith, g .progress .behind, pattern-short 0 old, can .old-long, can .narrow)
 
     module _ (h : i < n) where
       abbrev row-here : ℕ
@@ -133,6 +139,7 @@ module _ {rows counts next w₀ : List ℕ} {m n j head used avail : ℕ} {old n
             progress = record {
               linked = g .progress .linked;
               small = g .progress .small;
+              behind = g .progress .behind;
               used-low = g .progress .used-low;
               used-high = g .progress .used-high;
               going = λ e. absurd (true≢false (sym e ∙ z));
@@ -183,9 +190,11 @@ module _ {rows counts next w₀ : List ℕ} {m n j head used avail : ℕ} {old n
         pub walk-inside : next-walk .at .0 ≤ length next
         walk-inside = linked-head next (next-walk .at .0) (chain next (next-walk .at .0)) (p .linked)
 
-        -- a row that was there has a record at hand
-        pub record-inside : getD old s 0 ≢ 0 → (1 ≤ next-walk .at .0) × (next-walk .at .0 ≤ length next)
-        record-inside z = turn-inside can passed-going in-rows z
+        -- a row that was there has a record at hand, and there are few behind it
+        pub record-inside : getD old s 0 ≢ 0 → (1 ≤ next-walk .at .0) × (next-walk .at .0 ≤ length next) × (next-walk .behind < 4294967295)
+        record-inside z =
+            let t : (1 ≤ next-walk .at .0) × (next-walk .at .0 ≤ length next) = turn-inside can passed-going in-rows z in
+            (t .0, t .1, omega (arith, passed-going .behind, pattern-short 0 old, can .old-long, can .narrow))
 
         pub advanced-small : (o : ℕ) → advanced next o next-walk .size < 4294967295
         advanced-small o =
@@ -246,9 +255,9 @@ module _ {rows counts next w₀ : List ℕ} {m n j head used avail : ℕ} {old n
 
     -- ---- the end
 
-    module _ (h : n ≤ i) {last : Walk} (p : Passed rows next j 4097 walk last) where
+    module _ (h : n ≤ i) {last : Walk} (p : Passed rows next j 4097 walk last) {larger : ℕ} (larger-is : larger ≡ max (last .behind) (last .size)) where
       abbrev e : Emission
-      e = record { fits = last .fits; used = last .used; size = last .size; parent = last .parent; avail = last .avail }
+      e = record { fits = last .fits; used = last .used; larger = larger; parent = last .parent; avail = last .avail }
 
       -- the rest of the chain does not change
       last-going : walk .fits ≡ true → Going rows counts next m j used avail old new m w last
@@ -283,7 +292,7 @@ module _ {rows counts next w₀ : List ℕ} {m n j head used avail : ℕ} {old n
             entries = d .plan-is;
             suits = rw (d .plan-is) (plan-suits old new same-long short small j (λ k a. below-zero k a));
             becomes = rw (d .plan-is) (plan-becomes old new same-long short small);
-            size = d .size-is;
+            larger = larger-is ∙ (λ i. max (all-behind l i) (d .size-is i));
             parent = d .parent-is;
             taken = l .taken;
             free-parts = l .parts;
@@ -291,6 +300,19 @@ module _ {rows counts next w₀ : List ℕ} {m n j head used avail : ℕ} {old n
             free = l .free;
           }
         where
+          -- no record is left to come
+          all-behind : Going rows counts next m j used avail old new m w last → last .behind ≡ length (patternFrom 1 old)
+          all-behind l =
+              omega (
+                arith,
+                l .behind,
+                values-length rows (chain next (last .at .0)),
+                ap length (l .left .rows-left),
+                pattern-short m (drop m old),
+                length-drop m old,
+                can .old-long,
+              )
+
           below-zero : (k : ℕ) → suc k < j → (getD old k 0 ≡ 0) × (getD new k 0 ≡ 0)
           below-zero k a =
               let q : suc k - 1 ≡ k = omega arith in

@@ -12,6 +12,7 @@ use lib.Seq.{getD-set-same, getD-set-other}
 use borrow.Author.Tests.{eq-eqb, ne-eqb}
 use Rattle.lists.specs.Lists.{pick, one, Mem, first, at, valuesAt}
 use Rattle.lists.proofs.Tests.{eq-or-ne, one-le}
+use Rattle.symbolic.specs.Factor.{patternFrom}
 use Rattle.workspace.specs.Regions.{Outside}
 use Rattle.workspace.specs.Planned.{packed, FitsEntry}
 use Rattle.workspace.proofs.Planned.{packed-kind}
@@ -172,12 +173,16 @@ module _ {rows counts next w₀ : List ℕ} {m n j head used avail : ℕ} {old n
       plan-frame : (k : ℕ) → Outside (8 * m + used) (walk .used + 1 - used) k → getD u k 0 ≡ getD w k 0
       plan-frame k out = getD-set-other w (8 * m + walk .used) k entry 0 (λ e. elim out [ inl p ↦ omega (arith, g .used-low) | inr p ↦ omega (arith, g .used-low) ])
 
+    -- the records behind and to come are all
+    behind-all : (after : Walk) → after .at .0 ≡ v .at .0 → after .behind ≡ v .behind → after .behind + length (chain next (after .at .0)) ≡ length (patternFrom 1 old)
+    behind-all after a n = omega (arith, n, f .behind-is, ap (λ (y : ℕ). length (chain next y)) (a ∙ f .at-is), turn-length, g .behind)
+
     -- the plan still fits
-    going-made : (x : List ℕ) (after : Walk) (taken′ : List ℕ) → after .at .0 ≡ v .at .0 → after .size ≡ v .size → after .parent .0 ≡ v .parent .0 →
+    going-made : (x : List ℕ) (after : Walk) (taken′ : List ℕ) → after .at .0 ≡ v .at .0 → after .behind ≡ v .behind → after .size ≡ v .size → after .parent .0 ≡ v .parent .0 →
         planPart m x used (after .used) ≡ pick (eqb o o′) es (es ++ (entry ∷ [])) → Linked next (after .avail .0) (chain next (after .avail .0)) →
         chain next avail ≡ taken′ ++ chain next (after .avail .0) → length taken′ ≡ ofKind 1 (planPart m x used (after .used)) → used ≤ after .used →
         after .used + length (chain next after-at) + length (chain next (after .avail .0)) ≤ length next → Going rows counts next m j used avail old new (suc s) x after
-    going-made x after taken′ a b c d e p q l r =
+    going-made x after taken′ a n b c d e p q l r =
         record {
           left = rw (a ∙ f .at-is, b ∙ f .size-is, c ∙ f .parent-is, d) turn-left;
           linked = rw (a ∙ f .at-is) turn-linked;
@@ -186,17 +191,19 @@ module _ {rows counts next w₀ : List ℕ} {m n j head used avail : ℕ} {old n
           parts = p;
           taken-size = q;
           used-low = l;
+          behind = behind-all after a n;
           room = omega (arith, r, ap (λ (y : ℕ). length (chain next y)) (a ∙ f .at-is));
         }
 
-    turned : (x : List ℕ) (after : Walk) → after .at .0 ≡ v .at .0 → after .size ≡ v .size → used ≤ after .used → after .used ≤ length next →
+    turned : (x : List ℕ) (after : Walk) → after .at .0 ≡ v .at .0 → after .behind ≡ v .behind → after .size ≡ v .size → used ≤ after .used → after .used ≤ length next →
         (after .fits ≡ true → Going rows counts next m j used avail old new (suc s) x after) → (after .fits ≡ false → length (chain next avail) < ofKind 1 (planFrom 1 old new)) →
         length x ≡ length w → ((k : ℕ) → Outside (8 * m + used) (after .used - used) k → getD x k 0 ≡ getD w k 0) → Turned rows counts next m j used avail old new (suc s) w x after
-    turned x after a b l h p q e r =
+    turned x after a n b l h p q e r =
         record {
           progress = record {
             linked = rw (a ∙ f .at-is) turn-linked;
             small = omega (arith, b, f .size-is, ap (λ (y : ℕ). length (chain next y)) (a ∙ f .at-is), turn-length, going-short can g, one-le (not (eqb o′ 0)));
+            behind = behind-all after a n;
             used-low = l;
             used-high = h;
             going = p;
@@ -216,8 +223,8 @@ module _ {rows counts next w₀ : List ℕ} {m n j head used avail : ℕ} {old n
         let a-used : after .used ≡ walk .used = ap (λ (q : Walk). q .used) ax ∙ f .used-is in
         let a-avail : after .avail .0 ≡ walk .avail .0 = ap (λ (q : Walk). q .avail .0) ax ∙ f .avail-is in
         let e : planPart m x used (after .used) ≡ es = rw (wx, a-used) refl in
-        turned x after (ap (λ (q : Walk). q .at .0) ax) (ap (λ (q : Walk). q .size) ax) (omega (arith, g .used-low)) (omega (arith, g .room))
-        (λ t. going-made x after (g .taken) (ap (λ (q : Walk). q .at .0) ax) (ap (λ (q : Walk). q .size) ax) (ap (λ (q : Walk). q .parent .0) ax)
+        turned x after (ap (λ (q : Walk). q .at .0) ax) (ap (λ (q : Walk). q .behind) ax) (ap (λ (q : Walk). q .size) ax) (omega (arith, g .used-low)) (omega (arith, g .room))
+        (λ t. going-made x after (g .taken) (ap (λ (q : Walk). q .at .0) ax) (ap (λ (q : Walk). q .behind) ax) (ap (λ (q : Walk). q .size) ax) (ap (λ (q : Walk). q .parent .0) ax)
         (e ∙ sym (kept d)) (rw a-avail (g .free)) (rw a-avail (g .parts)) (g .taken-size ∙ ap (ofKind 1) (sym e)) (omega (arith, g .used-low))
         (omega (arith, g .room, turn-length, ap (λ (q : ℕ). length (chain next q)) a-avail)))
         (λ t. absurd (true≢false (sym (ap (λ (q : Walk). q .fits) ax ∙ f .fits-is ∙ y) ∙ t))) (ap length wx) (λ k out. ap (λ (q : List ℕ). getD q k 0) wx)
@@ -230,8 +237,8 @@ module _ {rows counts next w₀ : List ℕ} {m n j head used avail : ℕ} {old n
         let a-avail : after .avail .0 ≡ walk .avail .0 = ap (λ (q : Walk). q .avail .0) ax ∙ f .avail-is in
         let wy : x ≡ set w (8 * m + walk .used) entry = wx ∙ ap (λ (q : ℕ). set w (8 * m + q) entry) (f .used-is) in
         let e : planPart m x used (after .used) ≡ es ++ (entry ∷ []) = rw (wy, a-used) (plan-longer h) in
-        turned x after (ap (λ (q : Walk). q .at .0) ax) (ap (λ (q : Walk). q .size) ax) (omega (arith, g .used-low)) (omega arith)
-        (λ t. going-made x after (g .taken) (ap (λ (q : Walk). q .at .0) ax) (ap (λ (q : Walk). q .size) ax) (ap (λ (q : Walk). q .parent .0) ax)
+        turned x after (ap (λ (q : Walk). q .at .0) ax) (ap (λ (q : Walk). q .behind) ax) (ap (λ (q : Walk). q .size) ax) (omega (arith, g .used-low)) (omega arith)
+        (λ t. going-made x after (g .taken) (ap (λ (q : Walk). q .at .0) ax) (ap (λ (q : Walk). q .behind) ax) (ap (λ (q : Walk). q .size) ax) (ap (λ (q : Walk). q .parent .0) ax)
         (e ∙ sym (more d)) (rw a-avail (g .free)) (rw a-avail (g .parts)) (omega (arith, g .taken-size, ap (ofKind 1) e, entry-kind 1, kind-old o o′ z)) (omega (arith, g .used-low))
         (omega (arith, g .room, turn-length, some z, ap (λ (q : ℕ). length (chain next q)) a-avail)))
         (λ t. absurd (true≢false (sym (ap (λ (q : Walk). q .fits) ax ∙ f .fits-is ∙ y) ∙ t))) (ap length wy ∙ simp length-set)
@@ -250,8 +257,8 @@ module _ {rows counts next w₀ : List ℕ} {m n j head used avail : ℕ} {old n
         let wy : x ≡ set w (8 * m + walk .used) entry = wx ∙ ap (λ (q : ℕ). set w (8 * m + q) entry) (f .used-is) in
         let e : planPart m x used (after .used) ≡ es ++ (entry ∷ []) = rw (wy, a-used) (plan-longer h) in
         let free : Onward next (walk .avail .0) = free-onward b in
-        turned x after (ap (λ (q : Walk). q .at .0) ax) (ap (λ (q : Walk). q .size) ax) (omega (arith, g .used-low)) (omega arith)
-        (λ t. going-made x after (g .taken ++ (walk .avail .0 ∷ [])) (ap (λ (q : Walk). q .at .0) ax) (ap (λ (q : Walk). q .size) ax) (ap (λ (q : Walk). q .parent .0) ax)
+        turned x after (ap (λ (q : Walk). q .at .0) ax) (ap (λ (q : Walk). q .behind) ax) (ap (λ (q : Walk). q .size) ax) (omega (arith, g .used-low)) (omega arith)
+        (λ t. going-made x after (g .taken ++ (walk .avail .0 ∷ [])) (ap (λ (q : Walk). q .at .0) ax) (ap (λ (q : Walk). q .behind) ax) (ap (λ (q : Walk). q .size) ax) (ap (λ (q : Walk). q .parent .0) ax)
         (e ∙ sym (more d)) (rw a-avail (free .linked))
         (rw a-avail (g .parts ∙ ap (λ (xs : List ℕ). g .taken ++ xs) (free .parts) ∙ sym (append-assoc (g .taken) (walk .avail .0 ∷ []) (chain next (at next (walk .avail .0))))))
         (omega (arith, length-append (g .taken) (walk .avail .0 ∷ []), g .taken-size, ap (ofKind 1) e, entry-kind 1, kind-new o o′ z)) (omega (arith, g .used-low))
@@ -269,7 +276,7 @@ module _ {rows counts next w₀ : List ℕ} {m n j head used avail : ℕ} {old n
         let empty : chain next (walk .avail .0) ≡ [] = chain-over next (walk .avail .0) (sym (f .avail-is) ∙ a) (g .free) in
         let whole : (es ++ (entry ∷ [])) ++ planFrom (suc (suc s)) (drop (suc s) old) (drop (suc s) new) ≡ planFrom 1 old new =
         ap (λ (xs : List ℕ). xs ++ planFrom (suc (suc s)) (drop (suc s) old) (drop (suc s) new)) (sym (more d)) ∙ turn-left .plan-left in
-        turned x after (ap (λ (q : Walk). q .at .0) ax) (ap (λ (q : Walk). q .size) ax) (omega (arith, g .used-low)) (omega (arith, g .room))
+        turned x after (ap (λ (q : Walk). q .at .0) ax) (ap (λ (q : Walk). q .behind) ax) (ap (λ (q : Walk). q .size) ax) (omega (arith, g .used-low)) (omega (arith, g .room))
         (λ t. absurd (true≢false (sym t ∙ ap (λ (q : Walk). q .fits) ax)))
         (λ t. omega (
           arith,

@@ -1,5 +1,5 @@
 -- One touched row of the walk. While the plan fits (Going), what is left is `Left`, the free records taken are as many as the new rows planned, and the
--- plan region has room for the records to come and the free ones. Records before the row are passed over (`going-pass`), the record at hand says the row's
+-- plan region has room for the records to come and the free ones; the records behind and to come are all. Records before the row are passed over (`going-pass`), the record at hand says the row's
 -- old multiplicity (`value-is`), and the row is planned (`going-turn`). Assumes nothing.
 use mathlib.Core.Path.{_≡_, refl, sym, ap, subst, _∙_}
 use mathlib.Core.Logic.{inl, inr, _≢_}
@@ -32,7 +32,7 @@ use Rattle.emission.proofs.Left.{Left, left-as, left-pass}
 
 -- ---- small facts
 
-pattern-short : (t : ℕ) (ns : List ℕ) → length (patternFrom (suc t) ns) ≤ length ns
+pub pattern-short : (t : ℕ) (ns : List ℕ) → length (patternFrom (suc t) ns) ≤ length ns
 pattern-short t ns =
     omega (arith, rises-length (suc t) (t + length ns) (patternFrom (suc t) ns) (omega arith) (pattern-rises (suc t) ns (t + length ns) (omega arith)))
 
@@ -48,6 +48,7 @@ onward-at next o q = pick (eqb o 0) q (at next q)
 
 pub record Fields (next : List ℕ) (j row o o′ : ℕ) (w v : Walk) : Type 0 where
   pub at-is : v .at .0 ≡ onward-at next o (w .at .0)
+  pub behind-is : v .behind ≡ w .behind + one (not (eqb o 0))
   pub size-is : v .size ≡ w .size + one (not (eqb o′ 0))
   pub parent-is : v .parent .0 ≡ pick (eqb o′ 0) (w .parent .0) (firstOver j (w .parent .0) row)
   pub used-is : v .used ≡ w .used
@@ -58,12 +59,12 @@ pub fields : (next : List ℕ) (j row o o′ : ℕ) (w : Walk) → Fields next j
 fields next j row o o′ w =
     elim (cases (eqb o 0)) [
       | inl a ↦ elim (cases (eqb o′ 0)) [
-        | inl b ↦ rw (a, b) (record { at-is = rw a refl; size-is = rw b (omega arith); parent-is = rw b refl; used-is = refl; avail-is = refl; fits-is = refl })
-        | inr b ↦ rw (a, b) (record { at-is = rw a refl; size-is = rw b refl; parent-is = rw b refl; used-is = refl; avail-is = refl; fits-is = refl })
+        | inl b ↦ rw (a, b) (record { at-is = rw a refl; behind-is = rw a (omega arith); size-is = rw b (omega arith); parent-is = rw b refl; used-is = refl; avail-is = refl; fits-is = refl })
+        | inr b ↦ rw (a, b) (record { at-is = rw a refl; behind-is = rw a (omega arith); size-is = rw b refl; parent-is = rw b refl; used-is = refl; avail-is = refl; fits-is = refl })
       ]
       | inr a ↦ elim (cases (eqb o′ 0)) [
-        | inl b ↦ rw (a, b) (record { at-is = rw a refl; size-is = rw b (omega arith); parent-is = rw b refl; used-is = refl; avail-is = refl; fits-is = refl })
-        | inr b ↦ rw (a, b) (record { at-is = rw a refl; size-is = rw b refl; parent-is = rw b refl; used-is = refl; avail-is = refl; fits-is = refl })
+        | inl b ↦ rw (a, b) (record { at-is = rw a refl; behind-is = rw a refl; size-is = rw b (omega arith); parent-is = rw b refl; used-is = refl; avail-is = refl; fits-is = refl })
+        | inr b ↦ rw (a, b) (record { at-is = rw a refl; behind-is = rw a refl; size-is = rw b refl; parent-is = rw b refl; used-is = refl; avail-is = refl; fits-is = refl })
       ]
     ]
 
@@ -77,12 +78,14 @@ pub record Going (rows counts next : List ℕ) (m j used avail : ℕ) (old new :
   pub parts : chain next avail ≡ taken ++ chain next (walk .avail .0)
   pub taken-size : length taken ≡ ofKind 1 (planPart m w used (walk .used))
   pub used-low : used ≤ walk .used
+  pub behind : walk .behind + length (chain next (walk .at .0)) ≡ length (patternFrom 1 old)
   pub room : walk .used + length (chain next (walk .at .0)) + length (chain next (walk .avail .0)) ≤ length next
 
 -- at any time
 pub record Progress (rows counts next : List ℕ) (m j used avail : ℕ) (old new : List ℕ) (t : ℕ) (w : List ℕ) (walk : Walk) : Type 0 where
   pub linked : Linked next (walk .at .0) (chain next (walk .at .0))
   pub small : walk .size + length (chain next (walk .at .0)) < 4294967296
+  pub behind : walk .behind + length (chain next (walk .at .0)) ≡ length (patternFrom 1 old)
   pub used-low : used ≤ walk .used
   pub used-high : walk .used ≤ length next
   pub going : walk .fits ≡ true → Going rows counts next m j used avail old new t w walk
@@ -158,5 +161,6 @@ module _ {rows counts next w₀ : List ℕ} {m n j head used avail : ℕ} {old n
             parts = rw (p .avail) (g .parts);
             taken-size = rw (p .used) (g .taken-size);
             used-low = omega (arith, p .used, g .used-low);
+            behind = omega (arith, p .behind, ap length (p .parts), length-append (p .records) (chain next (after .at .0)), g .behind);
             room = omega (arith, p .used, ap length (p .parts), length-append (p .records) (chain next (after .at .0)), ap (λ (x : ℕ). length (chain next x)) (p .avail), g .room);
           }

@@ -28,6 +28,7 @@ pub record Walking (rows next : List ℕ) (j bound : ℕ) (before now : Walk) : 
   pub linked : Linked next (now .at .0) (chain next (now .at .0))
   pub below : (i : ℕ) → among i (valuesAt rows records) ≡ true → i < bound
   pub size : now .size ≡ before .size + length records
+  pub behind : now .behind ≡ before .behind + length records
   pub parent : now .parent .0 ≡ firstOf j (before .parent .0) (valuesAt rows records)
   pub used : now .used ≡ before .used
   pub avail : now .avail .0 ≡ before .avail .0
@@ -43,6 +44,7 @@ module _ {rows next : List ℕ} {j bound : ℕ} {before : Walk} (can : CanPass r
         linked = can .linked;
         below = λ i t. absurd (false≢true (sym (among-nil i) ∙ t));
         size = omega arith;
+        behind = omega arith;
         parent = refl;
         used = refl;
         avail = refl;
@@ -58,6 +60,10 @@ module _ {rows next : List ℕ} {j bound : ℕ} {before : Walk} (can : CanPass r
       walking-small =
           omega (arith, g .size, can .small, ap length (g .parts), length-append (g .records) (chain next (now .at .0)), ap length (walking-onward .parts))
 
+      pub walking-behind : now .behind < 4294967295
+      walking-behind =
+          omega (arith, g .behind, can .behind-small, ap length (g .parts), length-append (g .records) (chain next (now .at .0)), ap length (walking-onward .parts))
+
       pub walking-next : at rows (now .at .0) < bound → Walking rows next j bound before (onTo (at next (now .at .0)) (stays j (at rows (now .at .0)) now))
       walking-next l =
           let r : ℕ = now .at .0 in
@@ -72,6 +78,7 @@ module _ {rows next : List ℕ} {j bound : ℕ} {before : Walk} (can : CanPass r
               | inr n ↦ omega (arith, only-member n)
             ];
             size = omega (arith, g .size, length-append (g .records) (r ∷ []));
+            behind = omega (arith, g .behind, length-append (g .records) (r ∷ []));
             parent = ap (λ (p : ℕ). firstOver j p (at rows r)) (g .parent) ∙ sym (first-push j (before .parent .0) (valuesAt rows (g .records)) (at rows r)) ∙
                 ap (firstOf j (before .parent .0)) (sym e);
             used = g .used;
@@ -88,6 +95,7 @@ module _ {rows next : List ℕ} {j bound : ℕ} {before : Walk} (can : CanPass r
           below = g .below;
           above = a;
           size = g .size;
+          behind = g .behind;
           parent = g .parent;
           used = g .used;
           avail = g .avail;

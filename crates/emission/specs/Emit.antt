@@ -1,9 +1,9 @@
 -- The plan of one column from its differences. The column's chain holds the old multiplicities, the differences say the new ones; emitting writes the plan
--- for just the rows that change, counts the column and finds its parent after, and clears the differences. Assumes nothing: these are definitions.
+-- for just the rows that change, counts the column before and after and finds its parent after, and clears the differences. Assumes nothing: these are definitions.
 use mathlib.Core.Path.{_≡_}
 use mathlib.Core.Bool.{true}
 use mathlib.Core.List.{List, _++_}
-use Prim.Native.Nat.{ℕ, _+_, _-_, _≤_, _<_}
+use Prim.Native.Nat.{ℕ, _+_, _-_, _≤_, _<_, max}
 use lib.Dec.{leb}
 use lib.ListN.{length, getD}
 use Rattle.lists.specs.Lists.{at, valuesAt}
@@ -48,7 +48,7 @@ pub record Plan (next : List ℕ) (m j used avail : ℕ) (old new after : List �
   pub entries : planPart m after used (e .used) ≡ planFrom 1 old new
   pub suits : Suits old j (planPart m after used (e .used))
   pub becomes : planned old (planPart m after used (e .used)) ≡ new
-  pub size : e .size ≡ length (patternFrom 1 new)
+  pub larger : e .larger ≡ max (length (patternFrom 1 old)) (length (patternFrom 1 new))
   pub parent : e .parent .0 ≡ firstAbove j 1 new
   pub taken : List ℕ
   pub free-parts : chain next avail ≡ taken ++ chain next (e .avail .0)

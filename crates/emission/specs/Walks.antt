@@ -29,23 +29,23 @@ firstOf j p (i ∷ is) = firstOf j (firstOver j p i) is
 
 -- a row that stays is counted
 abbrev pub stays : (j row : ℕ) → Walk → Walk
-stays j i w = record { at = w .at; used = w .used; size = w .size + 1; parent = record { 0 = firstOver j (w .parent .0) i }; avail = w .avail; fits = w .fits }
+stays j i w = record { at = w .at; behind = w .behind; used = w .used; size = w .size + 1; parent = record { 0 = firstOver j (w .parent .0) i }; avail = w .avail; fits = w .fits }
 
--- the record at hand is left behind
+-- the record at hand is left behind, for another
 abbrev pub onTo : (record₁ : ℕ) → Walk → Walk
-onTo r w = record { at = record { 0 = r }; used = w .used; size = w .size; parent = w .parent; avail = w .avail; fits = w .fits }
+onTo r w = record { at = record { 0 = r }; behind = w .behind + 1; used = w .used; size = w .size; parent = w .parent; avail = w .avail; fits = w .fits }
 
 -- an entry is written
 abbrev pub longer : Walk → Walk
-longer w = record { at = w .at; used = w .used + 1; size = w .size; parent = w .parent; avail = w .avail; fits = w .fits }
+longer w = record { at = w .at; behind = w .behind; used = w .used + 1; size = w .size; parent = w .parent; avail = w .avail; fits = w .fits }
 
 -- a free record is taken
 abbrev pub taking : (next : List ℕ) → Walk → Walk
-taking ns w = record { at = w .at; used = w .used; size = w .size; parent = w .parent; avail = record { 0 = at ns (w .avail .0) }; fits = w .fits }
+taking ns w = record { at = w .at; behind = w .behind; used = w .used; size = w .size; parent = w .parent; avail = record { 0 = at ns (w .avail .0) }; fits = w .fits }
 
 -- a free record was needed, and there was none
 abbrev pub full : Walk → Walk
-full w = record { at = w .at; used = w .used; size = w .size; parent = w .parent; avail = w .avail; fits = false }
+full w = record { at = w .at; behind = w .behind; used = w .used; size = w .size; parent = w .parent; avail = w .avail; fits = false }
 
 -- ---- records passed over
 
@@ -54,6 +54,7 @@ pub record CanPass (rows next : List ℕ) (w : Walk) : Type 0 where
   pub linked : Linked next (w .at .0) (chain next (w .at .0))
   pub rows-long : length rows ≡ length next
   pub small : w .size + length (chain next (w .at .0)) < 4294967296
+  pub behind-small : w .behind + length (chain next (w .at .0)) < 4294967296
 
 -- records with rows below a bound are passed over and counted
 pub record Passed (rows next : List ℕ) (j bound : ℕ) (before after : Walk) : Type 0 where
@@ -63,6 +64,7 @@ pub record Passed (rows next : List ℕ) (j bound : ℕ) (before after : Walk) :
   pub below : (i : ℕ) → among i (valuesAt rows records) ≡ true → i < bound
   pub above : after .at .0 ≢ 0 → bound ≤ at rows (after .at .0)
   pub size : after .size ≡ before .size + length records
+  pub behind : after .behind ≡ before .behind + length records
   pub parent : after .parent .0 ≡ firstOf j (before .parent .0) (valuesAt rows records)
   pub used : after .used ≡ before .used
   pub avail : after .avail .0 ≡ before .avail .0

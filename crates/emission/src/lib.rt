@@ -1,22 +1,24 @@
 // The plan of one column from its differences: one walk of the column's chain against its touched rows, which costs no more than the two. The plan has
-// one entry for each row that changes; the walk also gives the column's size and parent after, and clears the differences and the list.
+// one entry for each row that changes; the walk also gives what the column counts for in the batch's entries and its parent after, and clears the differences
+// and the list.
 ghost use mathlib.Core.Path.{_≡_};
 ghost use mathlib.Core.Logic.{_≢_};
-ghost use Prim.Native.Nat.{_+_, _*_, _≤_, _<_};
+ghost use Prim.Native.Nat.{_+_, _*_, _≤_, _<_, max};
 ghost use lib.ListN.{length, set};
 ghost use Rattle.lists.specs.Lists.{at};
 ghost use Rattle.workspace.specs.Layout.{planAt};
 ghost use Rattle.emission.specs.Plans.{kindFor};
-ghost use Rattle.emission.specs.Walks.{firstOver, stays, longer, taking, CanPass, Passed, storedAt, counting, advanced, CanPlan, Planned};
+ghost use Rattle.emission.specs.Walks.{firstOver, stays, onTo, longer, taking, CanPass, Passed, storedAt, counting, advanced, CanPlan, Planned};
 ghost use Rattle.emission.specs.Emit.{Ready, Emits};
 use book::Row;
 use differences::BASE;
 use pool::Rec;
 
-// A walk of a chain: the record at hand, the plan's end, the rows counted and the first above the diagonal, the next free record, and whether there was
-// one for each new row.
+// A walk of a chain: the record at hand and how many are behind it, the plan's end, the rows counted and the first above the diagonal, the next free record,
+// and whether there was one for each new row.
 pub struct Walk {
     pub at: Rec,
+    pub behind: usize,
     pub used: usize,
     pub size: usize,
     pub parent: Row,
@@ -24,11 +26,12 @@ pub struct Walk {
     pub fits: bool,
 }
 
-// A column planned: whether there are free records for its new rows, the plan's end, the column's size and parent after, and the free records left.
+// A column planned: whether there are free records for its new rows, the plan's end, the larger of the column's sizes before and after, which is what it
+// counts for in the batch's entries, its parent after, and the free records left.
 pub struct Emission {
     pub fits: bool,
     pub used: usize,
-    pub size: usize,
+    pub larger: usize,
     pub parent: Row,
     pub avail: Rec,
 }
@@ -61,12 +64,24 @@ fn stay(walk: Walk, j: Row, row: Row) -> Walk
     let parent = first_over(j, first, row);
     Walk {
         at: at,
+        behind: walk.behind,
         used: walk.used,
         size: size,
         parent: parent,
         avail: avail,
         fits: walk.fits,
     }
+}
+
+// Leaves the record at hand behind, for the next one.
+fn on_to(walk: Walk, r: Rec) -> Walk
+    requires { ⌜ walk .behind < 4294967295 ⌝ }
+    ensures { λ w. ⌜ w ≡ onTo (r .0) walk ⌝ }
+{
+    let mut w = walk;
+    w.at = r;
+    w.behind = walk.behind + 1;
+    w
 }
 
 // Passes over the records with rows below a bound: they stay.
@@ -85,8 +100,7 @@ fn pass(rows: &[u16], next: &[u32], walk: Walk, j: Row, bound: Row) -> Walk
         }
         w = stay(w, j, Row(row));
         let q = next[i];
-        let after = Rec(q);
-        w.at = after;
+        w = on_to(w, Rec(q));
     }
     w
 }
@@ -110,7 +124,7 @@ fn stored(rows: &[u16], counts: &[u16], r: Rec, row: Row) -> u32
 
 // Leaves the record at hand behind if the row was there.
 fn advance(next: &[u32], walk: Walk, old: u32) -> Walk
-    requires { ⌜ (old ≢ 0 → (1 ≤ walk .at .0) × (walk .at .0 ≤ length (now next))) ⌝ }
+    requires { ⌜ (old ≢ 0 → (1 ≤ walk .at .0) × (walk .at .0 ≤ length (now next)) × (walk .behind < 4294967295)) ⌝ }
     ensures { λ w. ⌜ w ≡ advanced (now (next .entry)) old walk ⌝ }
 {
     if old == 0 {
@@ -118,10 +132,7 @@ fn advance(next: &[u32], walk: Walk, old: u32) -> Walk
     }
     let r = walk.at.0;
     let q = next[(r - 1) as usize];
-    let after = Rec(q);
-    let mut w = walk;
-    w.at = after;
-    w
+    on_to(walk, Rec(q))
 }
 
 // The kind of a planned change.
@@ -212,6 +223,16 @@ fn plan_row(
     )
 }
 
+// The larger of two numbers.
+fn larger_of(a: usize, b: usize) -> usize
+    ensures { λ r. ⌜ r ≡ max a b ⌝ }
+{
+    if a < b {
+        return b;
+    }
+    a
+}
+
 // Plans column j, whose chain starts at head and whose n touched rows are in the list, from place used of the plan on, with free records from avail on.
 pub fn emit(
     rows: &[u16],
@@ -230,6 +251,7 @@ pub fn emit(
 {
     let mut walk = Walk {
         at: head,
+        behind: 0,
         used: used,
         size: 0,
         parent: Row(0),
@@ -256,12 +278,13 @@ pub fn emit(
         }
     }
     let last = pass(rows, next, walk, j, Row(4097));
+    let larger = larger_of(last.behind, last.size);
     let parent = last.parent;
     let left = last.avail;
     Emission {
         fits: last.fits,
         used: last.used,
-        size: last.size,
+        larger: larger,
         parent: parent,
         avail: left,
     }

@@ -38,7 +38,7 @@ pub enum Opening {
     Refused(u32),
 }
 
-// What a batch answers, with the record after it.
+// What a batch answers, with the record after it. The entries are the sum of the touched columns' sizes, after an addition and before a removal.
 #[repr(C)]
 pub struct Changed {
     pub number: u32,

@@ -5,14 +5,14 @@ use mathlib.Core.Path.{refl}
 use Rattle.lists.specs.Lists.{all, any, among, sumOf, upFrom, pairsOf}
 use Rattle.symbolic.specs.Columns.{startingWith}
 use Rattle.symbolic.specs.Factor.{childrenWith, countsFrom, firstAbove, buildFrom, patternFrom, nonZero, pathFrom, sizeSum}
-use Rattle.symbolic.specs.Batch.{passing, labelFrom, entriesOf}
+use Rattle.symbolic.specs.Batch.{passing, labelFrom}
 use Rattle.symbolic.specs.Change.{idsOf, without, columnOf, columnsOf}
 use Rattle.calls.specs.Refusals.{batchOf, rowsRefusal, columnsRefusal, idsRefusal}
 use Rattle.calls.specs.Changes.{labelled}
 use Rattle.history.specs.Instances.{StarredInstances, NinthInstance, LimitInstances, MeetingInstances}
 
 pub starred-instances : StarredInstances
-unfolding any among sumOf upFrom startingWith childrenWith countsFrom firstAbove buildFrom patternFrom nonZero pathFrom sizeSum passing labelFrom labelled entriesOf idsOf without columnOf columnsOf batchOf rowsRefusal columnsRefusal pairsOf
+unfolding any among sumOf upFrom startingWith childrenWith countsFrom firstAbove buildFrom patternFrom nonZero pathFrom sizeSum passing labelFrom labelled idsOf without columnOf columnsOf batchOf rowsRefusal columnsRefusal pairsOf
 starred-instances =
     record {
       fresh = (refl, refl);
@@ -48,7 +48,7 @@ unfolding among sumOf startingWith childrenWith countsFrom firstAbove buildFrom 
 ninth-instance = record { emptied = refl; repeated = refl; equal-rows = refl; path = refl }
 
 pub limit-instances : LimitInstances
-unfolding any among sumOf upFrom startingWith childrenWith countsFrom firstAbove buildFrom patternFrom nonZero pathFrom sizeSum passing labelFrom labelled entriesOf batchOf
+unfolding any among sumOf upFrom startingWith childrenWith countsFrom firstAbove buildFrom patternFrom nonZero pathFrom sizeSum passing labelFrom labelled without columnOf columnsOf batchOf
 limit-instances =
     record {
       opening-000 = refl;
@@ -65,6 +65,7 @@ limit-instances =
       opening-4 = refl;
       answer-255 = refl;
       answer-256 = refl;
+      answer-removal = refl;
       answer-beyond = refl;
       later-000 = λ t. refl;
       later-change = λ t. refl;

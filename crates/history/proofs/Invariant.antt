@@ -65,6 +65,10 @@ module _ {p : Plain} {u : World} (i : Inv p u) where
       ap (λ (fs : List FactorColumn). holdsFrom s fs 1 (u .state .sizes .m)) (sym (bag-factor (bookedIn u) (p .register) inv-rows (i .bag))) ∙
       sound-factor (u .state) (u .tables) inv-long (i .sound)
 
+  -- of the register's own m
+  pub inv-holds : holdsFrom (storedIn (u .state) (u .tables)) (factorFor (p .register)) 1 (p .register .m) ≡ true
+  inv-holds = subst (λ (n : ℕ). holdsFrom (storedIn (u .state) (u .tables)) (factorFor (p .register)) 1 n ≡ true) (sym (i .rows)) inv-numbers
+
   pub inv-fits : all (columnFits (p .sizes .m)) (p .register .columns) ≡ true
   inv-fits =
       subst (λ (l : Sizes). all (columnFits (l .m)) (p .register .columns) ≡ true) (i .sizes)
@@ -87,7 +91,7 @@ module _ {p : Plain} {u : World} (i : Inv p u) where
         columns = λ c. (λ k. bag-mem (p .register .columns) (bookedIn u .columns) (λ f. sym (i .bag f)) k, λ k. bag-mem (bookedIn u .columns) (p .register .columns) (i .bag) k);
         book-once = book-once u;
         register-once = i .once;
-        factor = held-factor (p .register) u (subst (λ (n : ℕ). holdsFrom s (factorFor (p .register)) 1 n ≡ true) (sym (i .rows)) inv-numbers);
+        factor = held-factor (p .register) u inv-holds;
         stored = inv-numbers;
         chains = λ x j a b d. stands-chain m (live (p .register)) s h (fits-rows m (p .register .columns) inv-fits) x j a b d;
       }

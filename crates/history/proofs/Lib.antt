@@ -1,5 +1,6 @@
 pub mod Reports
 pub mod Invariant
+pub mod Counts
 pub mod Steps
 pub mod Asking
 pub mod Theorems

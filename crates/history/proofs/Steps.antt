@@ -24,14 +24,15 @@ use Rattle.calls.specs.Numbers.{callEarly, callRefusal, refusalOf}
 use Rattle.calls.specs.Steps.{Answer, refusedBy, resultOf, acceptedBy, listsAfter, workAfter, World, bookedIn, Exchanged, AcceptedWorld, Transition}
 use Rattle.calls.proofs.Choices.{or-both, or-first, or-second}
 use Rattle.calls.proofs.Numbers.{early-facts, early-number, early-other, call-number, sound-number}
-use Rattle.calls.proofs.Order.{bag-after, bag-number, bag-ids, bag-touched, bag-answer, bag-lists, once-after}
+use Rattle.calls.proofs.Order.{bag-after, bag-number, bag-ids, bag-touched, bag-entries, bag-answer, bag-lists, once-after}
 use Rattle.calls.proofs.Steps.{Accepted, Refused, step-cases, taken-zero, refused-some, quiet-world, change-world}
 use Rattle.calls.proofs.Changes.{rows-stay, touched-rise, effect-exchanges}
 use Rattle.calls.proofs.Exchanges.{exchanged-keeps}
 use Rattle.history.specs.Runs.{Event, Run, Plain, plainNext, plainAfter}
-use Rattle.history.specs.Statements.{plainRefusal, OnPathOf, reported, ReportsJust, AltersJust, Justified}
+use Rattle.history.specs.Statements.{plainRefusal, OnPathOf, reported, ReportsJust, CountsJust, AltersJust, Justified}
 use Rattle.history.proofs.Reports.{reports-exactly}
-use Rattle.history.proofs.Invariant.{Inv, book-once, inv-rows, inv-long, openedPlain, openedWorld, inv-opened}
+use Rattle.history.proofs.Counts.{counts-held}
+use Rattle.history.proofs.Invariant.{Inv, book-once, inv-rows, inv-long, inv-holds, openedPlain, openedWorld, inv-opened}
 
 -- the plain register after an accepted call
 abbrev taken : Plain → Entry → Plain
@@ -116,6 +117,27 @@ module _ {p : Plain} {u : World} (i : Inv p u) where
         tails = subst (λ (l : Sizes). TailsStay l (u .tables) (v .tables)) (i .sizes) (x .tails);
       }
 
+  -- `Inv` holds after an accepted change
+  inv-change : {v : World} (c : Change) → isAccepted (effect (p .register) c .refusal (p .sizes)) ≡ true → Exchanged u c v → Inv (taken p (changing c)) v
+  inv-change {v} c h s =
+      record {
+        in-range = i .in-range;
+        sizes = s .sizes ∙ i .sizes;
+        limits = s .limits ∙ i .limits;
+        rows = rows-stay (p .register) c ∙ i .rows;
+        long = tails-long (p .sizes) (u .tables) (v .tables) (subst (λ (x : Sizes). TailsStay x (u .tables) (v .tables)) (i .sizes) (s .tails)) (i .long);
+        sound = s .sound;
+        bag = λ g. s .columns g ∙ bag-after (bookedIn u) (p .register) (inv-rows i) (i .bag) c g;
+        once = once-after (p .sizes) (p .register) c (i .once) h;
+      }
+
+  change-counts : {v : World} (e : Event) (c : Change) → e .call .entry ≡ changing c → e .answer ≡ acceptedBy (u .state .limits) (bookedIn u) (e .call .entry) →
+      reported e ≡ touchedBy (p .register) c → isAccepted (effect (p .register) c .refusal (p .sizes)) ≡ true → Exchanged u c v → CountsJust u e c v
+  change-counts {v} e c q a t h s =
+      counts-held (p .sizes) (p .register) c u v (i .once) h (inv-holds i) (inv-holds (inv-change c h s)) e t
+      (ap (λ (y : Answer). y .entries) a ∙ ap (λ (k : Entry). resultOf (bookedIn u) k .entries) q ∙
+      bag-entries (bookedIn u) (p .register) (inv-rows i) (i .bag) (book-once u) c)
+
   module _ {e : Event} {v : World} where
     accepted-justified : Accepted u (e .call) (e .answer) (e .left) v → Justified p u e v
     accepted-justified s =
@@ -136,6 +158,7 @@ module _ {p : Plain} {u : World} (i : Inv p u) where
               (λ j. gradeOf (i .limits j) (ap (λ (y : Answer). y .entries) (sym (s .answer)) j));
           unchanged = λ h. elim h [ inl q ↦ absurd (q n) | inr q ↦ quiet-world u (k .entry) v q (s .world) ];
           reports = λ q c h. change-reports e c h (s .answer) (s .lists);
+          counts = λ q c h. change-counts e c h (s .answer) (report-is e c h (s .answer) (s .lists)) (own c h) (change-world h (s .world));
           alters = λ q c h. change-alters e c (report-is e c h (s .answer) (s .lists)) (own c h) (change-world h (s .world));
         }
 
@@ -154,6 +177,7 @@ module _ {p : Plain} {u : World} (i : Inv p u) where
           graded = ap (λ (y : Answer). y .grade) a ∙ sym (ap (λ (y : Answer). gradeOf (p .limits) (y .entries)) a);
           unchanged = λ h. s .world;
           reports = λ h c q. absurd (n h);
+          counts = λ h c q. absurd (n h);
           alters = λ h c q. absurd (n h);
         }
 
@@ -169,19 +193,6 @@ module _ {p : Plain} {u : World} (i : Inv p u) where
       or-both (callEarly (p .sizes) (u .tables) k) (callRefusal (p .sizes) (p .register) k) (ap isAccepted (sym (number-plain k)) ∙ h)
 
   module _ {v : World} where
-    inv-change : (c : Change) → isAccepted (effect (p .register) c .refusal (p .sizes)) ≡ true → Exchanged u c v → Inv (taken p (changing c)) v
-    inv-change c h s =
-        record {
-          in-range = i .in-range;
-          sizes = s .sizes ∙ i .sizes;
-          limits = s .limits ∙ i .limits;
-          rows = rows-stay (p .register) c ∙ i .rows;
-          long = tails-long (p .sizes) (u .tables) (v .tables) (subst (λ (x : Sizes). TailsStay x (u .tables) (v .tables)) (i .sizes) (s .tails)) (i .long);
-          sound = s .sound;
-          bag = λ g. s .columns g ∙ bag-after (bookedIn u) (p .register) (inv-rows i) (i .bag) c g;
-          once = once-after (p .sizes) (p .register) c (i .once) h;
-        }
-
     inv-taken : (k : Call) (e : Entry) → k .entry ≡ e → isAccepted (refusalOf (u .state) (u .tables) k) ≡ true → AcceptedWorld u e v → Inv (taken p e) v
     inv-taken k (opening l g) q h s =
         let w : v ≡ openedWorld l g (u .tables) = λ j. record { state = s .0 j; tables = s .1 j } in

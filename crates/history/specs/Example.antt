@@ -82,16 +82,17 @@ abbrev pub valued : ℕ → Answer
 valued v = record { number = 0; position = 0; touched = 0; entries = 0; grade = 0; value = v }
 
 -- sound; a path of three rows, a column of three entries, multiplicity 1, parent 3; three columns, common row 3, none; refused by 7, 17 and 18; three columns
--- touched, four entries
+-- touched, which had six entries
 abbrev pub laterAnswers : List Answer
 laterAnswers =
     answered 0 0 0 0 0 ∷ valued 3 ∷ valued 3 ∷ valued 1 ∷ valued 3 ∷ valued 3 ∷ valued 3 ∷ valued 0 ∷ answered 7 0 0 0 0 ∷ answered 17 0 0 0 0 ∷
-    answered 18 0 0 0 0 ∷ answered 0 0 3 4 1 ∷ []
+    answered 18 0 0 0 0 ∷ answered 0 0 3 6 1 ∷ []
 
--- refused by 1 and by 20; six entries, still of grade 1; three entries and two, of grades 3 and 2 by limits 2, 3 and 4; three entries, of grade 1 again
+-- refused by 1 and by 20; six entries, still of grade 1; three entries after an addition and before a removal, of grade 3 by limits 2, 3 and 4; three entries,
+-- of grade 1 again
 abbrev pub lastAnswers : List Answer
 lastAnswers =
-    answered 1 0 0 0 0 ∷ answered 20 0 0 0 0 ∷ answered 0 0 3 6 1 ∷ answered 0 0 0 0 0 ∷ answered 0 0 2 3 3 ∷ answered 0 0 2 2 2 ∷ answered 0 0 0 0 0 ∷
+    answered 1 0 0 0 0 ∷ answered 20 0 0 0 0 ∷ answered 0 0 3 6 1 ∷ answered 0 0 0 0 0 ∷ answered 0 0 2 3 3 ∷ answered 0 0 2 3 3 ∷ answered 0 0 0 0 0 ∷
     answered 0 0 2 3 1 ∷ []
 
 -- the lists for touched columns that the listed calls leave

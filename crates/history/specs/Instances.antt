@@ -81,10 +81,10 @@ pub record StarredInstances : Type 0 where
   pub batch-entries : entriesBy (opened 5) three ≡ 8
   pub batch-answer : acceptedBy oldLimits (opened 5) (changing three) ≡ answered 0 0 4 8 1
   pub batch-register : after (opened 5) three ≡ listed
-  -- 4. "Then remove 2: touched 1 3 4, entries 4; L_1 is 1:2 3:1, L_3 is 3:3 with parent 0, L_4 is 4:1"
+  -- 4. "Then remove 2: touched 1 3 4"; document 02: "Case 4 then reports 6"; "L_1 is 1:2 3:1, L_3 is 3:3 with parent 0, L_4 is 4:1"
   pub removal-touched : touchedBy listed (removing (2 ∷ [])) ≡ 1 ∷ 3 ∷ 4 ∷ []
-  pub removal-entries : entriesBy listed (removing (2 ∷ [])) ≡ 4
-  pub removal-answer : acceptedBy oldLimits listed (changing (removing (2 ∷ []))) ≡ answered 0 0 3 4 1
+  pub removal-entries : entriesBy listed (removing (2 ∷ [])) ≡ 6
+  pub removal-answer : acceptedBy oldLimits listed (changing (removing (2 ∷ []))) ≡ answered 0 0 3 6 1
   pub removal-1 : ColumnIs (after listed (removing (2 ∷ []))) 1 3 (1 ∷ 2 ∷ 3 ∷ 1 ∷ [])
   pub removal-3 : ColumnIs (after listed (removing (2 ∷ []))) 3 0 (3 ∷ 3 ∷ [])
   pub removal-4 : ColumnIs (after listed (removing (2 ∷ []))) 4 0 (4 ∷ 1 ∷ [])
@@ -148,6 +148,8 @@ pub record LimitInstances : Type 0 where
   -- "every grade is read from them"
   pub answer-255 : acceptedBy (limitsOf 2 255 256) (opened 24) (changing entries255) ≡ answered 0 0 24 255 3
   pub answer-256 : acceptedBy (limitsOf 2 255 256) (opened 24) (changing entries256) ≡ answered 0 0 24 256 4
+  -- of a removal too: the touched columns have 6 entries before case 4's removal and 4 after it
+  pub answer-removal : acceptedBy (limitsOf 2 6 7) listed (changing (removing (2 ∷ []))) ≡ answered 0 0 3 6 3
   pub answer-beyond : acceptedBy (limitsOf 4194304 4194305 4294967295) (opened 24) (changing entries256) ≡ answered 0 0 24 256 1
   -- "later they, and zeros, are unsound": in a change and a question too, and after 5
   pub later-000 : (t : Tables) → soundRefusal (recordWith (limitsOf 0 0 0)) t checking ≡ refusal 6 0

@@ -5,10 +5,10 @@ use mathlib.Core.Path.{_≡_}
 use mathlib.Core.Logic.{_⊎_, _≢_, _↔_}
 use mathlib.Core.Bool.{true, false, _||_}
 use mathlib.Core.List.{List, [], _∷_, _++_}
-use Prim.Native.Nat.{ℕ, _+_, _≤_, _<_}
+use Prim.Native.Nat.{ℕ, _+_, _≤_, _<_, max}
 use lib.Dec.{eqb}
 use lib.ListN.{length, take, drop}
-use Rattle.lists.specs.Lists.{pick, isIn, Mem, all, same, among, noRepeats, at, valuesAt, rises}
+use Rattle.lists.specs.Lists.{pick, isIn, Mem, all, same, among, noRepeats, sumOf, at, valuesAt, rises}
 use Rattle.symbolic.specs.Columns.{Column, smallest, startingWith, Register, live}
 use Rattle.symbolic.specs.Definition.{IsFactor, OnPath}
 use Rattle.symbolic.specs.Factor.{factorFor}
@@ -21,7 +21,7 @@ use Rattle.tables.specs.Stored.{recordsOf, holdsFrom}
 use Rattle.tables.specs.Tables.{Tables, Sizes, longEnough, storedIn, bookIn, isSound}
 use Rattle.tables.specs.Stays.{ColumnStays, EntriesKeep, TailsStay}
 use Rattle.calls.specs.Refusals.{Refusal, accepted, isAccepted, orElse, bounds, sizesRefusal}
-use Rattle.calls.specs.Calls.{Change, askMeets, askCommon, opening, changing, asking, Lent, withWork, Call, callOf, isOpening, isChange}
+use Rattle.calls.specs.Calls.{Change, adding, removing, askMeets, askCommon, opening, changing, asking, Lent, withWork, Call, callOf, isOpening, isChange}
 use Rattle.calls.specs.Changes.{effect, IsExchange}
 use Rattle.calls.specs.Numbers.{callEarly, callRefusal}
 use Rattle.calls.specs.Steps.{Answer, refusedBy, acceptedBy, listsAfter, workAfter, World, bookedIn, Transition}
@@ -50,6 +50,10 @@ heldCount v i j =
 -- the parent that the tables hold for column j
 abbrev pub heldParent : World → (j : ℕ) → ℕ
 heldParent v j = at (storedIn (v .state) (v .tables) .parents) j
+
+-- the size of column j in the tables: how many records its chain has
+abbrev pub heldSize : World → (j : ℕ) → ℕ
+heldSize v j = length (recordsOf (storedIn (v .state) (v .tables)) j)
 
 -- multiplicities M and parents P are document 01's for the live columns of a register
 abbrev pub IsFactorOf : Register → (M : ℕ → ℕ → ℕ) (P : ℕ → ℕ) → Type 0
@@ -100,6 +104,15 @@ pub record ReportsJust (p : Plain) (e : Event) (c : Change) : Type 0 where
       (j : ℕ) → 1 ≤ j → j ≤ p .register .m →
       Mem j (reported e) ↔ (OnPathOf (p .register .m) P (effect (p .register) c .leave) j ⊎ OnPathOf (p .register .m) Q (effect (p .register) c .enter) j)
 
+-- the entries that an accepted change answers, from the chains that the tables have before it (u) and after it (v)
+pub record CountsJust (u : World) (e : Event) (c : Change) (v : World) : Type 0 where
+  -- each reported column counts by the larger of its sizes before and after
+  pub larger : e .answer .entries ≡ sumOf (λ j. max (heldSize u j) (heldSize v j)) (reported e)
+  -- an addition: "the sum of the sizes of the touched columns' patterns after the call"
+  pub after-adding : (ids counts rows : List ℕ) → c ≡ adding ids counts rows → e .answer .entries ≡ sumOf (heldSize v) (reported e)
+  -- document 02: "For a removal the entries become the sum of the touched columns' sizes before the call"
+  pub before-removing : (ids : List ℕ) → c ≡ removing ids → e .answer .entries ≡ sumOf (heldSize u) (reported e)
+
 -- what an accepted change may alter of record and tables, from world u to world v
 pub record AltersJust (p : Plain) (u : World) (e : Event) (c : Change) (v : World) : Type 0 where
   -- of the live columns some leave, some stay and others enter
@@ -131,8 +144,9 @@ pub record Justified (p : Plain) (u : World) (e : Event) (v : World) : Type 0 wh
   pub unchanged : (e .answer .number ≢ 0) ⊎ ((isChange (e .call .entry) || isOpening (e .call .entry)) ≡ false) → v ≡ u
   -- "every grade is read from" the limits
   pub graded : e .answer .grade ≡ gradeOf (p .limits) (e .answer .entries)
-  -- what an accepted change reports and alters
+  -- what an accepted change reports, counts and alters
   pub reports : e .answer .number ≡ 0 → (c : Change) → e .call .entry ≡ changing c → ReportsJust p e c
+  pub counts : e .answer .number ≡ 0 → (c : Change) → e .call .entry ≡ changing c → CountsJust u e c v
   pub alters : e .answer .number ≡ 0 → (c : Change) → e .call .entry ≡ changing c → AltersJust p u e c v
 
 -- ---- DEMAND 3, one claim about a list of calls from an accepted opening, refused ones among them

@@ -165,7 +165,7 @@ fn entries_at(pattern: &Square, label_of: &Rows, m: usize, j: usize) -> usize
     tree::size(pattern, m, j)
 }
 
-// The sum of the sizes of the touched columns' patterns.
+// The sum of the sizes of the touched columns in a pattern.
 pub fn entries(pattern: &Square, label_of: &Rows, m: usize) -> usize
     requires { ⌜ m ≤ 64 ⌝ }
 {

@@ -150,7 +150,7 @@ pub fn open(live: &mut Live, before: Sizes, asked: Sizes) -> Opened
     Opened { number: 0, sizes }
 }
 
-// The report of an accepted batch, of the pattern after it.
+// The report of an accepted batch, of the pattern that its columns are live in: the one after an addition, the one before a removal.
 fn reported(
     pattern: &Square,
     touched: &mut Rows,
@@ -266,7 +266,6 @@ fn removed(
     pattern::fills(holds, live, &mut pattern, sizes);
     batch::label(holds, live, &pattern, &mut label_of, ids, sizes);
     batch::leave(live, ids, sizes.n);
-    pattern::fills(holds, live, &mut pattern, sizes);
     reported(&pattern, touched, labels, &label_of, sizes)
 }
 

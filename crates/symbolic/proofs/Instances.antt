@@ -1,14 +1,14 @@
 -- Document 01's instances (specs/Cases.antt): each side computes to the other. Only here are whole factors unfolded. Assumes nothing.
 use mathlib.Core.Path.{refl}
-use Rattle.lists.specs.Lists.{any, among}
+use Rattle.lists.specs.Lists.{any, among, sumOf}
 use Rattle.symbolic.specs.Columns.{startingWith}
 use Rattle.symbolic.specs.Factor.{childrenWith, countsFrom, firstAbove, buildFrom, patternFrom, nonZero, pathFrom, sizeSum}
-use Rattle.symbolic.specs.Batch.{touchedFrom, labelFrom, labelsOf, entriesOf}
+use Rattle.symbolic.specs.Batch.{touchedFrom, labelFrom, labelsOf}
 use Rattle.symbolic.specs.Change.{without, columnOf, columnsOf}
 use Rattle.symbolic.specs.Cases.{Cases}
 
 pub instances : Cases
-unfolding any among startingWith childrenWith countsFrom firstAbove buildFrom patternFrom nonZero pathFrom sizeSum touchedFrom labelFrom labelsOf entriesOf without columnOf columnsOf
+unfolding any among startingWith childrenWith countsFrom firstAbove buildFrom patternFrom nonZero pathFrom sizeSum touchedFrom labelFrom labelsOf sumOf without columnOf columnsOf
 instances = record {
   fresh = refl;
   state = refl;
@@ -21,6 +21,9 @@ instances = record {
   removal-entries = refl;
   removal-state = refl;
   twice = refl;
+  again-touched = refl;
+  again-entries = refl;
+  exchange-entries = refl;
   alone = refl;
   batch-size = refl;
   grade-one = refl;

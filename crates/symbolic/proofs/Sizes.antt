@@ -1,22 +1,24 @@
 -- Sizes of patterns: as counts of rows; a child's against its parent's (`parent-size`), and where they allow it the two patterns are one but for the
--- child (`same-by-size`); the sum of all sizes grows with the columns, and changes by the touched columns alone. Assumes nothing.
+-- child (`same-by-size`); the sum of all sizes grows with the columns, and changes by the touched columns alone; the entries of an addition and of a removal
+-- are the sizes with the batch. Assumes nothing.
 use mathlib.Core.Path.{_≡_, refl, sym, ap, _∙_, subst}
 use mathlib.Core.Logic.{inl, inr, _≢_}
 use mathlib.Core.Bool.{Bool, true, false, _&&_, not}
 use mathlib.Core.List.{List, [], _∷_, _++_}
 use Prim.Native.Nat.{ℕ, zero, suc, _+_, _-_, _≤_, _<_}
+use native.Mathlib.Nat.{max-eq-left, max-eq-right}
 use native.Mathlib.Omega.{arith}
 use lib.Dec.{eqb}
-use lib.ListN.{length, getD}
+use lib.ListN.{length, getD, List·getD-eq-default}
 use borrow.Author.Tests.{eqb-false, eq-eqb, ne-eqb, not-true}
 use Rattle.lists.specs.Lists.{one, count, sumOf, upFrom}
-use Rattle.lists.proofs.Tests.{cases, and-both}
+use Rattle.lists.proofs.Tests.{cases, lt-or-le, and-both}
 use Rattle.lists.proofs.Count.{count-ext, count-sub, count-full, count-at, count-shift}
-use Rattle.lists.proofs.Sum.{sum-le, sum-places}
+use Rattle.lists.proofs.Sum.{sum-le, sum-ext, sum-places}
 use Rattle.lists.proofs.Rising.{from-up}
 use Rattle.symbolic.specs.Columns.{Column}
 use Rattle.symbolic.specs.Factor.{FactorColumn, factorOf, noColumn, columnAt, multiplicity, parentOf, inPattern, patternFrom, sizeOf, sizeSum}
-use Rattle.symbolic.specs.Batch.{isTouched, touchedFrom, touched, entriesOf}
+use Rattle.symbolic.specs.Batch.{isTouched, touchedFrom, touched, sizeSumOf, entriesOf}
 use Rattle.symbolic.proofs.Laws.{diagonal-in, row-above, parent-contains}
 use Rattle.symbolic.proofs.Build.{laws, factor-length, counts-length}
 use Rattle.symbolic.proofs.Patterns.{in-pattern, pattern-in}
@@ -96,7 +98,7 @@ module _ (m : ℕ) (cs : List Column) (c : ℕ) (a : 1 ≤ c) (b : c ≤ m) (p :
 
 -- the sizes of n columns from i on
 abbrev sizesFrom : List FactorColumn → (i n : ℕ) → ℕ
-sizesFrom fs i n = sumOf (λ j. sizeOf (columnAt fs j)) (upFrom i n)
+sizesFrom fs i n = sizeSumOf fs (upFrom i n)
 
 sizes-flat : (fs : List FactorColumn) → sizeSum fs ≡ sumOf (λ f. sizeOf f) fs
 unfolding sizeSum sumOf
@@ -132,9 +134,9 @@ module _ (m : ℕ) (R W : List Column) where
 
   -- untouched columns count the same on both sides
   local-from : (i n : ℕ) → 1 ≤ i → i + n ≤ suc m →
-      sizesFrom (factorOf m (R ++ W)) i n + entriesOf (factorOf m R) (touchedFrom (factorOf m (R ++ W)) W i n) ≡
-      sizesFrom (factorOf m R) i n + entriesOf (factorOf m (R ++ W)) (touchedFrom (factorOf m (R ++ W)) W i n)
-  unfolding touchedFrom entriesOf sumOf upFrom
+      sizesFrom (factorOf m (R ++ W)) i n + sizeSumOf (factorOf m R) (touchedFrom (factorOf m (R ++ W)) W i n) ≡
+      sizesFrom (factorOf m R) i n + sizeSumOf (factorOf m (R ++ W)) (touchedFrom (factorOf m (R ++ W)) W i n)
+  unfolding touchedFrom sumOf upFrom
   local-from i zero a b = omega arith
   local-from i (suc n) a b =
       elim (cases (isTouched (factorOf m (R ++ W)) W i)) [
@@ -142,10 +144,32 @@ module _ (m : ℕ) (R W : List Column) where
         | inr e ↦ rw e (omega (arith, local-from (suc i) n (omega arith) (omega arith), ap sizeOf (untouched-column m R W i a (omega arith) e)))
       ]
 
-  pub sizes-local-sum : sizeSum (factorOf m (R ++ W)) + entriesOf (factorOf m R) (touched (factorOf m (R ++ W)) W) ≡
-      sizeSum (factorOf m R) + entriesOf (factorOf m (R ++ W)) (touched (factorOf m (R ++ W)) W)
+  pub sizes-local-sum : sizeSum (factorOf m (R ++ W)) + sizeSumOf (factorOf m R) (touched (factorOf m (R ++ W)) W) ≡
+      sizeSum (factorOf m R) + sizeSumOf (factorOf m (R ++ W)) (touched (factorOf m (R ++ W)) W)
   sizes-local-sum =
       rw (size-sum-of m R, size-sum-of m (R ++ W))
-      (subst (λ (n : ℕ). sizesFrom (factorOf m (R ++ W)) 1 m + entriesOf (factorOf m R) (touchedFrom (factorOf m (R ++ W)) W 1 n) ≡
-      sizesFrom (factorOf m R) 1 m + entriesOf (factorOf m (R ++ W)) (touchedFrom (factorOf m (R ++ W)) W 1 n)) (sym (factor-length m (R ++ W)))
+      (subst (λ (n : ℕ). sizesFrom (factorOf m (R ++ W)) 1 m + sizeSumOf (factorOf m R) (touchedFrom (factorOf m (R ++ W)) W 1 n) ≡
+      sizesFrom (factorOf m R) 1 m + sizeSumOf (factorOf m (R ++ W)) (touchedFrom (factorOf m (R ++ W)) W 1 n)) (sym (factor-length m (R ++ W)))
       (local-from 1 m (omega arith) (omega arith)))
+
+  -- ---- entries
+
+  -- of any number: past m there is no column, and 0 reads column 1
+  grows-anywhere : (j : ℕ) → sizeOf (columnAt (factorOf m R) j) ≤ sizeOf (columnAt (factorOf m (R ++ W)) j)
+  grows-anywhere j =
+      elim (lt-or-le (j - 1) m) [
+        | inl h ↦ subst (λ (k : ℕ). sizeOf (getD (factorOf m R) k noColumn) ≤ sizeOf (getD (factorOf m (R ++ W)) k noColumn)) (back j) (size-grows (suc (j - 1)) (omega arith) (omega arith))
+        | inr h ↦ omega (arith, ap sizeOf (past R h), ap sizeOf (past (R ++ W) h))
+      ]
+    where
+      back : (j : ℕ) → suc (j - 1) - 1 ≡ j - 1
+      back j = omega arith
+
+      past : (cs : List Column) → m ≤ j - 1 → columnAt (factorOf m cs) j ≡ noColumn
+      past cs h = List·getD-eq-default (factorOf m cs) noColumn (omega (arith, factor-length m cs))
+
+  pub entries-after : (js : List ℕ) → entriesOf (factorOf m R) (factorOf m (R ++ W)) js ≡ sizeSumOf (factorOf m (R ++ W)) js
+  entries-after js = sum-ext _ _ js (λ j n. max-eq-right (grows-anywhere j))
+
+  pub entries-before : (js : List ℕ) → entriesOf (factorOf m (R ++ W)) (factorOf m R) js ≡ sizeSumOf (factorOf m (R ++ W)) js
+  entries-before js = sum-ext _ _ js (λ j n. max-eq-left (grows-anywhere j))

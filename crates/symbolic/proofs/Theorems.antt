@@ -13,7 +13,7 @@ use Rattle.lists.proofs.Member.{all-at}
 use Rattle.symbolic.specs.Columns.{Column, smallest, holds, fitsRows}
 use Rattle.symbolic.specs.Factor.{factorOf, multiplicity, parentOf, inPattern, isChild}
 use Rattle.symbolic.specs.Batch.{passes, atPosition, labelOf}
-use Rattle.symbolic.specs.Statements.{Defined, Unique, DiagonalStands, ParentAbove, ParentHolds, Equation31, Growth, Locality, UpdateSteps, DowndateSteps, OrderFree, RemovalSplits, MultiplicityBound, ChainRule, PatternClosed, PatternLeast, PathIs, TouchedIs, TouchedRises, LabelIs, LabelsFollow, SizesGrow, SizesLocal, GradeFrom, OldGrades, MeetingIs, MeetingRises, MeetingEnds, CommonIs}
+use Rattle.symbolic.specs.Statements.{Defined, Unique, DiagonalStands, ParentAbove, ParentHolds, Equation31, Growth, Locality, UpdateSteps, DowndateSteps, OrderFree, RemovalSplits, MultiplicityBound, ChainRule, PatternClosed, PatternLeast, PathIs, TouchedIs, TouchedRises, LabelIs, LabelsFollow, SizesGrow, SizesLocal, AdditionEntries, RemovalEntries, GradeFrom, OldGrades, MeetingIs, MeetingRises, MeetingEnds, CommonIs}
 use Rattle.symbolic.proofs.Laws.{diagonal-in, start-in, pattern-cases, row-above, parent-contains, pattern-fill}
 use Rattle.symbolic.proofs.Walks.{walk-of, edge-in, walk-in, pattern-within}
 use Rattle.symbolic.proofs.Two.{Agree, factor-agrees}
@@ -26,7 +26,7 @@ use Rattle.symbolic.proofs.Locality.{multiplicity-stays, untouched-colu
 use Rattle.symbolic.proofs.Labels.{label-passes, label-largest, touched-label, label-follows}
 use Rattle.symbolic.proofs.Bags.{bag-splits}
 use Rattle.symbolic.proofs.Order.{factor-bag, count-bound}
-use Rattle.symbolic.proofs.Sizes.{sizes-grow-sum, sizes-local-sum}
+use Rattle.symbolic.proofs.Sizes.{sizes-grow-sum, sizes-local-sum, entries-after, entries-before}
 use Rattle.symbolic.proofs.Grades.{grade-begins, old-grade}
 use Rattle.symbolic.proofs.Meeting.{meeting-defined, meeting-rise, meeting-last}
 use Rattle.symbolic.proofs.Common.{common-least}
@@ -168,6 +168,12 @@ sizes-grow = sizes-grow-sum
 
 pub sizes-local : SizesLocal
 sizes-local = sizes-local-sum
+
+pub addition-entries : AdditionEntries
+addition-entries = entries-after
+
+pub removal-entries : RemovalEntries
+removal-entries = entries-before
 
 -- ---- 9. grades
 

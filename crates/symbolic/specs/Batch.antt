@@ -1,12 +1,12 @@
--- A batch's touched columns, labels and entries in a given tree: "in the tree after the call when adding, before it when removing". An exchange,
--- in which columns leave and others enter, touches what the leaving ones touch in the tree before and the entering ones in the tree after.
--- Assumes nothing: these are definitions.
+-- A batch's touched columns and labels in a given tree: "in the tree after the call when adding, before it when removing". An exchange,
+-- in which columns leave and others enter, touches what the leaving ones touch in the tree before and the entering ones in the tree after. The entries of a change,
+-- from the factors before and after it. Assumes nothing: these are definitions.
 use mathlib.Core.Bool.{Bool, _||_}
 use mathlib.Core.List.{List, [], _∷_}
-use Prim.Native.Nat.{ℕ, zero, suc, _+_, _-_}
+use Prim.Native.Nat.{ℕ, zero, suc, _-_, max}
 use lib.Dec.{eqb}
 use lib.ListN.{length, getD}
-use Rattle.lists.specs.Lists.{pick, any, among}
+use Rattle.lists.specs.Lists.{pick, any, among, sumOf}
 use Rattle.symbolic.specs.Columns.{Column, smallest}
 use Rattle.symbolic.specs.Factor.{FactorColumn, columnAt, pathOf, sizeOf}
 
@@ -58,7 +58,12 @@ unfoldable pub labelsOf : List FactorColumn → (batch : List Column) → (colum
 labelsOf fs cs [] = []
 labelsOf fs cs (j ∷ js) = labelOf fs cs j ∷ labelsOf fs cs js
 
--- "the entries: the sum of the sizes of the touched columns' patterns after the call"
-unfoldable pub entriesOf : List FactorColumn → (columns : List ℕ) → ℕ
-entriesOf fs [] = 0
-entriesOf fs (j ∷ js) = sizeOf (columnAt fs j) + entriesOf fs js
+-- the sum of the sizes of some columns' patterns
+abbrev pub sizeSumOf : List FactorColumn → (columns : List ℕ) → ℕ
+sizeSumOf fs js = sumOf (λ j. sizeOf (columnAt fs j)) js
+
+-- the entries of a change, over the columns that it touches: each counts by the larger of its sizes before and after the call. For an addition that is document
+-- 01's "sum of the sizes of the touched columns' patterns after the call" (`AdditionEntries`), for a removal document 02's "sum of the touched columns' sizes
+-- before the call" (`RemovalEntries`)
+abbrev pub entriesOf : (before after : List FactorColumn) → (columns : List ℕ) → ℕ
+entriesOf fs gs js = sumOf (λ j. max (sizeOf (columnAt fs j)) (sizeOf (columnAt gs j))) js

@@ -1,5 +1,5 @@
 -- Document 01's instances as far as the factor alone decides them, and some of document 02's limits; the table of starred instances is history/specs/Instances.antt. Computed here: the
--- state listed there, the same columns as one batch, a removal, equal columns, sizes, grades and their limits, a path. proofs/Instances.antt has a term. Assumes nothing.
+-- state listed there, the same columns as one batch, a removal, equal columns, an exchange, sizes, grades and their limits, a path. proofs/Instances.antt has a term. Assumes nothing.
 use mathlib.Core.Path.{_≡_}
 use mathlib.Core.Bool.{true, false}
 use mathlib.Core.List.{List, [], _∷_}
@@ -13,6 +13,10 @@ use Rattle.symbolic.specs.Change.{without, columnsOf}
 -- the columns of the listed state: {1,3}, {1,4}, {2,3} under ids 1, 2, 3
 abbrev pub listedColumns : List Column
 listedColumns = record { id = 1; rows = 1 ∷ 3 ∷ [] } ∷ record { id = 2; rows = 1 ∷ 4 ∷ [] } ∷ record { id = 3; rows = 2 ∷ 3 ∷ [] } ∷ []
+
+-- {1,3} under ids 4 and 7
+abbrev pub twoAlike : List Column
+twoAlike = record { id = 4; rows = 1 ∷ 3 ∷ [] } ∷ record { id = 7; rows = 1 ∷ 3 ∷ [] } ∷ []
 
 -- a factor column with a given parent and given multiplicities of rows 1 to m
 abbrev pub column : (parent : ℕ) → (counts : List ℕ) → FactorColumn
@@ -32,18 +36,24 @@ pub record Cases : Type 0 where
   -- 3. "The three columns as one batch: touched 1 2 3 4, labels 2 3 3 3, entries 8"
   pub batch-touched : touched (factorOf 5 listedColumns) listedColumns ≡ 1 ∷ 2 ∷ 3 ∷ 4 ∷ []
   pub batch-labels : labelsOf (factorOf 5 listedColumns) listedColumns (1 ∷ 2 ∷ 3 ∷ 4 ∷ []) ≡ 2 ∷ 3 ∷ 3 ∷ 3 ∷ []
-  pub batch-entries : entriesOf (factorOf 5 listedColumns) (1 ∷ 2 ∷ 3 ∷ 4 ∷ []) ≡ 8
-  -- 4. "Then remove 2: touched 1 3 4, entries 4; L_1 is 1:2 3:1, L_3 is 3:3 with parent 0, L_4 is 4:1"
+  pub batch-entries : entriesOf (factorOf 5 []) (factorOf 5 listedColumns) (1 ∷ 2 ∷ 3 ∷ 4 ∷ []) ≡ 8
+  -- 4. "Then remove 2: touched 1 3 4", entries 6 by document 02; "L_1 is 1:2 3:1, L_3 is 3:3 with parent 0, L_4 is 4:1"
   pub removal-touched : touched (factorOf 5 listedColumns) (columnsOf (2 ∷ []) listedColumns) ≡ 1 ∷ 3 ∷ 4 ∷ []
-  pub removal-entries : entriesOf (factorOf 5 (without (2 ∷ []) listedColumns)) (1 ∷ 3 ∷ 4 ∷ []) ≡ 4
+  pub removal-entries : entriesOf (factorOf 5 listedColumns) (factorOf 5 (without (2 ∷ []) listedColumns)) (1 ∷ 3 ∷ 4 ∷ []) ≡ 6
   pub removal-state :
       factorOf 5 (without (2 ∷ []) listedColumns) ≡
       column 3 (2 ∷ 0 ∷ 1 ∷ 0 ∷ 0 ∷ []) ∷ column 3 (0 ∷ 2 ∷ 1 ∷ 0 ∷ 0 ∷ []) ∷ column 0 (0 ∷ 0 ∷ 3 ∷ 0 ∷ 0 ∷ []) ∷ column 0 (0 ∷ 0 ∷ 0 ∷ 1 ∷ 0 ∷ []) ∷
       column 0 (0 ∷ 0 ∷ 0 ∷ 0 ∷ 1 ∷ []) ∷ []
   -- 5. "{1,3} twice under two ids, one removed: L_1 is 1:2 3:1, L_3 is 3:2"
   pub twice :
-      factorOf 3 (without (7 ∷ []) (record { id = 4; rows = 1 ∷ 3 ∷ [] } ∷ record { id = 7; rows = 1 ∷ 3 ∷ [] } ∷ [])) ≡
+      factorOf 3 (without (7 ∷ []) twoAlike) ≡
       column 3 (2 ∷ 0 ∷ 1 ∷ []) ∷ column 0 (0 ∷ 1 ∷ 0 ∷ []) ∷ column 0 (0 ∷ 0 ∷ 2 ∷ []) ∷ []
+  -- a second {1,3} touches 1 and 3: column 3 counts too, though nothing changes in it
+  pub again-touched : touched (factorOf 3 twoAlike) (record { id = 7; rows = 1 ∷ 3 ∷ [] } ∷ []) ≡ 1 ∷ 3 ∷ []
+  pub again-entries : entriesOf (factorOf 3 (without (7 ∷ []) twoAlike)) (factorOf 3 twoAlike) (1 ∷ 3 ∷ []) ≡ 3
+  -- {1,4} leaves the listed state and {2,5} enters: column 1 has 3 rows before, column 2 has 3 after, and each counts by the larger
+  pub exchange-entries :
+      entriesOf (factorOf 5 listedColumns) (factorOf 5 (record { id = 4; rows = 2 ∷ 5 ∷ [] } ∷ without (2 ∷ []) listedColumns)) (1 ∷ 2 ∷ 3 ∷ 4 ∷ 5 ∷ []) ≡ 10
   -- 6. "{5} alone: L_5 is 5:2"
   pub alone : columnAt (factorOf 5 (record { id = 1; rows = 5 ∷ [] } ∷ [])) 5 ≡ column 0 (0 ∷ 0 ∷ 0 ∷ 0 ∷ 2 ∷ [])
   -- 7. "Case 3 with F = 9 is accepted, with F = 8 refused by 16": it needs 9 records

@@ -11,7 +11,7 @@ use Rattle.lists.specs.Lists.{pick, isIn, Mem, all, among, noRepeats, rises}
 use Rattle.symbolic.specs.Columns.{Column, smallest, holds, fitsRows, startingWith}
 use Rattle.symbolic.specs.Factor.{factorOf, columnAt, multiplicity, parentOf, inPattern, isChild, pathOf, sizeSum}
 use Rattle.symbolic.specs.Definition.{IsFactor, OnPath}
-use Rattle.symbolic.specs.Batch.{atPosition, passes, isTouched, touched, labelOf, entriesOf}
+use Rattle.symbolic.specs.Batch.{atPosition, passes, isTouched, touched, labelOf, sizeSumOf, entriesOf}
 use Rattle.symbolic.specs.Meeting.{meeting, commonOf, IsCommon}
 use Rattle.symbolic.specs.Grades.{Limits, areLimits, oldLimits, gradeOf}
 use Rattle.symbolic.specs.Chains.{ChainTo, Closed}
@@ -165,8 +165,17 @@ SizesGrow = (m : ℕ) (R W : List Column) → sizeSum (factorOf m R) ≤ sizeSum
 abbrev pub SizesLocal : Type 0
 SizesLocal =
     (m : ℕ) (R W : List Column) →
-    sizeSum (factorOf m (R ++ W)) + entriesOf (factorOf m R) (touched (factorOf m (R ++ W)) W) ≡
-    sizeSum (factorOf m R) + entriesOf (factorOf m (R ++ W)) (touched (factorOf m (R ++ W)) W)
+    sizeSum (factorOf m (R ++ W)) + sizeSumOf (factorOf m R) (touched (factorOf m (R ++ W)) W) ≡
+    sizeSum (factorOf m R) + sizeSumOf (factorOf m (R ++ W)) (touched (factorOf m (R ++ W)) W)
+
+-- the entries of an addition: "the sum of the sizes of the touched columns' patterns after the call". Here and below of any columns; of calls: `CountsJust` in
+-- history/specs/Statements.antt
+abbrev pub AdditionEntries : Type 0
+AdditionEntries = (m : ℕ) (R W : List Column) (js : List ℕ) → entriesOf (factorOf m R) (factorOf m (R ++ W)) js ≡ sizeSumOf (factorOf m (R ++ W)) js
+
+-- document 02: "For a removal the entries become the sum of the touched columns' sizes before the call"
+abbrev pub RemovalEntries : Type 0
+RemovalEntries = (m : ℕ) (R W : List Column) (js : List ℕ) → entriesOf (factorOf m (R ++ W)) (factorOf m R) js ≡ sizeSumOf (factorOf m (R ++ W)) js
 
 -- ---- 9. grades
 

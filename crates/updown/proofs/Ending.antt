@@ -119,7 +119,7 @@ module _ {next work₀ w : List ℕ} {m flags : ℕ} {R W : List Column} {adding
             (plans-all m (before adding m R W) (after adding m R W) (labelAt m R W) wc (done m R W (suc m)) 0 used p);
         first-is = n .first-is ∙ ap firstOf e;
         count-is = n .count-is ∙ ap length e;
-        entries-is = n .entries-is ∙ ap (entriesOf (after adding m R W)) e;
+        entries-is = n .entries-is ∙ ap (entriesOf (before adding m R W) (after adding m R W)) e;
         room = omega (arith, n .room, fit (suc m) (omega arith) (omega arith));
         new-fit = omega (
           arith,

@@ -9,11 +9,12 @@ use native.Mathlib.Omega.{arith}
 use lib.Dec.{leb}
 use lib.ListN.{length}
 use borrow.Author.Tests.{leb-false}
-use Rattle.lists.specs.Lists.{Mem, first, later}
+use Rattle.lists.specs.Lists.{sumOf}
 use Rattle.lists.proofs.Tests.{cases}
+use Rattle.lists.proofs.Sum.{sum-le}
 use Rattle.symbolic.specs.Columns.{Column}
-use Rattle.symbolic.specs.Factor.{FactorColumn, columnAt, sizeSum}
-use Rattle.symbolic.specs.Batch.{isTouched, touchedFrom, touched, entriesOf}
+use Rattle.symbolic.specs.Factor.{FactorColumn, columnAt, sizeOf, sizeSum}
+use Rattle.symbolic.specs.Batch.{isTouched, touchedFrom, touched, sizeSumOf}
 use Rattle.symbolic.proofs.Build.{factor-length}
 use Rattle.symbolic.proofs.Sizes.{size-grows, sizes-local-sum}
 use Rattle.pool.specs.Chains.{chain}
@@ -21,7 +22,7 @@ use Rattle.columns.specs.Plan.{ofKind}
 use Rattle.emission.specs.Plans.{planFrom}
 use Rattle.updown.specs.Turns.{larger, smaller, done}
 use Rattle.updown.specs.States.{Numbers}
-use Rattle.updown.proofs.Plans.{in-touched, entries-append}
+use Rattle.updown.proofs.Plans.{in-touched, sizes-append}
 use Rattle.updown.proofs.Stepping.{done-next}
 use Rattle.updown.proofs.Numbering.{column-grows}
 
@@ -41,21 +42,16 @@ touched-split fs cs i (suc n) t =
       | inr e ↦ rw e ih
     ]
 
-entries-grow : (m : ℕ) (R W : List Column) (js : List ℕ) → ((c : ℕ) → Mem c js → (1 ≤ c) × (c ≤ m)) → entriesOf (smaller m R) js ≤ entriesOf (larger m R W) js
-unfolding entriesOf
-entries-grow m R W [] h = omega arith
-entries-grow m R W (j ∷ js) h = omega (arith, size-grows m R W j (h j first .0) (h j first .1), entries-grow m R W js (λ c x. h c (later x)))
-
 module _ {next work : List ℕ} {m : ℕ} {R W : List Column} {free f l c k used avail : ℕ} (size : sizeSum (smaller m R) + free ≡ length next) where
   pub sizes-fit : Numbers next work m R W true free (suc m) f l c k used avail → sizeSum (larger m R W) ≤ length next
   sizes-fit n =
       let q : suc m - 1 ≡ length (larger m R W) = omega (arith, factor-length m (R ++ W)) in
       let e : done m R W (suc m) ≡ touched (larger m R W) W = ap (λ (x : ℕ). touchedFrom (larger m R W) W 1 x) q in
-      omega (arith, size, n .grown refl, n .taken, sizes-local-sum m R W, ap (entriesOf (smaller m R)) e, ap (entriesOf (larger m R W)) e)
+      omega (arith, size, n .grown refl, n .taken, sizes-local-sum m R W, ap (sizeSumOf (smaller m R)) e, ap (sizeSumOf (larger m R W)) e)
 
   pub sizes-exceed : (j : ℕ) → 1 ≤ j → j ≤ m → m ≤ 4096 → length R + length W ≤ 60000 → isTouched (larger m R W) W j ≡ true → Numbers next work m R W true free j f l c k used avail →
       leb (ofKind 1 (planFrom 1 (columnAt (smaller m R) j .counts) (columnAt (larger m R W) j .counts))) (length (chain next avail)) ≡ false → length next < sizeSum (larger m R W)
-  unfolding entriesOf
+  unfolding sumOf
   sizes-exceed j a b narrow few t n over =
       let q : (suc j - 1) + (m - j) ≡ length (larger m R W) = omega (arith, factor-length m (R ++ W)) in
       let rest : List ℕ = touchedFrom (larger m R W) W (1 + (suc j - 1)) (m - j) in
@@ -69,12 +65,12 @@ module _ {next work : List ℕ} {m : ℕ} {R W : List Column} {free f l c k used
         leb-false (ofKind 1 (planFrom 1 (columnAt (smaller m R) j .counts) (columnAt (larger m R W) j .counts))) (length (chain next avail)) over,
         sizes-local-sum m R W,
         column-grows m R W j a b narrow few,
-        ap (entriesOf (smaller m R)) e,
-        ap (entriesOf (larger m R W)) e,
-        entries-append (smaller m R) (done m R W j ++ (j ∷ [])) rest,
-        entries-append (larger m R W) (done m R W j ++ (j ∷ [])) rest,
-        entries-append (smaller m R) (done m R W j) (j ∷ []),
-        entries-append (larger m R W) (done m R W j) (j ∷ []),
-        entries-grow m R W rest (λ x y. let v : (1 + (suc j - 1) ≤ x) × (x < 1 + (suc j - 1) + (m - j)) × (isTouched (larger m R W) W x ≡ true) =
-            in-touched (larger m R W) W (1 + (suc j - 1)) (m - j) x y in omega arith),
+        ap (sizeSumOf (smaller m R)) e,
+        ap (sizeSumOf (larger m R W)) e,
+        sizes-append (smaller m R) (done m R W j ++ (j ∷ [])) rest,
+        sizes-append (larger m R W) (done m R W j ++ (j ∷ [])) rest,
+        sizes-append (smaller m R) (done m R W j) (j ∷ []),
+        sizes-append (larger m R W) (done m R W j) (j ∷ []),
+        sum-le (λ x. sizeOf (columnAt (smaller m R) x)) (λ x. sizeOf (columnAt (larger m R W) x)) rest (λ x y. let v : (1 + (suc j - 1) ≤ x) × (x < 1 + (suc j - 1) + (m - j)) × (isTouched (larger m R W) W x ≡ true) =
+            in-touched (larger m R W) W (1 + (suc j - 1)) (m - j) x y in size-grows m R W x (omega arith) (omega arith)),
       )

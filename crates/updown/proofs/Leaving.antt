@@ -8,10 +8,10 @@ use native.Mathlib.Omega.{arith}
 use lib.Dec.{eqb}
 use lib.ListN.{length}
 use borrow.Author.Tests.{eq-eqb, ne-eqb}
-use Rattle.lists.specs.Lists.{pick}
+use Rattle.lists.specs.Lists.{pick, sumOf}
 use Rattle.lists.proofs.Tests.{eq-or-ne}
 use Rattle.symbolic.specs.Columns.{Column}
-use Rattle.symbolic.specs.Batch.{touchedFrom, entriesOf}
+use Rattle.symbolic.specs.Batch.{touchedFrom}
 use Rattle.pool.specs.Chains.{chain, lastOf, Linked}
 use Rattle.pool.proofs.Chains.{chain-nil, linked-nil}
 use Rattle.columns.specs.Plan.{ofKind}
@@ -24,7 +24,7 @@ use Rattle.updown.proofs.Seeking.{Seeking, seeking-next, seeking-begun,
 -- the numbers before the first row
 pub between-start : {next work₀ w : List ℕ} {m flags : ℕ} {R W : List Column} {adding : Bool} (avail : ℕ) → Walking m flags R W adding work₀ w 1 0 → Linked next avail (chain next avail) →
     Between next work₀ w m flags R W adding (length (chain next avail)) 1 0 0 0 0 0 avail
-unfolding touchedFrom lastOf entriesOf ofKind
+unfolding touchedFrom lastOf sumOf ofKind
 between-start avail h l =
     record {
       walking = h;

@@ -4,18 +4,19 @@ use mathlib.Core.Path.{_≡_, refl, sym, ap, _∙_, subst}
 use mathlib.Core.Logic.{inl, inr}
 use mathlib.Core.Bool.{Bool, true, false, false≢true}
 use mathlib.Core.List.{List, [], _∷_, _++_}
-use Prim.Native.Nat.{ℕ, suc, _+_, _-_, _*_, _≤_, _<_}
+use Prim.Native.Nat.{ℕ, suc, _+_, _-_, _*_, _≤_, _<_, max}
+use native.Mathlib.Nat.{max-le}
 use native.Mathlib.Omega.{arith}
 use lib.Dec.{eqb}
 use lib.ListN.{length, getD, length-append}
 use borrow.Author.Tests.{eq-eqb, ne-eqb}
-use Rattle.lists.specs.Lists.{pick, Mem, first, later}
+use Rattle.lists.specs.Lists.{pick, Mem, first, later, sumOf}
 use Rattle.lists.proofs.Tests.{cases, lt-or-le, zero-or-pos}
 use Rattle.lists.proofs.Count.{count-le}
 use Rattle.lists.proofs.Rising.{rises-length}
 use Rattle.symbolic.specs.Columns.{Column}
 use Rattle.symbolic.specs.Factor.{factorOf, columnAt, inPattern, sizeOf}
-use Rattle.symbolic.specs.Batch.{isTouched, entriesOf}
+use Rattle.symbolic.specs.Batch.{isTouched, sizeSumOf, entriesOf}
 use Rattle.symbolic.proofs.Sizes.{size-is}
 use Rattle.workspace.specs.Regions.{region}
 use Rattle.workspace.proofs.Regions.{region-join, region-length}
@@ -32,7 +33,7 @@ use Rattle.updown.specs.Plans.{firstOf}
 use Rattle.updown.specs.Turns.{larger, smaller, before, after, done}
 use Rattle.updown.specs.States.{Numbers}
 use Rattle.updown.proofs.Planning.{fits, plan-length, plan-sizes}
-use Rattle.updown.proofs.Plans.{touched-rising, region-same, last-append, entries-append}
+use Rattle.updown.proofs.Plans.{touched-rising, region-same, last-append, sizes-append, entries-append}
 use Rattle.updown.proofs.Turning.{beyond, column-counts}
 use Rattle.updown.proofs.Stepping.{done-next, done-in}
 
@@ -46,31 +47,35 @@ kind-append k (x ∷ xs) ys = omega (arith, kind-append k xs ys)
 size-bound : (m : ℕ) (cs : List Column) (j : ℕ) → 1 ≤ j → j ≤ m → sizeOf (columnAt (factorOf m cs) j) ≤ m
 size-bound m cs j a b = omega (arith, size-is m cs j a b, count-le (λ i. inPattern (factorOf m cs) i j) m)
 
-entries-bound : (m : ℕ) (cs : List Column) (js : List ℕ) → m ≤ 4096 → ((c : ℕ) → Mem c js → (1 ≤ c) × (c ≤ m)) → entriesOf (factorOf m cs) js ≤ 4096 * length js
-unfolding entriesOf
-entries-bound m cs [] n h = omega arith
-entries-bound m cs (j ∷ js) n h = omega (arith, size-bound m cs j (h j first .0) (h j first .1), entries-bound m cs js n (λ c x. h c (later x)))
+larger-bound : (m : ℕ) (cs ds : List Column) (j : ℕ) → 1 ≤ j → j ≤ m → max (sizeOf (columnAt (factorOf m cs) j)) (sizeOf (columnAt (factorOf m ds) j)) ≤ m
+larger-bound m cs ds j a b = max-le (size-bound m cs j a b) (size-bound m ds j a b)
+
+entries-bound : (m : ℕ) (cs ds : List Column) (js : List ℕ) → m ≤ 4096 → ((c : ℕ) → Mem c js → (1 ≤ c) × (c ≤ m)) →
+    entriesOf (factorOf m cs) (factorOf m ds) js ≤ 4096 * length js
+unfolding sumOf
+entries-bound m cs ds [] n h = omega arith
+entries-bound m cs ds (j ∷ js) n h = omega (arith, larger-bound m cs ds j (h j first .0) (h j first .1), entries-bound m cs ds js n (λ c x. h c (later x)))
 
 module _ (m : ℕ) (R W : List Column) (adding : Bool) (j : ℕ) (a : 1 ≤ j) (b : j ≤ m) (n : m ≤ 4096) where
   pub count-bound : length (done m R W j) < j
   count-bound = omega (arith, rises-length 1 (j - 1) (done m R W j) (omega arith) (touched-rising (larger m R W) W 1 (j - 1) (j - 1) (omega arith)))
 
-  pub entries-small : entriesOf (after adding m R W) (done m R W j) ≤ 16777216
+  pub entries-small : entriesOf (before adding m R W) (after adding m R W) (done m R W j) ≤ 16777216
   entries-small = go adding
     where
       low : (c : ℕ) → Mem c (done m R W j) → (1 ≤ c) × (c ≤ m)
       low c x = let v : (1 ≤ c) × (c < j) = done-in m R W j a x in omega arith
 
-      go : (z : Bool) → entriesOf (after z m R W) (done m R W j) ≤ 16777216
-      go true = omega (arith, entries-bound m (R ++ W) (done m R W j) n low, count-bound)
-      go false = omega (arith, entries-bound m R (done m R W j) n low, count-bound)
+      go : (z : Bool) → entriesOf (before z m R W) (after z m R W) (done m R W j) ≤ 16777216
+      go true = omega (arith, entries-bound m R (R ++ W) (done m R W j) n low, count-bound)
+      go false = omega (arith, entries-bound m (R ++ W) R (done m R W j) n low, count-bound)
 
-  pub size-small : sizeOf (columnAt (after adding m R W) j) ≤ 4096
-  size-small = go adding
+  pub larger-small : max (sizeOf (columnAt (before adding m R W) j)) (sizeOf (columnAt (after adding m R W) j)) ≤ 4096
+  larger-small = go adding
     where
-      go : (z : Bool) → sizeOf (columnAt (after z m R W) j) ≤ 4096
-      go true = omega (arith, size-bound m (R ++ W) j a b)
-      go false = omega (arith, size-bound m R j a b)
+      go : (z : Bool) → max (sizeOf (columnAt (before z m R W) j)) (sizeOf (columnAt (after z m R W) j)) ≤ 4096
+      go true = omega (arith, larger-bound m R (R ++ W) j a b)
+      go false = omega (arith, larger-bound m (R ++ W) R j a b)
 
 -- ---- a column with the batch has its rows without it, and the new ones
 
@@ -120,8 +125,8 @@ module _ {next work work′ : List ℕ} {m : ℕ} {R W : List Column} {adding : 
     (same : length work′ ≡ length work) (long : 8 * m + e .used ≤ length work′) (frame : (k : ℕ) → 8 * m ≤ k → k < 8 * m + used → getD work′ k 0 ≡ getD work k 0) where
   -- any table with the same plan
   pub numbers-next : {work″ : List ℕ} {f′ l′ c′ n′ : ℕ} → length work″ ≡ length work′ → ((k : ℕ) → 8 * m ≤ k → k < 8 * m + e .used → getD work″ k 0 ≡ getD work′ k 0) →
-      f′ ≡ pick (eqb f 0) j f → l′ ≡ j → c′ ≡ c + 1 → n′ ≡ n + e .size → Numbers next work″ m R W adding free (suc j) f′ l′ c′ n′ (e .used) (e .avail .0)
-  unfolding entriesOf
+      f′ ≡ pick (eqb f 0) j f → l′ ≡ j → c′ ≡ c + 1 → n′ ≡ n + e .larger → Numbers next work″ m R W adding free (suc j) f′ l′ c′ n′ (e .used) (e .avail .0)
+  unfolding sumOf
   numbers-next {work″} {f′} {l′} {c′} {n′} same″ frame″ ef el ec en =
       let d : done m R W (suc j) ≡ done m R W j ++ (j ∷ []) = done-next m R W j a touched in
       let old : List ℕ = columnAt (before adding m R W) j .counts in
@@ -143,9 +148,9 @@ module _ {next work work′ : List ℕ} {m : ℕ} {R W : List Column} {adding : 
         entries-is = en ∙ omega (
           arith,
           h .entries-is,
-          p .size,
-          ap (entriesOf (after adding m R W)) d,
-          entries-append (after adding m R W) (done m R W j) (j ∷ []),
+          p .larger,
+          ap (entriesOf (before adding m R W) (after adding m R W)) d,
+          entries-append (before adding m R W) (after adding m R W) (done m R W j) (j ∷ []),
         );
         linked = p .free;
         taken = omega (arith, h .taken, kinds, ks, p .taken-size);
@@ -158,8 +163,8 @@ module _ {next work work′ : List ℕ} {m : ℕ} {R W : List Column} {adding : 
           ap length (p .entries),
           part-length,
           ap (ofKind 1) (p .entries),
-          ap (entriesOf (before adding m R W)) d,
-          entries-append (before adding m R W) (done m R W j) (j ∷ []),
+          ap (sizeSumOf (before adding m R W)) d,
+          sizes-append (before adding m R W) (done m R W j) (j ∷ []),
         );
         grown = λ z. omega (
           arith,
@@ -167,10 +172,10 @@ module _ {next work work′ : List ℕ} {m : ℕ} {R W : List Column} {adding : 
           kinds,
           ap (ofKind 1) (p .entries),
           plan-grows adding z,
-          ap (entriesOf (before adding m R W)) d,
-          entries-append (before adding m R W) (done m R W j) (j ∷ []),
-          ap (entriesOf (after adding m R W)) d,
-          entries-append (after adding m R W) (done m R W j) (j ∷ []),
+          ap (sizeSumOf (before adding m R W)) d,
+          sizes-append (before adding m R W) (done m R W j) (j ∷ []),
+          ap (sizeSumOf (after adding m R W)) d,
+          sizes-append (after adding m R W) (done m R W j) (j ∷ []),
         );
       }
     where

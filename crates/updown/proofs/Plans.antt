@@ -4,17 +4,18 @@ use mathlib.Core.Path.{_≡_, refl, sym, ap, _∙_, subst}
 use mathlib.Core.Logic.{_⊎_, inl, inr, _≢_}
 use mathlib.Core.Bool.{true, _&&_}
 use mathlib.Core.List.{List, [], _∷_, _++_}
-use Prim.Native.Nat.{ℕ, zero, suc, _+_, _-_, _≤_, _<_}
+use Prim.Native.Nat.{ℕ, zero, suc, _+_, _-_, _≤_, _<_, max}
 use native.Mathlib.Omega.{arith}
 use lib.Dec.{leb}
 use lib.ListN.{length, getD, drop, length-take, length-drop}
 use lib.Seq.{ext-getD}
 use Rattle.lists.specs.Lists.{pick, Mem, first, later, rises}
 use Rattle.lists.proofs.Tests.{cases, and-both}
+use Rattle.lists.proofs.Sum.{sum-append}
 use Rattle.lists.proofs.Rising.{rises-in}
 use Rattle.symbolic.specs.Columns.{Column}
-use Rattle.symbolic.specs.Factor.{FactorColumn, columnAt}
-use Rattle.symbolic.specs.Batch.{isTouched, touchedFrom, entriesOf}
+use Rattle.symbolic.specs.Factor.{FactorColumn, columnAt, sizeOf}
+use Rattle.symbolic.specs.Batch.{isTouched, touchedFrom, sizeSumOf, entriesOf}
 use Rattle.symbolic.proofs.Passing.{passing-mem, mem-passing, passing-rises, touched-passing}
 use Rattle.workspace.specs.Regions.{cell, region}
 use Rattle.workspace.proofs.Regions.{region-cell}
@@ -63,10 +64,13 @@ last-in r (x ∷ xs) = elim (last-in x xs) [ inl e ↦ inr (subst (λ (y : ℕ).
 pub last-mem : (x : ℕ) (xs : List ℕ) → Mem (lastOf x xs) (x ∷ xs)
 last-mem x xs = elim (last-in x xs) [ inl e ↦ subst (λ (y : ℕ). Mem y (x ∷ xs)) (sym e) first | inr m ↦ later m ]
 
-pub entries-append : (fs : List FactorColumn) (xs ys : List ℕ) → entriesOf fs (xs ++ ys) ≡ entriesOf fs xs + entriesOf fs ys
-unfolding entriesOf
-entries-append fs [] ys = omega arith
-entries-append fs (x ∷ xs) ys = omega (arith, entries-append fs xs ys)
+-- ---- sums over columns
+
+pub sizes-append : (fs : List FactorColumn) (xs ys : List ℕ) → sizeSumOf fs (xs ++ ys) ≡ sizeSumOf fs xs + sizeSumOf fs ys
+sizes-append fs = sum-append (λ j. sizeOf (columnAt fs j))
+
+pub entries-append : (fs gs : List FactorColumn) (xs ys : List ℕ) → entriesOf fs gs (xs ++ ys) ≡ entriesOf fs gs xs + entriesOf fs gs ys
+entries-append fs gs = sum-append (λ j. max (sizeOf (columnAt fs j)) (sizeOf (columnAt gs j)))
 
 -- ---- plans
 

@@ -9,7 +9,7 @@ use lib.ListN.{length, getD, length-append}
 use Rattle.lists.specs.Lists.{all}
 use Rattle.symbolic.specs.Columns.{Column}
 use Rattle.symbolic.specs.Factor.{FactorColumn, factorOf, columnAt, parentOf, multiplicitiesOf}
-use Rattle.symbolic.specs.Batch.{touched, labelOf, entriesOf}
+use Rattle.symbolic.specs.Batch.{touched, labelOf, sizeSumOf}
 use Rattle.symbolic.proofs.Bags.{bag-length}
 use Rattle.symbolic.proofs.Order.{factor-bag}
 use Rattle.workspace.specs.Regions.{IsZero, cleared}
@@ -25,7 +25,7 @@ use Rattle.updown.specs.Turns.{before, done}
 use Rattle.updown.specs.States.{startOf, Setting, Between}
 use Rattle.updown.specs.Starts.{StartsTo, BookHolds, CanMarkBooked, CanLeave}
 use Rattle.updown.proofs.Listing.{none, Fits, fits-at}
-use Rattle.updown.proofs.Sound.{sound-column, sound-chain, sound-size, entries-within}
+use Rattle.updown.proofs.Sound.{sound-column, sound-chain, sound-size, sizes-within}
 use Rattle.updown.proofs.Opening.{walking-start}
 use Rattle.updown.proofs.Ending.{plan-made}
 
@@ -52,8 +52,8 @@ module _ (s : Stored) (cs R W : List Column) (adding : Bool) (z : Sized s) (soun
         };
         parents-hold = record { long = z .parents-long; are = λ c a b. sound-column s cs z sound c a b .2 ∙ ap (λ (fs : List FactorColumn). parentOf fs c) e };
         multiplicities = record { long = z .counts-long; are = λ c a b. sound-column s cs z sound c a b .1 ∙ ap (λ (fs : List FactorColumn). multiplicitiesOf (columnAt fs c)) e };
-        fitting = λ j a b. subst (λ (fs : List FactorColumn). entriesOf fs (done m R W j) + free ≤ length (s .next)) e
-            (omega (arith, entries-within m cs R W j a b, sound-size s cs z sound));
+        fitting = λ j a b. subst (λ (fs : List FactorColumn). sizeSumOf fs (done m R W j) + free ≤ length (s .next)) e
+            (omega (arith, sizes-within m cs R W j a b, sound-size s cs z sound));
         fit = omega arith;
         records = records;
         starts = starts-within;

@@ -14,7 +14,7 @@ use Rattle.lists.proofs.Tests.{cases, lt-or-le, zero-or-pos}
 use Rattle.lists.proofs.Member.{mem-place}
 use Rattle.symbolic.specs.Columns.{Column, smallest}
 use Rattle.symbolic.specs.Factor.{columnAt}
-use Rattle.symbolic.specs.Batch.{entriesOf}
+use Rattle.symbolic.specs.Batch.{sizeSumOf, entriesOf}
 use Rattle.symbolic.proofs.Columns.{starts-append, starts-none}
 use Rattle.workspace.specs.Regions.{region}
 use Rattle.workspace.proofs.Regions.{only-refl}
@@ -50,11 +50,11 @@ module _ {next work₀ w : List ℕ} {m flags : ℕ} {R W : List Column} {adding
           first-is = n .first-is ∙ ap (λ (x : List ℕ). getD x 0 0) (sym e);
           last-is = n .last-is ∙ ap (lastOf 0) (sym e);
           count-is = n .count-is ∙ ap length (sym e);
-          entries-is = n .entries-is ∙ ap (entriesOf (after adding m R W)) (sym e);
+          entries-is = n .entries-is ∙ ap (entriesOf (before adding m R W) (after adding m R W)) (sym e);
           linked = n .linked;
           taken = n .taken;
-          room = omega (arith, n .room, ap (entriesOf (before adding m R W)) e);
-          grown = λ x. omega (arith, n .grown x, ap (entriesOf (before adding m R W)) e, ap (entriesOf (after adding m R W)) e);
+          room = omega (arith, n .room, ap (sizeSumOf (before adding m R W)) e);
+          grown = λ x. omega (arith, n .grown x, ap (sizeSumOf (before adding m R W)) e, ap (sizeSumOf (after adding m R W)) e);
         };
       }
 

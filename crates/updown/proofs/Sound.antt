@@ -17,7 +17,7 @@ use Rattle.lists.proofs.Place.{values-length}
 use Rattle.lists.proofs.Rising.{from-up}
 use Rattle.symbolic.specs.Columns.{Column}
 use Rattle.symbolic.specs.Factor.{FactorColumn, factorOf, columnAt, patternOf, multiplicitiesOf, parentOf, sizeOf, sizeSum}
-use Rattle.symbolic.specs.Batch.{isTouched, touchedFrom, entriesOf}
+use Rattle.symbolic.specs.Batch.{isTouched, touchedFrom, sizeSumOf}
 use Rattle.symbolic.proofs.Build.{factor-length}
 use Rattle.symbolic.proofs.Sizes.{size-sum}
 use Rattle.pool.specs.Chains.{chain}
@@ -93,12 +93,12 @@ module _ (s : Stored) (cs : List Column) (z : Sized s) (sound : isSoundFor cs s 
 
 -- ---- touched columns fit
 
-entries-le : (fs gs : List FactorColumn) (cs : List Column) (i n : ℕ) → entriesOf fs (touchedFrom gs cs i n) ≤ sumOf (λ j. sizeOf (columnAt fs j)) (upFrom i n)
-unfolding entriesOf touchedFrom sumOf upFrom
-entries-le fs gs cs i zero = omega arith
-entries-le fs gs cs i (suc n) = elim (cases (isTouched gs cs i)) [
-  | inl e ↦ rw e (omega (arith, entries-le fs gs cs (suc i) n))
-  | inr e ↦ rw e (omega (arith, entries-le fs gs cs (suc i) n))
+sizes-le : (fs gs : List FactorColumn) (cs : List Column) (i n : ℕ) → sizeSumOf fs (touchedFrom gs cs i n) ≤ sumOf (λ j. sizeOf (columnAt fs j)) (upFrom i n)
+unfolding touchedFrom sumOf upFrom
+sizes-le fs gs cs i zero = omega arith
+sizes-le fs gs cs i (suc n) = elim (cases (isTouched gs cs i)) [
+  | inl e ↦ rw e (omega (arith, sizes-le fs gs cs (suc i) n))
+  | inr e ↦ rw e (omega (arith, sizes-le fs gs cs (suc i) n))
 ]
 
 sum-longer : (f : ℕ → ℕ) (i n t : ℕ) → sumOf f (upFrom i n) ≤ sumOf f (upFrom i (n + t))
@@ -107,15 +107,15 @@ sum-longer f i zero t = omega arith
 sum-longer f i (suc n) t = let e : suc n + t ≡ suc (n + t) = omega arith in subst (λ (x : ℕ). f i + sumOf f (upFrom (suc i) n) ≤ sumOf f (upFrom i x)) (sym e) (omega (arith, sum-longer f (suc i) n t))
 
 -- of any factor, of columns touched in any tree
-pub entries-within : (m : ℕ) (cs : List Column) (R W : List Column) (j : ℕ) → 1 ≤ j → j ≤ suc m → entriesOf (factorOf m cs) (done m R W j) ≤ sizeSum (factorOf m cs)
-entries-within m cs R W j a b =
+pub sizes-within : (m : ℕ) (cs : List Column) (R W : List Column) (j : ℕ) → 1 ≤ j → j ≤ suc m → sizeSumOf (factorOf m cs) (done m R W j) ≤ sizeSum (factorOf m cs)
+sizes-within m cs R W j a b =
     let e : sizeSum (factorOf m cs) ≡ sumOf (λ i. sizeOf (columnAt (factorOf m cs) i)) (upFrom 1 m) =
     size-sum (factorOf m cs) ∙ ap (λ (x : ℕ). sumOf (λ i. sizeOf (columnAt (factorOf m cs) i)) (upFrom 1 x)) (factor-length m cs) in
     let q : (j - 1) + (m - (j - 1)) ≡ m = omega arith in
     omega (
       arith,
       e,
-      entries-le (factorOf m cs) (larger m R W) W 1 (j - 1),
+      sizes-le (factorOf m cs) (larger m R W) W 1 (j - 1),
       sum-longer (λ i. sizeOf (columnAt (factorOf m cs) i)) 1 (j - 1) (m - (j - 1)),
       ap (λ (x : ℕ). sumOf (λ i. sizeOf (columnAt (factorOf m cs) i)) (upFrom 1 x)) q,
     )

@@ -8,11 +8,11 @@ use Prim.Native.Nat.{ℕ, suc, _+_, _≤_, _<_}
 use native.Mathlib.Omega.{arith}
 use lib.Dec.{eqb}
 use lib.ListN.{length, getD}
-use Rattle.lists.specs.Lists.{pick, at}
+use Rattle.lists.specs.Lists.{pick, sumOf, at}
 use Rattle.lists.proofs.Tests.{zero-or-pos}
 use Rattle.symbolic.specs.Columns.{Column}
 use Rattle.symbolic.specs.Factor.{factorOf, columnAt, parentOf, sizeOf, firstAbove}
-use Rattle.symbolic.specs.Batch.{entriesOf}
+use Rattle.symbolic.specs.Batch.{sizeSumOf}
 use Rattle.symbolic.proofs.Build.{laws, parent-is}
 use Rattle.pool.specs.Chains.{chain}
 use Rattle.emission.specs.declared.Emission.{Emission}
@@ -20,12 +20,12 @@ use Rattle.updown.specs.Marks.{Room, markAt, steppedUp}
 use Rattle.updown.specs.Turns.{before, after, treeParent, standing, done}
 use Rattle.updown.specs.Walks.{Turn}
 use Rattle.updown.specs.States.{startOf, Numbers, Walking, Begun, Planned, SomePlanned, Halted, Setting, Turning, Between}
-use Rattle.updown.proofs.Plans.{entries-append}
+use Rattle.updown.proofs.Plans.{sizes-append}
 use Rattle.updown.proofs.Stepping.{done-next}
 use Rattle.updown.proofs.Halting.{halted}
 use Rattle.updown.proofs.Upward.{stepped, stepped-frame, step-room}
 use Rattle.updown.proofs.Walking.{begun-turn}
-use Rattle.updown.proofs.Numbering.{count-bound, entries-small, size-small, numbers-next}
+use Rattle.updown.proofs.Numbering.{count-bound, entries-small, larger-small, numbers-next}
 
 module _ {heads parents rows counts next : List ℕ} {m flags : ℕ} {R W : List Column} {adding : Bool} {free : ℕ} (s : Setting heads parents rows counts next m flags R W adding free)
     {work₀ w : List ℕ} {n j f l c k used avail : ℕ} (t : Turning next work₀ w m flags R W adding free n j f l c k used avail) where
@@ -33,15 +33,15 @@ module _ {heads parents rows counts next : List ℕ} {m flags : ℕ} {R W : List
   turning-turn = begun-turn (t .begun) (t .tallied)
 
   pub turning-room : used + sizeOf (columnAt (before adding m R W) j) + length (chain next avail) ≤ length next
-  unfolding entriesOf
+  unfolding sumOf
   turning-room =
       let b : Begun m flags R W adding work₀ w j used = t .begun in
       omega (
         arith,
         t .numbers .room,
         s .fitting (suc j) (omega arith) (omega (arith, b .high)),
-        ap (entriesOf (before adding m R W)) (done-next m R W j (b .low) (b .touched)),
-        entries-append (before adding m R W) (done m R W j) (j ∷ []),
+        ap (sizeSumOf (before adding m R W)) (done-next m R W j (b .low) (b .touched)),
+        sizes-append (before adding m R W) (done m R W j) (j ∷ []),
       )
 
   pub turning-ready : SomePlanned heads parents rows counts next w m n j used avail adding
@@ -59,12 +59,12 @@ module _ {heads parents rows counts next : List ℕ} {m flags : ℕ} {R W : List
       }
 
   -- the numbers fit their types
-  pub turning-small : {w₁ : List ℕ} {e : Emission} → Planned next w w₁ m R W adding j used avail e → e .fits ≡ true → (c < 4096) × (k ≤ 16777216) × (e .size ≤ 4096)
+  pub turning-small : {w₁ : List ℕ} {e : Emission} → Planned next w w₁ m R W adding j used avail e → e .fits ≡ true → (c < 4096) × (k ≤ 16777216) × (e .larger ≤ 4096)
   turning-small d ok =
       let b : Begun m flags R W adding work₀ w j used = t .begun in (
         omega (arith, t .numbers .count-is, count-bound m R W adding j (b .low) (b .high) (s .columns .narrow), b .high, s .columns .narrow),
         omega (arith, t .numbers .entries-is, entries-small m R W adding j (b .low) (b .high) (s .columns .narrow)),
-        omega (arith, d .plan ok .size, size-small m R W adding j (b .low) (b .high) (s .columns .narrow)),
+        omega (arith, d .plan ok .larger, larger-small m R W adding j (b .low) (b .high) (s .columns .narrow)),
       )
 
   module _ {w₁ : List ℕ} {e : Emission} (d : Planned next w w₁ m R W adding j used avail e) (ok : e .fits ≡ true) where
@@ -99,7 +99,7 @@ module _ {heads parents rows counts next : List ℕ} {m flags : ℕ} {R W : List
         (r .0, r .1, r .2, parent-high, high-of (R ++ W) up (tree-is up x), r .3)
 
     pub turned-on : (up : ℕ) → up ≡ pick adding (e .parent .0) (at parents j) → {w₂ : List ℕ} → w₂ ≡ steppedUp m flags w₁ j (e .parent .0) up → {f′ l′ c′ k′ used′ avail′ : ℕ} →
-        f′ ≡ pick (eqb f 0) j f → l′ ≡ j → c′ ≡ c + 1 → k′ ≡ k + e .size → used′ ≡ e .used → avail′ ≡ e .avail .0 →
+        f′ ≡ pick (eqb f 0) j f → l′ ≡ j → c′ ≡ c + 1 → k′ ≡ k + e .larger → used′ ≡ e .used → avail′ ≡ e .avail .0 →
         Between next work₀ w₂ m flags R W adding free (suc j) f′ l′ c′ k′ used′ avail′
     turned-on up x {w₂} y {f′} {l′} {c′} {k′} {used′} {avail′} ef el ec ek eu ea =
         let b : Begun m flags R W adding work₀ w j used = t .begun in

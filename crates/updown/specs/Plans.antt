@@ -68,7 +68,7 @@ pub record PlanIs (m f free : ℕ) (L L′ : List FactorColumn) (label : ℕ →
   pub plans : PlansFrom m L L′ label after columns 0 used
   pub first-is : first ≡ firstOf columns
   pub count-is : count ≡ length columns
-  pub entries-is : entries ≡ entriesOf L′ columns
+  pub entries-is : entries ≡ entriesOf L L′ columns
   pub room : used ≤ f
   -- the new entries of all columns together have free records
   pub new-fit : ofKind newKind (region after (planAt m) used) ≤ free

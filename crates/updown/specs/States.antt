@@ -10,7 +10,7 @@ use lib.ListN.{length, getD}
 use Rattle.lists.specs.Lists.{at, valuesAt}
 use Rattle.symbolic.specs.Columns.{Column, smallest, startingWith}
 use Rattle.symbolic.specs.Factor.{columnAt, sizeOf, nonZero}
-use Rattle.symbolic.specs.Batch.{atPosition, isTouched, entriesOf}
+use Rattle.symbolic.specs.Batch.{atPosition, isTouched, sizeSumOf, entriesOf}
 use Rattle.workspace.specs.Regions.{cell, region, Outside}
 use Rattle.workspace.specs.Planned.{newKind}
 use Rattle.workspace.specs.Layout.{marksAt, startsAt, childrenAt, lostAt, planAt, flagCount}
@@ -35,7 +35,7 @@ pub record Multiplicities (heads counts next : List ℕ) (m : ℕ) (R W : List C
 
 -- the touched columns before the batch and the free records together are no more than there are
 abbrev pub Fitting : (next : List ℕ) (m : ℕ) (R W : List Column) (adding : Bool) (free : ℕ) → Type 0
-Fitting next m R W adding free = (j : ℕ) → 1 ≤ j → j ≤ suc m → entriesOf (before adding m R W) (done m R W j) + free ≤ length next
+Fitting next m R W adding free = (j : ℕ) → 1 ≤ j → j ≤ suc m → sizeSumOf (before adding m R W) (done m R W j) + free ≤ length next
 
 -- ---- the numbers of a walk, before the turn of j; free is the number of free records at first
 
@@ -44,12 +44,12 @@ pub record Numbers (next work : List ℕ) (m : ℕ) (R W : List Column) (adding 
   pub first-is : first ≡ firstOf (done m R W j)
   pub last-is : last ≡ lastOf 0 (done m R W j)
   pub count-is : count ≡ length (done m R W j)
-  pub entries-is : entries ≡ entriesOf (after adding m R W) (done m R W j)
+  pub entries-is : entries ≡ entriesOf (before adding m R W) (after adding m R W) (done m R W j)
   pub linked : Linked next avail (chain next avail)
   pub taken : ofKind newKind (region work (planAt m) used) + length (chain next avail) ≡ free
-  pub room : used + length (chain next avail) ≤ entriesOf (before adding m R W) (done m R W j) + free
+  pub room : used + length (chain next avail) ≤ sizeSumOf (before adding m R W) (done m R W j) + free
   -- adding drops no row
-  pub grown : adding ≡ true → entriesOf (after adding m R W) (done m R W j) ≡ entriesOf (before adding m R W) (done m R W j) + ofKind newKind (region work (planAt m) used)
+  pub grown : adding ≡ true → sizeSumOf (after adding m R W) (done m R W j) ≡ sizeSumOf (before adding m R W) (done m R W j) + ofKind newKind (region work (planAt m) used)
 
 -- ---- marks
 

@@ -114,10 +114,10 @@ fn first_of(first: Row, j: Row) -> Row
 
 // The numbers of a walk with one column more.
 fn advance(walk: Walk, j: Row, e: Emission) -> Walk
-    requires { ⌜ (walk .count < 4096) × (walk .entries ≤ 16777216) × (e .size ≤ 4096) ⌝ }
-    ensures { λ r. ⌜ (r .fits ≡ e .fits) × (r .first .0 ≡ pick (eqb (walk .first .0) 0) (j .0) (walk .first .0)) × (r .last .0 ≡ j .0) × (r .count ≡ walk .count + 1) × (r .entries ≡ walk .entries + e .size) × (r .used ≡ e .used) × (r .avail .0 ≡ e .avail .0) ⌝ }
+    requires { ⌜ (walk .count < 4096) × (walk .entries ≤ 16777216) × (e .larger ≤ 4096) ⌝ }
+    ensures { λ r. ⌜ (r .fits ≡ e .fits) × (r .first .0 ≡ pick (eqb (walk .first .0) 0) (j .0) (walk .first .0)) × (r .last .0 ≡ j .0) × (r .count ≡ walk .count + 1) × (r .entries ≡ walk .entries + e .larger) × (r .used ≡ e .used) × (r .avail .0 ≡ e .avail .0) ⌝ }
 {
-    let size = e.size as u32;
+    let more = e.larger as u32;
     let avail = e.avail;
     let started = walk.first;
     let first = first_of(started, j);
@@ -126,7 +126,7 @@ fn advance(walk: Walk, j: Row, e: Emission) -> Walk
         first: first,
         last: j,
         count: walk.count + 1,
-        entries: walk.entries + size,
+        entries: walk.entries + more,
         used: e.used,
         avail: avail,
     }

@@ -103,15 +103,16 @@ pub struct Report {
     pub grade: u32,
 }
 
-/// The report of a batch whose columns, by position, start at these rows, in this tree, with this factor after the call.
-pub fn report(limits: Limits, tree: &[Pattern], after: &[Pattern], starts: &[u32]) -> Report {
+/// The report of a batch whose columns, by position, start at these rows, in the factor that they are live in: paths and sizes are those after an addition,
+/// and those before a removal.
+pub fn report(limits: Limits, factor: &[Pattern], starts: &[u32]) -> Report {
     let mut labels: BTreeMap<u32, u16> = BTreeMap::new();
     for (k, start) in starts.iter().enumerate() {
-        path(tree, *start).iter().for_each(|j| {
+        path(factor, *start).iter().for_each(|j| {
             labels.insert(*j, k as u16 + 1);
         });
     }
-    let entries = labels.keys().map(|j| after[*j as usize - 1].entries.len() as u32).sum();
+    let entries = labels.keys().map(|j| factor[*j as usize - 1].entries.len() as u32).sum();
     let touched = labels.keys().map(|j| *j as u16).collect();
     Report { touched, labels: labels.values().copied().collect(), entries, grade: grade(limits, entries) }
 }

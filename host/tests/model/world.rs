@@ -126,9 +126,9 @@ impl World {
     pub fn add(&mut self, ids: &[u32], counts: &[u32], rows: &[u32]) -> Number {
         let expected = add_number(self.sizes, &self.live, ids, counts, rows);
         let after = if expected.0 == 0 { added(&self.live, ids, counts, rows) } else { self.live.clone() };
-        let tree = factor(self.sizes.m, &after);
+        let with = factor(self.sizes.m, &after);
         let starts = if expected.0 == 0 { Self::starts(&after, ids) } else { Vec::new() };
-        self.batch(expected, after, &tree, &starts, |w| w.tables.add(w.record, &mut w.work, &mut w.touched, &mut w.labels, ids, counts, rows))
+        self.batch(expected, after, &with, &starts, |w| w.tables.add(w.record, &mut w.work, &mut w.touched, &mut w.labels, ids, counts, rows))
     }
 
     /// Removes a batch likewise.
@@ -140,12 +140,12 @@ impl World {
             starts = Self::starts(&self.live, ids);
             after.retain(|id, _| !ids.contains(id));
         }
-        let tree = self.factor();
-        self.batch(expected, after, &tree, &starts, |w| w.tables.remove(w.record, &mut w.work, &mut w.touched, &mut w.labels, ids))
+        let with = self.factor();
+        self.batch(expected, after, &with, &starts, |w| w.tables.remove(w.record, &mut w.work, &mut w.touched, &mut w.labels, ids))
     }
 
-    // A batch: numbers, report, tables, and what must stay.
-    fn batch(&mut self, expected: Number, after: Live, tree: &[Pattern], starts: &[u32], call: impl Fn(&mut World) -> Changed) -> Number {
+    // A batch, and the factor with its columns: numbers, report, tables, and what must stay.
+    fn batch(&mut self, expected: Number, after: Live, with: &[Pattern], starts: &[u32], call: impl Fn(&mut World) -> Changed) -> Number {
         let (tables, work, record) = (self.tables.clone(), self.work.clone(), self.record);
         let (touched, labels) = (self.touched.clone(), self.labels.clone());
         let answer = call(self);
@@ -158,7 +158,7 @@ impl World {
         }
         self.live = after;
         self.record = answer.record;
-        let said = report(self.limits, tree, &self.factor(), starts);
+        let said = report(self.limits, with, starts);
         let k = said.touched.len();
         assert_eq!((answer.touched as usize, answer.entries, answer.grade), (k, said.entries, said.grade));
         assert_eq!((&self.touched[..k], &self.labels[..k]), (&said.touched[..], &said.labels[..]));

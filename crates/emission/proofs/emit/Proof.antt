@@ -4,6 +4,7 @@ use mathlib.Core.Path.{_≡_, refl, ap, _∙_}
 use mathlib.Core.List.{List}
 use Prim.Native.Nat.{ℕ, _+_, _-_, _*_, _^_, _≤_, _<_}
 use native.Mathlib.Omega.{arith}
+use borrow.Author.Needs.{needs}
 use lib.ListN.{length, getD, length-set}
 use Rattle.lists.specs.Lists.{at}
 use Rattle.workspace.specs.Regions.{cell}
@@ -212,11 +213,14 @@ loop-again-2 c = let d = c .before .before .before in λ old new can. emitting-s
 pass-requires-2 : tie.Need-pass-requires-2 Inv-loop μ-loop
 pass-requires-2 c κs = let r = c .before .before .before .before .before .before .pre in emitting-pass (r .can) (c .before .loop .inv (r .old) (r .new) (r .can))
 
+larger-of-requires : tie.Need-larger-of-requires Inv-loop μ-loop
+larger-of-requires c κs = search needs
+
 same-length : tie.Need-same-length Inv-loop μ-loop
-same-length c = let d = c .before .before .before in let r = d .before .before .before .before .before .before .pre in emitting-length (r .can) (d .before .loop .inv (r .old) (r .new) (r .can))
+same-length c = let d = c .before .before .before .before in let r = d .before .before .before .before .before .before .pre in emitting-length (r .can) (d .before .loop .inv (r .old) (r .new) (r .can))
 
 returns : tie.Need-returns Inv-loop μ-loop
-returns c = let p = c .before .before in let d = p .before in λ old new can. emitting-done can (d .before .loop .inv old new can) (omega arith) (p .pass2 .ensures)
+returns c = let q = c .before .before in let p = q .before in let d = p .before in λ old new can. emitting-done can (d .before .loop .inv old new can) (omega arith) (p .pass2 .ensures) (q .larger-of .ensures)
 
 pub emit-spec : {M : Type 1} → statement M
 emit-spec =
@@ -251,5 +255,6 @@ emit-spec =
     loop-less-2
     loop-again-2
     pass-requires-2
+    larger-of-requires
     same-length
     returns)

@@ -1,11 +1,13 @@
 -- `emission::pass` meets its contract. The loop's invariant is `Walking`: the records passed are below the bound and counted. The measure is the length of the
 -- chain to come. Assumes nothing.
+use mathlib.Core.Path.{sym, ap, subst}
 use Prim.Native.Nat.{_-_, _*_, _^_, _≤_, _<_}
 use native.Mathlib.Omega.{arith}
 use lib.ListN.{length}
 use Rattle.pool.specs.Chains.{chain}
 use Rattle.differences.proofs.Chain.{onward-less}
-use Rattle.emission.proofs.Walks.{Walking, walking-start, walking-onward, walking-small, walking-next, passed-stop, passed-end}
+use Rattle.emission.specs.declared.Walk.{Walk}
+use Rattle.emission.proofs.Walks.{Walking, walking-start, walking-onward, walking-small, walking-behind, walking-next, passed-stop, passed-end}
 use Rattle.emission.proofs.pass.Statement.{statement}
 use Rattle.emission.proofs.pass.Tie as tie
 
@@ -65,11 +67,19 @@ mul-q c = let f = facts (c .before .before .before) in omega arith
 shared-slice-read-q : tie.Need-shared-slice-read-q Inv-loop μ-loop
 shared-slice-read-q c = let f = facts (c .before .before .before .before) in omega arith
 
+on-to-requires : tie.Need-on-to-requires Inv-loop μ-loop
+on-to-requires c κs =
+    let d = c .before .before .before .before in
+    omega (arith, ap (λ (w : Walk). w .behind) (c .before .stay .ensures), walking-behind (start d .pre) (d .before .before .loop .inv) (d .if1 .taken))
+
 loop-less : tie.Need-loop-less Inv-loop μ-loop
-loop-less c = let d = c .before .before .before .before in onward-less (walking-onward (start d .pre) (d .before .before .loop .inv) (d .if1 .taken))
+loop-less c =
+    let d = c .before .before .before .before .before in
+    subst (λ (w : Walk). length (chain (start d .args .next .now) (w .at .0)) < length (chain (start d .args .next .now) (d .before .before .loop .w .at .0))) (sym (c .on-to .ensures))
+    (onward-less (walking-onward (start d .pre) (d .before .before .loop .inv) (d .if1 .taken)))
 
 loop-again : tie.Need-loop-again Inv-loop μ-loop
-loop-again c = let d = c .before .before .before .before in rw (c .before .stay .ensures) (walking-next (start d .pre) (d .before .before .loop .inv) (d .if1 .taken) (omega arith))
+loop-again c = let d = c .before .before .before .before .before in rw (c .on-to .ensures, c .before .before .stay .ensures) (walking-next (start d .pre) (d .before .before .loop .inv) (d .if1 .taken) (omega arith))
 
 returns-2 : tie.Need-returns-2 Inv-loop μ-loop
 returns-2 c = passed-end (c .before .before .before .before .before .pre) (c .before .before .loop .inv) (c .if1 .left)
@@ -90,6 +100,7 @@ pass-spec =
     stay-requires
     mul-q
     shared-slice-read-q
+    on-to-requires
     loop-less
     loop-again
     returns-2)

@@ -14,7 +14,7 @@ first-over-requires c κs = search needs
 returns : tie.Need-returns
 returns c =
     let w = c .before .before .before .before .before .args .walk in
-    ap (λ (p : ℕ). record { at = w .at; used = w .used; size = w .size + 1; parent = record { 0 = p }; avail = w .avail; fits = w .fits }) (c .first-over .ensures)
+    ap (λ (p : ℕ). record { at = w .at; behind = w .behind; used = w .used; size = w .size + 1; parent = record { 0 = p }; avail = w .avail; fits = w .fits }) (c .first-over .ensures)
 
 pub stay-spec : {M : Type 1} → statement M
 stay-spec = tie.close (tie.spec add-size first-over-requires returns)
