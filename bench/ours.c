@@ -32,7 +32,11 @@ uint32_t ours_check(Fac *f) { return nigvalds_check(record(f), TABLES(f)).number
 
 uint32_t ours_meets(Fac *f, uint32_t i, uint32_t *list, size_t places) { return nigvalds_meets(record(f), TABLES(f), list, places, i, 0).value; }
 
+nigvalds_found ours_next(Fac *f, uint32_t i, uint32_t j) { return nigvalds_next_row(record(f), TABLES(f), i, j); }
+
 Asked ours_meets_all(Fac *f, const uint32_t *rows, size_t n, uint32_t *list, size_t places)
 { return bench_meets(record(f), TABLES(f), list, places, rows, n); }
 
 Asked ours_common_all(Fac *f, const uint32_t *rows, size_t n, size_t r) { return bench_common(record(f), TABLES(f), rows, n, r); }
+
+Asked ours_next_all(Fac *f, const uint32_t *pairs, size_t n) { return bench_next(record(f), TABLES(f), pairs, n); }

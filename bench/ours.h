@@ -8,7 +8,7 @@
 /* ---- crates/bench_driver: each begins with a check, which may refuse it, and then uses the unchecked entries */
 
 typedef struct { uint32_t number, done; nigvalds_factor factor; } Ran;
-typedef struct { uint32_t number, done; uint64_t sum; } Asked; /* how many questions were asked, and the sum of their values */
+typedef struct { uint32_t number, done; uint64_t sum; } Asked; /* how many questions were asked, and the sum of what they answered */
 
 /* the batches of the plan, in order */
 Ran bench_run_batches(nigvalds_factor factor, NIGVALDS_CHANGED_TABLES, uint16_t *touched, size_t touched_length, uint16_t *labels, size_t labels_length,
@@ -18,6 +18,8 @@ Ran bench_run_batches(nigvalds_factor factor, NIGVALDS_CHANGED_TABLES, uint16_t 
 Asked bench_meets(nigvalds_factor factor, NIGVALDS_READ_TABLES, uint32_t *list, size_t list_length, const uint32_t *row_list, size_t row_list_length);
 /* the common row of each r rows of row_list, one group after another */
 Asked bench_common(nigvalds_factor factor, NIGVALDS_READ_TABLES, const uint32_t *row_list, size_t row_list_length, size_t r);
+/* the next row of each pair of row_list, row then column: the sum is of rows and multiplicities */
+Asked bench_next(nigvalds_factor factor, NIGVALDS_READ_TABLES, const uint32_t *row_list, size_t row_list_length);
 
 /* ---- the same over the tables of plain.h, and the public entries */
 
@@ -29,7 +31,11 @@ Ans ours_public(Fac *f, const Flat *x, size_t b, uint16_t *touched, uint16_t *la
 uint32_t ours_check(Fac *f);
 /* the columns that meet row i by the public entry: how many, or 0 where it is refused */
 uint32_t ours_meets(Fac *f, uint32_t i, uint32_t *list, size_t places);
-/* questions by the unchecked entries: the columns that meet each of n rows; the common rows of n rows, r at a time */
+/* the first row at or above i in column j by the public entry */
+nigvalds_found ours_next(Fac *f, uint32_t i, uint32_t j);
+/* questions by the unchecked entries: the columns that meet each of n rows; the common rows of n rows, r at a time; the next rows of n numbers, row then
+   column */
 Asked ours_meets_all(Fac *f, const uint32_t *rows, size_t n, uint32_t *list, size_t places);
 Asked ours_common_all(Fac *f, const uint32_t *rows, size_t n, size_t r);
+Asked ours_next_all(Fac *f, const uint32_t *pairs, size_t n);
 #endif

@@ -87,12 +87,48 @@ static void meet(nigvalds_factor factor) {
     common(factor, rows, 0);
 }
 
+/* The first row at or above i in column j, with its multiplicity. */
+static void next_row(nigvalds_factor factor, uint32_t i, uint32_t j) {
+    nigvalds_found x = nigvalds_next_row_in(&tables, factor, i, j);
+    printf("next row from %" PRIu32 " in %" PRIu32 ":", i, j);
+    if (x.number != NIGVALDS_ACCEPTED) {
+        printf(" no %" PRIu32 ", %s\n", x.number, nigvalds_refusal_text(x.number));
+        return;
+    }
+    printf(" %" PRIu32 ":%" PRIu32 "\n", x.row, x.multiplicity);
+}
+
+/* Column j from row to row. The reader, as in show, gives the same for less. */
+static void walk(nigvalds_factor factor, uint32_t j) {
+    printf("column %" PRIu32 " from row to row:", j);
+    nigvalds_found x = nigvalds_next_row_in(&tables, factor, 1, j);
+    while (x.row != 0) {
+        printf(" %" PRIu32 ":%" PRIu32, x.row, x.multiplicity);
+        if (x.row == factor.m) {
+            break;
+        }
+        x = nigvalds_next_row_in(&tables, factor, x.row + 1, j);
+    }
+    if (x.number != NIGVALDS_ACCEPTED) {
+        printf(" no %" PRIu32 ", %s", x.number, nigvalds_refusal_text(x.number));
+    }
+    printf("\n");
+}
+
+/* Rows of column 1: one that stands, one that is absent and gets the next, one after the last, one outside; then all of them, and those of a column outside. */
+static void follow(nigvalds_factor factor) {
+    next_row(factor, 3, 1);
+    next_row(factor, 2, 1);
+    next_row(factor, 5, 1);
+    next_row(factor, 6, 1);
+    walk(factor, 1);
+    walk(factor, 6);
+}
+
 /* Numbers that questions answer. */
 static void ask(nigvalds_factor factor) {
     uint32_t list[4];
-    nigvalds_reply r = nigvalds_multiplicity_in(&tables, factor, 3, 1);
-    printf("multiplicity of 3 in 1: %" PRIu32 "\n", r.value);
-    r = nigvalds_parent_in(&tables, factor, 2);
+    nigvalds_reply r = nigvalds_parent_in(&tables, factor, 2);
     printf("parent of 2: %" PRIu32 "\n", r.value);
     r = nigvalds_parent_in(&tables, factor, 6);
     printf("parent of 6: no %" PRIu32 ", %s\n", r.number, nigvalds_refusal_text(r.number));
@@ -129,6 +165,7 @@ int main(void) {
     factor = a.factor;
     show(factor);
     path(factor, 1);
+    follow(factor);
     ask(factor);
     meet(factor);
 

@@ -46,7 +46,7 @@
 extern "C" {
 #endif
 
-#define NIGVALDS_VERSION "0.4.0"
+#define NIGVALDS_VERSION "0.5.0"
 
 /* ---- sizes */
 
@@ -150,10 +150,15 @@ typedef struct nigvalds_changed {
     nigvalds_factor factor;
 } nigvalds_changed;
 
-/* A check or a question: number, and the value if it is 0. */
+/* A check, or a question but the one for the next row: number, and the value if it is 0. */
 typedef struct nigvalds_reply {
     uint32_t number, value;
 } nigvalds_reply;
+
+/* The question for the next row: number; row and multiplicity, both 0 when refused or when the column ends before. */
+typedef struct nigvalds_found {
+    uint32_t number, row, multiplicity;
+} nigvalds_found;
 
 /* An entry of a column, and the record after it (0: none). Row 0 is the end; multiplicity and next are 0 there. */
 typedef struct nigvalds_entry {
@@ -197,8 +202,10 @@ nigvalds_changed nigvalds_remove(nigvalds_factor factor, NIGVALDS_CHANGED_TABLES
    1 to 6. Cost: whole. */
 nigvalds_reply nigvalds_check(nigvalds_factor factor, NIGVALDS_READ_TABLES);
 
-/* The multiplicity of row i in column j, 0 when absent. Refusals 1 to 6 and 17. Cost: whole. */
-nigvalds_reply nigvalds_multiplicity(nigvalds_factor factor, NIGVALDS_READ_TABLES, uint32_t i, uint32_t j);
+/* The first row at or above i in column j and its multiplicity, both 0 if the column ends before. For i up to j that is the diagonal; for j below m, asking for
+   j + 1 gives j's parent. To walk a column ask from 1, then from one above each row given, until row m or 0 (a refusal has row 0 too, so look at the number);
+   nigvalds_read is cheaper, since each question reads all tables through. Refusals 1 to 6 and 17. Cost: whole. */
+nigvalds_found nigvalds_next_row(nigvalds_factor factor, NIGVALDS_READ_TABLES, uint32_t i, uint32_t j);
 
 /* The parent of j, 0 for a root. Refusals 1 to 6 and 17. Cost: whole; the host may read parents[j - 1] itself. */
 nigvalds_reply nigvalds_parent(nigvalds_factor factor, NIGVALDS_READ_TABLES, uint32_t j);
@@ -291,8 +298,8 @@ static inline nigvalds_reply nigvalds_check_in(const nigvalds_tables *t, nigvald
     return nigvalds_check(factor, NIGVALDS_PARTS(t));
 }
 
-static inline nigvalds_reply nigvalds_multiplicity_in(const nigvalds_tables *t, nigvalds_factor factor, uint32_t i, uint32_t j) {
-    return nigvalds_multiplicity(factor, NIGVALDS_PARTS(t), i, j);
+static inline nigvalds_found nigvalds_next_row_in(const nigvalds_tables *t, nigvalds_factor factor, uint32_t i, uint32_t j) {
+    return nigvalds_next_row(factor, NIGVALDS_PARTS(t), i, j);
 }
 
 static inline nigvalds_reply nigvalds_parent_in(const nigvalds_tables *t, nigvalds_factor factor, uint32_t j) {

@@ -1,5 +1,6 @@
-//! What is read of a factor: entries of a column, whole columns, paths, and the columns that meet a row.
+//! What is read of a factor: entries of a column, by the reader or by questions, whole columns, paths, and the columns that meet a row.
 use crate::lent::Tables;
+use crate::{Factor, Refusal};
 use std::fmt;
 
 /// An entry of a factor column: a row and its multiplicity.
@@ -35,6 +36,36 @@ impl Iterator for Entries<'_> {
 }
 
 impl std::iter::FusedIterator for Entries<'_> {}
+
+/// The entries of one column, rows rising: each step is a question for the next row, which reads all tables through. [`Factor::columns`] is the cheap way to the
+/// same entries.
+#[derive(Clone)]
+pub struct Walk<'a> {
+    factor: &'a Factor,
+    j: u32,
+    // The answer that is not given yet.
+    ahead: Option<Entry>,
+}
+
+impl<'a> Walk<'a> {
+    pub(crate) fn new(factor: &'a Factor, j: u32) -> Result<Walk<'a>, Refusal> {
+        Ok(Walk { factor, j, ahead: factor.next_row(1, j)? })
+    }
+}
+
+impl Iterator for Walk<'_> {
+    type Item = Entry;
+
+    fn next(&mut self) -> Option<Entry> {
+        let entry = self.ahead.take()?;
+        if entry.row < self.factor.record().m {
+            self.ahead = self.factor.next_row(entry.row + 1, self.j).expect("a factor's own tables are sound");
+        }
+        Some(entry)
+    }
+}
+
+impl std::iter::FusedIterator for Walk<'_> {}
 
 /// A factor column. Its `Debug` is a line of the listing: j, parent, then row:multiplicity pairs.
 #[derive(Clone, Copy)]

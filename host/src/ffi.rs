@@ -53,7 +53,7 @@ pub struct Changed {
     pub record: Record,
 }
 
-/// What a check or a question answers.
+/// What a check answers, or a question but the one for the next row.
 #[repr(C)]
 #[derive(Clone, Copy, Debug, PartialEq, Eq)]
 pub struct Reply {
@@ -61,6 +61,18 @@ pub struct Reply {
     pub number: u32,
     /// The value if the number is 0.
     pub value: u32,
+}
+
+/// What the question for the next row answers.
+#[repr(C)]
+#[derive(Clone, Copy, Debug, PartialEq, Eq)]
+pub struct Found {
+    /// 0, or why not.
+    pub number: u32,
+    /// The row, 0 where it is refused or the column ends before.
+    pub row: u32,
+    /// Its multiplicity, 0 with row 0.
+    pub multiplicity: u32,
 }
 
 /// What is read at a record; row 0 is the end.
@@ -110,7 +122,7 @@ declare! {
     fn nigvalds_remove(factor: Record; read written;
         touched: *mut u16, touched_length: usize, labels: *mut u16, labels_length: usize, ids: *const u32, ids_length: usize) -> Changed;
     fn nigvalds_check(factor: Record; read read;) -> Reply;
-    fn nigvalds_multiplicity(factor: Record; read read; i: u32, j: u32) -> Reply;
+    fn nigvalds_next_row(factor: Record; read read; i: u32, j: u32) -> Found;
     fn nigvalds_parent(factor: Record; read read; j: u32) -> Reply;
     fn nigvalds_path(factor: Record; read read; list: *mut u32, list_length: usize, j: u32, place: usize) -> Reply;
     fn nigvalds_column(factor: Record; read read; list: *mut u32, list_length: usize, j: u32, place: usize) -> Reply;

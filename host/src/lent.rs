@@ -1,7 +1,7 @@
 //! The calls over tables of any lengths and contents, as numbers: safe, since the library asks nothing of what is lent, and Rust's references are valid and
 //! apart. [`crate::Factor`] stands on these; a host that keeps its tables elsewhere uses them itself.
 use crate::ffi;
-pub use crate::ffi::{Changed, Opened, Read, Record, Reply};
+pub use crate::ffi::{Changed, Found, Opened, Read, Record, Reply};
 
 /// The places of the work table.
 pub fn work_places(m: u32, n: u32, f: u32, c: u32) -> usize {
@@ -122,9 +122,9 @@ impl Tables {
         read!(self, work; nigvalds_check(record))
     }
 
-    /// The multiplicity of row i in column j.
-    pub fn multiplicity(&self, record: Record, work: &mut [u32], i: u32, j: u32) -> Reply {
-        read!(self, work; nigvalds_multiplicity(record) i, j)
+    /// The first row at or above i in column j and its multiplicity, both 0 if the column ends before; 17 for a row or column outside 1 to m.
+    pub fn next_row(&self, record: Record, work: &mut [u32], i: u32, j: u32) -> Found {
+        read!(self, work; nigvalds_next_row(record) i, j)
     }
 
     /// The parent of j, 0 for a root.

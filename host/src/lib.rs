@@ -20,11 +20,11 @@ mod ffi;
 pub mod lent;
 mod refusal;
 
-pub use columns::{Column, Columns, Entries, Entry, Meets, Path};
+pub use columns::{Column, Columns, Entries, Entry, Meets, Path, Walk};
 pub use lent::Limits;
 pub use refusal::Refusal;
 
-use lent::{Changed, Record, Tables};
+use lent::{Changed, Found, Record, Tables};
 use std::cell::RefCell;
 use std::fmt;
 
@@ -136,10 +136,20 @@ impl Factor {
         answered(self.tables.check(self.record, &mut self.work.borrow_mut()).number, 0)
     }
 
-    /// The multiplicity of row i in column j, 0 when absent.
-    pub fn multiplicity(&self, i: u32, j: u32) -> Result<u32, Refusal> {
-        let reply = self.tables.multiplicity(self.record, &mut self.work.borrow_mut(), i, j);
-        answered(reply.number, 0).map(|()| reply.value)
+    /// The first row at or above i in column j, with its multiplicity; none if the column ends before. For i up to j that is the diagonal; for j below m, asking
+    /// for j + 1 gives j's parent. A row or column outside 1 to m is refused by [`Refusal::AskedOutside`].
+    ///
+    /// ```
+    /// # let mut factor = nigvalds::Factor::open(5, 8, 0, 16)?;
+    /// factor.add(&[(1, &[1, 3]), (2, &[1, 4]), (3, &[2, 3])])?; // column 1 has rows 1, 3 and 4
+    /// assert_eq!(factor.next_row(2, 1)?, Some(nigvalds::Entry { row: 3, multiplicity: 1 }));
+    /// assert_eq!(factor.next_row(5, 1)?, None);
+    /// assert_eq!(factor.next_row(6, 1), Err(nigvalds::Refusal::AskedOutside));
+    /// # Ok::<(), nigvalds::Refusal>(())
+    /// ```
+    pub fn next_row(&self, i: u32, j: u32) -> Result<Option<Entry>, Refusal> {
+        let Found { number, row, multiplicity } = self.tables.next_row(self.record, &mut self.work.borrow_mut(), i, j);
+        answered(number, 0).map(|()| (row != 0).then_some(Entry { row, multiplicity }))
     }
 
     /// The parent of column j; none for a root.
@@ -163,6 +173,20 @@ impl Factor {
         let reply = self.tables.column(self.record, &mut self.work.borrow_mut(), &mut list, j, 0);
         answered(reply.number, 0)?;
         Ok(list.chunks_exact(2).take(reply.value as usize).map(|e| Entry { row: e[0], multiplicity: e[1] }).collect())
+    }
+
+    /// The entries of column j, walked by questions: [`next_row`](Factor::next_row) from row 1, then from one above each row given, until row m or none. A column
+    /// outside 1 to m is refused by [`Refusal::AskedOutside`]. Each step reads all tables through; [`columns`](Factor::columns) is the cheap way.
+    ///
+    /// ```
+    /// # let mut factor = nigvalds::Factor::open(5, 8, 0, 16)?;
+    /// factor.add(&[(1, &[1, 3]), (2, &[1, 4]), (3, &[2, 3])])?;
+    /// assert_eq!(factor.walk(1)?.map(|e| e.row).collect::<Vec<_>>(), [1, 3, 4]);
+    /// assert_eq!(factor.walk(6).err(), Some(nigvalds::Refusal::AskedOutside));
+    /// # Ok::<(), nigvalds::Refusal>(())
+    /// ```
+    pub fn walk(&self, j: u32) -> Result<Walk<'_>, Refusal> {
+        Walk::new(self, j)
     }
 
     /// The columns whose pattern holds row i, rising; the last is i itself. A row outside 1 to m is refused by [`Refusal::AskedOutside`].

@@ -2,9 +2,9 @@
 mod model;
 
 use model::random::Random;
-use model::sound::is_sound;
+use model::sound::{is_sound, stored};
 use model::world::World;
-use nigvalds::lent::{Record, Tables};
+use nigvalds::lent::{Found, Record, Tables};
 
 // A world with some columns.
 fn filled(seed: u64) -> (World, Random) {
@@ -86,7 +86,8 @@ fn calls_agree(record: Record, t: &mut Tables, w: &World) -> bool {
     let before = t.clone();
     let (mut work, mut touched, mut labels, mut list) = (w.work.clone(), w.touched.clone(), w.labels.clone(), vec![5; 2 * w.sizes.m as usize]);
     assert_eq!(t.check(record, &mut work).number, number);
-    assert_eq!(t.multiplicity(record, &mut work, 1, 1).number, number);
+    let found = t.next_row(record, &mut work, 1, 1);
+    assert_eq!((found.number, found.row, found.multiplicity == 0), (number, sound.into(), !sound));
     assert_eq!(t.parent(record, &mut work, 1).number, number);
     assert_eq!(t.path(record, &mut work, &mut list, 1, 0).number, number);
     assert_eq!(t.column(record, &mut work, &mut list, 1, 0).number, number);
@@ -94,7 +95,7 @@ fn calls_agree(record: Record, t: &mut Tables, w: &World) -> bool {
     let reply = t.meets(record, &mut work, &mut list, record.m, 0);
     assert_eq!(reply.number, number);
     if sound {
-        let columns: Vec<u32> = (1..=record.m).filter(|j| t.multiplicity(record, &mut work, record.m, *j).value != 0).collect();
+        let columns: Vec<u32> = (1..=record.m).filter(|j| t.next_row(record, &mut work, record.m, *j).row != 0).collect();
         assert_eq!(list[..reply.value as usize], columns);
     }
     assert_eq!(*t, before);
@@ -105,6 +106,17 @@ fn calls_agree(record: Record, t: &mut Tables, w: &World) -> bool {
     }
     assert_eq!(work, w.work);
     sound
+}
+
+// The next row from every row in every column, on sound tables.
+fn next_rows_agree(record: Record, t: &Tables, w: &World) {
+    let (mut work, columns) = (w.work.clone(), stored(record, t).expect("sound tables"));
+    for (j, column) in (1..).zip(&columns) {
+        for i in 1..=record.m {
+            let (row, multiplicity) = model::next_row(column, i);
+            assert_eq!(t.next_row(record, &mut work, i, j), Found { number: 0, row, multiplicity });
+        }
+    }
 }
 
 #[test]
@@ -131,6 +143,7 @@ fn exchanged_records_stay_sound() {
         for _ in 0..30 {
             exchange(&mut record, &mut tables, random.within(1, w.sizes.f), random.within(1, w.sizes.f));
             assert!(calls_agree(record, &mut tables, &w));
+            next_rows_agree(record, &tables, &w);
         }
     }
 }

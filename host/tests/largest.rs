@@ -3,7 +3,7 @@ mod model;
 
 use model::random::Random;
 use model::{factor, path, report, size, Live, Pattern, OLD_LIMITS};
-use nigvalds::{Factor, Refusal};
+use nigvalds::{Entry, Factor, Refusal};
 
 const M: u32 = 4096;
 
@@ -65,10 +65,10 @@ fn full_book() {
         f.add(&batch(1 + 64 * k, &columns)).unwrap();
     }
     assert_eq!(f.add(&[(16384, &[1])]).unwrap_err(), Refusal::BookFull);
-    assert_eq!(f.multiplicity(1, 1), Ok(17));
+    assert_eq!(f.next_row(1, 1), Ok(Some(Entry { row: 1, multiplicity: 17 })));
     f.remove(&[1]).unwrap();
     f.add(&[(16384, &columns[63])]).unwrap();
-    assert_eq!(f.multiplicity(1, 1), Ok(16));
+    assert_eq!(f.next_row(1, 1), Ok(Some(Entry { row: 1, multiplicity: 16 })));
     assert_eq!(f.check(), Ok(()));
 }
 
@@ -80,6 +80,6 @@ fn every_id() {
         let ids: Vec<u32> = (1..=64).map(|i| 64 * k + i).collect();
         f.add_lists(&ids, &[1; 64], &[1; 64]).unwrap();
     }
-    assert_eq!(f.multiplicity(1, 1), Ok(16385));
+    assert_eq!(f.next_row(1, 1), Ok(Some(Entry { row: 1, multiplicity: 16385 })));
     assert_eq!(format!("{f:?}"), "1 0 1:16385\n");
 }

@@ -3,7 +3,7 @@ mod model;
 
 use model::world::handed;
 use model::{grade, Limits, OLD_LIMITS};
-use nigvalds::lent::{work_places, Changed, Opened, Record, Reply, Tables};
+use nigvalds::lent::{work_places, Changed, Found, Opened, Record, Reply, Tables};
 use nigvalds::{Factor, Refusal};
 
 const MAX: u32 = u32::MAX;
@@ -127,7 +127,7 @@ struct Lent {
 
 const CALLS: [fn(Record, &mut Lent) -> Reply; 9] = [
     |r, x| x.tables.check(r, &mut x.work),
-    |r, x| x.tables.multiplicity(r, &mut x.work, 1, 1),
+    |r, x| nothing_found(x.tables.next_row(r, &mut x.work, 1, 1)),
     |r, x| x.tables.parent(r, &mut x.work, 1),
     |r, x| x.tables.path(r, &mut x.work, &mut x.list, 1, 0),
     |r, x| x.tables.column(r, &mut x.work, &mut x.list, 1, 0),
@@ -136,6 +136,13 @@ const CALLS: [fn(Record, &mut Lent) -> Reply; 9] = [
     |r, x| number_alone(x.tables.add(r, &mut x.work, &mut x.touched, &mut x.labels, &[4], &[1], &[1]), r),
     |r, x| number_alone(x.tables.remove(r, &mut x.work, &mut x.touched, &mut x.labels, &[1]), r),
 ];
+
+// The answer of a refused question for the next row has nothing but a number.
+fn nothing_found(found: Found) -> Reply {
+    let number = found.number;
+    assert_eq!(found, Found { number, row: 0, multiplicity: 0 });
+    Reply { number, value: 0 }
+}
 
 // The answer of a refused batch has nothing but a number and the record that was given.
 fn number_alone(changed: Changed, record: Record) -> Reply {

@@ -134,8 +134,9 @@ fn removals() {
 #[test]
 fn questions() {
     let factor = example();
-    assert_eq!(factor.multiplicity(0, 1), Err(Refusal::AskedOutside));
-    assert_eq!(factor.multiplicity(1, 6), Err(Refusal::AskedOutside));
+    assert_eq!(factor.next_row(0, 1), Err(Refusal::AskedOutside));
+    assert_eq!(factor.next_row(1, 6), Err(Refusal::AskedOutside));
+    assert_eq!(factor.walk(0).err(), Some(Refusal::AskedOutside));
     assert_eq!(factor.parent(0), Err(Refusal::AskedOutside));
     assert_eq!(factor.path(6).err(), Some(Refusal::AskedOutside));
     assert_eq!(factor.column(u32::MAX).err(), Some(Refusal::AskedOutside));

@@ -34,12 +34,13 @@ fn iterators() {
     assert_eq!((entries.next(), entries.next()), (None, None));
     for column in columns {
         assert_eq!(factor.column(column.number()).unwrap(), column.entries().collect::<Vec<_>>());
+        assert_eq!(factor.walk(column.number()).unwrap().collect::<Vec<_>>(), column.entries().collect::<Vec<_>>());
         assert_eq!(factor.parent(column.number()).unwrap(), column.parent());
     }
     let path = factor.path(1).unwrap();
     assert_eq!(path.len(), 3);
     assert_eq!(path.collect::<Vec<_>>(), [1, 3, 4]);
-    assert_eq!(factor.multiplicity(3, 2), Ok(1));
+    assert_eq!(factor.next_row(3, 2), Ok(Some(Entry { row: 3, multiplicity: 1 })));
     assert_eq!(factor.check(), Ok(()));
 }
 

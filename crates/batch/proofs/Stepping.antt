@@ -21,7 +21,7 @@ use Rattle.batch.proofs.Verdicts.{judged-taken, judged-not}
 
 -- the numbers of an answer
 abbrev pub answerOf : (number position touched entries grade : ℕ) → Answer
-answerOf n p t e g = record { number = n; position = p; touched = t; entries = e; grade = g; value = 0 }
+answerOf n p t e g = record { number = n; position = p; touched = t; entries = e; grade = g; row = 0; value = 0 }
 
 module _ {u : World} {c : Change} {before after : List ℕ} {x : Verdict} (j : Judged u c before after x) where
   -- refused: the verdict's number, and nothing else changed

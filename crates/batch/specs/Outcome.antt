@@ -51,7 +51,7 @@ pub record CanBatch (u : World) (work touched labels : List ℕ) : Type 0 where
 
 -- the numbers of a batch's answer
 abbrev pub batchAnswer : Batch → Answer
-batchAnswer x = record { number = x .number; position = x .position; touched = x .touched; entries = x .entries; grade = x .grade; value = 0 }
+batchAnswer x = record { number = x .number; position = x .position; touched = x .touched; entries = x .entries; grade = x .grade; row = 0; value = 0 }
 
 -- answer, lists (the work table as it was) and world, by the number that the register gives
 abbrev pub BatchOutcome : (isTaken : Bool) → World → Change → Lent → Answer → Lent → World → Type 0

@@ -167,8 +167,8 @@ fn lengths(
     lines::end();
 }
 
-// The multiplicity of row i in column j.
-fn multiplicity(
+// The first row at or above i in column j, and its multiplicity.
+fn next_row(
     record: Factor,
     heads: &Heads,
     parents: &Parents,
@@ -182,12 +182,8 @@ fn multiplicity(
     i: u32,
     j: u32,
 ) {
-    io::write_all(1, b"multiplicity of");
-    lines::word(i);
-    io::write_all(1, b" in");
-    lines::word(j);
-    io::write_all(1, b":");
-    lines::reply(large_tables::multiplicity(
+    lines::row_in(i, j);
+    lines::found(large_tables::next_row(
         record,
         heads,
         parents,
@@ -204,10 +200,10 @@ fn multiplicity(
     lines::end();
 }
 
-// The rows that are asked about, and the columns that they are asked in.
-const ROWS: [u32; 6] = [10, 1300, 2940, 2950, 3850, 3850];
+// The rows that are asked for, and the columns that they are asked for in.
+const ROWS: [u32; 7] = [10, 1300, 2940, 2950, 3850, 3850, 1291];
 
-const COLUMNS: [u32; 6] = [10, 1300, 1300, 1300, 3850, 1290];
+const COLUMNS: [u32; 7] = [10, 1300, 1300, 1300, 3850, 1290, 1290];
 
 // The questions on the full factor.
 pub fn ask(
@@ -248,8 +244,8 @@ pub fn ask(
         work,
     );
     let mut k: usize = 0;
-    while k < 6 {
-        multiplicity(
+    while k < 7 {
+        next_row(
             record,
             heads,
             parents,

@@ -3,6 +3,7 @@ use book::Row;
 use factor::Changed;
 use factor::Factor;
 use factor::Opening;
+use questions::Found;
 use questions::Reply;
 
 pub type Heads = [u32; 4096];
@@ -165,7 +166,7 @@ pub fn check(
     )
 }
 
-pub fn multiplicity(
+pub fn next_row(
     record: Factor,
     heads: &Heads,
     parents: &Parents,
@@ -178,8 +179,8 @@ pub fn multiplicity(
     work: &mut Work,
     i: u32,
     j: u32,
-) -> Reply {
-    record.multiplicity(
+) -> Found {
+    record.next_row(
         heads,
         parents,
         rows,

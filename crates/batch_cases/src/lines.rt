@@ -1,5 +1,6 @@
 // What the program writes: words, lists, answers and replies.
 use case_tables::Batched;
+use questions::Found;
 use questions::Reply;
 
 fn wide(x: u32) -> u64 {
@@ -89,13 +90,36 @@ pub fn tell(b: Batched) {
     end();
 }
 
+fn refused(n: u32) {
+    io::write_all(1, b" no");
+    word(n);
+}
+
 // The value of a question, or its refusal.
 pub fn reply(r: Reply) {
     if r.number == 0 {
         word(r.value);
     } else {
-        io::write_all(1, b" no");
-        word(r.number);
+        refused(r.number);
+    }
+}
+
+// What the question for the next row is asked for.
+pub fn row_in(i: u32, j: u32) {
+    io::write_all(1, b"next row from");
+    word(i);
+    io::write_all(1, b" in");
+    word(j);
+    io::write_all(1, b":");
+}
+
+// The row that it gives and its multiplicity, or its refusal.
+pub fn found(f: Found) {
+    if f.number == 0 {
+        word(f.row);
+        word(f.multiplicity);
+    } else {
+        refused(f.number);
     }
 }
 

@@ -1,6 +1,6 @@
 // Batches through the factor's public entries, as lines: the document's instances, grades by other limits, batches whose paths merge, a refusal of each
-// number, questions about rows, and 64 columns of 256 rows each in a factor of 4,096 rows. A batch gives `ok touched entries grade`, then its touched columns and labels, or
-// `no number position`.
+// number, questions, and 64 columns of 256 rows each in a factor of 4,096 rows. A batch gives `ok touched entries grade`, then its touched columns and labels,
+// or `no number position`.
 mod large;
 mod large_rows;
 mod large_shown;
@@ -118,7 +118,7 @@ fn limits_removed() {
     remove(all, &[1, 2, 3]);
 }
 
-// Paths and columns in full, in a list too short, from a place past it, and of no row.
+// Paths and columns in full, in a list too short, from a place past it, and of no row; parents.
 fn asked(h: Host) {
     steps::path(h, 0, 1);
     steps::path(h, 3, 1);
@@ -130,10 +130,30 @@ fn asked(h: Host) {
     steps::column(h, 2, 3);
     steps::column(h, 6, 5);
     steps::column(h, 0, 0);
-    steps::multiplicity(h, 3, 1);
-    steps::multiplicity(h, 1, 3);
-    steps::multiplicity(h, 0, 5);
-    steps::multiplicity(h, 5, 6);
+    steps::parent(h, 1);
+    steps::parent(h, 3);
+    steps::parent(h, 5);
+    steps::parent(h, 6);
+}
+
+// Rows that stand, absent ones with a later one, one below the diagonal, columns that end before, the row above the diagonal of each column but the last, and
+// rows and columns outside 1 to m.
+fn next_rows(h: Host) {
+    steps::next_row(h, 1, 1);
+    steps::next_row(h, 3, 1);
+    steps::next_row(h, 4, 1);
+    steps::next_row(h, 5, 5);
+    steps::next_row(h, 1, 3);
+    steps::next_row(h, 4, 2);
+    steps::next_row(h, 5, 1);
+    steps::next_row(h, 2, 1);
+    steps::next_row(h, 3, 2);
+    steps::next_row(h, 4, 3);
+    steps::next_row(h, 5, 4);
+    steps::next_row(h, 0, 5);
+    steps::next_row(h, 6, 1);
+    steps::next_row(h, 5, 6);
+    steps::next_row(h, 1, 0);
 }
 
 // The columns that meet each row, in full, in a list too short, from a place past it, and of no row.
@@ -169,6 +189,8 @@ fn emptied() {
     show(h);
     title(b"questions");
     asked(h);
+    title(b"next rows");
+    next_rows(h);
     title(b"questions about rows");
     met(h);
     joined(h);

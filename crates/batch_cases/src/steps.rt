@@ -121,10 +121,15 @@ pub fn common(h: Host, rows: &[u32]) {
     lines::end();
 }
 
-// The multiplicity of i in column j, and the parent of j.
-pub fn multiplicity(h: Host, i: u32, j: u32) {
-    io::write_all(1, b"multiplicity and parent");
-    lines::reply(case_tables::multiplicity(h, i, j));
+pub fn parent(h: Host, j: u32) {
+    io::write_all(1, b"parent");
     lines::reply(case_tables::parent(h, j));
+    lines::end();
+}
+
+// The first row at or above i in column j, and its multiplicity.
+pub fn next_row(h: Host, i: u32, j: u32) {
+    lines::row_in(i, j);
+    lines::found(case_tables::next_row(h, i, j));
     lines::end();
 }

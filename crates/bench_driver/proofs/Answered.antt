@@ -35,13 +35,14 @@ module _ {s : State} {t : Tables} {work₀ list₀ work list : List ℕ} {named 
       let i : sum ≤ done * 4294967295 = a .room in
       record { can = a .can; same-work = a .same-work; same-list = a .same-list; few = omega arith; room = omega arith }
 
--- ---- a question for each group of rows
+-- ---- a question for each group of rows, or pair of row and column
 
--- the groups asked about lie before a place of the list, each with a row at least
+-- the groups asked about lie before a place of the list, each with a number at least; a question adds at most 32 bits for each number of its group
 pub record Grouping (named first done sum : ℕ) : Type 0 where
   pub within : first ≤ named
   pub some : done ≤ first
-  pub room : sum ≤ done * 4294967295
+  pub room : sum ≤ first * 4294967295
 
-pub grouped : {named first done sum v r : ℕ} → Grouping named first done sum → 1 ≤ r → first + r ≤ named → v < 4294967296 → Grouping named (first + r) (done + 1) (sum + v)
-grouped g o h b = record { within = h; some = omega (arith, g .some); room = omega (arith, g .room) }
+pub grouped : {named first done sum v r : ℕ} → Grouping named first done sum → 1 ≤ r → first + r ≤ named → v ≤ r * 4294967295 →
+    Grouping named (first + r) (done + 1) (sum + v)
+grouped g o h b = record { within = h; some = omega (arith, g .some); room = omega (arith, g .room, b) }

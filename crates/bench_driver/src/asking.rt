@@ -250,3 +250,109 @@ pub extern "C" fn bench_common(
         r,
     )
 }
+
+// The next row of each pair of the list, row then column, until one is refused; a number left over is not asked about. A question adds row and multiplicity.
+fn next_each(
+    factor: Factor,
+    heads: &[u32],
+    parents: &[u16],
+    rows: &[u16],
+    counts: &[u16],
+    next: &[u32],
+    book_heads: &[u32],
+    book_rows: &[u16],
+    book_next: &[u32],
+    row_list: &[u32],
+) -> Asked
+    requires usable { ⌜ Usable (stateOf factor) (tablesOf (now heads) (now parents) (now rows) (now counts) (now next) (now «book_heads») (now «book_rows») (now «book_next»)) ⌝ }
+    requires few { ⌜ length (now «row_list») ≤ 1048576 ⌝ }
+{
+    let mut first: usize = 0;
+    let mut done: u32 = 0;
+    let mut sum: u64 = 0;
+    while 2 <= row_list.len() - first {
+        let i = Row(row_list[first]);
+        let j = Row(row_list[first + 1]);
+        let x = factor.next_row_unchecked(
+            heads,
+            parents,
+            rows,
+            counts,
+            next,
+            book_heads,
+            book_rows,
+            book_next,
+            i,
+            j,
+        );
+        let number = x.number;
+        if number != 0 {
+            return Asked { number, done, sum };
+        }
+        sum += x.row as u64 + x.multiplicity as u64;
+        done += 1;
+        first += 2;
+    }
+    Asked {
+        number: 0,
+        done,
+        sum,
+    }
+}
+
+// Reads the tables through once, then asks for the next row of each pair of the list. Numbers 1 to 6 refuse the run, 7 one that names too many rows.
+#[no_mangle]
+pub extern "C" fn bench_next(
+    factor: Factor,
+    heads: &[u32],
+    parents: &[u16],
+    rows: &[u16],
+    counts: &[u16],
+    next: &[u32],
+    book_heads: &[u32],
+    book_rows: &[u16],
+    book_next: &[u32],
+    work: &mut [u32],
+    row_list: &[u32],
+) -> Asked
+    ensures { λ a. ⌜ AsksOn a (stateOf factor) (tablesOf (now (heads .entry)) (now (parents .entry)) (now (rows .entry)) (now (counts .entry)) (now (next .entry)) (now («book_heads» .entry)) (now («book_rows» .entry)) (now («book_next» .entry))) (now (work .exit)) ⌝ }
+{
+    let found = factor.check(
+        heads,
+        parents,
+        rows,
+        counts,
+        next,
+        book_heads,
+        book_rows,
+        book_next,
+        work,
+    );
+    let number = found.number;
+    if number != 0 {
+        return Asked {
+            number,
+            done: 0,
+            sum: 0,
+        };
+    }
+    if MOST_NAMED < row_list.len() {
+        return Asked {
+            number: 7,
+            done: 0,
+            sum: 0,
+        };
+    }
+    next_each(
+        factor,
+        heads,
+        parents,
+        rows,
+        counts,
+        next,
+        book_heads,
+        book_rows,
+        book_next,
+        row_list,
+    )
+}

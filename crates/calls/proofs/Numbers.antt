@@ -16,7 +16,7 @@ use Rattle.symbolic.specs.Factor.{factorFor, sizeSum}
 use Rattle.symbolic.specs.Change.{added}
 use Rattle.tables.specs.Tables.{Tables, Sizes, State, longEnough, registerOf, isSound}
 use Rattle.calls.specs.Refusals.{Refusal, accepted, isAccepted, orElse, unless, bounds, sizesRefusal, workFor, shortRefusal, earlyRefusal, batchOf, inRegister, rowsRefusal, columnsRefusal, rowSum, roomRefusal, idsRefusal, rowRefusal, roomFor}
-use Rattle.calls.specs.Calls.{Change, adding, removing, Question, askMultiplicity, askParent, askPath, askColumn, askMeets, askCommon, Entry, opening, changing, checking, asking, Call, isOpening, withDefault, sizesAfter, keepsRule}
+use Rattle.calls.specs.Calls.{Change, adding, removing, Question, askNextRow, askParent, askPath, askColumn, askMeets, askCommon, Entry, opening, changing, checking, asking, Call, isOpening, withDefault, sizesAfter, keepsRule}
 use Rattle.calls.specs.Changes.{effect}
 use Rattle.calls.specs.Questions.{response}
 use Rattle.calls.specs.Numbers.{hasLists, callEarly, soundRefusal, ownRefusal, callRefusal, refusalOf}
@@ -168,7 +168,7 @@ change-number l r (removing is) =
 
 -- each question
 question-number : (r : Register) (q : Question) → NumberIn 7 18 (response r q .refusal)
-question-number r (askMultiplicity i j) = number-or 7 18 (rowRefusal (r .m) i) (rowRefusal (r .m) j) (row-number (r .m) i) (row-number (r .m) j)
+question-number r (askNextRow i j) = number-or 7 18 (rowRefusal (r .m) i) (rowRefusal (r .m) j) (row-number (r .m) i) (row-number (r .m) j)
 question-number r (askParent j) = row-number (r .m) j
 question-number r (askPath j) = row-number (r .m) j
 question-number r (askColumn j) = row-number (r .m) j

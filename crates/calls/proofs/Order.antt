@@ -24,7 +24,7 @@ use Rattle.symbolic.proofs.Bags as bags
 use Rattle.symbolic.proofs.Theorems.{order-free}
 use Rattle.tables.specs.Tables.{Sizes}
 use Rattle.calls.specs.Refusals.{isAccepted, orElse, batchOf, inRegister, columnsRefusal, roomRefusal, idsRefusal, roomFor}
-use Rattle.calls.specs.Calls.{Change, adding, removing, Question, askMultiplicity, askParent, askPath, askColumn, askMeets, askCommon, Entry, opening, changing, checking, asking, Call}
+use Rattle.calls.specs.Calls.{Change, adding, removing, Question, askNextRow, askParent, askPath, askColumn, askMeets, askCommon, Entry, opening, changing, checking, asking, Call}
 use Rattle.calls.specs.Changes.{Effect, effect, touchedBy, labelled, labelsBy, entriesBy}
 use Rattle.calls.specs.Questions.{Response, response}
 use Rattle.calls.specs.Numbers.{ownRefusal, callRefusal}
@@ -132,7 +132,7 @@ module _ (r s : Register) (e : r .m ≡ s .m) (b : Bag (r .columns) (s .columns)
 
   -- a question's whole response
   pub bag-response : (q : Question) → response r q ≡ response s q
-  bag-response (askMultiplicity i j) = rw (bag-factor r s e b, e)
+  bag-response (askNextRow i j) = rw (bag-factor r s e b, e)
   bag-response (askParent j) = rw (bag-factor r s e b, e)
   bag-response (askPath j) = rw (bag-factor r s e b, e)
   bag-response (askColumn j) = rw (bag-factor r s e b, e)
@@ -200,14 +200,14 @@ module _ (r s : Register) (e : r .m ≡ s .m) (b : Bag (r .columns) (s .columns)
     pub bag-result : (i : Entry) → resultOf r i ≡ resultOf s i
     bag-result (opening l g) = refl
     bag-result (changing c) =
-        λ i. record { touched = bag-touched c i; labels = bag-labels c i; entries = bag-entries c i; value = 0; list = []; place = 0 }
+        λ i. record { touched = bag-touched c i; labels = bag-labels c i; entries = bag-entries c i; row = 0; value = 0; list = []; place = 0 }
     bag-result checking = refl
     bag-result (asking q p) =
-        ap (λ (x : Response). record { touched = []; labels = []; entries = 0; value = x .value; list = x .list; place = p }) (bag-response q)
+        ap (λ (x : Response). record { touched = []; labels = []; entries = 0; row = x .row; value = x .value; list = x .list; place = p }) (bag-response q)
 
     pub bag-answer : (g : Limits) (i : Entry) → acceptedBy g r i ≡ acceptedBy g s i
     bag-answer g i =
-        ap (λ (x : Result). record { number = 0; position = 0; touched = length (x .touched); entries = x .entries; grade = gradeOf g (x .entries); value = x .value }) (bag-result i)
+        ap (λ (x : Result). record { number = 0; position = 0; touched = length (x .touched); entries = x .entries; grade = gradeOf g (x .entries); row = x .row; value = x .value }) (bag-result i)
 
     pub bag-lists : (k : Call) (v : List ℕ) → listsAfter r k v ≡ listsAfter s k v
     bag-lists k v =

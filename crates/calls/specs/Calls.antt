@@ -16,9 +16,10 @@ pub data Change : Type 0 where
   adding : (ids rowCounts rows : List ℕ) → Change
   removing : (ids : List ℕ) → Change
 
--- "Multiplicity of row i in column j .. Parent of j. Path of j. Column j"; document 02: the columns that meet a row, the common row of some rows
+-- "Parent of j. Path of j. Column j"; document 02: the next row of a column from a row on, in place of "Multiplicity of row i in column j"; the columns
+-- that meet a row, the common row of some rows
 pub data Question : Type 0 where
-  askMultiplicity : (row column : ℕ) → Question
+  askNextRow : (row column : ℕ) → Question
   askParent : (column : ℕ) → Question
   askPath : (column : ℕ) → Question
   askColumn : (column : ℕ) → Question

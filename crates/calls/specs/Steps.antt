@@ -24,44 +24,54 @@ use Rattle.calls.specs.Numbers.{callEarly, refusalOf}
 
 -- ---- the numbers that a call answers; one that a call does not have is 0
 
--- the number and position of a call, a batch's touched columns, entries and grade, a question's value
+-- the number and position of a call, a batch's touched columns, entries and grade, a question's row and value
 pub record Answer : Type 0 where
   pub number : ℕ
   pub position : ℕ
   pub touched : ℕ
   pub entries : ℕ
   pub grade : ℕ
+  pub row : ℕ
   pub value : ℕ
 
 -- "A refusal carries the position ..; its other numbers are 0"
 abbrev pub refusedBy : Refusal → Answer
-refusedBy x = record { number = x .number; position = x .position; touched = 0; entries = 0; grade = 0; value = 0 }
+refusedBy x = record { number = x .number; position = x .position; touched = 0; entries = 0; grade = 0; row = 0; value = 0 }
 
 -- ---- what an accepted call answers and writes: from the register, and the grade from the limits too
 
--- a change's report, a question's value and list with the place that the list is written from on; what a call does not have is 0 or []
+-- a change's report, a question's row, value and list with the place that the list is written from on; what a call does not have is 0 or []
 pub record Result : Type 0 where
   pub touched : List ℕ
   pub labels : List ℕ
   pub entries : ℕ
+  pub row : ℕ
   pub value : ℕ
   pub list : List ℕ
   pub place : ℕ
 
 -- of a call that reports nothing
 abbrev pub noResult : Result
-noResult = record { touched = []; labels = []; entries = 0; value = 0; list = []; place = 0 }
+noResult = record { touched = []; labels = []; entries = 0; row = 0; value = 0; list = []; place = 0 }
 
 -- what each kind of call answers and writes
 abbrev pub resultOf : Register → Entry → Result
 resultOf r (opening l g) = noResult
 resultOf r (changing c) =
-    record { touched = touchedBy r c; labels = labelsBy r c; entries = entriesBy r c; value = 0; list = []; place = 0 }
+    record { touched = touchedBy r c; labels = labelsBy r c; entries = entriesBy r c; row = 0; value = 0; list = []; place = 0 }
 resultOf r checking = noResult
 resultOf r (asking q p) =
-    record { touched = []; labels = []; entries = 0; value = response r q .value; list = response r q .list; place = p }
+    record {
+      touched = [];
+      labels = [];
+      entries = 0;
+      row = response r q .row;
+      value = response r q .value;
+      list = response r q .list;
+      place = p;
+    }
 
--- the answer of an accepted call: number 0, with a change's report or a question's value; "every grade is read from" the factor's limits, 0 for no entry
+-- the answer of an accepted call: number 0, with a change's report or a question's row and value; "every grade is read from" the factor's limits, 0 for no entry
 abbrev pub acceptedBy : Limits → Register → Entry → Answer
 acceptedBy g r e =
     record {
@@ -70,6 +80,7 @@ acceptedBy g r e =
       touched = length (resultOf r e .touched);
       entries = resultOf r e .entries;
       grade = gradeOf g (resultOf r e .entries);
+      row = resultOf r e .row;
       value = resultOf r e .value;
     }
 

@@ -7,6 +7,7 @@ use book::Row;
 use factor::Changed;
 use factor::Factor;
 use factor::Opening;
+use questions::Found;
 use questions::Reply;
 
 // Tables for m 64, n 256, F 2,080 and C 2,048, and the record. It stands last: a search for a table's length
@@ -255,8 +256,8 @@ pub fn check(host: Host) -> Reply {
     )
 }
 
-// The multiplicity of row i in column j.
-pub fn multiplicity(host: Host, i: u32, j: u32) -> Reply {
+// The first row at or above i in column j, with its multiplicity.
+pub fn next_row(host: Host, i: u32, j: u32) -> Found {
     let heads = host.heads;
     let parents = host.parents;
     let rows = host.rows;
@@ -267,7 +268,7 @@ pub fn multiplicity(host: Host, i: u32, j: u32) -> Reply {
     let book_next = host.book_next;
     let mut work = [7u32; 12160];
     let record = host.factor;
-    record.multiplicity(
+    record.next_row(
         &heads,
         &parents,
         &rows,

@@ -22,7 +22,7 @@ unfoldable pub lastBelow : (rows : List ℕ) → (p : ℕ) → (records : List �
 lastBelow xs p [] i = p
 lastBelow xs p (r ∷ rs) i = pick (leb i (at xs r)) p (lastBelow xs r rs i)
 
--- the multiplicity of row i among records: "0 when absent"
+-- the multiplicity of row i among records, 0 when absent
 unfoldable pub countOf : (rows counts records : List ℕ) → (i : ℕ) → ℕ
 countOf xs ns [] i = 0
 countOf xs ns (r ∷ rs) i = pick (eqb (at xs r) i) (at ns r) (countOf xs ns rs i)

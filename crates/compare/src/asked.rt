@@ -24,21 +24,10 @@ fn fills(p: Pair, pattern: &mut Square) {
     reference::pattern::fills(&holds, &live, pattern, served(p.sizes));
 }
 
-pub fn multiplicity(p: Pair, i: u32, j: u32) -> Pair {
-    let holds = p.holds;
-    let live = p.live;
+pub fn next_row(p: Pair, i: u32, j: u32) -> Pair {
     let mut pattern = [0u8; 4096];
     fills(p, &mut pattern);
-    let ours = case_tables::multiplicity(p.host, i, j);
-    let theirs = reference::questions::multiplicity(
-        &holds,
-        &live,
-        &pattern,
-        served(p.sizes),
-        i as usize,
-        j as usize,
-    );
-    counted(p, ours.number, same::replies(b"multiplicity", ours, theirs))
+    crate::next_row::asked(p, &pattern, i, j)
 }
 
 pub fn parent(p: Pair, j: u32) -> Pair {

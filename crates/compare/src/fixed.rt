@@ -38,8 +38,8 @@ fn questions(p: Pair) -> Pair {
     q = asked::column(q, 1, 3, 8);
     q = asked::column(q, 6, 0, 8);
     q = asked::parent(q, 0);
-    q = asked::multiplicity(q, 4, 1);
-    q = asked::multiplicity(q, 4, 6);
+    q = asked::next_row(q, 4, 1);
+    q = asked::next_row(q, 4, 6);
     q = rows::asked(q, 2);
     asked::check(q)
 }

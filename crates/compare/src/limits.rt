@@ -100,8 +100,8 @@ fn every_call(p: Pair) -> Pair {
     let mut q = add(p, &[4, 5], &[1, 1], &[1, 2]);
     q = remove(q, &[4, 4]);
     q = remove(q, &[4, 5]);
-    q = asked::multiplicity(q, 3, 1);
-    q = asked::multiplicity(q, 6, 1);
+    q = asked::next_row(q, 3, 1);
+    q = asked::next_row(q, 6, 1);
     q = asked::parent(q, 1);
     q = asked::path(q, 1, 0, 8);
     q = asked::column(q, 1, 0, 1);

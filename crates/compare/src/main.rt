@@ -6,6 +6,7 @@ mod fixed;
 mod kept;
 mod limits;
 mod meeting;
+mod next_row;
 mod pair;
 mod random;
 mod rows;

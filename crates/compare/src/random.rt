@@ -174,7 +174,7 @@ fn ask(p: Pair, seed: &mut u64) -> Pair {
     let at = draw(seed, 8) as usize;
     let kind = draw(seed, 4);
     match kind {
-        0 => asked::multiplicity(p, i, j),
+        0 => asked::next_row(p, i, j),
         1 => asked::parent(p, j),
         2 => asked::path(p, j, at, room),
         3 => asked::column(p, j, at, room),

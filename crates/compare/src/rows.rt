@@ -1,11 +1,13 @@
 // What is asked about rows at one point of a history. The columns that meet a row: of every row, and of 0 and m + 1, from places where the list is long enough
-// and where it is not. The smallest row on all paths: of each row alone and twice, of drawn rows, of all rows, of none, of 65, with one outside 1 to m.
+// and where it is not. The smallest row on all paths: of each row alone and twice, of drawn rows, of all rows, of none, of 65, with one outside 1 to m. The next
+// row: from every row in every column, and from 0 and m + 1, in 0 and m + 1.
 ghost use Prim.Native.Nat.{_≤_};
 use crate::draw;
 use crate::draw::Ids;
 use crate::draw::chance;
 use crate::draw::draw;
 use crate::meeting;
+use crate::next_row;
 use crate::pair::Pair;
 use crate::pair::served;
 use reference::Square;
@@ -118,5 +120,6 @@ pub fn asked(p: Pair, seed: u64) -> Pair {
     let m = case_tables::row_count(p.host);
     let mut q = each(p, &pattern, &mut s, m);
     q = some(q, &pattern, &mut s, m);
-    bounds(q, &pattern, &mut s, m)
+    q = bounds(q, &pattern, &mut s, m);
+    next_row::every(q, &pattern, m)
 }

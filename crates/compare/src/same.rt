@@ -102,7 +102,15 @@ pub fn batches(ours: case_tables::Batched, theirs: Answer, touched: &Rows, label
     a & b & c
 }
 
-// What a question answers.
+// What the question for the next row answers.
+pub fn found(ours: questions::Found, theirs: reference::Found) -> bool {
+    let a = numbers(b"number of next row", ours.number, theirs.number);
+    let b = numbers(b"next row", ours.row, theirs.row);
+    let c = numbers(b"multiplicity", ours.multiplicity, theirs.multiplicity);
+    a & b & c
+}
+
+// What another question answers.
 pub fn replies(what: &[u8], ours: questions::Reply, theirs: reference::Reply) -> bool {
     let a = numbers(what, ours.number, theirs.number);
     let b = numbers(what, ours.value, theirs.value);

@@ -19,6 +19,12 @@ pub struct Tally {
     pub common: [u32; 21],
     // Those of them whose answer is 0, since the paths do not join.
     pub apart: u32,
+    // Questions for the next row, by their number, but for those that `later` and `ended` count.
+    pub next_rows: [u32; 21],
+    // Those of them that give a row above the one asked for.
+    pub later: u32,
+    // Those of them whose answer is 0, since the column ends before.
+    pub ended: u32,
 }
 
 impl Tally {
@@ -33,6 +39,9 @@ impl Tally {
             meets: [0; 21],
             common: [0; 21],
             apart: 0,
+            next_rows: [0; 21],
+            later: 0,
+            ended: 0,
         }
     }
 
@@ -87,6 +96,26 @@ impl Tally {
         }
         t
     }
+
+    // One question more for the next row, with its number, the row asked for and the row given.
+    pub fn found(self, number: u32, asked: u32, row: u32) -> Self {
+        let mut t = self;
+        if number == 0 {
+            if row == 0 {
+                t.ended = more(t.ended);
+                return t;
+            }
+            if asked < row {
+                t.later = more(t.later);
+                return t;
+            }
+        }
+        if number < 21 {
+            let k = number as usize;
+            t.next_rows[k] = more(t.next_rows[k]);
+        }
+        t
+    }
 }
 
 // One more, up to a thousand million.
@@ -131,11 +160,22 @@ fn print_questions(meets: &[u32; 21], common: &[u32; 21], apart: u32) {
     line(b"common row refused by 17:", common[17]);
 }
 
+// The questions for the next row.
+fn print_next_rows(next_rows: &[u32; 21], later: u32, ended: u32) {
+    line(b"next row the one asked for:", next_rows[0]);
+    line(b"next row above it:", later);
+    line(b"next row 0:", ended);
+    line(b"next row refused by 1:", next_rows[1]);
+    line(b"next row refused by 6:", next_rows[6]);
+    line(b"next row refused by 17:", next_rows[17]);
+}
+
 pub fn print(t: Tally) {
     let numbers = t.numbers;
     let grades = t.grades;
     let meets = t.meets;
     let common = t.common;
+    let next_rows = t.next_rows;
     line(b"calls", t.calls);
     line(b"accepted", numbers[0]);
     line(b"accepted batches", t.batches);
@@ -146,5 +186,6 @@ pub fn print(t: Tally) {
     line(b"columns compared", t.columns);
     print_refused(&numbers);
     print_questions(&meets, &common, t.apart);
+    print_next_rows(&next_rows, t.later, t.ended);
     line(b"calls that differ", t.differences);
 }

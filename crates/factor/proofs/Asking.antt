@@ -56,7 +56,7 @@ flat-admission s t w z =
 
 -- a refusal without a position, as an answer
 pub refused-flat : (x : Refusal) {n : ℕ} → n ≡ x .number → x .position ≡ 0 → replyOf (record { number = n; value = 0 }) ≡ refusedBy x
-refused-flat x e f = λ i. record { number = e i; position = sym f i; touched = 0; entries = 0; grade = 0; value = 0 }
+refused-flat x e f = λ i. record { number = e i; position = sym f i; touched = 0; entries = 0; grade = 0; row = 0; value = 0 }
 
 -- a choice by a test that is known
 picked : (x y : List ℕ) {z c : Bool} → z ≡ c → pick z x y ≡ pick c x y

@@ -16,4 +16,4 @@ pub record CanChange (s : State) (t : Tables) (work touched labels : List ℕ) :
 
 -- the numbers of a batch's answer, without the record
 abbrev pub changedAnswer : Changed → Answer
-changedAnswer x = record { number = x .number; position = x .position; touched = x .touched; entries = x .entries; grade = x .grade; value = 0 }
+changedAnswer x = record { number = x .number; position = x .position; touched = x .touched; entries = x .entries; grade = x .grade; row = 0; value = 0 }

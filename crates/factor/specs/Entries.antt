@@ -21,8 +21,8 @@ worldOf x t = record { state = stateOf x; tables = t }
 
 -- an opening's answer: accepted, all numbers are 0; refused, the number
 abbrev pub openingAnswer : Opening → Answer
-openingAnswer (Opened x) = record { number = 0; position = 0; touched = 0; entries = 0; grade = 0; value = 0 }
-openingAnswer (Refused n) = record { number = n; position = 0; touched = 0; entries = 0; grade = 0; value = 0 }
+openingAnswer (Opened x) = record { number = 0; position = 0; touched = 0; entries = 0; grade = 0; row = 0; value = 0 }
+openingAnswer (Refused n) = record { number = n; position = 0; touched = 0; entries = 0; grade = 0; row = 0; value = 0 }
 
 -- the record after an opening: "after a refused opening the record from before it serves on"
 abbrev pub stateAfter : Opening → State → State

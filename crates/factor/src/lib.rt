@@ -2,10 +2,10 @@
 // unusable input by number and fixes everything lent. A caller that has proved its tables sound uses the unchecked twins of unchecked.rt.
 ghost use Rattle.symbolic.specs.Grades.{limitsOf};
 ghost use Rattle.tables.specs.Tables.{sizesOf, tablesOf};
-ghost use Rattle.questions.specs.Asked.{replyOf};
+ghost use Rattle.questions.specs.Asked.{replyOf, foundOf};
 ghost use Rattle.calls.specs.Calls.{callOf, workOnly, workAndList};
 ghost use Rattle.calls.specs.Calls.Entry.{checking, asking};
-ghost use Rattle.calls.specs.Calls.Question.{askMultiplicity, askParent, askPath, askColumn};
+ghost use Rattle.calls.specs.Calls.Question.{askNextRow, askParent, askPath, askColumn};
 ghost use Rattle.calls.specs.Steps.{Transition};
 ghost use Rattle.factor.specs.Entries.{worldOf, OpenStep};
 
@@ -16,6 +16,7 @@ mod meeting;
 mod unchecked;
 
 use book::Row;
+use questions::Found;
 use questions::Reply;
 
 // The record of sizes, free heads and limits: from so many entries on a grade is 2, 3 and 4.
@@ -171,8 +172,8 @@ impl Factor {
         Reply { number, value: 0 }
     }
 
-    // The multiplicity of row i in column j, 0 when absent.
-    pub fn multiplicity(
+    // The first row at or above i in column j and its multiplicity, both 0 if the column ends before.
+    pub fn next_row(
         self,
         heads: &[u32],
         parents: &[u16],
@@ -185,8 +186,8 @@ impl Factor {
         work: &mut [u32],
         i: Row,
         j: Row,
-    ) -> Reply
-        ensures { λ r. ⌜ Transition (worldOf self (tablesOf (now (heads .entry)) (now (parents .entry)) (now (rows .entry)) (now (counts .entry)) (now (next .entry)) (now («book_heads» .entry)) (now («book_rows» .entry)) (now («book_next» .entry)))) (callOf (asking (askMultiplicity (i .0) (j .0)) 0) (workOnly (now (work .entry)))) (replyOf r) (workOnly (now (work .exit))) (worldOf self (tablesOf (now (heads .entry)) (now (parents .entry)) (now (rows .entry)) (now (counts .entry)) (now (next .entry)) (now («book_heads» .entry)) (now («book_rows» .entry)) (now («book_next» .entry)))) ⌝ }
+    ) -> Found
+        ensures { λ r. ⌜ Transition (worldOf self (tablesOf (now (heads .entry)) (now (parents .entry)) (now (rows .entry)) (now (counts .entry)) (now (next .entry)) (now («book_heads» .entry)) (now («book_rows» .entry)) (now («book_next» .entry)))) (callOf (asking (askNextRow (i .0) (j .0)) 0) (workOnly (now (work .entry)))) (foundOf r) (workOnly (now (work .exit))) (worldOf self (tablesOf (now (heads .entry)) (now (parents .entry)) (now (rows .entry)) (now (counts .entry)) (now (next .entry)) (now («book_heads» .entry)) (now («book_rows» .entry)) (now («book_next» .entry)))) ⌝ }
     {
         let number = admission::admit(
             self,
@@ -202,9 +203,13 @@ impl Factor {
             true,
         );
         if number != 0 {
-            return Reply { number, value: 0 };
+            return Found {
+                number,
+                row: 0,
+                multiplicity: 0,
+            };
         }
-        self.multiplicity_unchecked(
+        self.next_row_unchecked(
             heads,
             parents,
             rows,

@@ -5,9 +5,9 @@ ghost use mathlib.Core.Path.{_≡_};
 ghost use Rattle.tables.specs.Tables.{registerOf, tablesOf};
 ghost use Rattle.calls.specs.Calls.{reportLists};
 ghost use Rattle.calls.specs.Calls.Change.{adding, removing};
-ghost use Rattle.calls.specs.Calls.Question.{askMultiplicity, askParent, askPath, askColumn, askMeets, askCommon};
+ghost use Rattle.calls.specs.Calls.Question.{askNextRow, askParent, askPath, askColumn, askMeets, askCommon};
 ghost use Rattle.batch.specs.Outcome.{BatchStep};
-ghost use Rattle.questions.specs.Asked.{replyOf, repliedTo, replied, listLeft};
+ghost use Rattle.questions.specs.Asked.{replyOf, foundOf, repliedTo, replied, listLeft};
 ghost use Rattle.factor.specs.Entries.{stateOf, worldOf};
 ghost use Rattle.factor.specs.Admission.{Usable, CanUse};
 ghost use Rattle.factor.specs.Batches.{CanChange, changedAnswer};
@@ -16,6 +16,7 @@ use crate::Factor;
 use batch::Batch;
 use book::Row;
 use pool::Rec;
+use questions::Found;
 use questions::Reply;
 
 // The answer of a batch, with the record that has its free heads.
@@ -44,8 +45,8 @@ fn changed(factor: Factor, x: Batch) -> Changed
 }
 
 impl Factor {
-    // The multiplicity of row i in column j, 0 when absent.
-    pub fn multiplicity_unchecked(
+    // The first row at or above i in column j and its multiplicity, both 0 if the column ends before.
+    pub fn next_row_unchecked(
         self,
         heads: &[u32],
         parents: &[u16],
@@ -57,13 +58,13 @@ impl Factor {
         book_next: &[u32],
         i: Row,
         j: Row,
-    ) -> Reply
+    ) -> Found
         requires { ⌜ Usable (stateOf self) (tablesOf (now heads) (now parents) (now rows) (now counts) (now next) (now «book_heads») (now «book_rows») (now «book_next»)) ⌝ }
-        ensures { λ a. ⌜ replyOf a ≡ replied (registerOf (stateOf self) (tablesOf (now (heads .entry)) (now (parents .entry)) (now (rows .entry)) (now (counts .entry)) (now (next .entry)) (now («book_heads» .entry)) (now («book_rows» .entry)) (now («book_next» .entry)))) (askMultiplicity (i .0) (j .0)) ⌝ }
+        ensures { λ a. ⌜ foundOf a ≡ replied (registerOf (stateOf self) (tablesOf (now (heads .entry)) (now (parents .entry)) (now (rows .entry)) (now (counts .entry)) (now (next .entry)) (now («book_heads» .entry)) (now («book_rows» .entry)) (now («book_next» .entry)))) (askNextRow (i .0) (j .0)) ⌝ }
     {
         let m = self.m as usize;
         let f = self.f as usize;
-        questions::multiplicity(&heads[..m], &rows[..f], &counts[..f], &next[..f], i, j)
+        questions::next_row(&heads[..m], &rows[..f], &counts[..f], &next[..f], i, j)
     }
 
     // The parent of j, 0 for a root.

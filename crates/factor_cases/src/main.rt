@@ -1,6 +1,6 @@
 // Opens a factor, then lays tables with three columns, and for each damages the record's limits of the grades, then every table one place at a time with
-// several values: a line for the limits and for each place, a character for each value, what `check` answers: '.' for sound, its number else; 'm' or 'c' where
-// the columns that meet a row, or the common row of two, are not refused by the same number.
+// several values: a line for the limits and for each place, a character for each value, what `check` answers: '.' for sound, its number else; 'n', 'm' or 'c'
+// where the next row of a column, the columns that meet a row, or the common row of two, are not refused by the same number.
 use book::Row;
 use factor::Factor;
 use factor::Opening;
@@ -54,6 +54,39 @@ fn checked(record: Factor, t: Tables) -> u32 {
         &mut work,
     );
     reply.number
+}
+
+// Whether the question for the next row from row 2 on in column 1 answers with the number, and with neither row nor multiplicity where it is refused.
+fn finds(record: Factor, t: Tables, number: u32) -> bool {
+    let heads = t.heads;
+    let parents = t.parents;
+    let rows = t.rows;
+    let counts = t.counts;
+    let next = t.next;
+    let book_heads = t.book_heads;
+    let book_rows = t.book_rows;
+    let book_next = t.book_next;
+    let mut work = [7u32; 1124];
+    let found = record.next_row(
+        &heads,
+        &parents,
+        &rows,
+        &counts,
+        &next,
+        &book_heads,
+        &book_rows,
+        &book_next,
+        &mut work,
+        Row(2),
+        Row(1),
+    );
+    if found.number != number {
+        return false;
+    }
+    if number == 0 {
+        return true;
+    }
+    (found.row == 0) & (found.multiplicity == 0)
 }
 
 // The number of the question for the columns that meet row 3.
@@ -114,6 +147,9 @@ fn joined(record: Factor, t: Tables) -> u32 {
 // What check answers, or which question does not answer with it.
 fn answer(record: Factor, t: Tables) -> u8 {
     let number = checked(record, t);
+    if !finds(record, t, number) {
+        return b'n';
+    }
     if met(record, t) != number {
         return b'm';
     }

@@ -1,4 +1,4 @@
--- Accepted questions on any tables: what such a call has found, answers and leaves (`Asked`), from which the columns that meet a row are those whose chain holds
+-- Accepted questions on any tables: what such a call has found, answers and leaves (`asked`), from which the columns that meet a row are those whose chain holds
 -- it (`meets-filled`) and the common row is that of the parents in the tables (`common-answered`). First, the places that a written list fills and leaves.
 -- Assumes nothing.
 use mathlib.Core.Path.{_≡_, refl, sym, ap, _∙_, subst}
@@ -62,18 +62,23 @@ module _ (p : ℕ) (new old : List ℕ) (room : p + length new ≤ length old) w
         length-drop (p + length new) old,
       )
 
+-- a list over which nothing is written
+pub none-written : (p : ℕ) (xs : List ℕ) → writtenAt p [] xs ≡ xs
+none-written p xs = let e : p + 0 ≡ p = omega arith in ap (λ (k : ℕ). take p xs ++ drop k xs) e ∙ take-append-drop p xs
+
 -- ---- an accepted question
 
 -- what it has found, answers and leaves
-record Asked (u : World) (e : Event) (v : World) (k : Question) (p : ℕ) : Type 0 where
-  consistent : Consistent (plainOf u) u
-  world : v ≡ u
-  own : isAccepted (response (bookedIn u) k .refusal) ≡ true
-  room : p + length (response (bookedIn u) k .list) ≤ length (e .call .lent .list)
-  value : e .answer .value ≡ response (bookedIn u) k .value
-  list : e .left .list ≡ writtenAt p (response (bookedIn u) k .list) (e .call .lent .list)
+pub record Asked (u : World) (e : Event) (v : World) (k : Question) (p : ℕ) : Type 0 where
+  pub consistent : Consistent (plainOf u) u
+  pub world : v ≡ u
+  pub own : isAccepted (response (bookedIn u) k .refusal) ≡ true
+  pub room : p + length (response (bookedIn u) k .list) ≤ length (e .call .lent .list)
+  pub row : e .answer .row ≡ response (bookedIn u) k .row
+  pub value : e .answer .value ≡ response (bookedIn u) k .value
+  pub list : e .left .list ≡ writtenAt p (response (bookedIn u) k .list) (e .call .lent .list)
 
-asked : (u : World) (e : Event) (v : World) (k : Question) (p : ℕ) → Transition u (e .call) (e .answer) (e .left) v → e .call .entry ≡ asking k p →
+pub asked : (u : World) (e : Event) (v : World) (k : Question) (p : ℕ) → Transition u (e .call) (e .answer) (e .left) v → e .call .entry ≡ asking k p →
     e .answer .number ≡ 0 → Asked u e v k p
 asked u e v k p s q n =
     let r : Register = bookedIn u in
@@ -92,6 +97,7 @@ asked u e v k p s q n =
       world = subst (λ (i : Entry). AcceptedWorld u i v) q (t .world);
       own = both .0;
       room = room-facts xs p (length (response r k .list)) (both .1);
+      row = ap (λ (a : Answer). a .row) (t .answer) ∙ ap (λ (i : Entry). resultOf r i .row) q;
       value = ap (λ (a : Answer). a .value) (t .answer) ∙ ap (λ (i : Entry). resultOf r i .value) q;
       list = ap (λ (l : Lent). l .list) (t .lists) ∙ ap (λ (i : Entry). writtenAt (resultOf r i .place) (resultOf r i .list) xs) q;
     }
@@ -144,13 +150,11 @@ pub common-answered : (u : World) (e : Event) (v : World) (is : List ℕ) (p : �
 common-answered u e v is p s q n =
     let r : Register = bookedIn u in
     let m : ℕ = u .state .sizes .m in
-    let xs : List ℕ = e .call .lent .list in
     let t : Asked u e v (askCommon is) p = asked u e v (askCommon is) p s q n in
     let b : (isAccepted (unless (isIn 1 64 (length is)) 7 0) ≡ true) × (isAccepted (unless (all (isIn 1 m) is) 17 0) ≡ true) =
     or-both (unless (isIn 1 64 (length is)) 7 0) (unless (all (isIn 1 m) is) 17 0) (t .own) in
     let few : isIn 1 64 (length is) ≡ true = unless-holds (isIn 1 64 (length is)) 7 0 refl (b .0) in
-    let fit : all (isIn 1 m) is ≡ true = unless-holds (all (isIn 1 m) is) 17 0 refl (b .1) in
-    let none : p + 0 ≡ p = omega arith in (
+    let fit : all (isIn 1 m) is ≡ true = unless-holds (all (isIn 1 m) is) 17 0 refl (b .1) in (
       t .consistent,
       t .world,
       record {
@@ -158,6 +162,6 @@ common-answered u e v is p s q n =
         in-range = fit;
         smallest-on-all = subst (λ (x : ℕ). IsCommon (heldParent u) is x) (sym (t .value))
             (common-is m (live r) (heldCount u) (heldParent u) (t .consistent .factor) is (in-range 1 64 (length is) few .0) fit);
-        list-stays = t .list ∙ ap (λ (k : ℕ). take p xs ++ drop k xs) none ∙ take-append-drop p xs;
+        list-stays = t .list ∙ none-written p (e .call .lent .list);
       },
     )

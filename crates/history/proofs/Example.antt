@@ -7,6 +7,7 @@ use Rattle.lists.specs.Lists.{all, any, among, noRepeats, allZero, same, sumOf,
 use Rattle.symbolic.specs.Columns.{startingWith}
 use Rattle.symbolic.specs.Factor.{childrenWith, countsFrom, firstAbove, buildFrom, patternFrom, nonZero, pathFrom, sizeSum}
 use Rattle.symbolic.specs.Batch.{passing, labelFrom}
+use Rattle.symbolic.specs.NextRow.{firstFrom}
 use Rattle.symbolic.specs.Change.{idsOf, without, columnOf, columnsOf}
 use Rattle.symbolic.specs.Grades.{Limits, limitsOf, oldLimits}
 use Rattle.pool.specs.Chains.{chainFrom, lastOf}
@@ -15,11 +16,11 @@ use Rattle.book.specs.Book.{columnsFrom}
 use Rattle.tables.specs.Stored.{holdsFrom}
 use Rattle.tables.specs.Tables.{Sizes}
 use Rattle.calls.specs.Refusals.{batchOf, rowsRefusal, columnsRefusal, idsRefusal}
-use Rattle.calls.specs.Calls.{Change, removing, askMultiplicity, askParent, askPath, askColumn, askMeets, askCommon, checking, workOnly, Call, callOf}
+use Rattle.calls.specs.Calls.{Change, removing, askNextRow, askParent, askPath, askColumn, askMeets, askCommon, checking, workOnly, Call, callOf}
 use Rattle.calls.specs.Changes.{labelled}
 use Rattle.calls.specs.Steps.{Answer, Transition}
 use Rattle.history.specs.Runs.{Event, Run, Begun, Plain}
-use Rattle.history.specs.Example.{askedSizes, workLent, listLent, add, change, ask, askFrom, openWith, answered, valued, workLeft, lastSizes, eventCalls, eventAnswers, eventTouched, eventLabels, eventWork, eventLists, shownFrom}
+use Rattle.history.specs.Example.{askedSizes, workLent, listLent, add, change, ask, askFrom, openWith, answered, valuedAt, valued, workLeft, lastSizes, eventCalls, eventAnswers, eventTouched, eventLabels, eventWork, eventLists, shownFrom}
 use Rattle.history.specs.Statements.{ConcreteRun}
 use Rattle.history.proofs.ExampleWorlds.{world0, world1, world2, world3, world4, world5, world6, fresh, full, first-exchanged, second-exchanged, third-exchanged, removal-exchanged, returned-exchanged, filled-exchanged, emptied-exchanged, refilled-exchanged}
 
@@ -55,8 +56,23 @@ path = question (askFrom (askPath 1) 1) 3 (9 ∷ 1 ∷ 3 ∷ 4 ∷ 9 ∷ 9 ∷ [
 abbrev column : Event
 column = question (askFrom (askColumn 1) 0) 3 (1 ∷ 3 ∷ 3 ∷ 1 ∷ 4 ∷ 1 ∷ [])
 
-abbrev multiplicity : Event
-multiplicity = question (ask (askMultiplicity 3 1)) 1 []
+abbrev nextRow : (from row count : ℕ) → Event
+nextRow i x n = record { call = ask (askNextRow i 1); answer = valuedAt x n; left = record { work = workLeft 1124; touched = []; labels = []; list = [] } }
+
+abbrev walk1 : Event
+walk1 = nextRow 1 1 3
+
+abbrev walk2 : Event
+walk2 = nextRow 2 3 1
+
+abbrev walk3 : Event
+walk3 = nextRow 4 4 1
+
+abbrev walk4 : Event
+walk4 = nextRow 5 0 0
+
+abbrev beyond : Event
+beyond = turned (ask (askNextRow 6 1)) 17
 
 abbrev parent : Event
 parent = question (ask (askParent 1)) 3 []
@@ -167,9 +183,25 @@ column-step : Transition world4 (column .call) (column .answer) (column .left) w
 unfolding all any among noRepeats allZero same sumOf valuesAt rises upFrom startingWith childrenWith countsFrom firstAbove buildFrom patternFrom nonZero pathFrom sizeSum passing labelFrom labelled idsOf chainFrom lastOf chains columnsFrom holdsFrom batchOf rowsRefusal columnsRefusal pairsOf
 column-step = (refl, refl, refl)
 
-multiplicity-step : Transition world4 (multiplicity .call) (multiplicity .answer) (multiplicity .left) world4
+walk1-step : Transition world4 (walk1 .call) (walk1 .answer) (walk1 .left) world4
+unfolding all any among noRepeats allZero same sumOf valuesAt rises upFrom startingWith childrenWith countsFrom firstAbove buildFrom patternFrom nonZero pathFrom sizeSum passing labelFrom labelled idsOf chainFrom lastOf chains columnsFrom holdsFrom batchOf rowsRefusal columnsRefusal firstFrom
+walk1-step = (refl, refl, refl)
+
+walk2-step : Transition world4 (walk2 .call) (walk2 .answer) (walk2 .left) world4
+unfolding all any among noRepeats allZero same sumOf valuesAt rises upFrom startingWith childrenWith countsFrom firstAbove buildFrom patternFrom nonZero pathFrom sizeSum passing labelFrom labelled idsOf chainFrom lastOf chains columnsFrom holdsFrom batchOf rowsRefusal columnsRefusal firstFrom
+walk2-step = (refl, refl, refl)
+
+walk3-step : Transition world4 (walk3 .call) (walk3 .answer) (walk3 .left) world4
+unfolding all any among noRepeats allZero same sumOf valuesAt rises upFrom startingWith childrenWith countsFrom firstAbove buildFrom patternFrom nonZero pathFrom sizeSum passing labelFrom labelled idsOf chainFrom lastOf chains columnsFrom holdsFrom batchOf rowsRefusal columnsRefusal firstFrom
+walk3-step = (refl, refl, refl)
+
+walk4-step : Transition world4 (walk4 .call) (walk4 .answer) (walk4 .left) world4
+unfolding all any among noRepeats allZero same sumOf valuesAt rises upFrom startingWith childrenWith countsFrom firstAbove buildFrom patternFrom nonZero pathFrom sizeSum passing labelFrom labelled idsOf chainFrom lastOf chains columnsFrom holdsFrom batchOf rowsRefusal columnsRefusal firstFrom
+walk4-step = (refl, refl, refl)
+
+beyond-step : Transition world4 (beyond .call) (beyond .answer) (beyond .left) world4
 unfolding all any among noRepeats allZero same sumOf valuesAt rises upFrom startingWith childrenWith countsFrom firstAbove buildFrom patternFrom nonZero pathFrom sizeSum passing labelFrom labelled idsOf chainFrom lastOf chains columnsFrom holdsFrom batchOf rowsRefusal columnsRefusal
-multiplicity-step = (refl, refl, refl)
+beyond-step = (refl, refl, refl)
 
 parent-step : Transition world4 (parent .call) (parent .answer) (parent .left) world4
 unfolding all any among noRepeats allZero same sumOf valuesAt rises upFrom startingWith childrenWith countsFrom firstAbove buildFrom patternFrom nonZero pathFrom sizeSum passing labelFrom labelled idsOf chainFrom lastOf chains columnsFrom holdsFrom batchOf rowsRefusal columnsRefusal
@@ -251,10 +283,10 @@ concrete-run =
       touched = refl;
       labels = refl;
       shows = refl;
-      later = checked ∷ path ∷ column ∷ multiplicity ∷ parent ∷ meets ∷ joined ∷ apart ∷ noneNamed ∷ outside ∷ noRoom ∷ removal ∷ [];
+      later = checked ∷ path ∷ column ∷ walk1 ∷ walk2 ∷ walk3 ∷ walk4 ∷ beyond ∷ parent ∷ meets ∷ joined ∷ apart ∷ noneNamed ∷ outside ∷ noRoom ∷ removal ∷ [];
       last = world5;
       later-run =
-          (world4, (checked-step, (world4, (path-step, (world4, (column-step, (world4, (multiplicity-step, (world4, (parent-step, (world4, (meets-step, (world4, (joined-step, (world4, (apart-step, (world4, (none-named-step, (world4, (outside-step, (world4, (no-room-step, (world5, (removal-step, refl))))))))))))))))))))))));
+          (world4, (checked-step, (world4, (path-step, (world4, (column-step, (world4, (walk1-step, (world4, (walk2-step, (world4, (walk3-step, (world4, (walk4-step, (world4, (beyond-step, (world4, (parent-step, (world4, (meets-step, (world4, (joined-step, (world4, (apart-step, (world4, (none-named-step, (world4, (outside-step, (world4, (no-room-step, (world5, (removal-step, refl))))))))))))))))))))))))))))))));
       later-calls = refl;
       later-answers = refl;
       later-touched = refl;

@@ -6,10 +6,11 @@ use Rattle.lists.specs.Lists.{all, any, among, sumOf, upFrom, pairsOf}
 use Rattle.symbolic.specs.Columns.{startingWith}
 use Rattle.symbolic.specs.Factor.{childrenWith, countsFrom, firstAbove, buildFrom, patternFrom, nonZero, pathFrom, sizeSum}
 use Rattle.symbolic.specs.Batch.{passing, labelFrom}
+use Rattle.symbolic.specs.NextRow.{firstFrom}
 use Rattle.symbolic.specs.Change.{idsOf, without, columnOf, columnsOf}
 use Rattle.calls.specs.Refusals.{batchOf, rowsRefusal, columnsRefusal, idsRefusal}
 use Rattle.calls.specs.Changes.{labelled}
-use Rattle.history.specs.Instances.{StarredInstances, NinthInstance, LimitInstances, MeetingInstances}
+use Rattle.history.specs.Instances.{StarredInstances, NinthInstance, LimitInstances, MeetingInstances, NextInstances}
 
 pub starred-instances : StarredInstances
 unfolding any among sumOf upFrom startingWith childrenWith countsFrom firstAbove buildFrom patternFrom nonZero pathFrom sizeSum passing labelFrom labelled idsOf without columnOf columnsOf batchOf rowsRefusal columnsRefusal pairsOf
@@ -107,4 +108,23 @@ meeting-instances =
       order-7 = refl;
       order-17 = refl;
       order-5 = refl;
+    }
+
+pub next-instances : NextInstances
+unfolding among startingWith childrenWith countsFrom firstAbove buildFrom patternFrom nonZero batchOf firstFrom
+next-instances =
+    record {
+      stands = refl;
+      absent = refl;
+      ends = refl;
+      diagonal = refl;
+      below = refl;
+      parent = refl;
+      root = refl;
+      last = refl;
+      row-0 = refl;
+      row-5 = refl;
+      row-6 = refl;
+      column-0 = refl;
+      column-6 = refl;
     }

@@ -3,6 +3,7 @@ pub mod Invariant
 pub mod Counts
 pub mod Steps
 pub mod Asking
+pub mod Walking
 pub mod Theorems
 pub mod ExampleWorlds
 pub mod Example

@@ -18,7 +18,9 @@ use Rattle.history.specs.Runs.{Run, Plain, plainAfter, Begun}
 use Rattle.history.specs.Statements.{Demand3, RunSplits, plainOf, AnySound, OpeningSound, MeetsStand, CommonLies}
 use Rattle.history.proofs.Invariant.{Inv, inv-found, inv-consistent, openedPlain, openedWorld, inv-opened}
 use Rattle.history.proofs.Steps.{inv-justified, inv-step, inv-run}
+use Rattle.history.specs.NextRow.{NextTaken, NextStands, NextIsParent, WalkIsColumn, WalkStays, WalkEnds}
 use Rattle.history.proofs.Asking.{meets-filled, common-answered}
+use Rattle.history.proofs.Walking.{next-taken as taken, next-answered, parent-answered, walk-answered, walk-stays as stays, walk-ends as ends}
 
 -- ---- an accepted opening
 
@@ -70,3 +72,23 @@ meets-stand u e v i p s q n = meets-filled u e v i p s q n
 
 pub common-lies : CommonLies
 common-lies u e v is p s q n = common-answered u e v is p s q n
+
+-- ---- the question for the next row
+
+pub next-taken : NextTaken
+next-taken = taken
+
+pub next-stands : NextStands
+next-stands = next-answered
+
+pub next-is-parent : NextIsParent
+next-is-parent = parent-answered
+
+pub walk-is-column : WalkIsColumn
+walk-is-column = walk-answered
+
+pub walk-stays : WalkStays
+walk-stays = stays
+
+pub walk-ends : WalkEnds
+walk-ends = ends

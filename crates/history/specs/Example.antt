@@ -9,7 +9,7 @@ use Rattle.lists.specs.Lists.{at, valuesAt, pairsOf}
 use Rattle.symbolic.specs.Grades.{Limits, limitsOf}
 use Rattle.tables.specs.Stored.{Stored, recordsOf}
 use Rattle.tables.specs.Tables.{Sizes, storedIn}
-use Rattle.calls.specs.Calls.{Change, adding, removing, Question, askMultiplicity, askParent, askPath, askColumn, askMeets, askCommon, opening, changing, checking, asking, workOnly, reportLists, workAndList, Call, callOf}
+use Rattle.calls.specs.Calls.{Change, adding, removing, Question, askNextRow, askParent, askPath, askColumn, askMeets, askCommon, opening, changing, checking, asking, workOnly, reportLists, workAndList, Call, callOf}
 use Rattle.calls.specs.Steps.{Answer, World}
 use Rattle.history.specs.Runs.{Event}
 
@@ -49,12 +49,13 @@ openWith l g = callOf (opening l g) (workOnly workLent)
 abbrev pub listedCalls : List Call
 listedCalls = change (add 1 (1 ∷ 3 ∷ [])) ∷ change (add 1 (2 ∷ [])) ∷ change (add 2 (1 ∷ 4 ∷ [])) ∷ change (add 3 (2 ∷ 3 ∷ [])) ∷ []
 
--- check; path of 1, from place 1 on; column 1, multiplicity of row 3 in it, its parent; the columns that meet row 4, from place 2 on; the common row of 1 and 2,
--- and of 1 and 5; of no row; the columns that meet a row 6, and those that meet row 4 where the list has two places left; removal of 2
+-- check; path of 1, from place 1 on; column 1, then its walk by the next row from 1, 2, 4 and 5 on; from a row 6 on; its parent; the columns that meet row 4, from
+-- place 2 on; the common row of 1 and 2, and of 1 and 5; of no row; the columns that meet a row 6, and those that meet row 4 where the list has two places left;
+-- removal of 2
 abbrev pub laterCalls : List Call
 laterCalls =
-    callOf checking (workOnly workLent) ∷ askFrom (askPath 1) 1 ∷ askFrom (askColumn 1) 0 ∷ ask (askMultiplicity 3 1) ∷ ask (askParent 1) ∷
-    askFrom (askMeets 4) 2 ∷ ask (askCommon (1 ∷ 2 ∷ [])) ∷ ask (askCommon (1 ∷ 5 ∷ [])) ∷ ask (askCommon []) ∷ askFrom (askMeets 6) 0 ∷ askFrom (askMeets 4) 4 ∷
+    callOf checking (workOnly workLent) ∷ askFrom (askPath 1) 1 ∷ askFrom (askColumn 1) 0 ∷ ask (askNextRow 1 1) ∷ ask (askNextRow 2 1) ∷
+    ask (askNextRow 4 1) ∷ ask (askNextRow 5 1) ∷ ask (askNextRow 6 1) ∷ ask (askParent 1) ∷ askFrom (askMeets 4) 2 ∷ ask (askCommon (1 ∷ 2 ∷ [])) ∷ ask (askCommon (1 ∷ 5 ∷ [])) ∷ ask (askCommon []) ∷ askFrom (askMeets 6) 0 ∷ askFrom (askMeets 4) 4 ∷
     change (removing (2 ∷ [])) ∷ []
 
 -- two rows
@@ -71,22 +72,26 @@ lastCalls =
 
 -- number, position, touched columns, entries, grade
 abbrev pub answered : (number position touched entries grade : ℕ) → Answer
-answered n p t e g = record { number = n; position = p; touched = t; entries = e; grade = g; value = 0 }
+answered n p t e g = record { number = n; position = p; touched = t; entries = e; grade = g; row = 0; value = 0 }
 
 -- as the listing program prints them: ok 2 3 1, no 10 1, ok 3 6 1, ok 3 5 1
 abbrev pub listedAnswers : List Answer
 listedAnswers = answered 0 0 2 3 1 ∷ answered 10 1 0 0 0 ∷ answered 0 0 3 6 1 ∷ answered 0 0 3 5 1 ∷ []
 
--- the value of a question
-abbrev pub valued : ℕ → Answer
-valued v = record { number = 0; position = 0; touched = 0; entries = 0; grade = 0; value = v }
+-- the row and multiplicity that the question for the next row gives
+abbrev pub valuedAt : (row value : ℕ) → Answer
+valuedAt i v = record { number = 0; position = 0; touched = 0; entries = 0; grade = 0; row = i; value = v }
 
--- sound; a path of three rows, a column of three entries, multiplicity 1, parent 3; three columns, common row 3, none; refused by 7, 17 and 18; three columns
--- touched, which had six entries
+-- the value of any other question
+abbrev pub valued : ℕ → Answer
+valued v = valuedAt 0 v
+
+-- sound; a path of three rows, a column of three entries; its walk gives 1:3, 3:1, 4:1, then no row; refused by 17; parent 3; three columns, common row 3, none;
+-- refused by 7, 17 and 18; three columns touched, which had six entries
 abbrev pub laterAnswers : List Answer
 laterAnswers =
-    answered 0 0 0 0 0 ∷ valued 3 ∷ valued 3 ∷ valued 1 ∷ valued 3 ∷ valued 3 ∷ valued 3 ∷ valued 0 ∷ answered 7 0 0 0 0 ∷ answered 17 0 0 0 0 ∷
-    answered 18 0 0 0 0 ∷ answered 0 0 3 6 1 ∷ []
+    answered 0 0 0 0 0 ∷ valued 3 ∷ valued 3 ∷ valuedAt 1 3 ∷ valuedAt 3 1 ∷ valuedAt 4 1 ∷ valuedAt 0 0 ∷ answered 17 0 0 0 0 ∷ valued 3 ∷ valued 3 ∷
+    valued 3 ∷ valued 0 ∷ answered 7 0 0 0 0 ∷ answered 17 0 0 0 0 ∷ answered 18 0 0 0 0 ∷ answered 0 0 3 6 1 ∷ []
 
 -- refused by 1 and by 20; six entries, still of grade 1; three entries after an addition and before a removal, of grade 3 by limits 2, 3 and 4; three entries,
 -- of grade 1 again
@@ -103,18 +108,18 @@ listedTouched = (1 ∷ 3 ∷ 9 ∷ 9 ∷ 9 ∷ 9 ∷ []) ∷ listLent ∷ (1 ∷
 abbrev pub listedLabels : List (List ℕ)
 listedLabels = (1 ∷ 1 ∷ 9 ∷ 9 ∷ 9 ∷ 9 ∷ []) ∷ listLent ∷ (1 ∷ 1 ∷ 1 ∷ 9 ∷ 9 ∷ 9 ∷ []) ∷ (1 ∷ 1 ∷ 1 ∷ 9 ∷ 9 ∷ 9 ∷ []) ∷ []
 
--- the lists for touched columns that the later calls leave: the removal, which is the twelfth, alone has one
+-- the lists for touched columns that the later calls leave: the removal, which is the sixteenth, alone has one
 abbrev pub laterTouched : List (List ℕ)
-laterTouched = replicate 11 [] ++ ((1 ∷ 3 ∷ 4 ∷ 9 ∷ 9 ∷ 9 ∷ []) ∷ [])
+laterTouched = replicate 15 [] ++ ((1 ∷ 3 ∷ 4 ∷ 9 ∷ 9 ∷ 9 ∷ []) ∷ [])
 
 -- the lists for labels that the later calls leave
 abbrev pub laterLabels : List (List ℕ)
-laterLabels = replicate 11 [] ++ ((1 ∷ 1 ∷ 1 ∷ 9 ∷ 9 ∷ 9 ∷ []) ∷ [])
+laterLabels = replicate 15 [] ++ ((1 ∷ 1 ∷ 1 ∷ 9 ∷ 9 ∷ 9 ∷ []) ∷ [])
 
 -- the lists of questions that the later calls leave
 abbrev pub laterLists : List (List ℕ)
 laterLists =
-    [] ∷ (9 ∷ 1 ∷ 3 ∷ 4 ∷ 9 ∷ 9 ∷ []) ∷ (1 ∷ 3 ∷ 3 ∷ 1 ∷ 4 ∷ 1 ∷ []) ∷ [] ∷ [] ∷ (9 ∷ 9 ∷ 1 ∷ 3 ∷ 4 ∷ 9 ∷ []) ∷ [] ∷ [] ∷ [] ∷ listLent ∷ listLent ∷ [] ∷ []
+    [] ∷ (9 ∷ 1 ∷ 3 ∷ 4 ∷ 9 ∷ 9 ∷ []) ∷ (1 ∷ 3 ∷ 3 ∷ 1 ∷ 4 ∷ 1 ∷ []) ∷ [] ∷ [] ∷ [] ∷ [] ∷ [] ∷ [] ∷ (9 ∷ 9 ∷ 1 ∷ 3 ∷ 4 ∷ 9 ∷ []) ∷ [] ∷ [] ∷ [] ∷ listLent ∷ listLent ∷ [] ∷ []
 
 -- the work table that calls leave: its first W places zero, the rest as lent; as lent under 1 and 20; W is 1,055 for two rows
 abbrev pub workLeft : (w : ℕ) → List ℕ

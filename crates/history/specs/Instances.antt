@@ -12,12 +12,12 @@ use Rattle.symbolic.specs.Grades.{Limits, limitsOf, oldLimits, gradeOf}
 use Rattle.symbolic.specs.Meeting.{commonOf}
 use Rattle.tables.specs.Tables.{Tables, Sizes, State, sizesOf, tablesOf}
 use Rattle.calls.specs.Refusals.{Refusal, refusal, accepted}
-use Rattle.calls.specs.Calls.{Change, adding, removing, askParent, askMeets, askCommon, opening, changing, checking, asking, callOf, workOnly}
+use Rattle.calls.specs.Calls.{Change, adding, removing, askNextRow, askParent, askMeets, askCommon, opening, changing, checking, asking, callOf, workOnly}
 use Rattle.calls.specs.Changes.{effect, touchedBy, labelsBy, entriesBy, registerAfter}
 use Rattle.calls.specs.Questions.{pathList, columnList, meetsList}
 use Rattle.calls.specs.Numbers.{soundRefusal, askRefusal, refusalOf}
 use Rattle.calls.specs.Steps.{acceptedBy}
-use Rattle.history.specs.Example.{answered, valued}
+use Rattle.history.specs.Example.{answered, valuedAt, valued}
 
 -- ---- the changes: lent lists play no part here
 
@@ -199,3 +199,25 @@ pub record MeetingInstances : Type 0 where
   pub order-7 : askRefusal listed (askCommon (replicate 65 6)) 0 [] ≡ refusal 7 0
   pub order-17 : askRefusal listed (askMeets 6) 7 (replicate 6 9) ≡ refusal 17 0
   pub order-5 : refusalOf (recordWith oldLimits) noTables (callOf (asking (askCommon []) 0) (workOnly [])) ≡ refusal 5 0
+
+-- ---- the next row
+
+-- what the question for the next row gives in the listed state, where columns 1 and 3 are 1:3 3:1 4:1 and 3:3 4:1, and its refusals
+pub record NextInstances : Type 0 where
+  -- a row that stands; one that is absent, "the first row at or above"; "both 0 if the column ends before"
+  pub stands : acceptedBy oldLimits listed (asking (askNextRow 3 1) 0) ≡ valuedAt 3 1
+  pub absent : acceptedBy oldLimits listed (asking (askNextRow 2 1) 0) ≡ valuedAt 3 1
+  pub ends : acceptedBy oldLimits listed (asking (askNextRow 5 1) 0) ≡ valuedAt 0 0
+  -- for i up to j the diagonal
+  pub diagonal : acceptedBy oldLimits listed (asking (askNextRow 3 3) 0) ≡ valuedAt 3 3
+  pub below : acceptedBy oldLimits listed (asking (askNextRow 1 3) 0) ≡ valuedAt 3 3
+  -- the parent of 3, and none for 4, a root; the last row
+  pub parent : acceptedBy oldLimits listed (asking (askNextRow 4 3) 0) ≡ valuedAt 4 1
+  pub root : acceptedBy oldLimits listed (asking (askNextRow 5 4) 0) ≡ valuedAt 0 0
+  pub last : acceptedBy oldLimits listed (asking (askNextRow 5 5) 0) ≡ valuedAt 5 1
+  -- 17 for a row or a column outside 1 to 5; 5 itself is within
+  pub row-0 : askRefusal listed (askNextRow 0 1) 0 [] ≡ refusal 17 0
+  pub row-5 : askRefusal listed (askNextRow 5 5) 0 [] ≡ accepted
+  pub row-6 : askRefusal listed (askNextRow 6 1) 0 [] ≡ refusal 17 0
+  pub column-0 : askRefusal listed (askNextRow 1 0) 0 [] ≡ refusal 17 0
+  pub column-6 : askRefusal listed (askNextRow 1 6) 0 [] ≡ refusal 17 0

@@ -1,5 +1,6 @@
 -- The theorems about calls, each a type with the sentence that it renders: what holds of record and tables (`Consistent`), what holds of one call
--- (`Justified`), demand 3, and what stands beside it. proofs/Theorems.antt has a term of each, proofs/Example.antt the one of `ConcreteRun`.
+-- (`Justified`), demand 3, and what stands beside it. proofs/Theorems.antt has a term of each, proofs/Example.antt the one of `ConcreteRun`. NextRow.antt has
+-- those of the question for the next row.
 -- Assumes nothing: these are definitions.
 use mathlib.Core.Path.{_≡_}
 use mathlib.Core.Logic.{_⊎_, _≢_, _↔_}
@@ -30,10 +31,17 @@ use Rattle.history.specs.Example.{askedSizes, listedCalls, listedAnswers
 
 -- ---- what holds of record and tables against a plain register
 
+-- the rows of column j in the tables: those of its chain's records, in their order
+abbrev pub heldRows : World → (j : ℕ) → List ℕ
+heldRows v j = valuesAt (storedIn (v .state) (v .tables) .rows) (recordsOf (storedIn (v .state) (v .tables)) j)
+
+-- their multiplicities
+abbrev pub heldCounts : World → (j : ℕ) → List ℕ
+heldCounts v j = valuesAt (storedIn (v .state) (v .tables) .counts) (recordsOf (storedIn (v .state) (v .tables)) j)
+
 -- row i stands in factor column j: "if j's chain in the tables has a record of row i"
 abbrev pub Stands : World → (i j : ℕ) → Type 0
-Stands v i j =
-    Mem i (valuesAt (storedIn (v .state) (v .tables) .rows) (recordsOf (storedIn (v .state) (v .tables)) j))
+Stands v i j = Mem i (heldRows v j)
 
 -- what stands beside a key in two lists that keep step; 0 where the key has nothing
 unfoldable pub valueFor : (keys values : List ℕ) → (key : ℕ) → ℕ
@@ -41,11 +49,9 @@ valueFor [] vs k = 0
 valueFor (x ∷ xs) [] k = 0
 valueFor (x ∷ xs) (y ∷ ys) k = pick (eqb x k) y (valueFor xs ys k)
 
--- the multiplicity that the tables hold for row i in column j: that of the chain's record with the row, "0 when absent"
+-- the multiplicity that the tables hold for row i in column j: that of the chain's record with the row, 0 when absent
 abbrev pub heldCount : World → (i j : ℕ) → ℕ
-heldCount v i j =
-    valueFor (valuesAt (storedIn (v .state) (v .tables) .rows) (recordsOf (storedIn (v .state) (v .tables)) j))
-    (valuesAt (storedIn (v .state) (v .tables) .counts) (recordsOf (storedIn (v .state) (v .tables)) j)) i
+heldCount v i j = valueFor (heldRows v j) (heldCounts v j) i
 
 -- the parent that the tables hold for column j
 abbrev pub heldParent : World → (j : ℕ) → ℕ

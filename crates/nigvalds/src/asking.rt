@@ -1,13 +1,14 @@
 // Check and questions for hosts. Row numbers cross as plain numbers.
 ghost use Rattle.tables.specs.Tables.{tablesOf};
-ghost use Rattle.questions.specs.Asked.{replyOf};
+ghost use Rattle.questions.specs.Asked.{replyOf, foundOf};
 ghost use Rattle.calls.specs.Calls.{callOf, workOnly, workAndList};
 ghost use Rattle.calls.specs.Calls.Entry.{checking, asking};
-ghost use Rattle.calls.specs.Calls.Question.{askMultiplicity, askParent, askPath, askColumn, askMeets, askCommon};
+ghost use Rattle.calls.specs.Calls.Question.{askNextRow, askParent, askPath, askColumn, askMeets, askCommon};
 ghost use Rattle.calls.specs.Steps.{Transition};
 ghost use Rattle.factor.specs.Entries.{worldOf};
 use book::Row;
 use factor::Factor;
+use questions::Found;
 use questions::Reply;
 
 // Whether the tables are sound, and the record's limits: 0, 6 for no, or 1 to 5.
@@ -39,9 +40,9 @@ pub extern "C" fn nigvalds_check(
     )
 }
 
-// The multiplicity of row i in column j, 0 when absent.
+// The first row at or above i in column j and its multiplicity, both 0 if the column ends before.
 #[no_mangle]
-pub extern "C" fn nigvalds_multiplicity(
+pub extern "C" fn nigvalds_next_row(
     factor: Factor,
     heads: &[u32],
     parents: &[u16],
@@ -54,10 +55,10 @@ pub extern "C" fn nigvalds_multiplicity(
     work: &mut [u32],
     i: u32,
     j: u32,
-) -> Reply
-    ensures { λ r. ⌜ Transition (worldOf factor (tablesOf (now (heads .entry)) (now (parents .entry)) (now (rows .entry)) (now (counts .entry)) (now (next .entry)) (now («book_heads» .entry)) (now («book_rows» .entry)) (now («book_next» .entry)))) (callOf (asking (askMultiplicity i j) 0) (workOnly (now (work .entry)))) (replyOf r) (workOnly (now (work .exit))) (worldOf factor (tablesOf (now (heads .entry)) (now (parents .entry)) (now (rows .entry)) (now (counts .entry)) (now (next .entry)) (now («book_heads» .entry)) (now («book_rows» .entry)) (now («book_next» .entry)))) ⌝ }
+) -> Found
+    ensures { λ r. ⌜ Transition (worldOf factor (tablesOf (now (heads .entry)) (now (parents .entry)) (now (rows .entry)) (now (counts .entry)) (now (next .entry)) (now («book_heads» .entry)) (now («book_rows» .entry)) (now («book_next» .entry)))) (callOf (asking (askNextRow i j) 0) (workOnly (now (work .entry)))) (foundOf r) (workOnly (now (work .exit))) (worldOf factor (tablesOf (now (heads .entry)) (now (parents .entry)) (now (rows .entry)) (now (counts .entry)) (now (next .entry)) (now («book_heads» .entry)) (now («book_rows» .entry)) (now («book_next» .entry)))) ⌝ }
 {
-    factor.multiplicity(
+    factor.next_row(
         heads,
         parents,
         rows,

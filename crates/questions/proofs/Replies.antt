@@ -19,7 +19,7 @@ use Rattle.calls.specs.Calls.{Question}
 use Rattle.calls.specs.Questions.{response}
 use Rattle.calls.specs.Numbers.{askRefusal}
 use Rattle.refusals.specs.Early.{NoRoom}
-use Rattle.questions.specs.Asked.{replyOf, repliedTo, listLeft}
+use Rattle.questions.specs.Asked.{replyOf, answeredBy, repliedTo, listLeft}
 
 -- ---- one test
 
@@ -85,8 +85,8 @@ module _ (r : Register) (k : Question) (p : ℕ) (xs : List ℕ) where
     refused-list = rw (e, q) refl
 
   module _ (e : askRefusal r k p xs ≡ accepted) where
-    pub accepted-reply : {v : ℕ} → v ≡ response r k .value → replyOf (record { number = 0; value = v }) ≡ repliedTo r k p xs
-    accepted-reply a = rw e (ap (λ (x : ℕ). replyOf (record { number = 0; value = x })) a)
+    pub accepted-answer : answeredBy (response r k) ≡ repliedTo r k p xs
+    accepted-answer = rw e refl
 
     pub accepted-list : {ys : List ℕ} → ys ≡ writtenAt p (response r k .list) xs → ys ≡ listLeft r k p xs
     accepted-list a = rw e a

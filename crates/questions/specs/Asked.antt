@@ -12,14 +12,19 @@ use Rattle.pool.specs.Chains.{chain, Linked}
 use Rattle.columns.specs.Commit.{HoldsFrom}
 use Rattle.calls.specs.Refusals.{isAccepted}
 use Rattle.calls.specs.Calls.{Question}
-use Rattle.calls.specs.Questions.{response}
+use Rattle.calls.specs.Questions.{Response, response}
 use Rattle.calls.specs.Numbers.{askRefusal}
 use Rattle.calls.specs.Steps.{Answer, refusedBy}
 use Rattle.questions.specs.declared.Reply.{Reply}
+use Rattle.questions.specs.declared.Found.{Found}
 
 -- a reply as an answer: what a question does not have is 0
 abbrev pub replyOf : Reply → Answer
-replyOf x = record { number = x .number; position = 0; touched = 0; entries = 0; grade = 0; value = x .value }
+replyOf x = record { number = x .number; position = 0; touched = 0; entries = 0; grade = 0; row = 0; value = x .value }
+
+-- the same of a reply with a row
+abbrev pub foundOf : Found → Answer
+foundOf x = record { number = x .number; position = 0; touched = 0; entries = 0; grade = 0; row = x .row; value = x .multiplicity }
 
 -- ---- the tables are those of a register
 
@@ -50,9 +55,13 @@ pub record CanFollow (parents : List ℕ) : Type 0 where
 
 -- ---- the reply, and the list afterwards
 
+-- the answer of an accepted question
+abbrev pub answeredBy : Response → Answer
+answeredBy x = record { number = 0; position = 0; touched = 0; entries = 0; grade = 0; row = x .row; value = x .value }
+
 -- the answer that a register gives to a question whose list is written from a place on, accepted or refused; it has no entries, so no limits play a part
 abbrev pub repliedTo : Register → Question → (place : ℕ) → (list : List ℕ) → Answer
-repliedTo r q p xs = pick (isAccepted (askRefusal r q p xs)) (replyOf (record { number = 0; value = response r q .value })) (refusedBy (askRefusal r q p xs))
+repliedTo r q p xs = pick (isAccepted (askRefusal r q p xs)) (answeredBy (response r q)) (refusedBy (askRefusal r q p xs))
 
 -- the same of a question that has no list
 abbrev pub replied : Register → Question → Answer
@@ -69,6 +78,10 @@ RepliesAt Fits q p xs a = (r : Register) → Fits r → replyOf a ≡ repliedTo 
 -- the same of a question that has no list
 abbrev pub Replies : (Register → Type 0) → Question → Reply → Type 0
 Replies Fits q a = (r : Register) → Fits r → replyOf a ≡ replied r q
+
+-- the same of a reply with a row
+abbrev pub Finds : (Register → Type 0) → Question → Found → Type 0
+Finds Fits q a = (r : Register) → Fits r → foundOf a ≡ replied r q
 
 -- the list is left as each register whose tables these are says
 abbrev pub Leaves : (Register → Type 0) → Question → (place : ℕ) → (list after : List ℕ) → Type 0

@@ -1,4 +1,4 @@
-// Questions on sound stored columns: a multiplicity, a parent, a path, a column; in meeting.rt the columns that meet a row, in ancestors.rt the common row of
+// Questions on sound stored columns: the next row, a parent, a path, a column; in meeting.rt the columns that meet a row, in ancestors.rt the common row of
 // some rows. A promise is for every register whose columns, or parents, or both, the tables hold.
 ghost use mathlib.Core.Path.{_≡_};
 ghost use Prim.Native.Nat.{_≤_};
@@ -6,8 +6,8 @@ ghost use lib.ListN.{length};
 ghost use Rattle.lists.specs.Lists.{over};
 ghost use Rattle.symbolic.specs.Columns.{Register};
 ghost use Rattle.calls.specs.Questions.{pathList};
-ghost use Rattle.calls.specs.Calls.Question.{askMultiplicity, askParent, askPath, askColumn};
-ghost use Rattle.questions.specs.Asked.{ColumnsFor, ParentsFor, CanAsk, CanFollow, RepliesAt, Replies, Leaves};
+ghost use Rattle.calls.specs.Calls.Question.{askNextRow, askParent, askPath, askColumn};
+ghost use Rattle.questions.specs.Asked.{ColumnsFor, ParentsFor, CanAsk, CanFollow, RepliesAt, Replies, Finds, Leaves};
 
 pub mod ancestors;
 pub mod meeting;
@@ -22,37 +22,53 @@ pub struct Reply {
     pub value: u32,
 }
 
-// The multiplicity of row i in column j, 0 when absent; 17 for a row or column outside 1 to m.
-pub fn multiplicity(
-    heads: &[u32],
-    rows: &[u16],
-    counts: &[u16],
-    next: &[u32],
-    i: Row,
-    j: Row,
-) -> Reply
+// What the question for the next row answers: its number, 0 when accepted; row and multiplicity, both 0 when refused or when the column ends before;
+// the number tells these apart.
+#[repr(C)]
+pub struct Found {
+    pub number: u32,
+    pub row: u32,
+    pub multiplicity: u32,
+}
+
+// The first row at or above i in column j and its multiplicity, both 0 if the column ends before; 17 for a row or column outside 1 to m.
+pub fn next_row(heads: &[u32], rows: &[u16], counts: &[u16], next: &[u32], i: Row, j: Row) -> Found
     requires { ⌜ CanAsk (now heads) (now rows) (now counts) (now next) ⌝ }
-    ensures { λ a. ⌜ Replies (ColumnsFor (now (heads .entry)) (now (rows .entry)) (now (counts .entry)) (now (next .entry))) (askMultiplicity (i .0) (j .0)) a ⌝ }
+    ensures { λ a. ⌜ Finds (ColumnsFor (now (heads .entry)) (now (rows .entry)) (now (counts .entry)) (now (next .entry))) (askNextRow (i .0) (j .0)) a ⌝ }
 {
     let m = heads.len() as u32;
     if refusals::asked::row_outside(m, i.0) {
-        return Reply {
+        return Found {
             number: 17,
-            value: 0,
+            row: 0,
+            multiplicity: 0,
         };
     }
     let k = j.0;
     if refusals::asked::row_outside(m, k) {
-        return Reply {
+        return Found {
             number: 17,
-            value: 0,
+            row: 0,
+            multiplicity: 0,
         };
     }
     let head = Rec(heads[(k - 1) as usize]);
-    let n = columns::count_at(rows, counts, next, head, i);
-    Reply {
+    let first = columns::first_at(rows, next, head, i);
+    let r = first.0;
+    if r == 0 {
+        return Found {
+            number: 0,
+            row: 0,
+            multiplicity: 0,
+        };
+    }
+    let at = (r - 1) as usize;
+    let row = rows[at] as u32;
+    let multiplicity = counts[at] as u32;
+    Found {
         number: 0,
-        value: n,
+        row,
+        multiplicity,
     }
 }
 

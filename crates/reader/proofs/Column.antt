@@ -15,6 +15,7 @@ use Rattle.lists.proofs.Times.{mem-times}
 use Rattle.lists.proofs.Place.{values-length}
 use Rattle.symbolic.specs.Columns.{Column, live}
 use Rattle.symbolic.specs.Factor.{FactorColumn, factorOf, factorFor, columnAt, sizeOf}
+use Rattle.symbolic.specs.NextRow.{columnEntries}
 use Rattle.symbolic.proofs.Patterns.{pattern-find}
 use Rattle.pool.specs.Chains.{chain, Linked}
 use Rattle.pool.proofs.Chains.{linked-in}
@@ -24,7 +25,7 @@ use Rattle.tables.specs.Tables.{Tables, State, storedIn, registerOf}
 use Rattle.tables.proofs.Stored.{Holds, SoundFor, sound-facts, stored-column}
 use Rattle.tables.proofs.Tables.{Long, long-facts, sound-stored, sound-factor, stored-rows}
 use Rattle.columns.proofs.Holding.{values-mem}
-use Rattle.reader.specs.Reading.{entryAt, readings, allGiven, entriesGiven, entriesIn, end}
+use Rattle.reader.specs.Reading.{entryAt, readings, allGiven, asRead, entriesIn, end}
 use Rattle.reader.specs.Statements.{ReadsColumn, ReadsTables, NoEntry, none, past-rows, past-counts, past-next, unused, ReadsEnd, ReadsTablesEnd}
 use Rattle.reader.specs.declared.Entry.the-variants.{End}
 use Rattle.reader.proofs.Reading.{InUse, entry-end, readings-end, readings-of}
@@ -79,8 +80,8 @@ given-end (suc k) = ap (λ es. end ∷ es) (given-end k)
 module _ (s : Stored) (z : Sized s) (xs cs ns : List ℕ) (b : Begin s xs cs ns) where
   -- a chain whose records have rows
   chain-read : (h : ℕ) (rs : List ℕ) → Linked (s .next) h rs → ((x : ℕ) → Mem x rs → at (s .rows) x ≢ 0) → (k : ℕ) →
-      allGiven (readings (length rs + k) xs cs ns h) ≡ entriesGiven (valuesAt (s .rows) rs) (valuesAt (s .counts) rs) ++ replicate k end
-  unfolding Linked valuesAt entriesGiven allGiven
+      allGiven (readings (length rs + k) xs cs ns h) ≡ asRead (columnEntries (valuesAt (s .rows) rs) (valuesAt (s .counts) rs)) ++ replicate k end
+  unfolding Linked valuesAt columnEntries asRead allGiven
   chain-read h [] l some k =
       let e : entryAt xs cs ns h ≡ End = entry-end xs cs ns h (λ u. omega (arith, l, u .low)) in
       let q : 0 + k ≡ k = omega arith in

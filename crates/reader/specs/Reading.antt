@@ -8,6 +8,7 @@ use lib.Dec.{leb, eqb}
 use lib.ListN.{length}
 use Rattle.lists.specs.Lists.{pick, isIn, at}
 use Rattle.symbolic.specs.Factor.{FactorColumn, patternOf, multiplicitiesOf}
+use Rattle.symbolic.specs.NextRow.{ColumnEntry, columnEntries}
 use Rattle.pool.specs.declared.Rec.{Rec}
 use Rattle.reader.specs.declared.Entry.{Entry}
 use Rattle.reader.specs.declared.Entry.the-variants.{Of, End}
@@ -51,12 +52,11 @@ unfoldable pub allGiven : List Entry → List Given
 allGiven [] = []
 allGiven (e ∷ es) = given e ∷ allGiven es
 
--- rows with their multiplicities
-unfoldable pub entriesGiven : (rows counts : List ℕ) → List Given
-entriesGiven [] cs = []
-entriesGiven (x ∷ xs) [] = []
-entriesGiven (x ∷ xs) (c ∷ cs) = entry x c ∷ entriesGiven xs cs
+-- entries of a column as readings give them
+unfoldable pub asRead : List ColumnEntry → List Given
+asRead [] = []
+asRead (x ∷ xs) = entry (x .row) (x .count) ∷ asRead xs
 
 -- the entries of a factor column, "row then multiplicity", rising
 abbrev pub entriesIn : FactorColumn → List Given
-entriesIn f = entriesGiven (patternOf f) (multiplicitiesOf f)
+entriesIn f = asRead (columnEntries (patternOf f) (multiplicitiesOf f))

@@ -62,10 +62,17 @@ pub struct Answer {
     pub grade: usize,
 }
 
-// What a question gives: its number, and a multiplicity, a parent or a number of entries.
+// What a question gives: its number, and a parent, a row or a number of places or entries.
 pub struct Reply {
     pub number: usize,
     pub value: usize,
+}
+
+// What the question for the next row gives: its number, the row and its multiplicity, both 0 for none.
+pub struct Found {
+    pub number: usize,
+    pub row: usize,
+    pub multiplicity: usize,
 }
 
 fn refused(number: usize, position: usize) -> Answer

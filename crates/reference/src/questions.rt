@@ -4,6 +4,7 @@ ghost use mathlib.Core.Path.{_≡_};
 ghost use Prim.Native.Nat.{_≤_};
 ghost use lib.ListN.{length};
 ghost use Rattle.reference.specs.Ranges.{IsRow, Served};
+use crate::Found;
 use crate::Holds;
 use crate::Live;
 use crate::Reply;
@@ -19,36 +20,74 @@ pub fn refused(number: usize) -> Reply
     Reply { number, value: 0 }
 }
 
-// The multiplicity of row i in column j, 0 when absent.
-pub fn multiplicity(
+// ---- the next row
+
+fn not_found(number: usize) -> Found {
+    Found {
+        number,
+        row: 0,
+        multiplicity: 0,
+    }
+}
+
+// The first row of i, i + 1, .. m that has a multiplicity in column j.
+fn first_from(
     holds: &Holds,
     live: &Live,
     pattern: &Square,
     sizes: Sizes,
     i: usize,
     j: usize,
-) -> Reply
+) -> Found
+    requires { ⌜ Served (sizes .m) (sizes .n) × IsRow i ⌝ }
+{
+    let m = sizes.m;
+    let mut k = i;
+    while k <= m {
+        let multiplicity = tree::multiplicity(holds, live, pattern, sizes, k, j);
+        if multiplicity != 0 {
+            return Found {
+                number: 0,
+                row: k,
+                multiplicity,
+            };
+        }
+        k += 1;
+    }
+    not_found(0)
+}
+
+// The first row at or above i in column j and its multiplicity, both 0 if the column ends before.
+pub fn next_row(
+    holds: &Holds,
+    live: &Live,
+    pattern: &Square,
+    sizes: Sizes,
+    i: usize,
+    j: usize,
+) -> Found
     requires { ⌜ Served (sizes .m) (sizes .n) ⌝ }
 {
     let number = refusals::of_record(sizes);
     if number != 0 {
-        return refused(number);
+        return not_found(number);
     }
     if i < 1 {
-        return refused(17);
+        return not_found(17);
     }
     if sizes.m < i {
-        return refused(17);
+        return not_found(17);
     }
     if j < 1 {
-        return refused(17);
+        return not_found(17);
     }
     if sizes.m < j {
-        return refused(17);
+        return not_found(17);
     }
-    let value = tree::multiplicity(holds, live, pattern, sizes, i, j);
-    Reply { number: 0, value }
+    first_from(holds, live, pattern, sizes, i, j)
 }
+
+// ---- the parent
 
 // The parent of row j, 0 for a root.
 pub fn parent(pattern: &Square, sizes: Sizes, j: usize) -> Reply

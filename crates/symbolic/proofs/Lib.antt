@@ -11,6 +11,7 @@ pub mod Common
 pub mod Touched
 pub mod Exchange
 pub mod Meeting
+pub mod NextRow
 pub mod Locality
 pub mod Labels
 pub mod Bags

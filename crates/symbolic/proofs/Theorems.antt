@@ -1,5 +1,5 @@
 -- A term of every statement of specs/Statements.antt, in its order. The mathematics stands in the other files, over the definition's sentences alone
--- (Laws, Walks, Two, Steps) or over the computed factor (Build, Columns, Patterns, Paths, Passing, Common, Touched, Meeting, Locality, Labels, Bags, Order, Sizes); Grades is about numbers alone. Assumes nothing.
+-- (Laws, Walks, Two, Steps) or over the computed factor (Build, Columns, Patterns, Paths, Passing, Common, Touched, Meeting, NextRow, Locality, Labels, Bags, Order, Sizes); Grades is about numbers alone. Assumes nothing.
 use mathlib.Core.Path.{_≡_, refl, sym, subst}
 use mathlib.Core.Logic.{_⊎_, inl, inr, _≢_}
 use mathlib.Core.Bool.{true}
@@ -13,7 +13,7 @@ use Rattle.lists.proofs.Member.{all-at}
 use Rattle.symbolic.specs.Columns.{Column, smallest, holds, fitsRows}
 use Rattle.symbolic.specs.Factor.{factorOf, multiplicity, parentOf, inPattern, isChild}
 use Rattle.symbolic.specs.Batch.{passes, atPosition, labelOf}
-use Rattle.symbolic.specs.Statements.{Defined, Unique, DiagonalStands, ParentAbove, ParentHolds, Equation31, Growth, Locality, UpdateSteps, DowndateSteps, OrderFree, RemovalSplits, MultiplicityBound, ChainRule, PatternClosed, PatternLeast, PathIs, TouchedIs, TouchedRises, LabelIs, LabelsFollow, SizesGrow, SizesLocal, AdditionEntries, RemovalEntries, GradeFrom, OldGrades, MeetingIs, MeetingRises, MeetingEnds, CommonIs}
+use Rattle.symbolic.specs.Statements.{Defined, Unique, DiagonalStands, ParentAbove, ParentHolds, Equation31, Growth, Locality, UpdateSteps, DowndateSteps, OrderFree, RemovalSplits, MultiplicityBound, ChainRule, PatternClosed, PatternLeast, PathIs, TouchedIs, TouchedRises, LabelIs, LabelsFollow, SizesGrow, SizesLocal, AdditionEntries, RemovalEntries, GradeFrom, OldGrades, MeetingIs, MeetingRises, MeetingEnds, CommonIs, NextIs, NextIsDiagonal, NextIsParent, WalkIsColumn}
 use Rattle.symbolic.proofs.Laws.{diagonal-in, start-in, pattern-cases, row-above, parent-contains, pattern-fill}
 use Rattle.symbolic.proofs.Walks.{walk-of, edge-in, walk-in, pattern-within}
 use Rattle.symbolic.proofs.Two.{Agree, factor-agrees}
@@ -30,6 +30,7 @@ use Rattle.symbolic.proofs.Sizes.{sizes-grow-sum, sizes-local-sum, entr
 use Rattle.symbolic.proofs.Grades.{grade-begins, old-grade}
 use Rattle.symbolic.proofs.Meeting.{meeting-defined, meeting-rise, meeting-last}
 use Rattle.symbolic.proofs.Common.{common-least}
+use Rattle.symbolic.proofs.NextRow.{next-defined, next-diagonal, next-parent, walk-column}
 
 -- ---- the definition
 
@@ -196,3 +197,17 @@ meeting-ends = meeting-last
 
 pub common-is : CommonIs
 common-is = common-least
+
+-- ---- 11. the next row of a column
+
+pub next-is : NextIs
+next-is = next-defined
+
+pub next-is-diagonal : NextIsDiagonal
+next-is-diagonal m cs i j a b h = next-diagonal m cs j a b i h
+
+pub next-is-parent : NextIsParent
+next-is-parent m cs j a b = next-parent m cs j a (omega arith)
+
+pub walk-is-column : WalkIsColumn
+walk-is-column = walk-column

@@ -3,6 +3,7 @@ pub mod Factor
 pub mod Definition
 pub mod Batch
 pub mod Meeting
+pub mod NextRow
 pub mod Grades
 pub mod Chains
 pub mod Change

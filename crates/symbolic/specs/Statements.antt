@@ -4,15 +4,16 @@ use mathlib.Core.Path.{_≡_}
 use mathlib.Core.Logic.{_⊎_, _≢_, _↔_}
 use mathlib.Core.Bool.{true, false}
 use mathlib.Core.List.{List, [], _∷_, _++_}
-use Prim.Native.Nat.{ℕ, _+_, _≤_, _<_}
+use Prim.Native.Nat.{ℕ, suc, _+_, _≤_, _<_}
 use lib.Dec.{ltb, eqb}
 use lib.ListN.{length}
 use Rattle.lists.specs.Lists.{pick, isIn, Mem, all, among, noRepeats, rises}
 use Rattle.symbolic.specs.Columns.{Column, smallest, holds, fitsRows, startingWith}
-use Rattle.symbolic.specs.Factor.{factorOf, columnAt, multiplicity, parentOf, inPattern, isChild, pathOf, sizeSum}
+use Rattle.symbolic.specs.Factor.{factorOf, columnAt, multiplicity, parentOf, inPattern, isChild, patternOf, multiplicitiesOf, pathOf, sizeSum}
 use Rattle.symbolic.specs.Definition.{IsFactor, OnPath}
 use Rattle.symbolic.specs.Batch.{atPosition, passes, isTouched, touched, labelOf, sizeSumOf, entriesOf}
 use Rattle.symbolic.specs.Meeting.{meeting, commonOf, IsCommon}
+use Rattle.symbolic.specs.NextRow.{ColumnEntry, nextRow, IsNext, columnEntries, IsWalk}
 use Rattle.symbolic.specs.Grades.{Limits, areLimits, oldLimits, gradeOf}
 use Rattle.symbolic.specs.Chains.{ChainTo, Closed}
 use Rattle.symbolic.specs.Change.{idsOf, without, columnsOf, Bag}
@@ -211,3 +212,25 @@ abbrev pub CommonIs : Type 0
 CommonIs =
     (m : ℕ) (cs : List Column) (M : ℕ → ℕ → ℕ) (P : ℕ → ℕ) → IsFactor m (λ j i. startingWith j i cs) M P →
     (is : List ℕ) → 1 ≤ length is → all (isIn 1 m) is ≡ true → IsCommon P is (commonOf (factorOf m cs) is)
+
+-- ---- 11. the next row of a column, here of any columns; of calls: history/specs/NextRow.antt
+
+-- what is computed is the first row at or above i, or that there is none, by all multiplicities M that are as the definition says
+abbrev pub NextIs : Type 0
+NextIs =
+    (m : ℕ) (cs : List Column) (M : ℕ → ℕ → ℕ) (P : ℕ → ℕ) → IsFactor m (λ j i. startingWith j i cs) M P → (i j : ℕ) → 1 ≤ i → 1 ≤ j → j ≤ m →
+    IsNext m M i j (nextRow (factorOf m cs) i j)
+
+-- for i up to j it is the diagonal
+abbrev pub NextIsDiagonal : Type 0
+NextIsDiagonal = (m : ℕ) (cs : List Column) (i j : ℕ) → 1 ≤ j → j ≤ m → i ≤ j → nextRow (factorOf m cs) i j .row ≡ j
+
+-- "for j below m, asking for j + 1 gives j's parent"
+abbrev pub NextIsParent : Type 0
+NextIsParent = (m : ℕ) (cs : List Column) (j : ℕ) → 1 ≤ j → j < m → nextRow (factorOf m cs) (suc j) j .row ≡ parentOf (factorOf m cs) j
+
+-- "asking from 1, then from one above each row given, until row m or 0, gives column j's entries": a walk is given these and nothing else, and there is one
+abbrev pub WalkIsColumn : Type 0
+WalkIsColumn =
+    (m : ℕ) (cs : List Column) (j : ℕ) → 1 ≤ j → j ≤ m → (xs : List ColumnEntry) → IsWalk m (λ i. nextRow (factorOf m cs) i j) 1 xs ↔
+    (xs ≡ columnEntries (patternOf (columnAt (factorOf m cs) j)) (multiplicitiesOf (columnAt (factorOf m cs) j)))

@@ -89,6 +89,11 @@ pub fn path(factor: &[Pattern], j: u32) -> Vec<u32> {
     rows
 }
 
+/// "the first row at or above i in column j and its multiplicity, both 0 if the column ends before".
+pub fn next_row(column: &Pattern, i: u32) -> (u32, u32) {
+    column.entries.iter().copied().find(|e| e.0 >= i).unwrap_or((0, 0))
+}
+
 /// The sum of all pattern sizes.
 pub fn size(factor: &[Pattern]) -> usize {
     factor.iter().map(|p| p.entries.len()).sum()

@@ -1,8 +1,8 @@
 //! Lent tables and lists beside the plain register: each call is made on the library, and everything that it answers and leaves is compared.
 use super::random::Random;
-use super::{add_number, added, factor, limits_for, open_number, path, remove_number, report, size, sizes_for, sound};
+use super::{add_number, added, factor, limits_for, next_row, open_number, path, remove_number, report, size, sizes_for, sound};
 use super::{Limits, Live, Number, Pattern, Sizes};
-use nigvalds::lent::{work_places, Changed, Opened, Record, Tables};
+use nigvalds::lent::{work_places, Changed, Found, Opened, Record, Tables};
 
 /// Places that tables and lists have beyond what the sizes need.
 pub const BEYOND: usize = 3;
@@ -187,7 +187,7 @@ impl World {
         }
     }
 
-    /// Multiplicity, parent, path and column of every row and column, and the reader; `ask_meeting` has the other questions.
+    /// Parent, path and column of every column, its next row from every row, and the reader; `ask_meeting` has the other questions.
     pub fn ask(&mut self) {
         let patterns = self.factor();
         assert_eq!(self.tables.check(self.record, &mut self.work).number, 0);
@@ -196,10 +196,10 @@ impl World {
             let reply = self.tables.parent(self.record, &mut self.work, j);
             assert_eq!((reply.number, reply.value), pattern.map_or((17, 0), |p| (0, p.parent)));
             for i in 0..=self.sizes.m + 1 {
-                let reply = self.tables.multiplicity(self.record, &mut self.work, i, j);
-                let entry = pattern.and_then(|p| p.entries.iter().find(|e| e.0 == i));
-                let outside = pattern.is_none() || !(1..=self.sizes.m).contains(&i);
-                assert_eq!((reply.number, reply.value), if outside { (17, 0) } else { (0, entry.map_or(0, |e| e.1)) });
+                let asked = pattern.filter(|_| (1..=self.sizes.m).contains(&i));
+                let (row, multiplicity) = asked.map_or((0, 0), |p| next_row(p, i));
+                let expected = Found { number: if asked.is_some() { 0 } else { 17 }, row, multiplicity };
+                assert_eq!(self.tables.next_row(self.record, &mut self.work, i, j), expected);
             }
             self.ask_lists(j, pattern, &patterns);
         }

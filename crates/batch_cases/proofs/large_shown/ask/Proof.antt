@@ -5,10 +5,10 @@ use Rattle.batch_cases.proofs.large_shown.ask.Statement.{statement}
 use Rattle.batch_cases.proofs.large_shown.ask.Tie as tie
 
 abbrev Inv-loop : tie.InvT-loop
-Inv-loop «record» heads parents rows counts next book-heads book-rows book-next work₀ k₀ work k = k ≤ 6
+Inv-loop «record» heads parents rows counts next book-heads book-rows book-next work₀ k₀ work k = k ≤ 7
 
 abbrev μ-loop : tie.MeasureT-loop
-μ-loop «record» heads parents rows counts next book-heads book-rows book-next work₀ k₀ work k = 6 - k
+μ-loop «record» heads parents rows counts next book-heads book-rows book-next work₀ k₀ work k = 7 - k
 
 lengths-requires : tie.Need-lengths-requires Inv-loop μ-loop
 lengths-requires c κs = search needs
@@ -19,20 +19,20 @@ about-rows-requires c κs = search needs
 loop-holds : tie.Need-loop-holds Inv-loop μ-loop
 loop-holds c = search needs
 
-mul-multiplicity : tie.Need-mul-multiplicity Inv-loop μ-loop
-mul-multiplicity c = search needs
+mul-next-row : tie.Need-mul-next-row Inv-loop μ-loop
+mul-next-row c = search needs
 
-array-read-multiplicity : tie.Need-array-read-multiplicity Inv-loop μ-loop
-array-read-multiplicity c = search needs
+array-read-next-row : tie.Need-array-read-next-row Inv-loop μ-loop
+array-read-next-row c = search needs
 
-mul-multiplicity-2 : tie.Need-mul-multiplicity-2 Inv-loop μ-loop
-mul-multiplicity-2 c = search needs
+mul-next-row-2 : tie.Need-mul-next-row-2 Inv-loop μ-loop
+mul-next-row-2 c = search needs
 
-array-read-multiplicity-2 : tie.Need-array-read-multiplicity-2 Inv-loop μ-loop
-array-read-multiplicity-2 c = search needs
+array-read-next-row-2 : tie.Need-array-read-next-row-2 Inv-loop μ-loop
+array-read-next-row-2 c = search needs
 
-multiplicity-requires : tie.Need-multiplicity-requires Inv-loop μ-loop
-multiplicity-requires c κs = search needs
+next-row-requires : tie.Need-next-row-requires Inv-loop μ-loop
+next-row-requires c κs = search needs
 
 add-k : tie.Need-add-k Inv-loop μ-loop
 add-k c = search needs
@@ -55,11 +55,11 @@ ask-spec =
     lengths-requires
     about-rows-requires
     loop-holds
-    mul-multiplicity
-    array-read-multiplicity
-    mul-multiplicity-2
-    array-read-multiplicity-2
-    multiplicity-requires
+    mul-next-row
+    array-read-next-row
+    mul-next-row-2
+    array-read-next-row-2
+    next-row-requires
     add-k
     loop-less
     loop-again

@@ -70,7 +70,7 @@ cast-sum : tie.Need-cast-sum Inv-loop μ-loop
 cast-sum c = omega (arith, c .struct-known .given)
 
 add-sum : tie.Need-add-sum Inv-loop μ-loop
-add-sum c = let f = facts (turn c) in omega (arith, f .ends, f .few, f .inv .some, f .inv .room, c .struct-known .given)
+add-sum c = let f = facts (turn c) in omega (arith, f .ends, f .few, f .inv .room, c .struct-known .given)
 
 add-done : tie.Need-add-done Inv-loop μ-loop
 add-done c = let f = facts (turn c) in omega (arith, f .ends, f .few, f .inv .some)
@@ -79,7 +79,7 @@ loop-less : tie.Need-loop-less Inv-loop μ-loop
 loop-less c = let f = facts (turn c) in omega (arith, f .ends, f .some)
 
 loop-again : tie.Need-loop-again Inv-loop μ-loop
-loop-again c = let f = facts (turn c) in grouped (f .inv) (f .some) (f .ends) (omega (arith, c .struct-known .given))
+loop-again c = let f = facts (turn c) in grouped (f .inv) (f .some) (f .ends) (omega (arith, f .some, c .struct-known .given))
 
 returns-2 : tie.Need-returns-2 Inv-loop μ-loop
 returns-2 c = search needs

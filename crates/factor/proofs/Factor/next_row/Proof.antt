@@ -1,13 +1,13 @@
--- `Factor::multiplicity` meets its contract: refused by its admission, or answered by the unchecked question. Assumes nothing.
+-- `Factor::next_row` meets its contract: refused by its admission, or answered by the unchecked question. Assumes nothing.
 use mathlib.Core.Path.{refl}
 use borrow.Author.Needs.{needs}
 use Rattle.tables.specs.Tables.{Tables, State, tablesOf}
-use Rattle.calls.specs.Calls.{askMultiplicity, workOnly}
+use Rattle.calls.specs.Calls.{askNextRow, workOnly}
 use Rattle.factor.specs.Entries.{stateOf}
 use Rattle.factor.proofs.Admitting.{admitted-usable}
 use Rattle.factor.proofs.Asking.{admits-ask, refused-early, plain-step}
-use Rattle.factor.proofs.Factor.multiplicity.Statement.{statement}
-use Rattle.factor.proofs.Factor.multiplicity.Tie as tie
+use Rattle.factor.proofs.Factor.next_row.Statement.{statement}
+use Rattle.factor.proofs.Factor.next_row.Tie as tie
 
 -- ---- the places, named
 abbrev entry : tie.After-admit → tie.Start
@@ -32,10 +32,10 @@ returns : tie.Need-returns
 returns c =
     let d : tie.After-admit = c .before .before .before in
     let s : tie.Start = entry d in
-    refused-early (admits-ask (stateAt s) (tablesAt s) (askMultiplicity (s .args .i .0) (s .args .j .0)) 0 (workOnly (s .args .work .now))) (d .admit .ensures) (c .if1 .taken) refl
+    refused-early (admits-ask (stateAt s) (tablesAt s) (askNextRow (s .args .i .0) (s .args .j .0)) 0 (workOnly (s .args .work .now))) (d .admit .ensures) (c .if1 .taken) refl
 
-multiplicity-unchecked-requires : tie.Need-multiplicity-unchecked-requires
-multiplicity-unchecked-requires c κs = admitted-usable (passed c .admit .ensures) (c .if1 .left)
+next-row-unchecked-requires : tie.Need-next-row-unchecked-requires
+next-row-unchecked-requires c κs = admitted-usable (passed c .admit .ensures) (c .if1 .left)
 
 same-length-2 : tie.Need-same-length-2
 same-length-2 c = passed (c .before) .admit .kept .1 .1 .1 .1 .1 .1 .1 .1 .1 .0
@@ -44,15 +44,15 @@ returns-2 : tie.Need-returns-2
 returns-2 c =
     let e : tie.Else1 = c .before in
     let s : tie.Start = entry (passed e) in
-    plain-step (stateAt s) (tablesAt s) (s .args .work .now) (passed e .admit .ensures) (e .if1 .left) (askMultiplicity (s .args .i .0) (s .args .j .0)) refl (c .multiplicity-unchecked .ensures)
+    plain-step (stateAt s) (tablesAt s) (s .args .work .now) (passed e .admit .ensures) (e .if1 .left) (askNextRow (s .args .i .0) (s .args .j .0)) refl (c .next-row-unchecked .ensures)
 
-pub multiplicity-spec : {M : Type 1} → statement M
-multiplicity-spec =
+pub next-row-spec : {M : Type 1} → statement M
+next-row-spec =
     tie.close
     (tie.spec
     admit-requires
     same-length
     returns
-    multiplicity-unchecked-requires
+    next-row-unchecked-requires
     same-length-2
     returns-2)
