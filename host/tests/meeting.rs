@@ -2,9 +2,10 @@
 //! Random histories (histories.rs) ask both too.
 mod model;
 
+use model::early::{each_early, work_stays};
 use model::meeting::{common, meets};
 use model::random::Random;
-use model::world::{World, CUTS};
+use model::world::World;
 use model::{Sizes, OLD_LIMITS};
 use nigvalds::lent::{work_places, Record, Reply, Tables};
 use nigvalds::{Factor, Refusal};
@@ -146,9 +147,7 @@ fn every_call(t: &Tables, record: Record, places: usize, number: u32) {
     for call in CALLS {
         let (mut work, mut list) = (vec![9; places], vec![7; 5]);
         assert_eq!(call(t, record, &mut work, &mut list), Reply { number, value: 0 });
-        let cleared = if number == 6 { work_places(record.m, record.n, record.f, record.c) } else { 0 };
-        assert!(work[..cleared].iter().all(|x| *x == 0) && work[cleared..].iter().all(|x| *x == 9));
-        assert!(*t == before && list == [7; 5]);
+        assert!(work_stays(record, number, &work) && *t == before && list == [7; 5]);
     }
 }
 
@@ -156,26 +155,7 @@ fn every_call(t: &Tables, record: Record, places: usize, number: u32) {
 #[test]
 fn sizes_and_tables_first() {
     let factor = wrapped();
-    let (t, record, places) = (factor.tables(), factor.record(), work_places(5, 8, 9, 16));
-    every_call(t, Record { m: 0, n: 0, ..record }, places, 1);
-    every_call(t, Record { m: 4097, ..record }, 0, 1);
-    every_call(t, Record { n: 16385, f: 4, ..record }, places, 2);
-    every_call(t, Record { f: 4, c: 0, ..record }, places, 3);
-    every_call(t, Record { c: 262145, ..record }, places, 4);
-    every_call(t, Record { m: 6, ..record }, places, 5);
-    every_call(t, record, places - 1, 5);
-    for cut in CUTS {
-        let mut short = t.clone();
-        cut(&mut short);
-        every_call(&short, record, places, 5);
-    }
-    let damages: [fn(&mut Tables); 4] = [|t| t.parents[0] = 2, |t| t.heads[4] = 0, |t| t.counts[0] += 1, |t| t.book_rows[0] = 2];
-    for damage in damages {
-        let mut damaged = t.clone();
-        damage(&mut damaged);
-        every_call(&damaged, record, places + 3, 6);
-    }
-    every_call(t, Record { grade2: 0, ..record }, places + 3, 6);
+    each_early(factor.tables(), factor.record(), every_call);
 }
 
 // A random factor of the largest m: some rows' columns and random lists of rows.

@@ -2,8 +2,8 @@
 //! Random histories (histories.rs) ask it too, by the definition.
 mod model;
 
+use model::early::{each_early, work_stays};
 use model::random::Random;
-use model::world::CUTS;
 use model::{added, Live, Sizes};
 use nigvalds::lent::{work_places, Found, Record, Tables};
 use nigvalds::{Entry, Factor, Refusal};
@@ -161,9 +161,7 @@ fn every_question(t: &Tables, record: Record, places: usize, number: u32) {
     for (i, j) in [(1, 1), (2, 1), (5, 5), (5, 1), (0, 1), (1, 0), (6, 6), (u32::MAX, 1)] {
         let mut work = vec![9; places];
         assert_eq!(t.next_row(record, &mut work, i, j), refused(number));
-        let cleared = if number == 6 { work_places(record.m, record.n, record.f, record.c) } else { 0 };
-        assert!(work[..cleared].iter().all(|x| *x == 0) && work[cleared..].iter().all(|x| *x == 9));
-        assert!(*t == before);
+        assert!(work_stays(record, number, &work) && *t == before);
     }
 }
 
@@ -171,25 +169,5 @@ fn every_question(t: &Tables, record: Record, places: usize, number: u32) {
 #[test]
 fn sizes_and_tables_first() {
     let factor = example();
-    let (t, record, places) = (factor.tables(), factor.record(), work_places(5, 8, 9, 16));
-    every_question(t, Record { m: 0, n: 0, ..record }, places, 1);
-    every_question(t, Record { m: 4097, ..record }, 0, 1);
-    every_question(t, Record { n: 16385, f: 4, ..record }, places, 2);
-    every_question(t, Record { f: 4, c: 0, ..record }, places, 3);
-    every_question(t, Record { c: 262145, ..record }, places, 4);
-    every_question(t, Record { m: 6, ..record }, places, 5);
-    every_question(t, record, places - 1, 5);
-    for cut in CUTS {
-        let mut short = t.clone();
-        cut(&mut short);
-        every_question(&short, record, places, 5);
-    }
-    let damages: [fn(&mut Tables); 6] =
-        [|t| t.parents[0] = 2, |t| t.heads[4] = 0, |t| t.rows[5] = 2, |t| t.counts[0] += 1, |t| t.next[0] = 1, |t| t.book_rows[0] = 2];
-    for damage in damages {
-        let mut damaged = t.clone();
-        damage(&mut damaged);
-        every_question(&damaged, record, places + 3, 6);
-    }
-    every_question(t, Record { grade2: 0, ..record }, places + 3, 6);
+    each_early(factor.tables(), factor.record(), every_question);
 }

@@ -24,11 +24,11 @@ use Rattle.reader.specs.Reading.{end, asRead}
 use Rattle.reader.proofs.Column.{reads-tables}
 use Rattle.calls.specs.Refusals.{accepted, isAccepted, orElse, bounds, sizesRefusal, limitsRefusal, workFor, shortRefusal, rowRefusal, roomFor}
 use Rattle.calls.specs.Calls.{askNextRow, Entry, asking, Lent, workOnly, Call, callOf}
-use Rattle.calls.specs.Numbers.{callEarly, soundRefusal, callRefusal, refusalOf}
+use Rattle.calls.specs.Numbers.{callEarly, callRefusal, refusalOf}
 use Rattle.calls.specs.Steps.{acceptedBy, listsAfter, workAfter, World, bookedIn, Transition}
 use Rattle.calls.proofs.Choices.{or-both, both-or, unless-true}
 use Rattle.calls.proofs.Refusals.{row-facts}
-use Rattle.calls.proofs.Numbers.{sound-none}
+use Rattle.calls.proofs.Numbers.{sound-number}
 use Rattle.calls.proofs.Steps.{step-cases, accepted-step, taken-zero}
 use Rattle.history.specs.Runs.{Event, Run}
 use Rattle.history.specs.Statements.{heldRows, heldCount, heldParent, Consistent, plainOf}
@@ -105,8 +105,7 @@ next-passes u i j p x c a b h l =
     both-or (orElse (rowRefusal (n .m) i) (rowRefusal (n .m) j)) (roomFor (x .list) p 0)
     (both-or (rowRefusal (n .m) i) (rowRefusal (n .m) j) (ap isAccepted (unless-true (isIn 1 (n .m) i) 17 0 a)) (ap isAccepted (unless-true (isIn 1 (n .m) j) 17 0 b)))
     (ap isAccepted (unless-true (leb (p + 0) (length (x .list))) 18 0 (le-leb (p + 0) (length (x .list)) room))) in
-    both-or (callEarly n (u .tables) k) (orElse (soundRefusal (u .state) (u .tables) (k .entry)) (callRefusal n (bookedIn u) k)) early
-    (both-or (soundRefusal (u .state) (u .tables) (k .entry)) (callRefusal n (bookedIn u) k) (ap isAccepted (sound-none (u .state) (u .tables) (k .entry) (c .sound))) own)
+    ap isAccepted (sound-number (u .state) (u .tables) k (c .sound)) ∙ both-or (callEarly n (u .tables) k) (callRefusal n (bookedIn u) k) early own
 
 pub next-taken : NextTaken
 next-taken u e v i j p s q c a b h l =

@@ -1,6 +1,7 @@
 //! A second implementation, by the definition's words alone: which columns are live, the factor of them, what a batch reports, and by which number a call is
 //! turned down. It shares nothing with the library but the order of the tables' names.
 #![allow(dead_code)]
+pub mod early;
 pub mod meeting;
 pub mod random;
 pub mod sound;
