@@ -1,4 +1,4 @@
-/* A host of Nigvalds: opens a factor, adds and removes columns, asks, reads columns, is refused, and opens anew with limits of its own. */
+/* A host of Nigvalds: opens a factor, adds and removes columns, asks, reads columns, is refused, and opens anew with limits of its own and with F = 0. */
 #include <inttypes.h>
 #include <stdio.h>
 
@@ -7,6 +7,8 @@
 enum { M = 5, N = 8, F = 9, C = 16 };
 
 NIGVALDS_STATIC_TABLES(tables, M, N, F, C);
+NIGVALDS_STATIC_TABLES(fewer, M, N, 16u * M, C);
+NIGVALDS_STATIC_TABLES(enough, M, N, NIGVALDS_DEFAULT_RECORDS(M), C);
 
 /* Every column as the listing program shows it: j, parent, then row:multiplicity pairs. */
 static void show(nigvalds_factor factor) {
@@ -150,6 +152,17 @@ static void grade(uint32_t grade2, uint32_t grade3, uint32_t grade4, const uint3
     printf("%" PRIu32 " entries have grade %" PRIu32 "\n", a.entries, a.grade);
 }
 
+/* Opens with some F in other tables. */
+static void open_other(const nigvalds_tables *t, uint32_t f) {
+    nigvalds_opened o = nigvalds_open_in(t, M, N, f, C);
+    printf("open with F = %" PRIu32 " in tables for %zu: ", f, t->rows_length);
+    if (o.number != NIGVALDS_ACCEPTED) {
+        printf("no %" PRIu32 ", %s\n", o.number, nigvalds_refusal_text(o.number));
+        return;
+    }
+    printf("%" PRIu32 " records\n", o.factor.f);
+}
+
 int main(void) {
     nigvalds_opened o = nigvalds_open_in(&tables, M, N, F + 1, C);
     printf("open with a larger F: no %" PRIu32 ", %s\n", o.number, nigvalds_refusal_text(o.number));
@@ -185,5 +198,8 @@ int main(void) {
 
     grade(4, 8, 16, ids, counts, rows);
     grade(4, 4, 16, ids, counts, rows);
+    open_other(&fewer, 0);
+    open_other(&fewer, 16 * M);
+    open_other(&enough, 0);
     return 0;
 }

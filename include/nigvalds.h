@@ -46,7 +46,7 @@
 extern "C" {
 #endif
 
-#define NIGVALDS_VERSION "0.5.0"
+#define NIGVALDS_VERSION "0.6.0"
 
 /* ---- sizes */
 
@@ -57,8 +57,8 @@ extern "C" {
 #define NIGVALDS_MOST_COLUMNS 64u     /* columns in a batch, and rows that nigvalds_common is given */
 #define NIGVALDS_MOST_COLUMN_ROWS 256u /* rows in a column */
 
-/* F when an opening asks for 0. */
-#define NIGVALDS_DEFAULT_RECORDS(m) (16u * (m))
+/* F when an opening asks for 0. Tables of records with fewer places, or a work table with fewer than W for this F, are 5: a host that lends such names its F. */
+#define NIGVALDS_DEFAULT_RECORDS(m) (32u * (m))
 
 /* The first entries of grades 2, 3 and 4 when an opening asks for 0, 0 and 0. */
 #define NIGVALDS_DEFAULT_GRADE2 256u
@@ -181,9 +181,9 @@ typedef struct nigvalds_entry {
         size_t book_heads_length, const uint16_t *book_rows, size_t book_rows_length, const uint32_t *book_next, size_t book_next_length,           \
         uint32_t *work, size_t work_length
 
-/* Opens a fresh factor: writes all tables. f = 0 means 16 x m. From grade2, grade3 and grade4 entries on a batch's grade is 2, 3 and 4; these limits stay with
-   the factor until it is opened anew. The first must be at least 2, each above the one before; three zeros mean the default ones, which the record then holds.
-   Refusals 1 to 5 and 20. Cost: whole. */
+/* Opens a fresh factor: writes all tables. f = 0 means NIGVALDS_DEFAULT_RECORDS(m). From grade2, grade3 and grade4 entries on a batch's grade is 2, 3 and 4;
+   these limits stay with the factor until it is opened anew. The first must be at least 2, each above the one before; three zeros mean the default ones, which
+   the record then holds. Refusals 1 to 5 and 20. Cost: whole. */
 nigvalds_opened nigvalds_open(uint32_t m, uint32_t n, uint32_t f, uint32_t c, uint32_t grade2, uint32_t grade3, uint32_t grade4, NIGVALDS_WRITTEN_TABLES);
 
 /* Adds a batch: by position, each id enters with as many of the rows not yet used as its count says. touched receives the touched columns, rising, and labels

@@ -9,6 +9,8 @@ use std::collections::BTreeSet;
 const RUNS: u32 = 40;
 const LINES: u32 = 120;
 const ROUNDS: u32 = 20;
+/// Factor records for a run: few lines share runs of other regions, so columns stay short, and less to read through makes calls cheaper.
+const RECORDS_PER_RUN: u32 = 16;
 
 struct Line {
     runs: Vec<u32>,
@@ -52,7 +54,7 @@ struct System {
 
 impl System {
     fn open() -> Result<System, Refusal> {
-        let pattern = Factor::open(RUNS, LINES, 0, 4 * LINES)?;
+        let pattern = Factor::open(RUNS, LINES, RECORDS_PER_RUN * RUNS, 4 * LINES)?;
         let values = (1..=RUNS).map(|j| vec![(j, 1.0)]).collect();
         Ok(System { pattern, values, active: BTreeSet::new() })
     }

@@ -3,7 +3,7 @@
 use crate::ffi;
 pub use crate::ffi::{Changed, Found, Opened, Read, Record, Reply};
 
-/// The places of the work table.
+/// W, the places of the work table; f is F itself, not 0.
 pub fn work_places(m: u32, n: u32, f: u32, c: u32) -> usize {
     8 * m as usize + 4 * f as usize + c as usize + n as usize + 1024
 }
@@ -13,7 +13,7 @@ pub fn work_places(m: u32, n: u32, f: u32, c: u32) -> usize {
 /// ```
 /// # use nigvalds::{Factor, Limits};
 /// let limits = Limits { grade4: 100_000, ..Limits::default() };
-/// assert_eq!(Factor::open_with_limits(5, 8, 0, 16, limits)?.limits(), limits);
+/// assert_eq!(Factor::open_with_limits(5, 8, 80, 16, limits)?.limits(), limits);
 /// # Ok::<(), nigvalds::Refusal>(())
 /// ```
 #[derive(Clone, Copy, Debug, PartialEq, Eq, Hash)]
@@ -83,7 +83,7 @@ macro_rules! read {
 }
 
 impl Tables {
-    /// Tables of zeros with the places that these sizes need.
+    /// Tables of zeros with the places that these sizes need; f is F itself, not 0.
     pub fn for_sizes(m: u32, n: u32, f: u32, c: u32) -> Tables {
         let (m, n, f, c) = (m as usize, n as usize, f as usize, c as usize);
         Tables {
@@ -98,7 +98,7 @@ impl Tables {
         }
     }
 
-    /// Opens a fresh factor: writes all tables. f = 0 means 16 × m, three zeros for limits mean the default ones.
+    /// Opens a fresh factor: writes all tables. f = 0 means [`crate::Factor::RECORDS_PER_ROW`] × m, three zeros for limits mean the default ones.
     pub fn open(&mut self, m: u32, n: u32, f: u32, c: u32, limits: Limits, work: &mut [u32]) -> Opened {
         written!(self.heads, self.parents, self.rows, self.counts, self.next, self.book_heads, self.book_rows, self.book_next, work;
             nigvalds_open(m, n, f, c, limits.grade2, limits.grade3, limits.grade4))

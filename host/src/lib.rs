@@ -3,7 +3,7 @@
 //! A [`Factor`] owns its tables. Each call goes to the proved library, which reads the tables through first; what it refuses comes back as a [`Refusal`].
 //!
 //! ```
-//! let mut factor = nigvalds::Factor::open(5, 8, 0, 16)?;
+//! let mut factor = nigvalds::Factor::open(5, 8, 80, 16)?;
 //! let report = factor.add(&[(1, &[1, 3]), (2, &[1, 4]), (3, &[2, 3])])?;
 //! assert_eq!((report.touched, report.entries, report.grade), (&[1, 2, 3, 4][..], 8, 1));
 //! assert_eq!(factor.path(1)?.collect::<Vec<_>>(), [1, 3, 4]);
@@ -67,18 +67,27 @@ impl Factor {
     pub const MOST_RECORDS: u32 = 1048576;
     /// The largest C.
     pub const MOST_BOOKED: u32 = 262144;
+    /// F is so many times m where an opening asks for 0.
+    pub const RECORDS_PER_ROW: u32 = 32;
 
-    /// A fresh factor with the default limits of the grades; f = 0 means 16 × m.
+    /// A fresh factor with the default limits of the grades; f = 0 means [`Factor::RECORDS_PER_ROW`] × m.
+    ///
+    /// ```
+    /// # use nigvalds::Factor;
+    /// assert_eq!(Factor::open(5, 8, 80, 16)?.record().f, 80);
+    /// assert_eq!(Factor::open(5, 8, 0, 16)?.record().f, Factor::RECORDS_PER_ROW * 5);
+    /// # Ok::<(), nigvalds::Refusal>(())
+    /// ```
     pub fn open(m: u32, n: u32, f: u32, c: u32) -> Result<Factor, Refusal> {
         Factor::open_with_limits(m, n, f, c, Limits::default())
     }
 
     /// A fresh factor with these limits, which it keeps until it is opened anew; three zeros mean the default ones. Limits that break the rule are refused by
-    /// [`Refusal::Limits`]. f = 0 means 16 × m.
+    /// [`Refusal::Limits`]. f = 0 means [`Factor::RECORDS_PER_ROW`] × m.
     pub fn open_with_limits(m: u32, n: u32, f: u32, c: u32, limits: Limits) -> Result<Factor, Refusal> {
         let places = |x: u32, most: u32| x.min(most);
         let (rows, ids, booked) = (places(m, Self::MOST_ROWS), places(n, Self::MOST_IDS), places(c, Self::MOST_BOOKED));
-        let records = if f == 0 { 16 * rows } else { places(f, Self::MOST_RECORDS) };
+        let records = if f == 0 { Self::RECORDS_PER_ROW * rows } else { places(f, Self::MOST_RECORDS) };
         let mut factor = Factor {
             record: Record::default(),
             tables: Tables::for_sizes(rows, ids, records, booked),
@@ -90,8 +99,8 @@ impl Factor {
         Ok(factor)
     }
 
-    /// Opens anew in the tables there are, without a column and with the default limits. Where it is refused, for the sizes or since the tables are too short
-    /// for them, the factor stays.
+    /// Opens anew in the tables there are, without a column and with the default limits; f = 0 as in [`Factor::open`]. Where it is refused, for the sizes or
+    /// since the tables are too short for them, the factor stays.
     pub fn reopen(&mut self, m: u32, n: u32, f: u32, c: u32) -> Result<(), Refusal> {
         self.reopen_with_limits(m, n, f, c, Limits::default())
     }
@@ -140,7 +149,7 @@ impl Factor {
     /// for j + 1 gives j's parent. A row or column outside 1 to m is refused by [`Refusal::AskedOutside`].
     ///
     /// ```
-    /// # let mut factor = nigvalds::Factor::open(5, 8, 0, 16)?;
+    /// # let mut factor = nigvalds::Factor::open(5, 8, 80, 16)?;
     /// factor.add(&[(1, &[1, 3]), (2, &[1, 4]), (3, &[2, 3])])?; // column 1 has rows 1, 3 and 4
     /// assert_eq!(factor.next_row(2, 1)?, Some(nigvalds::Entry { row: 3, multiplicity: 1 }));
     /// assert_eq!(factor.next_row(5, 1)?, None);
@@ -179,7 +188,7 @@ impl Factor {
     /// outside 1 to m is refused by [`Refusal::AskedOutside`]. Each step reads all tables through; [`columns`](Factor::columns) is the cheap way.
     ///
     /// ```
-    /// # let mut factor = nigvalds::Factor::open(5, 8, 0, 16)?;
+    /// # let mut factor = nigvalds::Factor::open(5, 8, 80, 16)?;
     /// factor.add(&[(1, &[1, 3]), (2, &[1, 4]), (3, &[2, 3])])?;
     /// assert_eq!(factor.walk(1)?.map(|e| e.row).collect::<Vec<_>>(), [1, 3, 4]);
     /// assert_eq!(factor.walk(6).err(), Some(nigvalds::Refusal::AskedOutside));
@@ -192,7 +201,7 @@ impl Factor {
     /// The columns whose pattern holds row i, rising; the last is i itself. A row outside 1 to m is refused by [`Refusal::AskedOutside`].
     ///
     /// ```
-    /// # let mut factor = nigvalds::Factor::open(5, 8, 0, 16)?;
+    /// # let mut factor = nigvalds::Factor::open(5, 8, 80, 16)?;
     /// factor.add(&[(1, &[1, 3]), (2, &[1, 4]), (3, &[2, 3])])?;
     /// assert_eq!(factor.meets(4)?.collect::<Vec<_>>(), [1, 3, 4]);
     /// assert_eq!(factor.meets(6).err(), Some(nigvalds::Refusal::AskedOutside));
@@ -210,7 +219,7 @@ impl Factor {
     /// itself, and a row may be named again. No row or more than 64 are refused by [`Refusal::Shape`], then one outside 1 to m by [`Refusal::AskedOutside`].
     ///
     /// ```
-    /// # let mut factor = nigvalds::Factor::open(5, 8, 0, 16)?;
+    /// # let mut factor = nigvalds::Factor::open(5, 8, 80, 16)?;
     /// factor.add(&[(1, &[1, 3]), (2, &[1, 4]), (3, &[2, 3])])?; // paths 1 3 4 and 2 3 4; 5 is alone
     /// assert_eq!(factor.common(&[1, 2])?, Some(3));
     /// assert_eq!(factor.common(&[1, 5])?, None);

@@ -1,9 +1,10 @@
 //! The limits of the grades: which an opening takes and refuses, how long they stay, what a record with broken ones gives, and the grades read from them.
 mod model;
 
+use model::calls::every_call;
 use model::world::handed;
 use model::{grade, Limits, OLD_LIMITS};
-use nigvalds::lent::{work_places, Changed, Found, Opened, Record, Reply, Tables};
+use nigvalds::lent::{work_places, Opened, Record, Tables};
 use nigvalds::{Factor, Refusal};
 
 const MAX: u32 = u32::MAX;
@@ -94,13 +95,13 @@ fn order_of_refusals() {
 // A record with broken limits gives 6 in every call, and 20 in none; the first W places of the work table are zero then.
 #[test]
 fn broken_in_a_record() {
-    let factor = example(OWN);
+    let (factor, places) = (example(OWN), work_places(5, 8, 9, 16));
     for [grade2, grade3, grade4] in BROKEN.into_iter().chain([ZEROS]) {
         let record = Record { grade2, grade3, grade4, ..factor.record() };
-        every_call(record, factor.tables(), 6);
-        every_call(Record { m: 0, ..record }, factor.tables(), 1);
-        every_call(Record { c: 0, ..record }, factor.tables(), 4);
-        every_call(Record { m: 6, ..record }, factor.tables(), 5);
+        every_call(record, factor.tables(), places, 6);
+        every_call(Record { m: 0, ..record }, factor.tables(), places, 1);
+        every_call(Record { c: 0, ..record }, factor.tables(), places, 4);
+        every_call(Record { m: 6, ..record }, factor.tables(), places, 5);
     }
 }
 
@@ -112,57 +113,6 @@ fn others_in_a_record() {
     for [grade2, grade3, grade4] in TAKEN {
         let record = Record { grade2, grade3, grade4, ..factor.record() };
         assert_eq!(factor.tables().check(record, &mut work).number, 0);
-    }
-}
-
-// Everything that is lent to a call.
-#[derive(Clone, PartialEq)]
-struct Lent {
-    tables: Tables,
-    work: Vec<u32>,
-    touched: Vec<u16>,
-    labels: Vec<u16>,
-    list: Vec<u32>,
-}
-
-const CALLS: [fn(Record, &mut Lent) -> Reply; 9] = [
-    |r, x| x.tables.check(r, &mut x.work),
-    |r, x| nothing_found(x.tables.next_row(r, &mut x.work, 1, 1)),
-    |r, x| x.tables.parent(r, &mut x.work, 1),
-    |r, x| x.tables.path(r, &mut x.work, &mut x.list, 1, 0),
-    |r, x| x.tables.column(r, &mut x.work, &mut x.list, 1, 0),
-    |r, x| x.tables.meets(r, &mut x.work, &mut x.list, 1, 0),
-    |r, x| x.tables.common(r, &mut x.work, &[1]),
-    |r, x| number_alone(x.tables.add(r, &mut x.work, &mut x.touched, &mut x.labels, &[4], &[1], &[1]), r),
-    |r, x| number_alone(x.tables.remove(r, &mut x.work, &mut x.touched, &mut x.labels, &[1]), r),
-];
-
-// The answer of a refused question for the next row has nothing but a number.
-fn nothing_found(found: Found) -> Reply {
-    let number = found.number;
-    assert_eq!(found, Found { number, row: 0, multiplicity: 0 });
-    Reply { number, value: 0 }
-}
-
-// The answer of a refused batch has nothing but a number and the record that was given.
-fn number_alone(changed: Changed, record: Record) -> Reply {
-    let number = changed.number;
-    assert_eq!(changed, Changed { number, position: 0, touched: 0, entries: 0, grade: 0, record });
-    Reply { number, value: 0 }
-}
-
-// Every call gives this number, 1 to 6, and changes nothing but the work table.
-fn every_call(record: Record, tables: &Tables, number: u32) {
-    let places = work_places(5, 8, 9, 16);
-    let lent = Lent { tables: tables.clone(), work: vec![7; places + 3], touched: vec![5; 6], labels: vec![5; 6], list: vec![5; 20] };
-    let mut left = lent.clone();
-    if number == 6 {
-        left.work[..places].fill(0);
-    }
-    for call in CALLS {
-        let mut x = lent.clone();
-        assert_eq!(call(record, &mut x), Reply { number, value: 0 }, "{record:?}");
-        assert!(x == left);
     }
 }
 

@@ -20,6 +20,9 @@ fn sizes() {
         (0, 0, 0, 0, Refusal::Rows),
         (4097, 1, 4097, 1, Refusal::Rows),
         (u32::MAX, 1, 0, 1, Refusal::Rows),
+        (134217727, 1, 0, 1, Refusal::Rows),
+        (134217728, 1, 0, 1, Refusal::Rows),
+        (134217729, 1, 0, 1, Refusal::Rows),
         (1, 0, 0, 0, Refusal::Ids),
         (1, 16385, 1, 1, Refusal::Ids),
         (5, 1, 4, 0, Refusal::Records),
@@ -29,10 +32,8 @@ fn sizes() {
     ] {
         assert_eq!(Factor::open(m, n, f, c).unwrap_err(), refusal);
     }
-    assert_eq!(Factor::open(7, 1, 0, 1).unwrap().record().f, 112);
 }
 
-// Zero for F is 16 × m at an opening alone.
 #[test]
 fn sizes_in_a_record() {
     let factor = example();

@@ -5,3 +5,4 @@ pub mod Changes
 pub mod Order
 pub mod Steps
 pub mod Exchanges
+pub mod Openings

@@ -83,9 +83,9 @@ isChange (changing c) = true
 isChange checking = false
 isChange (asking q p) = false
 
--- "F .. at opening 0 means 16 × m"
+-- "Opening with F = 0 shall mean 32 × m"
 abbrev pub defaultRecords : (m : ℕ) → ℕ
-defaultRecords m = 16 * m
+defaultRecords m = 32 * m
 
 -- the sizes that an opening gets for those it asks
 abbrev pub withDefault : Sizes → Sizes

@@ -1,4 +1,5 @@
-// Fixed histories: the listed example with its refusals and questions, the removal in which an entry stays, paths that merge, batches of 64 columns.
+// Fixed histories: the listed example with its refusals and questions, the removal in which an entry stays, paths that merge, batches of 64 columns, and F
+// by default.
 ghost use Prim.Native.Nat.{_≤_};
 use crate::asked;
 use crate::pair::Pair;
@@ -98,7 +99,7 @@ fn merging(p: Pair) -> Pair {
 
 // ---- 64 columns
 
-// The ids 1 to 64.
+// The ids or rows 1 to 64.
 fn write_ids(list: &mut [u32; 64]) {
     let mut k: u32 = 0;
     while k < 64 {
@@ -166,6 +167,33 @@ fn many(p: Pair) -> Pair {
     remove_half(q, 1)
 }
 
+// ---- F by default
+
+// One column with the rows 1 to m of a list, which makes all entries that m rows can have.
+fn full(p: Pair, m: u32, f: u32, list: &[u32]) -> Pair {
+    let k = m as usize;
+    if list.len() < k {
+        return p;
+    }
+    let q = open(p, m, 1, f, m);
+    add(q, &[1], &[m], &list[..k])
+}
+
+// F = 0 is just enough for the 2,016 entries of 63 rows, and 32 too few for those of 64 rows; an F that is named is kept.
+fn filled(p: Pair, list: &[u32; 64]) -> Pair {
+    let mut q = full(p, 63, 0, list);
+    q = rows::asked(q, 10);
+    q = full(q, 64, 0, list);
+    q = full(q, 63, 1008, list);
+    full(q, 63, 2016, list)
+}
+
+fn by_default(p: Pair) -> Pair {
+    let mut list = [0u32; 64];
+    write_ids(&mut list);
+    filled(p, &list)
+}
+
 pub fn all(p: Pair) -> Pair {
     let mut q = unopened(p);
     q = listed(q);
@@ -174,5 +202,6 @@ pub fn all(p: Pair) -> Pair {
     q = removals(q);
     q = staying(q);
     q = merging(q);
-    many(q)
+    q = many(q);
+    by_default(q)
 }

@@ -189,8 +189,10 @@ pub fn open_with(p: Pair, m: u32, n: u32, f: u32, c: u32, three: Three) -> Pair 
     q.host = after;
     q.live = live;
     q.sizes = sizes;
-    let same = same::numbers(b"opening", opened.number, theirs.number);
-    compared(q, opened.number, same)
+    let record = after.factor;
+    let number = same::numbers(b"opening", opened.number, theirs.number);
+    let records = same::numbers(b"records", record.f, sizes.f);
+    compared(q, opened.number, number & records)
 }
 
 // Writes limits over those of both records, as no opening does where they break the rule.

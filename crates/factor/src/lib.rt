@@ -60,8 +60,8 @@ impl Factor {
     // The largest C.
     pub const MOST_BOOKED: u32 = 262144;
 
-    // A fresh factor: writes all tables. F = 0 means 16 × m. From grade2, grade3 and grade4 entries on a grade is 2, 3 and 4: the first is at least 2, each above
-    // the one before, or 20 refuses the opening; three zeros mean 256, 4,096 and 65,536.
+    // A fresh factor: writes all tables. F = 0 means as many records as `refusals::default_records` says. From grade2, grade3 and grade4 entries on a grade is 2, 3
+    // and 4: the first is at least 2, each above the one before, or 20 refuses the opening; three zeros mean 256, 4,096 and 65,536.
     pub fn open(
         m: u32,
         n: u32,

@@ -110,6 +110,9 @@ noRows = opened (record { m = 0; n = 8; f = 9; c = 16 }) (limitsOf 2 3 4) (answe
 abbrev noLimits : Event
 noLimits = opened askedSizes (limitsOf 2 2 3) (answered 20 0 0 0 0) workLent
 
+abbrev leftAt0 : Event
+leftAt0 = opened (record { m = 5; n = 8; f = 0; c = 16 }) (limitsOf 2 3 4) (answered 5 0 0 0 0) workLent
+
 abbrev twoRows : Event
 twoRows = opened lastSizes (limitsOf 2 3 4) (answered 0 0 0 0 0) (workLeft 1055)
 
@@ -242,6 +245,9 @@ no-rows-step = (refl, refl, refl)
 no-limits-step : Transition world5 (noLimits .call) (noLimits .answer) (noLimits .left) world5
 no-limits-step = (refl, refl, refl)
 
+left-at-0-step : Transition world5 (leftAt0 .call) (leftAt0 .answer) (leftAt0 .left) world5
+left-at-0-step = (refl, refl, refl)
+
 returned-step : Transition world5 (returned .call) (returned .answer) (returned .left) world6
 unfolding all any among noRepeats allZero same sumOf valuesAt rises upFrom startingWith childrenWith countsFrom firstAbove buildFrom patternFrom nonZero pathFrom sizeSum passing labelFrom labelled idsOf chainFrom lastOf chains columnsFrom holdsFrom batchOf rowsRefusal columnsRefusal
 returned-step = (refl, refl, returned-exchanged)
@@ -294,10 +300,10 @@ concrete-run =
       later-lists = refl;
       later-work = refl;
       later-shows = refl;
-      last-events = noRows ∷ noLimits ∷ returned ∷ twoRows ∷ filled ∷ emptied ∷ plainTwo ∷ refilled ∷ [];
+      last-events = noRows ∷ noLimits ∷ leftAt0 ∷ returned ∷ twoRows ∷ filled ∷ emptied ∷ plainTwo ∷ refilled ∷ [];
       reopened = full oldLimits;
       last-run =
-          (world5, (no-rows-step, (world5, (no-limits-step, (world6, (returned-step, (fresh (limitsOf 2 3 4), (two-rows-step, (full (limitsOf 2 3 4), (filled-step, (fresh (limitsOf 2 3 4), (emptied-step, (fresh oldLimits, (plain-two-step, (full oldLimits, (refilled-step, refl))))))))))))))));
+          (world5, (no-rows-step, (world5, (no-limits-step, (world5, (left-at-0-step, (world6, (returned-step, (fresh (limitsOf 2 3 4), (two-rows-step, (full (limitsOf 2 3 4), (filled-step, (fresh (limitsOf 2 3 4), (emptied-step, (fresh oldLimits, (plain-two-step, (full oldLimits, (refilled-step, refl))))))))))))))))));
       last-calls = refl;
       last-answers = refl;
       last-touched = refl;

@@ -10,7 +10,7 @@ use Rattle.symbolic.specs.NextRow.{firstFrom}
 use Rattle.symbolic.specs.Change.{idsOf, without, columnOf, columnsOf}
 use Rattle.calls.specs.Refusals.{batchOf, rowsRefusal, columnsRefusal, idsRefusal}
 use Rattle.calls.specs.Changes.{labelled}
-use Rattle.history.specs.Instances.{StarredInstances, NinthInstance, LimitInstances, MeetingInstances, NextInstances}
+use Rattle.history.specs.Instances.{StarredInstances, NinthInstance, LimitInstances, RecordInstances, MeetingInstances, NextInstances}
 
 pub starred-instances : StarredInstances
 unfolding any among sumOf upFrom startingWith childrenWith countsFrom firstAbove buildFrom patternFrom nonZero pathFrom sizeSum passing labelFrom labelled idsOf without columnOf columnsOf batchOf rowsRefusal columnsRefusal pairsOf
@@ -74,6 +74,23 @@ limit-instances =
       later-short = refl;
       later-123 = λ t. refl;
       later-233 = λ t. refl;
+    }
+
+pub record-instances : RecordInstances
+record-instances =
+    record {
+      default-1 = refl;
+      default-most = refl;
+      enough = refl;
+      one-short = refl;
+      work-short = refl;
+      left-at-0 = refl;
+      named-16 = refl;
+      rows-0 = refl;
+      rows-4097 = refl;
+      rows-most = refl;
+      rows-4096 = refl;
+      in-record = refl;
     }
 
 pub meeting-instances : MeetingInstances

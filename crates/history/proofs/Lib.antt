@@ -4,6 +4,7 @@ pub mod Counts
 pub mod Steps
 pub mod Asking
 pub mod Walking
+pub mod Openings
 pub mod Theorems
 pub mod ExampleWorlds
 pub mod Example

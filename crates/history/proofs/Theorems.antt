@@ -1,24 +1,25 @@
 -- The theorems about calls: a term of each statement of specs/Statements.antt but the example's. What is shown stands in Invariant.antt (what holds
--- between calls), Steps.antt (that each call keeps it, and answers by the register) and Asking.antt (what an accepted question answers on any tables).
+-- between calls), Steps.antt (that each call keeps it, and answers by the register), Openings.antt (the factor records of an opening), Asking.antt and
+-- Walking.antt (what an accepted question answers on any tables).
 -- Assumes nothing.
 use mathlib.Core.Path.{_≡_, refl, sym, subst}
 use mathlib.Core.Bool.{false}
-use mathlib.Core.List.{List, [], _∷_}
-use Prim.Native.Nat.{ℕ}
+use mathlib.Core.List.{[], _∷_}
 use Rattle.symbolic.specs.Grades.{Limits}
 use Rattle.tables.specs.Tables.{Sizes}
 use Rattle.calls.specs.Refusals.{accepted}
-use Rattle.calls.specs.Calls.{Entry, opening, changing, Lent, Call, callOf, isOpening}
+use Rattle.calls.specs.Calls.{Entry, opening, Lent, callOf, isOpening}
 use Rattle.calls.specs.Numbers.{callEarly}
 use Rattle.calls.specs.Steps.{Answer, World, Transition}
 use Rattle.calls.proofs.Choices.{or-both}
 use Rattle.calls.proofs.Numbers.{Ready, early-facts, Found, accepted-found}
 use Rattle.calls.proofs.Steps.{Accepted, step-taken, change-of}
 use Rattle.history.specs.Runs.{Run, Plain, plainAfter, Begun}
-use Rattle.history.specs.Statements.{Demand3, RunSplits, plainOf, AnySound, OpeningSound, MeetsStand, CommonLies}
+use Rattle.history.specs.Statements.{Demand3, RunSplits, plainOf, AnySound, OpeningSound, DefaultNamed, DefaultInRange, DefaultShort, LeftAtZero, NamedKept, ZeroRefused, MeetsStand, CommonLies}
 use Rattle.history.proofs.Invariant.{Inv, inv-found, inv-consistent, openedPlain, openedWorld, inv-opened}
 use Rattle.history.proofs.Steps.{inv-justified, inv-step, inv-run}
 use Rattle.history.specs.NextRow.{NextTaken, NextStands, NextIsParent, WalkIsColumn, WalkStays, WalkEnds}
+use Rattle.history.proofs.Openings.{default-named as named, default-in-range as in-range, default-short as short, left-at-zero as left, named-kept as kept, zero-refused as refused}
 use Rattle.history.proofs.Asking.{meets-filled, common-answered}
 use Rattle.history.proofs.Walking.{next-taken as taken, next-answered, parent-answered, walk-answered, walk-stays as stays, walk-ends as ends}
 
@@ -35,6 +36,26 @@ module _ (u : World) (l : Sizes) (g : Limits) (w : Lent) (a : Answer) (x : Lent)
 
 pub opening-sound : OpeningSound
 opening-sound u l g w a x v s n = opened-inv u l g w a x v s n .sound
+
+-- ---- the factor records of an opening
+
+pub default-named : DefaultNamed
+default-named = named
+
+pub default-in-range : DefaultInRange
+default-in-range = in-range
+
+pub default-short : DefaultShort
+default-short = short
+
+pub left-at-zero : LeftAtZero
+left-at-zero = left
+
+pub named-kept : NamedKept
+named-kept = kept
+
+pub zero-refused : ZeroRefused
+zero-refused = refused
 
 -- ---- a list of calls
 

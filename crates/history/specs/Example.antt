@@ -1,6 +1,6 @@
 -- Document 01's listed example, as calls: "open 5 8 9 16", "add 1 1 3", "add 2 1 4", "add 3 2 3", with one more addition among them that is refused; then
 -- a check, every question, with refused ones among them, and the removal of 2, which is case 4 of the instances; then openings with limits, refused ones,
--- after which the old ones grade on, and accepted ones; and what the listing shows of record and tables.
+-- one of them with F = 0, after which the old ones grade on, and accepted ones; and what the listing shows of record and tables.
 -- Assumes nothing: these are definitions.
 use mathlib.Core.List.{List, [], _∷_, _++_}
 use Prim.Native.Nat.{ℕ, zero, suc, _-_}
@@ -62,11 +62,12 @@ laterCalls =
 abbrev pub lastSizes : Sizes
 lastSizes = record { m = 2; n = 1; f = 3; c = 2 }
 
--- an opening that is refused, for its m; one that is refused, for its limits; an addition; an opening that is accepted, with limits; an addition and a removal;
--- an opening without limits, and the addition once more
+-- an opening that is refused, for its m; one for its limits; one for the tables, with F left at 0; an addition; an opening that is accepted, with limits; an
+-- addition and a removal; an opening without limits, and the addition once more
 abbrev pub lastCalls : List Call
 lastCalls =
-    openWith (record { m = 0; n = 8; f = 9; c = 16 }) (limitsOf 2 3 4) ∷ openWith askedSizes (limitsOf 2 2 3) ∷ change (add 4 (1 ∷ 4 ∷ [])) ∷
+    openWith (record { m = 0; n = 8; f = 9; c = 16 }) (limitsOf 2 3 4) ∷ openWith askedSizes (limitsOf 2 2 3) ∷
+    openWith (record { m = 5; n = 8; f = 0; c = 16 }) (limitsOf 2 3 4) ∷ change (add 4 (1 ∷ 4 ∷ [])) ∷
     openWith lastSizes (limitsOf 2 3 4) ∷ change (add 1 (1 ∷ 2 ∷ [])) ∷ change (removing (1 ∷ [])) ∷ openWith lastSizes (limitsOf 0 0 0) ∷
     change (add 1 (1 ∷ 2 ∷ [])) ∷ []
 
@@ -93,11 +94,11 @@ laterAnswers =
     answered 0 0 0 0 0 ∷ valued 3 ∷ valued 3 ∷ valuedAt 1 3 ∷ valuedAt 3 1 ∷ valuedAt 4 1 ∷ valuedAt 0 0 ∷ answered 17 0 0 0 0 ∷ valued 3 ∷ valued 3 ∷
     valued 3 ∷ valued 0 ∷ answered 7 0 0 0 0 ∷ answered 17 0 0 0 0 ∷ answered 18 0 0 0 0 ∷ answered 0 0 3 6 1 ∷ []
 
--- refused by 1 and by 20; six entries, still of grade 1; three entries after an addition and before a removal, of grade 3 by limits 2, 3 and 4; three entries,
+-- refused by 1, 20 and 5; six entries, still of grade 1; three entries after an addition and before a removal, of grade 3 by limits 2, 3 and 4; three entries,
 -- of grade 1 again
 abbrev pub lastAnswers : List Answer
 lastAnswers =
-    answered 1 0 0 0 0 ∷ answered 20 0 0 0 0 ∷ answered 0 0 3 6 1 ∷ answered 0 0 0 0 0 ∷ answered 0 0 2 3 3 ∷ answered 0 0 2 3 3 ∷ answered 0 0 0 0 0 ∷
+    answered 1 0 0 0 0 ∷ answered 20 0 0 0 0 ∷ answered 5 0 0 0 0 ∷ answered 0 0 3 6 1 ∷ answered 0 0 0 0 0 ∷ answered 0 0 2 3 3 ∷ answered 0 0 2 3 3 ∷ answered 0 0 0 0 0 ∷
     answered 0 0 2 3 1 ∷ []
 
 -- the lists for touched columns that the listed calls leave
@@ -121,24 +122,24 @@ abbrev pub laterLists : List (List ℕ)
 laterLists =
     [] ∷ (9 ∷ 1 ∷ 3 ∷ 4 ∷ 9 ∷ 9 ∷ []) ∷ (1 ∷ 3 ∷ 3 ∷ 1 ∷ 4 ∷ 1 ∷ []) ∷ [] ∷ [] ∷ [] ∷ [] ∷ [] ∷ [] ∷ (9 ∷ 9 ∷ 1 ∷ 3 ∷ 4 ∷ 9 ∷ []) ∷ [] ∷ [] ∷ [] ∷ listLent ∷ listLent ∷ [] ∷ []
 
--- the work table that calls leave: its first W places zero, the rest as lent; as lent under 1 and 20; W is 1,055 for two rows
+-- the work table that calls leave: its first W places zero, the rest as lent; as lent under 1, 20 and 5; W is 1,055 for two rows
 abbrev pub workLeft : (w : ℕ) → List ℕ
 workLeft w = replicate w 0 ++ replicate (1125 - w) 7
 
 -- the work tables that the last calls leave
 abbrev pub lastWork : List (List ℕ)
 lastWork =
-    workLent ∷ workLent ∷ workLeft 1124 ∷ workLeft 1055 ∷ workLeft 1055 ∷ workLeft 1055 ∷ workLeft 1055 ∷ workLeft 1055 ∷ []
+    workLent ∷ workLent ∷ workLent ∷ workLeft 1124 ∷ workLeft 1055 ∷ workLeft 1055 ∷ workLeft 1055 ∷ workLeft 1055 ∷ workLeft 1055 ∷ []
 
 -- the lists for touched columns that the last calls leave
 abbrev pub lastTouched : List (List ℕ)
 lastTouched =
-    [] ∷ [] ∷ (1 ∷ 3 ∷ 4 ∷ 9 ∷ 9 ∷ 9 ∷ []) ∷ [] ∷ (1 ∷ 2 ∷ 9 ∷ 9 ∷ 9 ∷ 9 ∷ []) ∷ (1 ∷ 2 ∷ 9 ∷ 9 ∷ 9 ∷ 9 ∷ []) ∷ [] ∷ (1 ∷ 2 ∷ 9 ∷ 9 ∷ 9 ∷ 9 ∷ []) ∷ []
+    [] ∷ [] ∷ [] ∷ (1 ∷ 3 ∷ 4 ∷ 9 ∷ 9 ∷ 9 ∷ []) ∷ [] ∷ (1 ∷ 2 ∷ 9 ∷ 9 ∷ 9 ∷ 9 ∷ []) ∷ (1 ∷ 2 ∷ 9 ∷ 9 ∷ 9 ∷ 9 ∷ []) ∷ [] ∷ (1 ∷ 2 ∷ 9 ∷ 9 ∷ 9 ∷ 9 ∷ []) ∷ []
 
 -- the lists for labels that the last calls leave
 abbrev pub lastLabels : List (List ℕ)
 lastLabels =
-    [] ∷ [] ∷ (1 ∷ 1 ∷ 1 ∷ 9 ∷ 9 ∷ 9 ∷ []) ∷ [] ∷ (1 ∷ 1 ∷ 9 ∷ 9 ∷ 9 ∷ 9 ∷ []) ∷ (1 ∷ 1 ∷ 9 ∷ 9 ∷ 9 ∷ 9 ∷ []) ∷ [] ∷ (1 ∷ 1 ∷ 9 ∷ 9 ∷ 9 ∷ 9 ∷ []) ∷ []
+    [] ∷ [] ∷ [] ∷ (1 ∷ 1 ∷ 1 ∷ 9 ∷ 9 ∷ 9 ∷ []) ∷ [] ∷ (1 ∷ 1 ∷ 9 ∷ 9 ∷ 9 ∷ 9 ∷ []) ∷ (1 ∷ 1 ∷ 9 ∷ 9 ∷ 9 ∷ 9 ∷ []) ∷ [] ∷ (1 ∷ 1 ∷ 9 ∷ 9 ∷ 9 ∷ 9 ∷ []) ∷ []
 
 -- the calls of a run
 unfoldable pub eventCalls : List Event → List Call

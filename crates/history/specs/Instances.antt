@@ -1,5 +1,5 @@
 -- Document 01's instances as one table, over the definitions that the entries' contracts cite: effect, factorFor, acceptedBy, touchedBy, labelsBy,
--- entriesBy, gradeOf, pathList, columnList; then instances of document 02's limits and questions. proofs/Instances.antt has the terms, by computing.
+-- entriesBy, gradeOf, pathList, columnList; then instances of document 02's limits, factor records and questions. proofs/Instances.antt has the terms, by computing.
 -- Assumes nothing: these are definitions.
 use mathlib.Core.Path.{_≡_}
 use mathlib.Core.List.{List, [], _∷_}
@@ -11,8 +11,8 @@ use Rattle.symbolic.specs.Factor.{factorFor, parentOf}
 use Rattle.symbolic.specs.Grades.{Limits, limitsOf, oldLimits, gradeOf}
 use Rattle.symbolic.specs.Meeting.{commonOf}
 use Rattle.tables.specs.Tables.{Tables, Sizes, State, sizesOf, tablesOf}
-use Rattle.calls.specs.Refusals.{Refusal, refusal, accepted}
-use Rattle.calls.specs.Calls.{Change, adding, removing, askNextRow, askParent, askMeets, askCommon, opening, changing, checking, asking, callOf, workOnly}
+use Rattle.calls.specs.Refusals.{Refusal, refusal, accepted, workFor}
+use Rattle.calls.specs.Calls.{Change, adding, removing, askNextRow, askParent, askMeets, askCommon, opening, changing, checking, asking, callOf, workOnly, withDefault}
 use Rattle.calls.specs.Changes.{effect, touchedBy, labelsBy, entriesBy, registerAfter}
 use Rattle.calls.specs.Questions.{pathList, columnList, meetsList}
 use Rattle.calls.specs.Numbers.{soundRefusal, askRefusal, refusalOf}
@@ -158,6 +158,41 @@ pub record LimitInstances : Type 0 where
   pub later-short : refusalOf (recordWith (limitsOf 0 0 0)) noTables (callOf checking (workOnly [])) ≡ refusal 5 0
   pub later-123 : (t : Tables) → soundRefusal (recordWith (limitsOf 1 2 3)) t checking ≡ refusal 6 0
   pub later-233 : (t : Tables) → soundRefusal (recordWith (limitsOf 2 3 3)) t checking ≡ refusal 6 0
+
+-- ---- factor records
+
+-- tables for one row, one id and one book record, with places for some factor records
+abbrev pub tablesFor : (places : ℕ) → Tables
+tablesFor p = tablesOf (0 ∷ []) (0 ∷ []) (replicate p 0) (replicate p 0) (replicate p 0) (0 ∷ []) (0 ∷ []) (0 ∷ [])
+
+-- a work table for as many
+abbrev pub workTable : (places : ℕ) → List ℕ
+workTable p = replicate (workFor (sizesOf 1 1 p 1)) 0
+
+-- the number of an opening with one row, one id, one book record and a given F, in tables and a work table for so many factor records
+abbrev pub openingIn : (places work f : ℕ) → Refusal
+openingIn p w f = refusalOf (recordWith oldLimits) (tablesFor p) (callOf (opening (sizesOf 1 1 f 1) (limitsOf 0 0 0)) (workOnly (workTable w)))
+
+-- what F = 0 means at an opening and in a record
+pub record RecordInstances : Type 0 where
+  -- "Opening with F = 0 shall mean 32 × m"
+  pub default-1 : withDefault (sizesOf 1 1 0 1) ≡ sizesOf 1 1 32 1
+  pub default-most : withDefault (sizesOf 4096 1 0 1) ≡ sizesOf 4096 1 131072 1
+  pub enough : openingIn 32 32 0 ≡ accepted
+  pub one-short : openingIn 31 32 0 ≡ refusal 5 0
+  pub work-short : openingIn 32 31 0 ≡ refusal 5 0
+  -- "Hosts that lent tables for 16 × m and left F at 0 would now get 5, so our planner will name 16 × m"
+  pub left-at-0 : openingIn 16 16 0 ≡ refusal 5 0
+  pub named-16 : openingIn 16 16 16 ≡ accepted
+  -- 1 comes first: an m out of range has no default that matters
+  pub rows-0 : openingBy (sizesOf 0 1 0 1) 0 0 0 ≡ refusal 1 0
+  pub rows-4097 : openingBy (sizesOf 4097 1 0 1) 0 0 0 ≡ refusal 1 0
+  pub rows-most : openingBy (sizesOf 4294967295 1 0 1) 0 0 0 ≡ refusal 1 0
+  -- the default of the largest m is in range
+  pub rows-4096 : openingBy (sizesOf 4096 1 0 1) 0 0 0 ≡ refusal 5 0
+  -- in a record 0 is 3, though the tables have the default's places
+  pub in-record :
+      refusalOf (record { sizes = sizesOf 1 1 0 1; limits = oldLimits; free = 0; bookFree = 0 }) (tablesFor 32) (callOf checking (workOnly (workTable 32))) ≡ refusal 3 0
 
 -- ---- the columns that meet a row, the common row of some rows
 

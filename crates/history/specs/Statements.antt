@@ -6,7 +6,7 @@ use mathlib.Core.Path.{_≡_}
 use mathlib.Core.Logic.{_⊎_, _≢_, _↔_}
 use mathlib.Core.Bool.{true, false, _||_}
 use mathlib.Core.List.{List, [], _∷_, _++_}
-use Prim.Native.Nat.{ℕ, _+_, _≤_, _<_, max}
+use Prim.Native.Nat.{ℕ, _+_, _*_, _≤_, _<_, max}
 use lib.Dec.{eqb}
 use lib.ListN.{length, take, drop}
 use Rattle.lists.specs.Lists.{pick, isIn, Mem, all, same, among, noRepeats, sumOf, at, valuesAt, rises}
@@ -15,14 +15,14 @@ use Rattle.symbolic.specs.Definition.{IsFactor, OnPath}
 use Rattle.symbolic.specs.Factor.{factorFor}
 use Rattle.symbolic.specs.Chains.{ChainTo}
 use Rattle.symbolic.specs.Change.{idsOf}
-use Rattle.symbolic.specs.Grades.{Limits, limitsOf, areLimits, gradeOf}
+use Rattle.symbolic.specs.Grades.{Limits, limitsOf, areLimits, limitsFor, gradeOf}
 use Rattle.symbolic.specs.Meeting.{IsCommon}
 use Rattle.book.specs.Book as book
 use Rattle.tables.specs.Stored.{recordsOf, holdsFrom}
-use Rattle.tables.specs.Tables.{Tables, Sizes, longEnough, storedIn, bookIn, isSound}
+use Rattle.tables.specs.Tables.{Tables, Sizes, sizesOf, longEnough, storedIn, bookIn, isSound}
 use Rattle.tables.specs.Stays.{ColumnStays, EntriesKeep, TailsStay}
-use Rattle.calls.specs.Refusals.{Refusal, accepted, isAccepted, orElse, bounds, sizesRefusal}
-use Rattle.calls.specs.Calls.{Change, adding, removing, askMeets, askCommon, opening, changing, asking, Lent, withWork, Call, callOf, isOpening, isChange}
+use Rattle.calls.specs.Refusals.{Refusal, refusal, accepted, isAccepted, orElse, bounds, sizesRefusal, shortRefusal}
+use Rattle.calls.specs.Calls.{Change, adding, removing, askMeets, askCommon, opening, changing, asking, Lent, withWork, Call, callOf, isOpening, isChange, defaultRecords}
 use Rattle.calls.specs.Changes.{effect, IsExchange}
 use Rattle.calls.specs.Numbers.{callEarly, callRefusal}
 use Rattle.calls.specs.Steps.{Answer, refusedBy, acceptedBy, listsAfter, workAfter, World, bookedIn, Transition}
@@ -190,6 +190,51 @@ OpeningSound =
     (u : World) (l : Sizes) (g : Limits) (w : Lent) (a : Answer) (x : Lent) (v : World) → Transition u (callOf (opening l g) w) a x v → a .number ≡ 0 →
     isSound (v .state) (v .tables) ≡ true
 
+-- ---- the factor records of an opening, on any tables
+
+-- "Opening with F = 0 shall mean" the default: number, answer, lists, record and tables are those of an opening that names so many records
+abbrev pub DefaultNamed : Type 0
+DefaultNamed =
+    (u : World) (m n c : ℕ) (g : Limits) (w : Lent) (a : Answer) (x : Lent) (v : World) →
+    Transition u (callOf (opening (sizesOf m n 0 c) g) w) a x v ↔ Transition u (callOf (opening (sizesOf m n (defaultRecords m) c) g) w) a x v
+
+-- m, n and C are in range, and the limits keep the rule
+pub record InOrder (m n c : ℕ) (g : Limits) : Type 0 where
+  pub rows : isIn 1 (bounds .m) m ≡ true
+  pub ids : isIn 1 (bounds .n) n ≡ true
+  pub booked : isIn 1 (bounds .c) c ≡ true
+  pub limits : areLimits (limitsFor g) ≡ true
+
+-- the default is in F's range for every m that is in its own: 3 never refuses an opening with F = 0
+abbrev pub DefaultInRange : Type 0
+DefaultInRange =
+    (u : World) (m n c : ℕ) (g : Limits) (w : Lent) (a : Answer) (x : Lent) (v : World) → Transition u (callOf (opening (sizesOf m n 0 c) g) w) a x v → a .number ≢ 3
+
+-- tables or a work table too short for the default give 5, and nothing lent changes
+abbrev pub DefaultShort : Type 0
+DefaultShort =
+    (u : World) (m n c : ℕ) (g : Limits) (w : Lent) (a : Answer) (x : Lent) (v : World) → Transition u (callOf (opening (sizesOf m n 0 c) g) w) a x v →
+    InOrder m n c g → isAccepted (shortRefusal (sizesOf m n (defaultRecords m) c) (u .tables) (w .work)) ≡ false →
+    (a ≡ refusedBy (refusal 5 0)) × (x ≡ w) × (v ≡ u)
+
+-- "Hosts that lent tables for 16 × m and left F at 0 would now get 5", also where only the table of rows has no more places
+abbrev pub LeftAtZero : Type 0
+LeftAtZero =
+    (u : World) (m n c : ℕ) (g : Limits) (w : Lent) (a : Answer) (x : Lent) (v : World) → Transition u (callOf (opening (sizesOf m n 0 c) g) w) a x v →
+    InOrder m n c g → length (u .tables .rows) ≤ 16 * m → (a ≡ refusedBy (refusal 5 0)) × (x ≡ w) × (v ≡ u)
+
+-- an F that is named is kept, below the default and above it
+abbrev pub NamedKept : Type 0
+NamedKept =
+    (u : World) (l : Sizes) (g : Limits) (w : Lent) (a : Answer) (x : Lent) (v : World) → Transition u (callOf (opening l g) w) a x v → a .number ≡ 0 →
+    l .f ≢ 0 → v .state .sizes ≡ l
+
+-- in a record 0 is outside F's range, as before: with m and n in theirs, every call but an opening is refused by 3, and nothing lent changes
+abbrev pub ZeroRefused : Type 0
+ZeroRefused =
+    (u : World) (k : Call) (a : Answer) (x : Lent) (v : World) → Transition u k a x v → isOpening (k .entry) ≡ false → isIn 1 (bounds .m) (u .state .sizes .m) ≡ true →
+    isIn 1 (bounds .n) (u .state .sizes .n) ≡ true → u .state .sizes .f ≡ 0 → (a ≡ refusedBy (refusal 3 0)) × (x ≡ k .lent) × (v ≡ u)
+
 -- ---- document 02's questions of a delivery run, on any tables: an accepted question has passed 1 to 6, so that they are sound is a conclusion here too
 
 -- "written as a path is, with the number of places filled": what fills the lent list from a place on
@@ -234,7 +279,7 @@ CommonLies =
     e .answer .number ≡ 0 → Consistent (plainOf u) u × (v ≡ u) × CommonJust u e rows
 
 -- ---- a run that is, so that nothing above is empty: the listed example, with a refused addition among the others; then a check, every question, refused
--- ones too, and a removal; then openings with limits, refused and accepted, and batches graded by them
+-- ones too, and a removal; then openings with limits, refused and accepted, one of them with F = 0, and batches graded by them
 
 -- the run, with its calls, answers, lists and listings as Example.antt has them
 pub record ConcreteRun : Type 0 where

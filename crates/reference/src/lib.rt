@@ -87,7 +87,7 @@ fn refused(number: usize, position: usize) -> Answer
     }
 }
 
-// An F of 0 means 16 * m.
+// An F of 0 means 32 * m.
 fn records_meant(m: usize, f: usize) -> usize {
     if f != 0 {
         return f;
@@ -95,7 +95,7 @@ fn records_meant(m: usize, f: usize) -> usize {
     if 4096 < m {
         return f;
     }
-    16 * m
+    32 * m
 }
 
 // Three zeros mean the old limits.

@@ -14,7 +14,7 @@ use Rattle.lists.specs.Lists.{isIn}
 use Rattle.lists.proofs.Tests.{lt-or-le, refute, in-range}
 use Rattle.tables.specs.Tables.{Tables, Sizes, longEnough, sizesOf}
 use Rattle.calls.specs.Refusals.{Refusal, refusal, Bounds, isAccepted, orElse, unless, bounds, sizesRefusal, workFor, shortRefusal, rowRefusal, roomFor}
-use Rattle.calls.specs.Calls.{withDefault}
+use Rattle.calls.specs.Calls.{withDefault, defaultRecords}
 use Rattle.calls.proofs.Choices.{or-first}
 use Rattle.refusals.specs.Early.{recordsFor, factorLong, bookLong, NoRoom}
 use Rattle.refusals.proofs.Tests.{below-not, is-out, is-in, unless-accepted, test-refusal}
@@ -127,9 +127,9 @@ row-refusal m i e = test-refusal (isIn 1 m i) 17 refl e
 pub room-refusal : (xs : List ℕ) (p n : ℕ) {x : Bool} → NoRoom (length xs) p n x → roomFor xs p n ≡ unless (not x) 18 0
 room-refusal xs p n e = test-refusal (leb (p + n) (length xs)) 18 refl (e xs refl)
 
--- an m that is allowed gets document 01's default
+-- an m that is allowed gets the default
 pub default-allowed : (m n f c : ℕ) → m ≤ 4096 → sizesOf m n (recordsFor m f) c ≡ withDefault (sizesOf m n f c)
-default-allowed m n f c h = rw (le-leb m 268435455 (omega arith)) refl
+default-allowed m n f c h = rw (le-leb (defaultRecords m) 4294967295 (omega arith)) refl
 
 -- the default changes no number: any other m is refused by 1
 pub default-refusal : (m n f c : ℕ) → sizesRefusal bounds (sizesOf m n (recordsFor m f) c) ≡ sizesRefusal bounds (withDefault (sizesOf m n f c))

@@ -17,9 +17,9 @@ use Rattle.refusals.specs.declared.limits.Limits.{Limits}
 abbrev pub largest : (m n f c : ℕ) → Bounds
 largest m n f c = record { m = m; n = n; f = f; c = c }
 
--- the records that an opening gets for those it asks, for an m whose 16 × m fits 32 bits; number 1 refuses any other, whatever F is
+-- the records that an opening gets for those it asks, for an m whose default fits 32 bits; number 1 refuses any other, whatever F is
 abbrev pub recordsFor : (m f : ℕ) → ℕ
-recordsFor m f = pick (leb m 268435455 && eqb f 0) (defaultRecords m) f
+recordsFor m f = pick (leb (defaultRecords m) 4294967295 && eqb f 0) (defaultRecords m) f
 
 -- limits, as the definitions have them
 abbrev pub limitsIn : Limits → symbolic.Limits

@@ -88,18 +88,19 @@ pub fn sizes(
     0
 }
 
-// The largest m whose 16 * m fits 32 bits; it is far beyond any that is allowed.
-const MOST_DEFAULTED: u32 = 268435455;
+// The records for each row where an opening asks for 0.
+const RECORDS_PER_ROW: u32 = 32;
 
-// The F of an opening: 16 * m where 0 is asked for and 16 * m fits.
+// The F of an opening: the default where 0 is asked for, else what is asked. Where the default does not fit 32 bits F stays 0, and m is far beyond any that is
+// allowed.
 pub fn default_records(m: u32, f: u32) -> u32
     ensures { λ r. ⌜ r ≡ recordsFor m f ⌝ }
 {
-    if MOST_DEFAULTED < m {
+    if 4294967295 / RECORDS_PER_ROW < m {
         return f;
     }
     if f == 0 {
-        return 16 * m;
+        return RECORDS_PER_ROW * m;
     }
     f
 }

@@ -13,6 +13,7 @@ pub fn each_early(t: &Tables, record: Record, refused: fn(&Tables, Record, usize
     refused(t, Record { m: 4097, ..record }, 0, 1);
     refused(t, Record { n: 16385, f: 4, ..record }, places, 2);
     refused(t, Record { f: 4, c: 0, ..record }, places, 3);
+    refused(t, Record { f: 0, ..record }, places, 3);
     refused(t, Record { c: 262145, ..record }, places, 4);
     refused(t, Record { m: 6, ..record }, places, 5);
     refused(t, record, places - 1, 5);

@@ -1,6 +1,7 @@
 //! A second implementation, by the definition's words alone: which columns are live, the factor of them, what a batch reports, and by which number a call is
 //! turned down. It shares nothing with the library but the order of the tables' names.
 #![allow(dead_code)]
+pub mod calls;
 pub mod early;
 pub mod meeting;
 pub mod random;
@@ -126,9 +127,9 @@ pub fn report(limits: Limits, factor: &[Pattern], starts: &[u32]) -> Report {
 /// Number and position.
 pub type Number = (u32, u32);
 
-/// The sizes that an opening gets for those it asks: F = 0 means 16 × m.
+/// The sizes that an opening gets for those it asks: F = 0 means 32 × m.
 pub fn sizes_for(asked: Sizes) -> Sizes {
-    let f = if asked.f == 0 { asked.m.saturating_mul(16) } else { asked.f };
+    let f = if asked.f == 0 { asked.m.saturating_mul(32) } else { asked.f };
     Sizes { f, ..asked }
 }
 

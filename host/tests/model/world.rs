@@ -40,8 +40,9 @@ fn narrow(list: Vec<u32>) -> Vec<u16> {
 }
 
 impl World {
-    /// Tables of any contents, opened.
-    pub fn open(s: Sizes, limits: Limits, random: &mut Random) -> World {
+    /// Tables of any contents, long enough for what is asked, opened.
+    pub fn open(asked: Sizes, limits: Limits, random: &mut Random) -> World {
+        let s = sizes_for(asked);
         let (m, n, f, c) = (s.m as usize + BEYOND, s.n as usize + BEYOND, s.f as usize + BEYOND, s.c as usize + BEYOND);
         let tables = Tables {
             heads: random.contents(m),
@@ -56,7 +57,7 @@ impl World {
         let work = random.contents(work_places(s.m, s.n, s.f, s.c) + BEYOND);
         let (touched, labels) = (narrow(random.contents(m)), narrow(random.contents(m)));
         let mut world = World { sizes: s, limits, live: Live::new(), record: Record::default(), tables, work, touched, labels };
-        assert_eq!(world.reopen(s, limits), 0);
+        assert_eq!(world.reopen(asked, limits), 0);
         world
     }
 
