@@ -169,7 +169,7 @@ tablesFor p = tablesOf (0 ∷ []) (0 ∷ []) (replicate p 0) (replicate p 0) (re
 abbrev pub workTable : (places : ℕ) → List ℕ
 workTable p = replicate (workFor (sizesOf 1 1 p 1)) 0
 
--- the number of an opening with one row, one id, one book record and a given F, in tables and a work table for so many factor records
+-- the number of an opening with one row, one id, one book record and a given F, in tables for some factor records and a work table for as many or others
 abbrev pub openingIn : (places work f : ℕ) → Refusal
 openingIn p w f = refusalOf (recordWith oldLimits) (tablesFor p) (callOf (opening (sizesOf 1 1 f 1) (limitsOf 0 0 0)) (workOnly (workTable w)))
 

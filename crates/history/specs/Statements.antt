@@ -210,14 +210,14 @@ abbrev pub DefaultInRange : Type 0
 DefaultInRange =
     (u : World) (m n c : ℕ) (g : Limits) (w : Lent) (a : Answer) (x : Lent) (v : World) → Transition u (callOf (opening (sizesOf m n 0 c) g) w) a x v → a .number ≢ 3
 
--- tables or a work table too short for the default give 5, and nothing lent changes
+-- where these are in order, tables or a work table too short for the default give 5, and nothing lent changes
 abbrev pub DefaultShort : Type 0
 DefaultShort =
     (u : World) (m n c : ℕ) (g : Limits) (w : Lent) (a : Answer) (x : Lent) (v : World) → Transition u (callOf (opening (sizesOf m n 0 c) g) w) a x v →
     InOrder m n c g → isAccepted (shortRefusal (sizesOf m n (defaultRecords m) c) (u .tables) (w .work)) ≡ false →
     (a ≡ refusedBy (refusal 5 0)) × (x ≡ w) × (v ≡ u)
 
--- "Hosts that lent tables for 16 × m and left F at 0 would now get 5", also where only the table of rows has no more places
+-- "Hosts that lent tables for 16 × m and left F at 0 would now get 5", where these are in order, also if only the table of rows has no more places
 abbrev pub LeftAtZero : Type 0
 LeftAtZero =
     (u : World) (m n c : ℕ) (g : Limits) (w : Lent) (a : Answer) (x : Lent) (v : World) → Transition u (callOf (opening (sizesOf m n 0 c) g) w) a x v →
@@ -279,7 +279,8 @@ CommonLies =
     e .answer .number ≡ 0 → Consistent (plainOf u) u × (v ≡ u) × CommonJust u e rows
 
 -- ---- a run that is, so that nothing above is empty: the listed example, with a refused addition among the others; then a check, every question, refused
--- ones too, and a removal; then openings with limits, refused and accepted, one of them with F = 0, and batches graded by them
+-- ones too, and a removal; then openings with limits, refused ones, one of these with F = 0, and accepted ones, and batches graded by
+-- them. (No run has a record with F = 0, which `ZeroRefused` is about: `in-record` of `RecordInstances` is one.)
 
 -- the run, with its calls, answers, lists and listings as Example.antt has them
 pub record ConcreteRun : Type 0 where

@@ -70,8 +70,8 @@ fn read_from(x: Entry) -> Read
     }
 }
 
-// Opens: a fresh factor from four sizes and three limits of grades, all tables written. F = 0 means the default, three zeros for the limits mean 256, 4,096 and
-// 65,536; limits that break the rule are refused by 20.
+// Opens: a fresh factor from four sizes and three limits of grades, all tables written. F = 0 means as many records as `refusals::default_records` says, three zeros
+// for the limits mean 256, 4,096 and 65,536; limits that break the rule are refused by 20.
 #[no_mangle]
 pub extern "C" fn nigvalds_open(
     m: u32,
