@@ -165,7 +165,7 @@ pub record LimitInstances : Type 0 where
 abbrev pub tablesFor : (places : ℕ) → Tables
 tablesFor p = tablesOf (0 ∷ []) (0 ∷ []) (replicate p 0) (replicate p 0) (replicate p 0) (0 ∷ []) (0 ∷ []) (0 ∷ [])
 
--- a work table for as many
+-- a work table for some factor records
 abbrev pub workTable : (places : ℕ) → List ℕ
 workTable p = replicate (workFor (sizesOf 1 1 p 1)) 0
 

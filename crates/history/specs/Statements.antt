@@ -198,17 +198,17 @@ DefaultNamed =
     (u : World) (m n c : ℕ) (g : Limits) (w : Lent) (a : Answer) (x : Lent) (v : World) →
     Transition u (callOf (opening (sizesOf m n 0 c) g) w) a x v ↔ Transition u (callOf (opening (sizesOf m n (defaultRecords m) c) g) w) a x v
 
+-- the default is in F's range for every m that is in its own: 3 never refuses an opening with F = 0
+abbrev pub DefaultInRange : Type 0
+DefaultInRange =
+    (u : World) (m n c : ℕ) (g : Limits) (w : Lent) (a : Answer) (x : Lent) (v : World) → Transition u (callOf (opening (sizesOf m n 0 c) g) w) a x v → a .number ≢ 3
+
 -- m, n and C are in range, and the limits keep the rule
 pub record InOrder (m n c : ℕ) (g : Limits) : Type 0 where
   pub rows : isIn 1 (bounds .m) m ≡ true
   pub ids : isIn 1 (bounds .n) n ≡ true
   pub booked : isIn 1 (bounds .c) c ≡ true
   pub limits : areLimits (limitsFor g) ≡ true
-
--- the default is in F's range for every m that is in its own: 3 never refuses an opening with F = 0
-abbrev pub DefaultInRange : Type 0
-DefaultInRange =
-    (u : World) (m n c : ℕ) (g : Limits) (w : Lent) (a : Answer) (x : Lent) (v : World) → Transition u (callOf (opening (sizesOf m n 0 c) g) w) a x v → a .number ≢ 3
 
 -- where these are in order, tables or a work table too short for the default give 5, and nothing lent changes
 abbrev pub DefaultShort : Type 0
