@@ -24,10 +24,10 @@ use Rattle.differences.specs.Gather.{Gathered}
 use Rattle.differences.specs.Count.{Counted}
 use Rattle.updown.specs.Entries.{Booked}
 use Rattle.updown.specs.Marks.{Room, marked}
-use Rattle.updown.specs.Children.{Steady}
+use Rattle.updown.proofs.Brought.{Steady}
 use Rattle.updown.specs.States.{startOf}
 use Rattle.updown.specs.Starts.{StartsTo, CanStart, BookHolds, CanMarkBooked}
-use Rattle.updown.proofs.Children.{bumps}
+use Rattle.updown.proofs.Gathering.{bumps}
 use Rattle.updown.proofs.Listing.{none, Fits, fits-at, starts-next, Counting, counting-steady, counting-here, counting-past}
 
 booked-length : (b : book.Book) (ids : List ℕ) (W : List Column) → Booked b ids W → length W ≡ length ids
@@ -183,8 +183,8 @@ module _ {heads rows next ids : List ℕ} {m flags : ℕ} {w₀ : List ℕ} {W :
       (starts-next s room-here (omega (arith, h, f .low)) (omega (arith, h, f .high))
       (λ p x y. let v : Fits m (getD W (p - 1) none) = booked-fits (c .holds) (p - 1) (omega arith) in (v .low, v .high)))
 
-module _ {heads rows next ids : List ℕ} {m : ℕ} {R W : List Column} {w₀ w : List ℕ} {n j k : ℕ} {place : ℕ → ℕ} (c : CanStart m R W false w₀ j place)
-    (h : BookHolds heads rows next ids m W) (t : Counting m R W false w₀ w n j k place) (l : k < length ids) where
+module _ {heads rows next ids : List ℕ} {m : ℕ} {R W : List Column} {w₀ w : List ℕ} {n j k : ℕ} (c : CanStart m R W false w₀ j)
+    (h : BookHolds heads rows next ids m W) (t : Counting m R W false w₀ w n j k) (l : k < length ids) where
   pub booked-steady : Steady m w n
   booked-steady = counting-steady c t (omega (arith, booked-size h))
 
@@ -201,12 +201,12 @@ module _ {heads rows next ids : List ℕ} {m : ℕ} {R W : List Column} {w₀ w 
       (omega (arith, rises-length 1 m (valuesAt rows (chain next (at heads (getD ids k 0)))) (omega arith) r)) o r)
 
   pub booked-here : {w₁ w₂ : List ℕ} {g n′ row : ℕ} → StartsAt heads rows (getD ids k 0) row → row ≡ j →
-      Gathered m w w₁ g (λ i. among i (valuesAt rows (chain next (at heads (getD ids k 0))))) → Counted m w₁ g false w₂ n′ → Counting m R W false w₀ w₂ n′ j (k + 1) place
+      Gathered m w w₁ g (λ i. among i (valuesAt rows (chain next (at heads (getD ids k 0))))) → Counted m w₁ g false w₂ n′ → Counting m R W false w₀ w₂ n′ j (k + 1)
   booked-here a e x y =
       counting-here c t (omega (arith, booked-size h)) (sym (booked-start h k l a) ∙ e)
       (bumps x false (holds (getD W k none)) (λ i p q. ap (λ (z : List ℕ). among i z) (sym (booked-rows h k l))) y)
 
-  pub booked-past : {row : ℕ} → StartsAt heads rows (getD ids k 0) row → row ≢ j → Counting m R W false w₀ w n j (k + 1) place
+  pub booked-past : {row : ℕ} → StartsAt heads rows (getD ids k 0) row → row ≢ j → Counting m R W false w₀ w n j (k + 1)
   booked-past a e = counting-past c t (omega (arith, booked-size h)) (λ x. e (booked-start h k l a ∙ x))
 
 pub part-length : (m : ℕ) (w : List ℕ) → 3 * m ≤ length w → length (take (3 * m - 2 * m) (drop (2 * m) w)) ≡ m

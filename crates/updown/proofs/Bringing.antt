@@ -1,18 +1,19 @@
--- What count_kept, count_with and count_without do with a done column, branch by branch, over the tables of their calls. Assumes nothing.
+-- What case_b, case_c and lost_child do with a done column, branch by branch, over the tables of their calls. Assumes nothing.
 use mathlib.Core.Path.{_≡_, sym, ap, _∙_, subst}
 use mathlib.Core.Bool.{Bool, true, false, _&&_, _||_, not}
 use mathlib.Core.List.{List}
 use Prim.Native.Nat.{ℕ, _-_, _*_, _≤_, _<_}
 use native.Mathlib.Omega.{arith}
 use lib.ListN.{length}
-use Rattle.lists.specs.Lists.{pick, at, among, valuesAt}
+use Rattle.lists.specs.Lists.{at, among, valuesAt}
 use Rattle.workspace.specs.Regions.{cell}
 use Rattle.pool.specs.Chains.{chain}
 use Rattle.differences.specs.Gather.{rowsOfKind, planPart, PlanRises, ChainRises, CanGrow, Gathered}
 use Rattle.differences.specs.Count.{Counted}
 use Rattle.updown.specs.Marks.{endAt}
-use Rattle.updown.specs.Children.{Steady, Bumps, Counts, PlanOf, ChainOf, oldOf, keptRow, wholeRow}
-use Rattle.updown.proofs.Children.{bumps, head-in, second-rises, second-test, old-facts, plan-rises, new-test, gone-test, grown-test, pruned-test, can-grow}
+use Rattle.updown.proofs.Brought.{Steady, Bumps, Counts, PlanOf, oldOf, keptRow, wholeRow}
+use Rattle.updown.specs.Walks.{ChainOf}
+use Rattle.updown.proofs.Gathering.{bumps, head-in, second-rises, second-test, old-facts, plan-rises, new-test, gone-test, grown-test, pruned-test, can-grow}
 
 -- ---- the rows of a chain from the second record on, by direction
 
@@ -40,16 +41,16 @@ plan-read {w} {m} {c} to e o = subst (λ (x : ℕ). PlanRises m w (cell w (4 * m
 
 module _ {w w₁ w₂ : List ℕ} {m c g l : ℕ} (to : ℕ) (e : to ≡ endAt m w c) where
   pub kept-up : (adding : Bool) → adding ≡ true → Gathered m w w₁ g (λ i. among i (rowsOfKind 1 (planPart m w (cell w (4 * m) (c - 1)) to))) → Counted m w₁ g true w₂ l →
-      (more less : List ℕ) → PlanOf w m c adding more less → Bumps m w w₂ l adding (keptRow more less)
-  kept-up adding z a b more less o =
+      {more less : List ℕ} → PlanOf w m c adding more less → Bumps m w w₂ l adding (keptRow more less)
+  kept-up adding z a b {more} {less} o =
       subst (λ (x : Bool). Bumps m w w₂ l x (keptRow more less)) (sym z)
       (bumps a true (keptRow more less) (λ i p q.
       ap (λ (x : ℕ). among i (rowsOfKind 1 (planPart m w (cell w (4 * m) (c - 1)) x))) e ∙
       new-test (subst (λ (x : Bool). PlanOf w m c x more less) z o) i p q) b)
 
   pub kept-down : (adding : Bool) → adding ≡ false → Gathered m w w₁ g (λ i. among i (rowsOfKind 2 (planPart m w (cell w (4 * m) (c - 1)) to))) → Counted m w₁ g false w₂ l →
-      (more less : List ℕ) → PlanOf w m c adding more less → Bumps m w w₂ l adding (keptRow more less)
-  kept-down adding z a b more less o =
+      {more less : List ℕ} → PlanOf w m c adding more less → Bumps m w w₂ l adding (keptRow more less)
+  kept-down adding z a b {more} {less} o =
       subst (λ (x : Bool). Bumps m w w₂ l x (keptRow more less)) (sym z)
       (bumps a false (keptRow more less) (λ i p q.
       ap (λ (x : ℕ). among i (rowsOfKind 2 (planPart m w (cell w (4 * m) (c - 1)) x))) e ∙
@@ -60,14 +61,14 @@ module _ {w w₁ w₂ : List ℕ} {m c g l : ℕ} (to : ℕ) (e : to ≡ endAt m
 module _ {heads rows next w : List ℕ} {m c : ℕ} (r : ℕ) (e : r ≡ at next (at heads c)) where
   -- the whole chain: with the batch when removing, without it when adding
   pub chain-down : {w₁ w₂ : List ℕ} {g l : ℕ} (adding : Bool) → adding ≡ false → Gathered m w w₁ g (λ i. among i (valuesAt rows (chain next r))) → Counted m w₁ g false w₂ l →
-      (more less : List ℕ) → PlanOf w m c adding more less → ChainOf heads rows next m c (oldOf adding more less) → Bumps m w w₂ l adding (wholeRow more c)
-  chain-down {w₂ = w₂} {l = l} adding z a b more less o h =
+      {more less : List ℕ} → PlanOf w m c adding more less → ChainOf heads rows next m c (oldOf adding more less) → Bumps m w w₂ l adding (wholeRow more c)
+  chain-down {w₂ = w₂} {l = l} adding z a b {more} {less} o h =
       subst (λ (x : Bool). Bumps m w w₂ l x (wholeRow more c)) (sym z)
       (bumps a false (wholeRow more c) (λ i p q. column-test (o .column) false (subst (λ (x : Bool). ChainOf heads rows next m c (oldOf x more less)) z h) r e i p q) b)
 
   pub chain-lost : {w₁ w₂ : List ℕ} {g l : ℕ} (adding : Bool) → adding ≡ true → Gathered m w w₁ g (λ i. among i (valuesAt rows (chain next r))) → Counted m w₁ g false w₂ l →
-      (more less : List ℕ) → PlanOf w m c adding more less → ChainOf heads rows next m c (oldOf adding more less) → Bumps m w w₂ l (not adding) (wholeRow less c)
-  chain-lost {w₂ = w₂} {l = l} adding z a b more less o h =
+      {more less : List ℕ} → PlanOf w m c adding more less → ChainOf heads rows next m c (oldOf adding more less) → Bumps m w w₂ l (not adding) (wholeRow less c)
+  chain-lost {w₂ = w₂} {l = l} adding z a b {more} {less} o h =
       subst (λ (x : Bool). Bumps m w w₂ l (not x) (wholeRow less c)) (sym z)
       (bumps a false (wholeRow less c) (λ i p q. column-test (o .column) true (subst (λ (x : Bool). ChainOf heads rows next m c (oldOf x more less)) z h) r e i p q) b)
 
@@ -82,8 +83,8 @@ module _ {heads rows next w : List ℕ} {m c : ℕ} (r : ℕ) (e : r ≡ at next
     -- the chain with the new rows
     pub grown-up : {w₁ w₂ : List ℕ} {g l : ℕ} (adding : Bool) → adding ≡ true →
         Gathered m w w₁ g (λ i. among i (valuesAt rows (chain next r)) || among i (rowsOfKind 1 (planPart m w (cell w (4 * m) (c - 1)) to))) → Counted m w₁ g true w₂ l →
-        (more less : List ℕ) → PlanOf w m c adding more less → ChainOf heads rows next m c (oldOf adding more less) → Bumps m w w₂ l adding (wholeRow more c)
-    grown-up {w₂ = w₂} {l = l} adding z a b more less o h =
+        {more less : List ℕ} → PlanOf w m c adding more less → ChainOf heads rows next m c (oldOf adding more less) → Bumps m w w₂ l adding (wholeRow more c)
+    grown-up {w₂ = w₂} {l = l} adding z a b {more} {less} o h =
         let o′ : PlanOf w m c true more less = subst (λ (x : Bool). PlanOf w m c x more less) z o in
         subst (λ (x : Bool). Bumps m w w₂ l x (wholeRow more c)) (sym z)
         (bumps a true (wholeRow more c) (λ i p q.
@@ -95,8 +96,8 @@ module _ {heads rows next w : List ℕ} {m c : ℕ} (r : ℕ) (e : r ≡ at next
     -- the chain without the gone rows
     pub pruned-up : {w₁ w₂ : List ℕ} {g l : ℕ} (adding : Bool) → adding ≡ false →
         Gathered m w w₁ g (λ i. among i (valuesAt rows (chain next r)) && not (among i (rowsOfKind 2 (planPart m w (cell w (4 * m) (c - 1)) to)))) → Counted m w₁ g true w₂ l →
-        (more less : List ℕ) → PlanOf w m c adding more less → ChainOf heads rows next m c (oldOf adding more less) → Bumps m w w₂ l (not adding) (wholeRow less c)
-    pruned-up {w₂ = w₂} {l = l} adding z a b more less o h =
+        {more less : List ℕ} → PlanOf w m c adding more less → ChainOf heads rows next m c (oldOf adding more less) → Bumps m w w₂ l (not adding) (wholeRow less c)
+    pruned-up {w₂ = w₂} {l = l} adding z a b {more} {less} o h =
         let o′ : PlanOf w m c false more less = subst (λ (x : Bool). PlanOf w m c x more less) z o in
         subst (λ (x : Bool). Bumps m w w₂ l (not x) (wholeRow less c)) (sym z)
         (bumps a true (wholeRow less c) (λ i p q.
@@ -104,12 +105,3 @@ module _ {heads rows next w : List ℕ} {m c : ℕ} (r : ℕ) (e : r ≡ at next
         (column-test (o .column) false (subst (λ (x : Bool). ChainOf heads rows next m c (oldOf x more less)) z h) r e i p q) ∙
         ap (λ (x : Bool). wholeRow more c i && not x) (ap (λ (x : ℕ). among i (rowsOfKind 2 (planPart m w (cell w (4 * m) (c - 1)) x))) d ∙ gone-test o′ i p q) ∙
         pruned-test (o .column) i p q) b)
-
--- ---- B or C
-
-module _ {m n : ℕ} {w w′ : List ℕ} {adding : Bool} (c : ℕ) (more less : List ℕ) (kept : Bool) where
-  pub child-kept : kept ≡ true → Bumps m w w′ n adding (keptRow more less) → Bumps m w w′ n adding (λ i. pick kept (keptRow more less i) (wholeRow more c i))
-  child-kept e b = subst (λ (z : Bool). Bumps m w w′ n adding (λ i. pick z (keptRow more less i) (wholeRow more c i))) (sym e) b
-
-  pub child-gained : kept ≡ false → Bumps m w w′ n adding (wholeRow more c) → Bumps m w w′ n adding (λ i. pick kept (keptRow more less i) (wholeRow more c i))
-  child-gained e b = subst (λ (z : Bool). Bumps m w w′ n adding (λ i. pick z (keptRow more less i) (wholeRow more c i))) (sym e) b

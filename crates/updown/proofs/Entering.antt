@@ -1,74 +1,68 @@
--- One turn of the loop over listed columns that enter, call by call; the walk's start, its end, and where it stops. Assumes nothing.
+-- A walk over listed columns that enter: its start, A at the next column, its end, and where it stops. Assumes nothing.
 use mathlib.Core.Path.{_≡_, sym, _∙_}
 use mathlib.Core.Logic.{_≢_}
 use mathlib.Core.Bool.{Bool, true, false, true≢false}
 use mathlib.Core.List.{List}
-use Prim.Native.Nat.{ℕ, _*_, _%_, _≤_}
-use native.Mathlib.Omega.{arith}
+use Prim.Native.Nat.{ℕ, suc, _*_, _%_, _≤_, _<_}
 use lib.ListN.{length}
 use Rattle.symbolic.specs.Columns.{Column}
+use Rattle.symbolic.specs.Factor.{sizeSum}
 use Rattle.pool.specs.Chains.{chain}
 use Rattle.updown.specs.Entries.{Listed}
-use Rattle.updown.specs.Marks.{Room, markAt, Flagged, Next, begun}
-use Rattle.updown.specs.Turns.{standing}
-use Rattle.updown.specs.States.{startOf, Setting, Turning, SomeTurning, Turned}
+use Rattle.updown.specs.Marks.{markAt, Taken}
+use Rattle.updown.specs.Turns.{larger}
+use Rattle.updown.specs.States.{startOf, Between, Halted}
 use Rattle.updown.specs.Starts.{CanStart, Started, SomeStart, CanEnter, Entered}
-use Rattle.updown.proofs.Seeking.{Seeking, seeking-next, seeking-begun, seeking-start, seeking-bits, turning-from, seeking-on, seeking-flags}
-use Rattle.updown.proofs.Leaving.{between-start}
+use Rattle.updown.proofs.Turned.{Turning, Turned}
+use Rattle.updown.proofs.Seeking.{between-start, taken-none, taken-begun, seeking-start, seeking-bits, turning-from}
 use Rattle.updown.proofs.Exceeding.{sizes-exceed}
+
+-- at the loop's test: all columns so far have free records, or the walk stopped
+pub record Entering (next work₀ work : List ℕ) (m flags free : ℕ) (R W : List Column) (fits : Bool) (first last count entries used avail : ℕ) : Type 0 where
+  pub onward : fits ≡ true → Between next work₀ work m flags R W true free (suc last) first last count entries used avail
+  pub halted : fits ≡ false → Halted m flags work₀ work used × (length next < sizeSum (larger m R W))
+
+-- stopped
+pub enter-stops : {next work₀ w : List ℕ} {m flags free : ℕ} {R W : List Column} {ok : Bool} {f l n k used avail : ℕ} → Entering next work₀ w m flags free R W ok f l n k used avail → ok ≡ false →
+    Entered next work₀ w m flags free R W ok f l n k used avail
+enter-stops h x = record { made = λ y. absurd (true≢false (sym y ∙ x)); halted = h .halted }
 
 module _ {heads parents rows counts next row-counts row-list : List ℕ} {m flags free : ℕ} {R W : List Column} {work₀ start : List ℕ}
     (c : CanEnter heads parents rows counts next work₀ start row-counts row-list m flags free R W) where
   abbrev F : ℕ
   F = length (chain next free)
 
-  pub enter-begin : {r : ℕ} → Next m start 0 r → Seeking next work₀ start m flags R W true F r 0 0 0 0 0 free
-  enter-begin n = seeking-next {j = 1} (between-start free (c .walking) (c .linked)) n
+  pub enter-begin : {ok : Bool} {f l n k used avail : ℕ} → (ok ≡ true) × (f ≡ 0) × (l ≡ 0) × (n ≡ 0) × (k ≡ 0) × (used ≡ 0) × (avail ≡ free) →
+      Entering next work₀ start m flags F R W ok f l n k used avail
+  enter-begin e = record { onward = λ _. between-start free e (c .walking) (c .linked); halted = λ x. absurd (true≢false (sym (e .0) ∙ x)) }
 
-  pub enter-first : Room m flags start × Flagged m flags start 0
-  enter-first = (c .walking .room, c .walking .flagged)
+  module _ {w : List ℕ} {ok : Bool} {f l n k used avail : ℕ} (g : Entering next work₀ w m flags F R W ok f l n k used avail) (y : ok ≡ true) {wb : List ℕ} {j : ℕ} (t : Taken m w wb l used j) where
+    abbrev h : Between next work₀ w m flags R W true F (suc l) f l n k used avail
+    h = g .onward y
 
-  pub enter-end : {w : List ℕ} {j f l n k used avail : ℕ} {fits : Bool} → Seeking next work₀ w m flags R W true F j f l n k used avail → fits ≡ true → j ≡ 0 →
-      Entered next work₀ w m flags F R W fits f l n k used avail
-  enter-end h ok z = record { made = λ _. h .ended z; halted = λ x. absurd (true≢false (sym ok ∙ x)) }
+    -- no row is marked any more
+    pub enter-ends : j ≡ 0 → Entered next work₀ wb m flags F R W ok f l n k used avail
+    enter-ends z = record { made = λ _. taken-none h t z; halted = λ x. absurd (true≢false (sym y ∙ x)) }
 
-  module _ {w : List ℕ} {j f l n k used avail : ℕ} (h : Seeking next work₀ w m flags R W true F j f l n k used avail) (z : j ≢ 0) {wb : List ℕ} (e : wb ≡ begun m w l j used) where
-    can-start : CanStart m R W true wb j (standing m R W j)
-    can-start = seeking-start (c .setting) h z e (c .fits)
+    module _ (z : j ≢ 0) where
+      can-start : CanStart m R W true wb j × (4 * m ≤ length wb)
+      can-start = seeking-start (c .setting) h t z (c .fits)
 
-    pub enter-start : SomeStart row-counts row-list m wb j × (4 * m ≤ length wb)
-    enter-start = (
-      record { R = R; W = W; place = standing m R W j; listed = c .listed; can = can-start },
-      omega (arith, seeking-begun (c .setting) h z e .room .low, seeking-begun (c .setting) h z e .room .long),
-    )
+      pub enter-start : SomeStart row-counts row-list m wb j × (4 * m ≤ length wb)
+      enter-start = (record { R = R; W = W; listed = c .listed; can = can-start .0 }, can-start .1)
 
-    module _ {wa : List ℕ} {d : ℕ} (a : (R W : List Column) (place : ℕ → ℕ) → Listed row-counts row-list W → CanStart m R W true wb j place →
-        ((i : ℕ) → 1 ≤ i → i ≤ length W → startOf W i ≡ j → markAt m wb j % 4 ≡ 2) → Started m R W true wb wa d j place) where
-      turning : Turning next work₀ wa m flags R W true F d j f l n k used avail
-      turning = turning-from (c .setting) h z e (a R W (standing m R W j) (c .listed) can-start (seeking-bits (c .setting) h z e))
+      pub enter-turning : {wa : List ℕ} {d : ℕ} → ((R W : List Column) → Listed row-counts row-list W → CanStart m R W true wb j →
+          ((i : ℕ) → 1 ≤ i → i ≤ length W → startOf W i ≡ j → markAt m wb j % 4 ≡ 2) → Started m R W true wb wa d j) → Turning next work₀ wa m flags R W true F d j f l n k used avail
+      enter-turning a = turning-from (c .setting) h t z (a R W (c .listed) (can-start .0) (seeking-bits (c .setting) h t z))
 
-      pub enter-turning : SomeTurning heads parents rows counts next wa m flags true d j f l n k used avail
-      enter-turning = record { R = R; W = W; free = F; work₀ = work₀; setting = c .setting; turning = turning }
-
-      module _ {w₂ : List ℕ} {fits : Bool} {f′ l′ n′ k′ used′ avail′ : ℕ} (t : (R W : List Column) (free : ℕ) (work₀ : List ℕ) →
-          Setting heads parents rows counts next m flags R W true free → Turning next work₀ wa m flags R W true free d j f l n k used avail →
-          Turned next work₀ w₂ m flags R W true free j avail fits f′ l′ n′ k′ used′ avail′) where
-        turned : Turned next work₀ w₂ m flags R W true F j avail fits f′ l′ n′ k′ used′ avail′
-        turned = t R W F work₀ (c .setting) turning
-
-        pub enter-flags : fits ≡ true → Room m flags w₂ × Flagged m flags w₂ j
-        enter-flags ok = seeking-flags (c .setting) h z turned ok
-
-        pub enter-on : fits ≡ true → {r : ℕ} → Next m w₂ j r → Seeking next work₀ w₂ m flags R W true F r f′ l′ n′ k′ used′ avail′
-        enter-on ok x = seeking-on (c .setting) h z turned ok x
-
-        pub enter-stops : fits ≡ false → Entered next work₀ w₂ m flags F R W fits f′ l′ n′ k′ used′ avail′
-        enter-stops bad =
-            record {
-              made = λ x. absurd (true≢false (sym x ∙ bad));
-              halted = λ _. (
-                turned .halted bad,
-                sizes-exceed (c .size) j (h .marked z .0) (h .marked z .1) (c .setting .columns .narrow) (c .setting .columns .few) (seeking-begun (c .setting) h z e .touched)
-                    (turning .numbers) (sym (turned .fits-is) ∙ bad),
-              );
-            }
+      pub enter-on : {wa w₂ : List ℕ} {d : ℕ} {ok′ : Bool} {f′ l′ n′ k′ used′ avail′ : ℕ} → Turning next work₀ wa m flags R W true F d j f l n k used avail →
+          Turned next work₀ w₂ m flags R W true F j avail ok′ f′ l′ n′ k′ used′ avail′ → Entering next work₀ w₂ m flags F R W ok′ f′ l′ n′ k′ used′ avail′
+      enter-on a d =
+          let b = taken-begun (c .setting) h t z in
+          record {
+            onward = d .onward;
+            halted = λ x. (
+              d .halted x,
+              sizes-exceed (c .size) j (b .low) (b .high) (c .setting .columns .narrow) (c .setting .columns .few) (b .touched) (a .numbers) (sym (d .fits-is) ∙ x),
+            );
+          }

@@ -12,11 +12,12 @@ use Rattle.workspace.specs.Regions.{Outside, cleared}
 use Rattle.workspace.proofs.Regions.{table-ext, place-cases, zero-at, cleared-length, cleared-zero, cleared-outside}
 use Rattle.emission.specs.declared.Emission.{Emission}
 use Rattle.updown.specs.Turns.{larger, done}
-use Rattle.updown.specs.States.{Busy, differs, plans, marks, queues, flagged, Begun, Planned, Halted}
+use Rattle.updown.specs.States.{Busy, differs, plans, marks, queues, flagged, Halted}
+use Rattle.updown.proofs.Worked.{Begun, Worked}
 use Rattle.updown.proofs.Plans.{in-touched}
 
 module _ {next : List ℕ} {m flags : ℕ} {R W : List Column} {adding : Bool} {work₀ w w₁ : List ℕ} {j used avail : ℕ} {e : Emission}
-    (b : Begun m flags R W adding work₀ w j used) (d : Planned next w w₁ m R W adding j used avail e) (fit : 8 * m + length next ≤ flags) where
+    (b : Begun m flags R W adding work₀ w j used) (d : Worked next w w₁ m R W adding j used avail e) (fit : 8 * m + length next ≤ flags) where
   -- such a place is not busy before the turn
   idle : (k : ℕ) → 8 * m + e .used ≤ k → Outside flags 64 k → Busy m flags used (done m R W (suc j)) j k → ⊥
   idle k h o (differs x) = omega arith

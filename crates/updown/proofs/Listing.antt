@@ -2,36 +2,31 @@
 -- (`counting-here`, `counting-past`). Assumes nothing.
 use mathlib.Core.Path.{_≡_, refl, sym, ap, _∙_, subst}
 use mathlib.Core.Logic.{inl, inr, _≢_}
-use mathlib.Core.Bool.{Bool, true, false, _&&_}
-use mathlib.Core.List.{List, [], _∷_, _++_, append-nil}
-use Prim.Native.Nat.{ℕ, suc, _+_, _-_, _*_, _/_, _%_, _≤_, _<_}
+use mathlib.Core.Bool.{Bool, true, false}
+use mathlib.Core.List.{List, [], _∷_}
+use Prim.Native.Nat.{ℕ, zero, suc, _+_, _-_, _*_, _/_, _%_, _≤_, _<_}
 use native.Mathlib.Omega.{arith}
 use native.Mathlib.Numerals.{add-one}
-use lib.Dec.{eqb}
-use lib.ListN.{length, getD, take, drop, set, length-take, length-drop, length-set, length-append}
-use lib.Seq.{drop-cons, take-all, take-suc, drop-drop, getD-take, getD-drop, getD-set-same, getD-set-other}
-use borrow.Author.Tests.{eq-eqb, ne-eqb}
-use Rattle.lists.specs.Lists.{one, isIn, among, rises, all, first}
+use lib.ListN.{length, getD, take, drop, set, length-take, length-drop, length-set}
+use lib.Seq.{drop-cons, drop-drop, getD-take, getD-drop, getD-set-same, getD-set-other}
+use Rattle.lists.specs.Lists.{isIn, among, rises, all, first}
 use Rattle.lists.proofs.Tests.{eq-or-ne, and-both, in-range, refute}
 use Rattle.lists.proofs.Member.{all-at, place-mem, among-mem}
 use Rattle.lists.proofs.Rising.{rises-in, rises-first}
-use Rattle.symbolic.specs.Columns.{Column, smallest, holds, startingWith}
-use Rattle.symbolic.specs.Factor.{multiplicity}
-use Rattle.symbolic.proofs.Columns.{starts-append, starts-le}
-use Rattle.differences.specs.Tally.{differenceAt}
+use Rattle.symbolic.specs.Columns.{Column, smallest, holds}
 use Rattle.workspace.specs.Regions.{IsZero, OnlyIn}
 use Rattle.workspace.proofs.Regions.{only-refl, only-trans}
 use Rattle.book.specs.Book as book
 use Rattle.updown.specs.Entries.{Listed}
 use Rattle.updown.specs.Marks.{Room, markAt, flagAt, marked}
-use Rattle.updown.specs.Children.{Steady, Bumps}
-use Rattle.updown.specs.Turns.{smaller, Tallied, soFar, Shift}
+use Rattle.updown.proofs.Brought.{Steady, Bumps}
+use Rattle.updown.specs.SoFar.{nobody, SoFar}
 use Rattle.updown.specs.States.{startOf}
 use Rattle.updown.specs.Starts.{StartsTo, CanMark, CanStart, Started}
 use Rattle.differences.specs.Gather.{CanGather, Gathered}
 use Rattle.differences.specs.Count.{Counted}
-use Rattle.updown.proofs.Children.{can-gather, bumps}
-use Rattle.updown.proofs.Tallying.{tallied-column, tallied-steady}
+use Rattle.updown.proofs.Gathering.{can-gather, bumps}
+use Rattle.updown.proofs.SoFar.{so-far-column, so-far-past, so-far-all, so-far-steady}
 
 abbrev pub none : Column
 none = record { id = 0; rows = [] }
@@ -193,68 +188,47 @@ module _ {m flags : ℕ} {W : List Column} {w₀ w : List ℕ} {k : ℕ} (s : St
       older : (p : ℕ) → 1 ≤ p → p ≤ k + 1 → startOf W p ≢ q₀ → p ≤ k
       older p x y e = elim (eq-or-ne p (k + 1)) [ inl z ↦ absurd (e (ap (startOf W) z)) | inr z ↦ omega arith ]
 
--- ---- starts counted
+-- ---- A: batch columns handled
 
-pub tallied-ext : {m : ℕ} {R W : List Column} {adding : Bool} {w : List ℕ} {n j : ℕ} {s s′ : ℕ → ℕ} {place : ℕ → ℕ} → ((i : ℕ) → s′ i ≡ s i) → Tallied m R W adding w n j s place →
-    Tallied m R W adding w n j s′ place
-tallied-ext {m} {R} {W} {adding} {w} {n} {j} {s} {s′} {place} e t =
-    record {
-      tally = t .tally;
-      shifts = λ i x y. subst (λ (v : ℕ). Shift adding (differenceAt w i) (multiplicity (smaller m R) i j) (soFar m R W j place v i)) (sym (e i)) (t .shifts i x y);
-      still = t .still;
-    }
-
--- one column more
-pub starting-more : (j i : ℕ) (R W : List Column) (k : ℕ) → k < length W →
-    startingWith j i (R ++ take (k + 1) W) ≡ startingWith j i (R ++ take k W) + one (eqb (smallest (getD W k none)) j && holds (getD W k none) i)
-unfolding startingWith
-starting-more j i R W k l =
-    let e : take (k + 1) W ≡ take k W ++ (getD W k none ∷ []) = ap (λ (x : ℕ). take x W) (add-one k) ∙ take-suc W k none l in
-    omega (
-      arith,
-      ap (λ (x : List Column). startingWith j i (R ++ x)) e,
-      starts-append j i R (take k W ++ (getD W k none ∷ [])),
-      starts-append j i (take k W) (getD W k none ∷ []),
-      starts-append j i R (take k W),
-    )
-
-pub record Counting (m : ℕ) (R W : List Column) (adding : Bool) (w₀ w : List ℕ) (n j k : ℕ) (place : ℕ → ℕ) : Type 0 where
-  pub tallied : Tallied m R W adding w n j (λ i. startingWith j i (R ++ take k W)) place
+pub record Counting (m : ℕ) (R W : List Column) (adding : Bool) (w₀ w : List ℕ) (n j k : ℕ) : Type 0 where
+  pub so-far : SoFar m R W adding w n j k nobody
   pub only : OnlyIn 0 (3 * m) w₀ w
 
-pub counting-start : {m : ℕ} {R W : List Column} {adding : Bool} {w : List ℕ} {j : ℕ} {place : ℕ → ℕ} → CanStart m R W adding w j place → Counting m R W adding w w 0 j 0 place
-counting-start {R = R} {W} {j = j} c =
-    record { tallied = tallied-ext (λ i. ap (startingWith j i) (append-nil R)) (c .tallied); only = only-refl }
+pub counting-start : {m : ℕ} {R W : List Column} {adding : Bool} {w : List ℕ} {j : ℕ} → CanStart m R W adding w j → Counting m R W adding w w 0 j 0
+counting-start c = record { so-far = c .so-far; only = only-refl }
 
-module _ {m : ℕ} {R W : List Column} {adding : Bool} {w₀ w : List ℕ} {n j k : ℕ} {place : ℕ → ℕ} (c : CanStart m R W adding w₀ j place) (t : Counting m R W adding w₀ w n j k place)
+module _ {m : ℕ} {R W : List Column} {adding : Bool} {w₀ w : List ℕ} {n j k : ℕ} (c : CanStart m R W adding w₀ j) (t : Counting m R W adding w₀ w n j k)
     (l : k < length W) where
   pub counting-steady : Steady m w n
-  counting-steady =
-      tallied-steady m R W adding j (c .low) (c .high) (t .tallied) (c .narrow) (c .few)
-      (λ i. omega (arith, starts-le j i (R ++ take k W), length-append R (take k W), length-take k W))
+  counting-steady = so-far-steady m R W adding j (c .low) (c .high) (t .so-far) (c .narrow) (c .few)
 
-  -- A: it starts here
-  pub counting-here : {w′ : List ℕ} {n′ : ℕ} → smallest (getD W k none) ≡ j → Bumps m w w′ n′ adding (holds (getD W k none)) → Counting m R W adding w₀ w′ n′ j (k + 1) place
+  -- it starts here
+  pub counting-here : {w′ : List ℕ} {n′ : ℕ} → smallest (getD W k none) ≡ j → Bumps m w w′ n′ adding (holds (getD W k none)) → Counting m R W adding w₀ w′ n′ j (k + 1)
   counting-here {w′} {n′} e b =
-      let f : Fits m (getD W k none) = fits-at m W (c .fits) k l in
       record {
-        tallied = tallied-column m R W adding j (c .low) (c .high) (holds (getD W k none)) (t .tallied) b (λ i x y. rows-above m (getD W k none) f i (omega arith))
-            (λ i x y. starting-more j i R W k l ∙ ap (λ (v : Bool). startingWith j i (R ++ take k W) + one (v && holds (getD W k none) i)) (eq-eqb (smallest (getD W k none)) j e));
+        so-far = so-far-column m R W adding j (c .low) (c .high) none l e (λ i x. rows-above m (getD W k none) (fits-at m W (c .fits) k l) i (omega arith)) (t .so-far) b;
         only = only-trans (t .only) (b .only);
       }
 
   -- it starts elsewhere
-  pub counting-past : smallest (getD W k none) ≢ j → Counting m R W adding w₀ w n j (k + 1) place
-  counting-past e =
-      record {
-        tallied = tallied-ext (λ i. starting-more j i R W k l ∙ omega (arith, ap (λ (v : Bool). one (v && holds (getD W k none) i)) (ne-eqb (smallest (getD W k none)) j e))) (t .tallied);
-        only = t .only;
-      }
+  pub counting-past : smallest (getD W k none) ≢ j → Counting m R W adding w₀ w n j (k + 1)
+  counting-past e = record { so-far = so-far-past m R W adding j (c .low) (c .high) none l e (t .so-far); only = t .only }
 
-pub counting-end : {m : ℕ} {R W : List Column} {adding : Bool} {w₀ w : List ℕ} {n j k : ℕ} {place : ℕ → ℕ} → Counting m R W adding w₀ w n j k place → length W ≤ k →
-    Started m R W adding w₀ w n j place
-counting-end {R = R} {W} {j = j} {k} t l =
-    record { tallied = tallied-ext (λ i. ap (λ (x : List Column). startingWith j i (R ++ x)) (sym (take-all k W l))) (t .tallied); only = t .only }
+pub counting-end : {m : ℕ} {R W : List Column} {adding : Bool} {w₀ w : List ℕ} {n j k : ℕ} → CanStart m R W adding w₀ j → Counting m R W adding w₀ w n j k → length W ≤ k →
+    Started m R W adding w₀ w n j
+counting-end {m} {R} {W} {adding} {j = j} c t l = record { so-far = so-far-all m R W adding j (c .low) (c .high) l (t .so-far); only = t .only }
+
+-- none of them starts here
+pub started-none : {m : ℕ} {R W : List Column} {adding : Bool} {w : List ℕ} {j : ℕ} → CanStart m R W adding w j →
+    ((i : ℕ) → 1 ≤ i → i ≤ length W → startOf W i ≡ j → markAt m w j % 4 ≡ 2) → markAt m w j % 4 ≢ 2 → Started m R W adding w w 0 j
+started-none {m} {R} {W} {adding} {w} {j} c bits n = counting-end c (go (length W) (omega arith)) (omega arith)
+  where
+    away : (k : ℕ) → k < length W → smallest (getD W k none) ≢ j
+    away k l e = let q : suc k - 1 ≡ k = omega arith in n (bits (suc k) (omega arith) (omega arith) (ap (λ (v : ℕ). smallest (getD W v none)) q ∙ e))
+
+    go : (k : ℕ) → k ≤ length W → Counting m R W adding w w 0 j k
+    go zero l = counting-start c
+    go (suc k) l = subst (λ (x : ℕ). Counting m R W adding w w 0 j x) (add-one k) (counting-past c (go k (omega arith)) (omega arith) (away k (omega arith)))
 
 -- ---- the loops over listed columns
 
@@ -280,8 +254,8 @@ module _ {counts list : List ℕ} {m flags : ℕ} {w₀ : List ℕ} {W : List Co
       (starts-next s room-here (omega (arith, g, f .2, fits-here .low)) (omega (arith, g, f .2, fits-here .high))
       (λ p x y. let v : Fits m (getD W (p - 1) none) = fits-at m W (c .fits) (p - 1) (omega (arith, r .size)) in (v .low, v .high)))
 
-module _ {counts list : List ℕ} {m : ℕ} {R W : List Column} {w₀ w : List ℕ} {n j k at : ℕ} {place : ℕ → ℕ} (c : CanStart m R W true w₀ j place) (r : Reading counts list W k at)
-    (t : Counting m R W true w₀ w n j k place) (l : k < length counts) where
+module _ {counts list : List ℕ} {m : ℕ} {R W : List Column} {w₀ w : List ℕ} {n j k at : ℕ} (c : CanStart m R W true w₀ j) (r : Reading counts list W k at)
+    (t : Counting m R W true w₀ w n j k) (l : k < length counts) where
   fits-there : Fits m (getD W k none)
   fits-there = fits-at m W (c .fits) k (omega (arith, r .size))
 
@@ -295,12 +269,12 @@ module _ {counts list : List ℕ} {m : ℕ} {R W : List Column} {w₀ w : List �
   listed-gather = (can-gather (counting-steady c t (omega (arith, r .size))), ap (rises 1 m) listed-rows ∙ fits-there .rising)
 
   pub listed-here : {w₁ w₂ : List ℕ} {g n′ : ℕ} → getD list at 0 ≡ j → Gathered m w w₁ g (λ i. among i (take (at + getD counts k 0 - at) (drop at list))) → Counted m w₁ g true w₂ n′ →
-      Counting m R W true w₀ w₂ n′ j (k + 1) place
+      Counting m R W true w₀ w₂ n′ j (k + 1)
   listed-here e a b =
       counting-here c t (omega (arith, r .size)) (sym (listed-first .1) ∙ e)
       (bumps a true (holds (getD W k none)) (λ i x y. ap (λ (z : List ℕ). among i z) listed-rows) b)
 
-  pub listed-past : getD list at 0 ≢ j → Counting m R W true w₀ w n j (k + 1) place
+  pub listed-past : getD list at 0 ≢ j → Counting m R W true w₀ w n j (k + 1)
   listed-past e = counting-past c t (omega (arith, r .size)) (λ x. e (listed-first .1 ∙ x))
 
 pub marking-end : {counts list : List ℕ} {m flags : ℕ} {W : List Column} {w₀ w : List ℕ} {k at : ℕ} → Reading counts list W k at → StartsTo m flags W w₀ w k → k ≤ length counts → length counts ≤ k →

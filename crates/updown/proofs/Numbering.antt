@@ -26,7 +26,7 @@ use Rattle.differences.specs.Gather.{planPart}
 use Rattle.workspace.specs.Planned.{packed, kindOf}
 use Rattle.workspace.proofs.Planned.{packed-kind}
 use Rattle.emission.specs.Plans.{kindFor, planFrom}
-use Rattle.updown.specs.Children.{Counts}
+use Rattle.updown.proofs.Brought.{Counts}
 use Rattle.emission.specs.Emit as emit
 use Rattle.emission.specs.declared.Emission.{Emission}
 use Rattle.updown.specs.Plans.{firstOf}

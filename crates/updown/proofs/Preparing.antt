@@ -19,7 +19,7 @@ use Rattle.book.specs.Book as book
 use Rattle.tables.specs.Stored.{Stored, Sized, isSoundFor, storedOf}
 use Rattle.updown.specs.Entries.{planNeed, Booked, CanPlan, CanRemove, RemovePlanned}
 use Rattle.updown.specs.Plans.{PlanIs}
-use Rattle.updown.specs.Children.{ChainOf}
+use Rattle.updown.specs.Walks.{ChainOf}
 use Rattle.updown.specs.Marks.{Room}
 use Rattle.updown.specs.Turns.{before, done}
 use Rattle.updown.specs.States.{startOf, Setting, Between}

@@ -10,14 +10,14 @@ use lib.Dec.{eqb}
 use lib.ListN.{length, getD, set, length-set}
 use lib.Seq.{getD-set-same, getD-set-other}
 use borrow.Author.Tests.{eqb-true, eq-eqb, ne-eqb}
-use Rattle.lists.specs.Lists.{one, at, times}
+use Rattle.lists.specs.Lists.{pick, one, at, times}
 use Rattle.lists.proofs.Tests.{eq-or-ne, one-pos, pos-one, refute}
 use Rattle.lists.proofs.Times.{times-self, times-other, times-nil}
 use Rattle.workspace.specs.Regions.{cell}
 use Rattle.workspace.proofs.Regions.{region-length, region-cell}
 use Rattle.pool.specs.Chains.{Linked}
 use Rattle.pool.proofs.Chains.{Step, linked-frame, linked-cons, linked-step, linked-end, linked-low, linked-high, linked-once}
-use Rattle.updown.specs.Queues.{links, Queue, Queues, moved}
+use Rattle.updown.specs.Queues.{links, Queue, Queues}
 
 -- ---- one queue
 
@@ -93,6 +93,10 @@ queue-none {ns} {h} {f} z q =
     ]
 
 -- ---- places
+
+-- where each column waits once one has moved
+abbrev pub moved : (place : ℕ → ℕ) (c x : ℕ) → ℕ → ℕ
+moved place c x d = pick (eqb d c) x (place d)
 
 pub moved-self : (place : ℕ → ℕ) (c x : ℕ) → moved place c x c ≡ x
 moved-self place c x = rw (eq-eqb c c refl)

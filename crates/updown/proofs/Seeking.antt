@@ -1,42 +1,51 @@
--- The walk's loop: from the state between two turns to the next marked row (`seeking-next`), its turn begun and its batch columns counted (`turning-from`),
--- and what the loop's calls ask. Removing always fits (`removing-fits`). Assumes nothing.
+-- The walk's loop: from the state between two turns to the next marked row or the walk's end (`taken-none`), the turn begun there and its batch columns handled
+-- (`turning-from`), and what the loop's calls ask. Removing always fits (`removing-fits`). Assumes nothing.
 use mathlib.Core.Path.{_≡_, refl, sym, ap, _∙_, subst}
-use mathlib.Core.Logic.{inl, inr, _≢_}
-use mathlib.Core.Bool.{Bool, true}
+use mathlib.Core.Logic.{_⊎_, inl, inr, _≢_}
+use mathlib.Core.Bool.{Bool, true, false}
 use mathlib.Core.List.{List, [], _∷_}
 use Prim.Native.Nat.{ℕ, zero, suc, _+_, _-_, _*_, _%_, _≤_, _<_}
 use native.Mathlib.Omega.{arith}
 use lib.Dec.{eqb, leb}
 use lib.ListN.{length, getD}
 use borrow.Author.Tests.{eqb-false, ne-eqb, le-leb}
-use Rattle.lists.specs.Lists.{Mem, all}
+use Rattle.lists.specs.Lists.{pick, sumOf, all}
 use Rattle.lists.proofs.Tests.{cases, lt-or-le, zero-or-pos}
-use Rattle.lists.proofs.Member.{mem-place}
-use Rattle.symbolic.specs.Columns.{Column, smallest}
+use Rattle.symbolic.specs.Columns.{Column}
 use Rattle.symbolic.specs.Factor.{columnAt}
-use Rattle.symbolic.specs.Batch.{sizeSumOf, entriesOf}
-use Rattle.symbolic.proofs.Columns.{starts-append, starts-none}
+use Rattle.symbolic.specs.Batch.{touchedFrom, sizeSumOf, entriesOf}
 use Rattle.workspace.specs.Regions.{region}
-use Rattle.workspace.proofs.Regions.{only-refl}
-use Rattle.pool.specs.Chains.{chain, lastOf}
+use Rattle.pool.specs.Chains.{chain, lastOf, Linked}
 use Rattle.workspace.specs.Planned.{packed, kindOf}
 use Rattle.workspace.proofs.Planned.{packed-kind}
 use Rattle.columns.specs.Plan.{ofKind}
 use Rattle.emission.specs.Plans.{kindFor, planFrom}
-use Rattle.updown.specs.Marks.{Room, markAt, Flagged, Next, begun}
-use Rattle.updown.specs.Children.{Counts}
-use Rattle.updown.specs.Turns.{larger, smaller, before, after, done, standing}
-use Rattle.updown.specs.States.{startOf, Numbers, Begun, Setting, Turning, Between, Turned}
+use Rattle.updown.specs.Marks.{Room, markAt, Flagged, Taken}
+use Rattle.updown.proofs.Brought.{Counts}
+use Rattle.updown.specs.Turns.{larger, smaller, before, after, done}
+use Rattle.updown.specs.States.{startOf, Numbers, Walking, Setting, Between}
+use Rattle.updown.proofs.Worked.{Begun}
 use Rattle.updown.specs.Starts.{CanStart, Started}
 use Rattle.book.specs.Book as book
-use Rattle.updown.proofs.Plans.{region-same, last-in}
+use Rattle.updown.proofs.Plans.{region-same}
 use Rattle.updown.proofs.Marked.{touched-mark}
-use Rattle.updown.proofs.Stepping.{done-skip, done-in}
+use Rattle.updown.proofs.Stepping.{done-skip}
 use Rattle.updown.proofs.Walking.{walking-skip, walking-begin, begun-length, begun-past, begun-counted}
-use Rattle.updown.proofs.Tallying.{tallied-start}
+use Rattle.updown.proofs.SoFar.{so-far-start}
 use Rattle.updown.proofs.Turning.{beyond, column-counts, tally-frame}
 use Rattle.updown.proofs.Planning.{fits}
-use Rattle.updown.proofs.Listing.{none, tallied-ext}
+use Rattle.updown.proofs.Turned.{Turning}
+
+-- before the first row, with the numbers that walk_from gives
+pub between-start : {next work₀ w : List ℕ} {m flags : ℕ} {R W : List Column} {adding ok : Bool} {f l c k used avail : ℕ} (free : ℕ) →
+    (ok ≡ true) × (f ≡ 0) × (l ≡ 0) × (c ≡ 0) × (k ≡ 0) × (used ≡ 0) × (avail ≡ free) → Walking m flags R W adding work₀ w 1 0 → Linked next free (chain next free) →
+    Between next work₀ w m flags R W adding (length (chain next free)) (suc l) f l c k used avail
+unfolding touchedFrom lastOf sumOf ofKind
+between-start free e h x =
+    rw (e .1, e .2, e .3, e .4, e .5, e .6) (record {
+      walking = h;
+      numbers = record { first-is = refl; last-is = refl; count-is = refl; entries-is = refl; linked = x; taken = omega arith; room = omega arith; grown = λ y. refl };
+    })
 
 module _ {next work₀ w : List ℕ} {m flags : ℕ} {R W : List Column} {adding : Bool} {free f l c k used avail : ℕ} where
   between-skip : {j : ℕ} → Between next work₀ w m flags R W adding free j f l c k used avail → j ≤ m → markAt m w j ≡ 0 →
@@ -66,126 +75,107 @@ module _ {next work₀ w : List ℕ} {m flags : ℕ} {R W : List Column} {adding
       subst (λ (x : ℕ). Between next work₀ w m flags R W adding free x f l c k used avail) e
       (between-to n (between-skip h (omega arith) (z j (omega arith) (omega arith))) (omega arith) (λ q x y. z q (omega arith) (omega arith)))
 
--- at the loop's test: the next marked row, or none and the walk is at its end
-pub record Seeking (next work₀ w : List ℕ) (m flags : ℕ) (R W : List Column) (adding : Bool) (free j f l c k used avail : ℕ) : Type 0 where
-  pub here : j ≢ 0 → Between next work₀ w m flags R W adding free j f l c k used avail
-  pub marked : j ≢ 0 → (1 ≤ j) × (j ≤ m) × (markAt m w j ≢ 0)
-  pub ended : j ≡ 0 → Between next work₀ w m flags R W adding free (suc m) f l c k used avail
+-- ---- one turn of the loop, up to A
 
-pub seeking-next : {next work₀ w : List ℕ} {m flags : ℕ} {R W : List Column} {adding : Bool} {free f l c k used avail j r : ℕ} → Between next work₀ w m flags R W adding free j f l c k used avail →
-    Next m w (j - 1) r → Seeking next work₀ w m flags R W adding free r f l c k used avail
-seeking-next {next} {work₀} {w} {m} {flags} {R} {W} {adding} {free} {f} {l} {c} {k} {used} {avail} {j} {r} h n =
-    record {
-      here = λ z.
-          let t : (j - 1 < r) × ((r ≤ m) × (markAt m w r ≢ 0)) = n .found z in
-          let e : j + (r - j) ≡ r = omega (arith, h .walking .low) in
-          subst (λ (x : ℕ). Between next work₀ w m flags R W adding free x f l c k used avail) e
-          (between-to (r - j) h (omega (arith, h .walking .low)) (λ q x y. n .passed q (omega (arith, h .walking .low)) (omega (arith, h .walking .low)) (λ _. omega (arith, h .walking .low))));
-      marked = λ z. let t : (j - 1 < r) × ((r ≤ m) × (markAt m w r ≢ 0)) = n .found z in (omega arith, t .1 .0, t .1 .1);
-      ended = λ z.
-          let e : j + (suc m - j) ≡ suc m = omega (arith, h .walking .high) in
-          subst (λ (x : ℕ). Between next work₀ w m flags R W adding free x f l c k used avail) e
-          (between-to (suc m - j) h (omega (arith, h .walking .high)) (λ q x y. n .passed q (omega (arith, h .walking .low)) (omega (arith, h .walking .high)) (λ v. absurd (v z))));
-    }
+-- what take_column asks
+pub seeking-take : {heads parents rows counts next : List ℕ} {m flags : ℕ} {R W : List Column} {adding : Bool} {free : ℕ} → Setting heads parents rows counts next m flags R W adding free →
+    {work₀ w : List ℕ} {f l c k used avail : ℕ} → Between next work₀ w m flags R W adding free (suc l) f l c k used avail →
+    Room m flags w × Flagged m flags w l × (l ≤ m) × (used ≤ 1048576)
+seeking-take {m = m} {flags} s {w = w} {l = l} h =
+    let e : suc l - 1 ≡ l = omega arith in (
+      h .walking .room,
+      subst (λ (x : ℕ). Flagged m flags w x) e (h .walking .flagged),
+      omega (arith, h .walking .high),
+      omega (arith, h .numbers .room, s .fitting (suc l) (h .walking .low) (h .walking .high), s .records),
+    )
 
--- ---- one turn of the loop
+-- no row is marked any more
+pub taken-none : {next work₀ w : List ℕ} {m flags : ℕ} {R W : List Column} {adding : Bool} {free f l c k used avail : ℕ} →
+    Between next work₀ w m flags R W adding free (suc l) f l c k used avail → {w′ : List ℕ} {j : ℕ} → Taken m w w′ l used j → j ≡ 0 →
+    Between next work₀ w′ m flags R W adding free (suc m) f l c k used avail
+taken-none {next} {work₀} {w} {m} {flags} {R} {W} {adding} {free} {f} {l} {c} {k} {used} {avail} h t z =
+    let e : suc l + (m - l) ≡ suc m = omega (arith, h .walking .high) in
+    subst (λ (x : List ℕ). Between next work₀ x m flags R W adding free (suc m) f l c k used avail) (sym (t .ends z))
+    (subst (λ (x : ℕ). Between next work₀ w m flags R W adding free x f l c k used avail) e
+    (between-to (m - l) h (omega (arith, h .walking .high)) (λ q x y. t .next .passed q (omega arith) (omega (arith, h .walking .high)) (λ v. absurd (v z)))))
 
+-- row j is the next marked one
 module _ {heads parents rows counts next : List ℕ} {m flags : ℕ} {R W : List Column} {adding : Bool} {free : ℕ} (s : Setting heads parents rows counts next m flags R W adding free)
-    {work₀ w : List ℕ} {j f l c k used avail : ℕ} (h : Seeking next work₀ w m flags R W adding free j f l c k used avail) (z : j ≢ 0) where
-  abbrev b : Between next work₀ w m flags R W adding free j f l c k used avail
-  b = h .here z
+    {work₀ w : List ℕ} {f l c k used avail : ℕ} (h : Between next work₀ w m flags R W adding free (suc l) f l c k used avail) {wb : List ℕ} {j : ℕ} (t : Taken m w wb l used j) (z : j ≢ 0) where
+  taken-row : (l < j) × (j ≤ m) × (markAt m w j ≢ 0)
+  taken-row = let u : (l < j) × ((j ≤ m) × (markAt m w j ≢ 0)) = t .next .found z in (u .0, u .1 .0, u .1 .1)
+
+  here : Between next work₀ w m flags R W adding free j f l c k used avail
+  here =
+      let e : suc l + (j - suc l) ≡ j = omega (arith, taken-row) in
+      subst (λ (x : ℕ). Between next work₀ w m flags R W adding free x f l c k used avail) e
+      (between-to (j - suc l) h (omega (arith, taken-row)) (λ q x y. t .next .passed q (omega arith) (omega (arith, taken-row)) (λ _. omega (arith, taken-row))))
 
   within : (i : ℕ) → 1 ≤ i → i ≤ length W → startOf W i ≤ m
   within i x y = s .starts i x y .1
 
-  last-high : l ≤ m
-  last-high = elim (last-in 0 (done m R W j)) [
-    | inl e ↦ omega (arith, b .numbers .last-is)
-    | inr e ↦ omega (arith, b .numbers .last-is, done-in m R W j (b .walking .low) e, h .marked z)
-  ]
+  pub taken-begun : Begun m flags R W adding work₀ wb j used
+  taken-begun =
+      subst (λ (x : List ℕ). Begun m flags R W adding work₀ x j used) (sym (t .begins z))
+      (walking-begin (here .walking) (taken-row .1) (taken-row .2) within l (here .numbers .last-is))
 
-  used-small : used ≤ 1048576
-  used-small = omega (arith, b .numbers .room, s .fitting j (b .walking .low) (b .walking .high), s .records)
+  same-past : (i : ℕ) → (i < 3 * m) ⊎ (8 * m ≤ i) → getD wb i 0 ≡ getD w i 0
+  same-past i x =
+      ap (λ (v : List ℕ). getD v i 0) (t .begins z) ∙ begun-past (here .walking) (taken-row .1) (taken-row .2) within l (here .numbers .last-is) i
+      (elim x [ inl y ↦ omega (arith, taken-row) | inr y ↦ omega (arith, taken-row) ])
+      (elim x [ inl y ↦ inl (omega arith) | inr y ↦ inr (omega (arith, taken-row)) ])
 
-  pub seeking-begin : (8 * m ≤ length w) × (m ≤ 4096) × (l ≤ m) × (1 ≤ j) × (j ≤ m) × (used ≤ 1048576)
-  seeking-begin = (omega (arith, b .walking .room .low, b .walking .room .long), s .columns .narrow, last-high, h .marked z .0, h .marked z .1, used-small)
+  long-b : length wb ≡ length w
+  long-b = ap length (t .begins z) ∙ begun-length (here .walking) (taken-row .1) (taken-row .2) within l (here .numbers .last-is)
 
-  module _ {wb : List ℕ} (e : wb ≡ begun m w l j used) where
-    pub seeking-begun : Begun m flags R W adding work₀ wb j used
-    seeking-begun = subst (λ (x : List ℕ). Begun m flags R W adding work₀ x j used) (sym e) (walking-begin (b .walking) (h .marked z .1) (h .marked z .2) within l (b .numbers .last-is))
-
-    same-low : (i : ℕ) → i < 3 * m → getD wb i 0 ≡ getD w i 0
-    same-low i x = ap (λ (v : List ℕ). getD v i 0) e ∙ begun-past (b .walking) (h .marked z .1) (h .marked z .2) within l (b .numbers .last-is) i (omega arith) (inl (omega arith))
-
-    long-b : length wb ≡ length w
-    long-b = ap length e ∙ begun-length (b .walking) (h .marked z .1) (h .marked z .2) within l (b .numbers .last-is)
-
-    pub seeking-start : all (book.columnFits m) W ≡ true → CanStart m R W adding wb j (standing m R W j)
-    seeking-start fits =
+  -- what A asks
+  pub seeking-start : all (book.columnFits m) W ≡ true → CanStart m R W adding wb j × (4 * m ≤ length wb)
+  seeking-start fits =
+      let tally = tally-frame long-b (λ i x. same-past i (inl x)) (here .walking .tally) in (
         record {
-          low = h .marked z .0;
-          high = h .marked z .1;
+          low = taken-begun .low;
+          high = taken-begun .high;
           narrow = s .columns .narrow;
           few = s .columns .few;
           fits = fits;
-          tallied = tallied-start m R W adding j (h .marked z .0) (h .marked z .1) (standing m R W j) (λ x _ _. refl) (tally-frame long-b same-low (b .walking .tally));
-        }
+          so-far = so-far-start m R W adding j (taken-begun .low) (taken-begun .high) tally;
+        },
+        omega (arith, taken-begun .room .low, taken-begun .room .long),
+      )
 
-    -- the mark says whether a batch column starts at j
-    pub seeking-bits : (i : ℕ) → 1 ≤ i → i ≤ length W → startOf W i ≡ j → markAt m wb j % 4 ≡ 2
-    seeking-bits i x y g =
-        ap (λ (v : ℕ). markAt m wb v % 4) (sym g) ∙ seeking-begun .marks .bit i x y (omega arith)
+  -- the mark says whether a batch column starts at j
+  pub seeking-bits : (i : ℕ) → 1 ≤ i → i ≤ length W → startOf W i ≡ j → markAt m wb j % 4 ≡ 2
+  seeking-bits i x y g = ap (λ (v : ℕ). markAt m wb v % 4) (sym g) ∙ taken-begun .marks .bit i x y (omega arith)
 
-    pub turning-from : {w′ : List ℕ} {n : ℕ} → Started m R W adding wb w′ n j (standing m R W j) → Turning next work₀ w′ m flags R W adding free n j f l c k used avail
-    turning-from {w′} t =
-        let nums : Numbers next w m R W adding free j f l c k used avail = b .numbers in
-        let r : region w′ (8 * m) used ≡ region w (8 * m) used =
-        region-same w w′ (8 * m) used (t .only .same-length ∙ long-b) (λ i x. t .only .outside (8 * m + i) (inr (omega arith)) ∙
-        ap (λ (v : List ℕ). getD v (8 * m + i) 0) e ∙
-        begun-past (b .walking) (h .marked z .1) (h .marked z .2) within l (b .numbers .last-is) (8 * m + i) (omega (arith, h .marked z)) (inr (omega (arith, h .marked z)))) in
-        record {
-          begun = begun-counted seeking-begun (t .only) within;
-          tallied = t .tallied;
-          numbers = record {
-            first-is = nums .first-is;
-            last-is = nums .last-is;
-            count-is = nums .count-is;
-            entries-is = nums .entries-is;
-            linked = nums .linked;
-            taken = ap (λ (x : List ℕ). ofKind 1 x + length (chain next avail)) r ∙ nums .taken;
-            room = nums .room;
-            grown = λ x. omega (arith, nums .grown x, ap (ofKind 1) r);
-          };
-        }
+  pub turning-from : {w′ : List ℕ} {n : ℕ} → Started m R W adding wb w′ n j → Turning next work₀ w′ m flags R W adding free n j f l c k used avail
+  turning-from {w′} a =
+      let nums : Numbers next w m R W adding free j f l c k used avail = here .numbers in
+      let r : region w′ (8 * m) used ≡ region w (8 * m) used =
+      region-same w w′ (8 * m) used (a .only .same-length ∙ long-b) (λ i x. a .only .outside (8 * m + i) (inr (omega arith)) ∙ same-past (8 * m + i) (inr (omega arith))) in
+      record {
+        begun = begun-counted taken-begun (a .only) within;
+        so-far = a .so-far;
+        numbers = record {
+          first-is = nums .first-is;
+          last-is = nums .last-is;
+          count-is = nums .count-is;
+          entries-is = nums .entries-is;
+          linked = nums .linked;
+          taken = ap (λ (x : List ℕ). ofKind 1 x + length (chain next avail)) r ∙ nums .taken;
+          room = nums .room;
+          grown = λ x. omega (arith, nums .grown x, ap (ofKind 1) r);
+        };
+      }
 
-  -- after a turn that fits
-  pub seeking-on : {w₂ : List ℕ} {fits : Bool} {f′ l′ c′ k′ used′ avail′ r : ℕ} → Turned next work₀ w₂ m flags R W adding free j avail fits f′ l′ c′ k′ used′ avail′ → fits ≡ true → Next m w₂ j r →
-      Seeking next work₀ w₂ m flags R W adding free r f′ l′ c′ k′ used′ avail′
-  seeking-on {w₂} {r = r} t ok n =
-      let e : suc j - 1 ≡ j = omega arith in
-      seeking-next (t .onward ok) (subst (λ (x : ℕ). Next m w₂ x r) (sym e) n)
+-- ---- each turn ends the walk or leaves fewer rows
 
-  pub seeking-flags : {w₂ : List ℕ} {fits : Bool} {f′ l′ c′ k′ used′ avail′ : ℕ} → Turned next work₀ w₂ m flags R W adding free j avail fits f′ l′ c′ k′ used′ avail′ → fits ≡ true →
-      Room m flags w₂ × Flagged m flags w₂ j
-  seeking-flags {w₂} t ok =
-      let e : suc j - 1 ≡ j = omega arith in
-      (t .onward ok .walking .room, subst (λ (x : ℕ). Flagged m flags w₂ x) e (t .onward ok .walking .flagged))
+-- how many rows are left after the last touched column, 0 where the walk ended
+abbrev pub rowsLeft : (m : ℕ) (fits : Bool) (last : ℕ) → ℕ
+rowsLeft m fits l = pick fits (suc m - l) 0
 
--- ---- no batch column starts at j
-
-pub started-none : {m : ℕ} {R W : List Column} {adding : Bool} {w : List ℕ} {j : ℕ} {place : ℕ → ℕ} → CanStart m R W adding w j place →
-    ((i : ℕ) → 1 ≤ i → i ≤ length W → startOf W i ≡ j → markAt m w j % 4 ≡ 2) → markAt m w j % 4 ≢ 2 → Started m R W adding w w 0 j place
-started-none {m} {R} {W} {adding} {w} {j} c bits n =
-    record {
-      tallied = tallied-ext (λ i. starts-append j i R W ∙ omega (arith, starts-none j i W away)) (c .tallied);
-      only = only-refl;
-    }
-  where
-    away : (x : Column) → Mem x W → smallest x ≡ j → ⊥
-    away x y e =
-        let t : (i : ℕ) × (i < length W) × (getD W i none ≡ x) = mem-place none y in
-        let q : suc (t .0) - 1 ≡ t .0 = omega arith in
-        n (bits (suc (t .0)) (omega arith) (omega (arith, t .1)) (ap (λ (v : ℕ). smallest (getD W v none)) q ∙ ap smallest (t .2) ∙ e))
+pub rows-fewer : {m l l′ j used : ℕ} {w w′ : List ℕ} (ok ok′ : Bool) → ok ≡ true → Taken m w w′ l used j → j ≢ 0 → (ok′ ≡ true → l′ ≡ j) → rowsLeft m ok′ l′ < rowsLeft m ok l
+rows-fewer ok true h t z e = rw h (omega (arith, t .next .found z, e refl))
+rows-fewer ok false h t z e = rw h (omega (arith, t .next .found z))
 
 -- ---- removing needs no record
 

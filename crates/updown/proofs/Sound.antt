@@ -24,7 +24,7 @@ use Rattle.pool.specs.Chains.{chain}
 use Rattle.pool.specs.Whole.{isWhole, chains, Pool}
 use Rattle.pool.proofs.Whole.{whole-pool, pool-linked, chains-nil, chains-length}
 use Rattle.tables.specs.Stored.{Stored, Sized, recordsOf, holdsColumn, holdsFrom, freeZero, isSoundFor}
-use Rattle.updown.specs.Children.{ChainOf}
+use Rattle.updown.specs.Walks.{ChainOf}
 use Rattle.updown.specs.Turns.{larger, done}
 
 -- ---- the tests taken apart

@@ -1,21 +1,28 @@
--- Where a done column waits before the turn of j (`standing`), by cases; who waits for j (`waits-child`, `waits-lost`, `relevant-here`); what one row more
--- changes: those that waited for j move on, j itself starts to wait for its tree parent, and for a row that is not touched nothing changes. Assumes nothing.
+-- Where a done column waits before the turn of j (`standing`), by cases; who waits for j (`waits-child`, `waits-lost`); what one row more changes: those that
+-- waited for j move on, j itself starts to wait for its tree parent, and for a row that is not touched nothing changes; who is handled in the turn, and where
+-- each waits meanwhile (`waiting`). Assumes nothing.
 use mathlib.Core.Path.{_≡_, refl, sym, ap, _∙_}
 use mathlib.Core.Logic.{_⊎_, inl, inr, _≢_}
-use mathlib.Core.Bool.{Bool, true, false, _&&_, not, true≢false}
+use mathlib.Core.Bool.{Bool, true, false, _&&_, _||_, not, true≢false}
 use mathlib.Core.List.{List, _++_}
 use Prim.Native.Nat.{ℕ, suc, _+_, _≤_, _<_}
 use native.Mathlib.Omega.{arith}
 use lib.Dec.{ltb, leb, eqb}
-use borrow.Author.Tests.{ltb-true, lt-ltb, le-ltb, le-leb, lt-leb, eqb-true, eq-eqb, ne-eqb}
+use borrow.Author.Tests.{ltb-true, lt-ltb, le-ltb, le-leb, lt-leb, eqb-true, eqb-false, eq-eqb, ne-eqb, not-true}
 use Rattle.lists.specs.Lists.{pick}
-use Rattle.lists.proofs.Tests.{cases, eq-or-ne, lt-or-le, zero-or-pos, and-both, both-and, or-either, or-left, or-right, refute}
+use Rattle.lists.proofs.Tests.{cases, eq-or-ne, lt-or-le, zero-or-pos, and-both, both-and, both-ways, or-either, or-left, or-right, refute}
 use Rattle.symbolic.specs.Columns.{Column}
 use Rattle.symbolic.specs.Batch.{isTouched}
 use Rattle.symbolic.proofs.Build.{laws}
 use Rattle.symbolic.proofs.Touched.{touched-parent}
 use Rattle.symbolic.proofs.Locality.{parent-stays-or-falls, touched-old-parent}
-use Rattle.updown.specs.Turns.{larger, treeParent, otherParent, isDone, standing, isHere}
+use Rattle.updown.specs.Turns.{larger, treeParent, otherParent, isDone, standing, waiting}
+use Rattle.updown.specs.SoFar.{also, children, lost, family}
+use Rattle.updown.proofs.Queueing.{moved}
+
+-- x is one of j's two queues
+abbrev pub isHere : (m j x : ℕ) → Bool
+isHere m j x = eqb x j || eqb x (m + j)
 
 module _ (m : ℕ) (R W : List Column) where
   abbrev T : ℕ → Bool
@@ -37,10 +44,10 @@ module _ (m : ℕ) (R W : List Column) where
       let t : (0 < U c) × (U c ≤ O c) = parent-stays-or-falls m R W c a b p in
       (t .0, t .1, laws m R .parent-in c a b p .0, laws m R .parent-in c a b p .1)
 
-  pub done-true : (j c : ℕ) → T c ≡ true → c < j → isDone m R W j c ≡ true
+  done-true : (j c : ℕ) → T c ≡ true → c < j → isDone m R W j c ≡ true
   done-true j c t l = both-and t (lt-ltb c j l)
 
-  pub done-parts : (j c : ℕ) → isDone m R W j c ≡ true → (T c ≡ true) × (c < j)
+  done-parts : (j c : ℕ) → isDone m R W j c ≡ true → (T c ≡ true) × (c < j)
   done-parts j c h = let t : (T c ≡ true) × (ltb c j ≡ true) = and-both (T c) (ltb c j) h in (t .0, ltb-true c j (t .1))
 
   -- ---- where a column waits
@@ -48,13 +55,13 @@ module _ (m : ℕ) (R W : List Column) where
   pub stands-none : (j c : ℕ) → isDone m R W j c ≡ false → standing m R W j c ≡ 0
   stands-none j c e = rw e refl
 
-  pub stands-tree : (j c : ℕ) → isDone m R W j c ≡ true → j ≤ U c → standing m R W j c ≡ U c
+  stands-tree : (j c : ℕ) → isDone m R W j c ≡ true → j ≤ U c → standing m R W j c ≡ U c
   stands-tree j c e l = rw (e, le-leb j (U c) l) refl
 
-  pub stands-other : (j c : ℕ) → isDone m R W j c ≡ true → U c < j → 0 < U c → O c ≢ U c → j ≤ O c → standing m R W j c ≡ m + O c
+  stands-other : (j c : ℕ) → isDone m R W j c ≡ true → U c < j → 0 < U c → O c ≢ U c → j ≤ O c → standing m R W j c ≡ m + O c
   stands-other j c e l p n k = rw (e, lt-leb j (U c) l, ne-eqb (U c) 0 (omega arith), ne-eqb (O c) (U c) n, le-leb j (O c) k) refl
 
-  pub stands-gone : (j c : ℕ) → isDone m R W j c ≡ true → U c < j → (U c ≡ 0) ⊎ ((O c ≡ U c) ⊎ (O c < j)) → standing m R W j c ≡ 0
+  stands-gone : (j c : ℕ) → isDone m R W j c ≡ true → U c < j → (U c ≡ 0) ⊎ ((O c ≡ U c) ⊎ (O c < j)) → standing m R W j c ≡ 0
   stands-gone j c e l d =
       elim d [
         | inl z ↦ rw (e, lt-leb j (U c) l, eq-eqb (U c) 0 z) refl
@@ -109,10 +116,10 @@ module _ (m : ℕ) (R W : List Column) where
     here-at x (inl e) = ap (isHere m j) e ∙ here-child
     here-at x (inr e) = ap (isHere m j) e ∙ here-lost
 
-    pub at-here : (x : ℕ) → isHere m j x ≡ true → (x ≡ j) ⊎ (x ≡ m + j)
+    at-here : (x : ℕ) → isHere m j x ≡ true → (x ≡ j) ⊎ (x ≡ m + j)
     at-here x h = elim (or-either (eqb x j) (eqb x (m + j)) h) [ inl e ↦ inl (eqb-true x j e) | inr e ↦ inr (eqb-true x (m + j) e) ]
 
-    pub not-here : (x : ℕ) → x ≢ j → x ≢ m + j → isHere m j x ≡ false
+    not-here : (x : ℕ) → x ≢ j → x ≢ m + j → isHere m j x ≡ false
     not-here x p q = refute (isHere m j x) (λ h. elim (at-here x h) [ inl e ↦ p e | inr e ↦ q e ])
 
     pub waits-child : (c : ℕ) → standing m R W j c ≡ j → (T c ≡ true) × (c < j) × (U c ≡ j)
@@ -133,18 +140,6 @@ module _ (m : ℕ) (R W : List Column) where
           | gone e l d z ↦ absurd (omega arith)
         ]
 
-    pub relevant-here : (c : ℕ) → 1 ≤ c → c ≤ m → T c ≡ true → (O c ≡ j) ⊎ (U c ≡ j) → isHere m j (standing m R W j c) ≡ true
-    relevant-here c x y t (inr u) =
-        let v : (c < U c) × (U c ≤ m) = tree-above c x y (omega arith) in
-        here-at (standing m R W j c) (inl (stands-tree j c (done-true j c t (omega arith)) (omega arith) ∙ u))
-    relevant-here c x y t (inl o) =
-        let v : (0 < U c) × (U c ≤ O c) × (c < O c) × (O c ≤ m) = other-above c x y (omega arith) in
-        let d : isDone m R W j c ≡ true = done-true j c t (omega arith) in
-        elim (eq-or-ne (U c) j) [
-          | inl u ↦ here-at (standing m R W j c) (inl (stands-tree j c d (omega arith) ∙ u))
-          | inr u ↦ here-at (standing m R W j c) (inr (stands-other j c d (omega arith) (v .0) (omega arith) (omega arith) ∙ ap (λ (z : ℕ). m + z) o))
-        ]
-
     -- ---- one row more
 
     pub never-here : (c : ℕ) → 1 ≤ c → c ≤ m → isHere m j (standing m R W (suc j) c) ≡ false
@@ -162,7 +157,7 @@ module _ (m : ℕ) (R W : List Column) where
         same : (c : ℕ) → c ≢ j → ltb c (suc j) ≡ ltb c j
         same c n = elim (lt-or-le c j) [ inl l ↦ lt-ltb c (suc j) (omega arith) ∙ sym (lt-ltb c j l) | inr l ↦ le-ltb c (suc j) (omega arith) ∙ sym (le-ltb c j l) ]
 
-    pub stands-keep : (c : ℕ) → 1 ≤ c → c ≤ m → c ≢ j → isHere m j (standing m R W j c) ≡ false → standing m R W (suc j) c ≡ standing m R W j c
+    stands-keep : (c : ℕ) → 1 ≤ c → c ≤ m → c ≢ j → isHere m j (standing m R W j c) ≡ false → standing m R W (suc j) c ≡ standing m R W j c
     stands-keep c x y n h =
         elim (stands j c) [
           | nowhere e z ↦ stands-none (suc j) c (done-more c n ∙ e) ∙ sym z
@@ -186,7 +181,7 @@ module _ (m : ℕ) (R W : List Column) where
           | inr z ↦ stands-tree (suc j) j d (omega (arith, tree-above j a b z))
         ]
 
-    pub stands-before : standing m R W j j ≡ 0
+    stands-before : standing m R W j j ≡ 0
     stands-before = stands-none j j (ap (λ (z : Bool). T j && z) (le-ltb j j (omega arith)) ∙ none (T j))
       where
         none : (x : Bool) → (x && false) ≡ false
@@ -229,4 +224,84 @@ module _ (m : ℕ) (R W : List Column) where
                 let w : (T c ≡ true) × (c < j) × (U c < j) × (0 < U c) × (O c ≡ j) = waits-lost c x y z in
                 true≢false (sym (sym (ap T (w .4)) ∙ touched-old-parent m R W c x y (w .0) (omega arith)) ∙ t)
           ]))
+        ]
+
+    -- ---- who is handled
+
+    -- the children of j in the tree are those that wait in its first queue, the lost ones those in its second
+    pub children-wait : (c : ℕ) → 1 ≤ c → c ≤ m → children m R W j c ≡ eqb (standing m R W j c) j
+    children-wait c x y =
+        both-ways (children m R W j c) (eqb (standing m R W j c) j)
+        (λ h.
+        let t : (T c ≡ true) × (eqb (U c) j ≡ true) = and-both (T c) (eqb (U c) j) h in
+        let u : U c ≡ j = eqb-true (U c) j (t .1) in
+        let v : (c < U c) × (U c ≤ m) = tree-above c x y (omega arith) in
+        eq-eqb (standing m R W j c) j (stands-tree j c (done-true j c (t .0) (omega arith)) (omega arith) ∙ u))
+        (λ h. let w : (T c ≡ true) × (c < j) × (U c ≡ j) = waits-child c (eqb-true (standing m R W j c) j h) in both-and (w .0) (eq-eqb (U c) j (w .2)))
+
+    pub lost-wait : (c : ℕ) → 1 ≤ c → c ≤ m → lost m R W j c ≡ eqb (standing m R W j c) (m + j)
+    lost-wait c x y =
+        both-ways (lost m R W j c) (eqb (standing m R W j c) (m + j))
+        (λ h.
+        let t : ((T c && not (eqb (U c) j)) ≡ true) × (eqb (O c) j ≡ true) = and-both (T c && not (eqb (U c) j)) (eqb (O c) j) h in
+        let k : (T c ≡ true) × (not (eqb (U c) j) ≡ true) = and-both (T c) (not (eqb (U c) j)) (t .0) in
+        let o : O c ≡ j = eqb-true (O c) j (t .1) in
+        let u : U c ≢ j = eqb-false (U c) j (not-true (eqb (U c) j) (k .1)) in
+        let v : (0 < U c) × (U c ≤ O c) × (c < O c) × (O c ≤ m) = other-above c x y (omega arith) in
+        eq-eqb (standing m R W j c) (m + j)
+        (stands-other j c (done-true j c (k .0) (omega arith)) (omega arith) (v .0) (omega arith) (omega arith) ∙ ap (λ (z : ℕ). m + z) o))
+        (λ h.
+        let w : (T c ≡ true) × (c < j) × (U c < j) × (0 < U c) × (O c ≡ j) = waits-lost c x y (eqb-true (standing m R W j c) (m + j) h) in
+        both-and (both-and (w .0) (ap not (ne-eqb (U c) j (omega arith)))) (eq-eqb (O c) j (w .4)))
+
+    -- who waits for j in its turn is not handled, and waited there before it
+    pub waits-fresh : (H : ℕ → Bool) (c h : ℕ) → 1 ≤ c → c ≤ m → (h ≡ j) ⊎ (h ≡ m + j) → waiting m R W j H c ≡ h → (H c ≡ false) × (standing m R W j c ≡ h)
+    waits-fresh H c h x y side e =
+        elim (cases (H c)) [
+          | inr f ↦ (f, sym (by f) ∙ e)
+          | inl t ↦
+              let k : standing m R W (suc j) c ≡ h = sym (by t) ∙ e in
+              absurd (true≢false (sym (here-at (standing m R W (suc j) c) (elim side [ inl s ↦ inl (k ∙ s) | inr s ↦ inr (k ∙ s) ])) ∙ never-here c x y))
+        ]
+      where
+        by : {z : Bool} → H c ≡ z → waiting m R W j H c ≡ pick z (standing m R W (suc j) c) (standing m R W j c)
+        by f = ap (λ (z : Bool). pick z (standing m R W (suc j) c) (standing m R W j c)) f
+
+    -- where columns wait with one more handled
+    pub waiting-also : (H : ℕ → Bool) (c d : ℕ) → waiting m R W j (also H c) d ≡ moved (waiting m R W j H) c (standing m R W (suc j) c) d
+    waiting-also H c d =
+        elim (eq-or-ne d c) [
+          | inl e ↦ rw (eq-eqb d c e) (ap (λ (z : Bool). pick z (standing m R W (suc j) d) (standing m R W j d)) (or-right (H d) true refl) ∙ ap (standing m R W (suc j)) e)
+          | inr e ↦ rw (ne-eqb d c e) (ap (λ (z : Bool). pick z (standing m R W (suc j) d) (standing m R W j d)) (or-false (H d)))
+        ]
+      where
+        or-false : (x : Bool) → (x || false) ≡ x
+        or-false true = refl
+        or-false false = refl
+
+    -- where columns wait after D
+    pub family-places : (c : ℕ) → 1 ≤ c → c ≤ m → c ≢ j → waiting m R W j (family m R W j) c ≡ standing m R W (suc j) c
+    family-places c x y n =
+        elim (cases (family m R W j c)) [
+          | inl t ↦ ap (λ (z : Bool). pick z (standing m R W (suc j) c) (standing m R W j c)) t
+          | inr f ↦ ap (λ (z : Bool). pick z (standing m R W (suc j) c) (standing m R W j c)) f ∙
+              sym (stands-keep c x y n (not-here (standing m R W j c)
+              (λ e. true≢false (sym (or-left (children m R W j c) (lost m R W j c) (children-wait c x y ∙ eq-eqb (standing m R W j c) j e)) ∙ f))
+              (λ e. true≢false (sym (or-right (children m R W j c) (lost m R W j c) (lost-wait c x y ∙ eq-eqb (standing m R W j c) (m + j) e)) ∙ f))))
+        ]
+
+    pub family-own : waiting m R W j (family m R W j) j ≡ 0
+    family-own =
+        let e : family m R W j j ≡ false =
+        refute (family m R W j j) (λ h. elim (or-either (children m R W j j) (lost m R W j j) h) [
+          | inl t ↦ omega (arith, stands-before, eqb-true (standing m R W j j) j (sym (children-wait j a b) ∙ t))
+          | inr t ↦ omega (arith, stands-before, eqb-true (standing m R W j j) (m + j) (sym (lost-wait j a b) ∙ t))
+        ]) in
+        ap (λ (z : Bool). pick z (standing m R W (suc j) j) (standing m R W j j)) e ∙ stands-before
+
+    pub family-none : (c : ℕ) → 1 ≤ c → c ≤ m → waiting m R W j (family m R W j) c ≢ j
+    family-none c x y e =
+        elim (eq-or-ne c j) [
+          | inl k ↦ omega (arith, family-own, ap (waiting m R W j (family m R W j)) k)
+          | inr k ↦ true≢false (sym (here-at (standing m R W (suc j) c) (inl (sym (family-places c x y k) ∙ e))) ∙ never-here c x y)
         ]

@@ -22,10 +22,13 @@ use Rattle.updown.specs.Plans.{labelIn, parentIn, InPlan}
 use Rattle.workspace.specs.Layout.{planAt}
 use Rattle.updown.specs.Marks.{markAt, Flagged}
 use Rattle.updown.specs.Queues.{Queues}
-use Rattle.updown.specs.Turns.{larger, before, after, labelAt, done, standing, DoneColumn, PlansTo}
-use Rattle.updown.specs.States.{MarksHold, Busy, differs, plans, marks, queues, flagged, Walking, Begun, Planned}
+use Rattle.updown.specs.Turns.{larger, before, after, labelAt, done, standing, waiting, DoneColumn, PlansTo}
+use Rattle.updown.specs.SoFar.{family}
+use Rattle.updown.specs.States.{MarksHold, Busy, differs, plans, marks, queues, flagged, Walking}
+use Rattle.updown.proofs.Worked.{Begun, Worked}
 use Rattle.updown.proofs.Queueing.{queue-none, links-length}
 use Rattle.updown.proofs.Plans.{touched-more, in-touched, region-same, plans-frame, plans-more}
+use Rattle.updown.proofs.Standing.{family-none}
 use Rattle.updown.proofs.Turning.{tally-frame}
 use Rattle.updown.proofs.Marked.{mark-label}
 
@@ -58,7 +61,7 @@ module _ (m : ℕ) (R W : List Column) (j : ℕ) (a : 1 ≤ j) where
 -- ---- the step
 
 module _ {next : List ℕ} {m flags : ℕ} {R W : List Column} {adding : Bool} {work₀ w w₁ : List ℕ} {j used avail : ℕ} {e : Emission} (b : Begun m flags R W adding work₀ w j used)
-    (d : Planned next w w₁ m R W adding j used avail e) where
+    (d : Worked next w w₁ m R W adding j used avail e) where
   abbrev L : List FactorColumn
   L = before adding m R W
 
@@ -71,7 +74,7 @@ module _ {next : List ℕ} {m flags : ℕ} {R W : List Column} {adding : Bool} {
   -- its queue is empty
   pub next-zero : cell w₁ (5 * m) (j - 1) ≡ 0
   next-zero =
-      queue-none (λ c x y. ne-eqb (d .place c) j (d .none c x (omega (arith, links-length m w₁ long₁))))
+      queue-none (λ c x y. ne-eqb (waiting m R W j (family m R W j) c) j (family-none m R W j (b .low) (b .high) c x (omega (arith, links-length m w₁ long₁))))
       (d .queues .queue j (omega arith) (omega (arith, b .high)) (omega (arith, b .low)))
 
   mark-same : markAt m w₁ j ≡ markAt m w j

@@ -1,12 +1,12 @@
--- A whole turn: what plan_column asks after the batch columns are counted (`turning-ready`), where the step goes, and the walk's state and numbers after it.
--- Assumes nothing.
+-- A whole turn after A: what B and C ask, then D, the plan and the step up (`turning-ready`, `family-ready`, `plan-ready`, `step-ready`), and the walk's state
+-- and numbers after it (`turned`). Assumes nothing.
 use mathlib.Core.Path.{_≡_, sym, ap, _∙_, subst}
 use mathlib.Core.Logic.{inl, inr}
 use mathlib.Core.Bool.{Bool, true, false}
 use mathlib.Core.List.{List, [], _∷_, _++_}
 use Prim.Native.Nat.{ℕ, suc, _+_, _≤_, _<_}
 use native.Mathlib.Omega.{arith}
-use lib.Dec.{eqb}
+use lib.Dec.{eqb, leb}
 use lib.ListN.{length, getD}
 use Rattle.lists.specs.Lists.{pick, sumOf, at}
 use Rattle.lists.proofs.Tests.{zero-or-pos}
@@ -15,11 +15,15 @@ use Rattle.symbolic.specs.Factor.{factorOf, columnAt, parentOf, sizeOf, firstAb
 use Rattle.symbolic.specs.Batch.{sizeSumOf}
 use Rattle.symbolic.proofs.Build.{laws, parent-is}
 use Rattle.pool.specs.Chains.{chain}
+use Rattle.columns.specs.Plan.{ofKind}
+use Rattle.emission.specs.Plans.{planFrom}
 use Rattle.emission.specs.declared.Emission.{Emission}
-use Rattle.updown.specs.Marks.{Room, markAt, steppedUp}
-use Rattle.updown.specs.Turns.{before, after, treeParent, standing, done}
-use Rattle.updown.specs.Walks.{Turn}
-use Rattle.updown.specs.States.{startOf, Numbers, Walking, Begun, Planned, SomePlanned, Halted, Setting, Turning, Between}
+use Rattle.updown.specs.Marks.{Room, markAt, steppedUp, upFrom, CanStep}
+use Rattle.updown.specs.Turns.{before, after, treeParent, done}
+use Rattle.updown.specs.SoFar.{nobody, children, SoFar, IsDefinition}
+use Rattle.updown.specs.Walks.{Columns, Parents, Turn, TurnTo, TurnDone, SomeTurn, SomeTurnD}
+use Rattle.updown.specs.States.{Multiplicities, startOf, Numbers, Walking, Planned, SomePlanned, Halted, Setting, Between}
+use Rattle.updown.proofs.Worked.{Begun, Worked, worked}
 use Rattle.updown.proofs.Plans.{sizes-append}
 use Rattle.updown.proofs.Stepping.{done-next}
 use Rattle.updown.proofs.Halting.{halted}
@@ -27,12 +31,24 @@ use Rattle.updown.proofs.Upward.{stepped, stepped-frame, step-room}
 use Rattle.updown.proofs.Walking.{begun-turn}
 use Rattle.updown.proofs.Numbering.{count-bound, entries-small, larger-small, numbers-next}
 
+-- the turn of j after A, and the numbers before it
+pub record Turning (next work₀ work : List ℕ) (m flags : ℕ) (R W : List Column) (adding : Bool) (free n j first last count entries used avail : ℕ) : Type 0 where
+  pub begun : Begun m flags R W adding work₀ work j used
+  pub so-far : SoFar m R W adding work n j (length W) nobody
+  pub numbers : Numbers next work m R W adding free j first last count entries used avail
+
+-- the turn of j fits exactly if there are free records for its new rows, and then the walk goes on from j, its last column
+pub record Turned (next work₀ work : List ℕ) (m flags : ℕ) (R W : List Column) (adding : Bool) (free j avail₀ : ℕ) (fits : Bool) (first last count entries used avail : ℕ) : Type 0 where
+  pub fits-is : fits ≡ leb (ofKind 1 (planFrom 1 (columnAt (before adding m R W) j .counts) (columnAt (after adding m R W) j .counts))) (length (chain next avail₀))
+  pub onward : fits ≡ true → Between next work₀ work m flags R W adding free (suc last) first last count entries used avail
+  pub halted : fits ≡ false → Halted m flags work₀ work used
+
 module _ {heads parents rows counts next : List ℕ} {m flags : ℕ} {R W : List Column} {adding : Bool} {free : ℕ} (s : Setting heads parents rows counts next m flags R W adding free)
     {work₀ w : List ℕ} {n j f l c k used avail : ℕ} (t : Turning next work₀ w m flags R W adding free n j f l c k used avail) where
-  pub turning-turn : Turn m R W adding w j used n 0 (standing m R W j)
-  turning-turn = begun-turn (t .begun) (t .tallied)
+  turning-turn : Turn m R W adding w j used n 0 nobody
+  turning-turn = begun-turn (t .begun) (t .so-far)
 
-  pub turning-room : used + sizeOf (columnAt (before adding m R W) j) + length (chain next avail) ≤ length next
+  turning-room : used + sizeOf (columnAt (before adding m R W) j) + length (chain next avail) ≤ length next
   unfolding sumOf
   turning-room =
       let b : Begun m flags R W adding work₀ w j used = t .begun in
@@ -44,30 +60,12 @@ module _ {heads parents rows counts next : List ℕ} {m flags : ℕ} {R W : List
         sizes-append (before adding m R W) (done m R W j) (j ∷ []),
       )
 
-  pub turning-ready : SomePlanned heads parents rows counts next w m n j used avail adding
-  turning-ready =
-      record {
-        R = R;
-        W = W;
-        columns = s .columns;
-        parents-hold = s .parents-hold;
-        multiplicities = s .multiplicities;
-        turn = turning-turn;
-        linked = t .numbers .linked;
-        room = turning-room;
-        long = omega (arith, s .fit, t .begun .room .long);
-      }
+  -- ---- the step up, after the plan
 
-  -- the numbers fit their types
-  pub turning-small : {w₁ : List ℕ} {e : Emission} → Planned next w w₁ m R W adding j used avail e → e .fits ≡ true → (c < 4096) × (k ≤ 16777216) × (e .larger ≤ 4096)
-  turning-small d ok =
-      let b : Begun m flags R W adding work₀ w j used = t .begun in (
-        omega (arith, t .numbers .count-is, count-bound m R W adding j (b .low) (b .high) (s .columns .narrow), b .high, s .columns .narrow),
-        omega (arith, t .numbers .entries-is, entries-small m R W adding j (b .low) (b .high) (s .columns .narrow)),
-        omega (arith, d .plan ok .larger, larger-small m R W adding j (b .low) (b .high) (s .columns .narrow)),
-      )
+  module _ {w₁ : List ℕ} {e : Emission} (d : Worked next w w₁ m R W adding j used avail e) (ok : e .fits ≡ true) where
+    abbrev up : ℕ
+    up = upFrom parents j (e .parent .0) adding
 
-  module _ {w₁ : List ℕ} {e : Emission} (d : Planned next w w₁ m R W adding j used avail e) (ok : e .fits ≡ true) where
     new-parent : e .parent .0 ≡ parentOf (after adding m R W) j
     new-parent = d .plan ok .parent ∙ sym (go adding)
       where
@@ -75,10 +73,10 @@ module _ {heads parents rows counts next : List ℕ} {m flags : ℕ} {R W : List
         go true = parent-is m (R ++ W) j (t .begun .low) (t .begun .high)
         go false = parent-is m R j (t .begun .low) (t .begun .high)
 
-    tree-is : (up : ℕ) → up ≡ pick adding (e .parent .0) (at parents j) → up ≡ treeParent m R W j
-    tree-is up x = x ∙ go adding new-parent (s .parents-hold .are j (t .begun .low) (t .begun .high))
+    tree-is : up ≡ treeParent m R W j
+    tree-is = go adding new-parent (s .parents-hold .are j (t .begun .low) (t .begun .high))
       where
-        go : (z : Bool) → e .parent .0 ≡ parentOf (after z m R W) j → at parents j ≡ parentOf (before z m R W) j → pick z (e .parent .0) (at parents j) ≡ treeParent m R W j
+        go : (z : Bool) → e .parent .0 ≡ parentOf (after z m R W) j → at parents j ≡ parentOf (before z m R W) j → upFrom parents j (e .parent .0) z ≡ treeParent m R W j
         go true y u = y
         go false y u = u
 
@@ -92,30 +90,102 @@ module _ {heads parents rows counts next : List ℕ} {m flags : ℕ} {R W : List
         go true y = high-of (R ++ W) (e .parent .0) y
         go false y = high-of R (e .parent .0) y
 
-    pub turning-step : (up : ℕ) → up ≡ pick adding (e .parent .0) (at parents j) → Room m flags w₁ × (1 ≤ j) × (j ≤ m) × (e .parent .0 ≤ m) × (up ≤ m) × (markAt m w₁ j < 260)
-    turning-step up x =
-        let r : Room m flags w₁ × (1 ≤ j) × (j ≤ m) × (markAt m w₁ j < 260) =
-        step-room (t .begun) d ok (s .fit) (s .columns .positions) (λ i y z. s .starts i y z .1) (e .parent .0) new-parent in
-        (r .0, r .1, r .2, parent-high, high-of (R ++ W) up (tree-is up x), r .3)
+    within : (i : ℕ) → 1 ≤ i → i ≤ length W → startOf W i ≤ m
+    within i x y = s .starts i x y .1
 
-    pub turned-on : (up : ℕ) → up ≡ pick adding (e .parent .0) (at parents j) → {w₂ : List ℕ} → w₂ ≡ steppedUp m flags w₁ j (e .parent .0) up → {f′ l′ c′ k′ used′ avail′ : ℕ} →
-        f′ ≡ pick (eqb f 0) j f → l′ ≡ j → c′ ≡ c + 1 → k′ ≡ k + e .larger → used′ ≡ e .used → avail′ ≡ e .avail .0 →
-        Between next work₀ w₂ m flags R W adding free (suc j) f′ l′ c′ k′ used′ avail′
-    turned-on up x {w₂} y {f′} {l′} {c′} {k′} {used′} {avail′} ef el ec ek eu ea =
+    can-step : CanStep parents w₁ m flags j (e .parent .0) adding c k (e .larger)
+    can-step =
         let b : Begun m flags R W adding work₀ w j used = t .begun in
-        let few : (i : ℕ) → 1 ≤ i → i ≤ length W → startOf W i ≤ m = λ i p q. s .starts i p q .1 in
+        let r : Room m flags w₁ × (1 ≤ j) × (j ≤ m) × (markAt m w₁ j < 260) = step-room b d ok (s .fit) (s .columns .positions) within (e .parent .0) new-parent in
+        record {
+          room = r .0;
+          low = r .1;
+          high = r .2;
+          parents-long = s .parents-hold .long;
+          parent-high = parent-high;
+          up-high = high-of (R ++ W) up tree-is;
+          mark-small = r .3;
+          count-small = omega (arith, t .numbers .count-is, count-bound m R W adding j (b .low) (b .high) (s .columns .narrow), b .high, s .columns .narrow);
+          entries-small = omega (arith, t .numbers .entries-is, entries-small m R W adding j (b .low) (b .high) (s .columns .narrow));
+          larger-small = omega (arith, d .plan ok .larger, larger-small m R W adding j (b .low) (b .high) (s .columns .narrow));
+        }
+
+    stepped-on : {w₂ : List ℕ} → w₂ ≡ steppedUp m flags w₁ j (e .parent .0) up → {f′ l′ c′ k′ used′ avail′ : ℕ} →
+        f′ ≡ pick (eqb f 0) j f → l′ ≡ j → c′ ≡ c + 1 → k′ ≡ k + e .larger → used′ ≡ e .used → avail′ ≡ e .avail .0 →
+        Between next work₀ w₂ m flags R W adding free (suc l′) f′ l′ c′ k′ used′ avail′
+    stepped-on {w₂} y {f′} {l′} {c′} {k′} {used′} {avail′} ef el ec ek eu ea =
+        let b : Begun m flags R W adding work₀ w j used = t .begun in
         let h : Walking m flags R W adding work₀ w₂ (suc j) (e .used) =
-        subst (λ (v : List ℕ). Walking m flags R W adding work₀ v (suc j) (e .used)) (sym y) (stepped b d ok (s .fit) (s .columns .positions) few (e .parent .0) new-parent up (tree-is up x)) in
+        subst (λ (v : List ℕ). Walking m flags R W adding work₀ v (suc j) (e .used)) (sym y) (stepped b d ok (s .fit) (s .columns .positions) within (e .parent .0) new-parent up tree-is) in
         let nums : Numbers next w₂ m R W adding free (suc j) f′ l′ c′ k′ (e .used) (e .avail .0) =
         numbers-next (t .numbers) (b .low) (b .high) (s .columns .narrow) (s .columns .few) (b .touched) (d .used-low) (d .plan ok) (d .same-length)
         (omega (arith, d .used-high, s .fit, b .room .long, d .same-length))
         (λ i p q. d .still i (omega arith) (inr (omega arith)) (omega (arith, b .high, b .low)) (inl (omega arith)))
         (h .same-length ∙ sym (d .same-length ∙ b .same-length))
-        (λ i p q. ap (λ (v : List ℕ). getD v i 0) y ∙ stepped-frame b d ok (s .fit) (s .columns .positions) few (e .parent .0) new-parent up (tree-is up x) i p (omega (arith, d .used-high, s .fit)))
+        (λ i p q. ap (λ (v : List ℕ). getD v i 0) y ∙ stepped-frame b d ok (s .fit) (s .columns .positions) within (e .parent .0) new-parent up tree-is i p (omega (arith, d .used-high, s .fit)))
         ef el ec ek in
-        subst (λ (v : ℕ). Between next work₀ w₂ m flags R W adding free (suc j) f′ l′ c′ k′ v avail′) (sym eu)
-        (subst (λ (v : ℕ). Between next work₀ w₂ m flags R W adding free (suc j) f′ l′ c′ k′ (e .used) v) (sym ea) (record { walking = h; numbers = nums }))
+        subst (λ (v : ℕ). Between next work₀ w₂ m flags R W adding free (suc v) f′ l′ c′ k′ used′ avail′) (sym el)
+        (subst (λ (v : ℕ). Between next work₀ w₂ m flags R W adding free (suc j) f′ l′ c′ k′ v avail′) (sym eu)
+        (subst (λ (v : ℕ). Between next work₀ w₂ m flags R W adding free (suc j) f′ l′ c′ k′ (e .used) v) (sym ea) (record { walking = h; numbers = nums })))
 
-  -- a turn that does not fit
-  pub turned-halted : {w₁ : List ℕ} {e : Emission} → Planned next w w₁ m R W adding j used avail e → {used′ : ℕ} → used′ ≡ e .used → Halted m flags work₀ w₁ used′
-  turned-halted {w₁} d x = subst (λ (v : ℕ). Halted m flags work₀ w₁ v) (sym x) (halted (t .begun) d (s .fit))
+  -- ---- from call to call, each with the promises of those before it
+
+  pub turning-ready : SomeTurn heads parents rows next w m j n adding
+  turning-ready = record { R = R; W = W; used = used; columns = s .columns; parents-hold = s .parents-hold; turn = turning-turn }
+
+  -- B and C
+  module _ {wc : List ℕ} {nc : ℕ} (with-children : (R W : List Column) (used : ℕ) → Columns heads rows next m R W adding → Parents parents m R W adding →
+      Turn m R W adding w j used n 0 nobody → TurnTo m R W adding w wc j used nc (children m R W j)) where
+    has-children : TurnTo m R W adding w wc j used nc (children m R W j)
+    has-children = with-children R W used (s .columns) (s .parents-hold) turning-turn
+
+    pub family-ready : SomeTurnD heads rows next wc m j nc adding
+    family-ready = record { R = R; W = W; used = used; columns = s .columns; turn = has-children .turn }
+
+    -- D
+    module _ {wd : List ℕ} {nd : ℕ} (with-family : (R W : List Column) (used : ℕ) → Columns heads rows next m R W adding →
+        Turn m R W adding wc j used nc 0 (children m R W j) → TurnDone m R W adding wc wd j used nd) where
+      has-family : TurnDone m R W adding wc wd j used nd
+      has-family = with-family R W used (s .columns) (has-children .turn)
+
+      pub plan-ready : SomePlanned heads rows counts next wd m nd j used avail
+      plan-ready =
+          record {
+            R = R;
+            W = W;
+            adding = adding;
+            columns = s .columns;
+            multiplicities = s .multiplicities;
+            low = t .begun .low;
+            high = t .begun .high;
+            definition = has-family .definition;
+            linked = t .numbers .linked;
+            room = turning-room;
+            long = omega (arith, s .fit, t .begun .room .long, has-children .same-length, has-family .goes .same-length);
+          }
+
+      -- the plan
+      module _ {wp : List ℕ} {e : Emission} (with-plan : (R W : List Column) (adding : Bool) → Columns heads rows next m R W adding → Multiplicities heads counts next m R W adding →
+          IsDefinition m R W adding wd nd j → used + sizeOf (columnAt (before adding m R W) j) + length (chain next avail) ≤ length next →
+          Planned next wd wp m R W adding j used avail e) where
+        has-plan : Worked next w wp m R W adding j used avail e
+        has-plan = worked has-children has-family (with-plan R W adding (s .columns) (s .multiplicities) (has-family .definition) turning-room)
+
+        pub step-ready : e .fits ≡ true → CanStep parents wp m flags j (e .parent .0) adding c k (e .larger)
+        step-ready = can-step has-plan
+
+        -- the step up
+        pub turned : {w′ : List ℕ} {fits : Bool} {f′ l′ c′ k′ used′ avail′ : ℕ} →
+            (fits ≡ e .fits) × (used′ ≡ e .used) × (e .fits ≡ true → (w′ ≡ steppedUp m flags wp j (e .parent .0) (upFrom parents j (e .parent .0) adding)) × (f′ ≡ pick (eqb f 0) j f) ×
+            (l′ ≡ j) × (c′ ≡ c + 1) × (k′ ≡ k + e .larger) × (avail′ ≡ e .avail .0)) × (e .fits ≡ false → w′ ≡ wp) →
+            Turned next work₀ w′ m flags R W adding free j avail fits f′ l′ c′ k′ used′ avail′
+        turned {w′} {used′ = used′} h =
+            record {
+              fits-is = h .0 ∙ has-plan .fits;
+              onward = λ x. let ok : e .fits ≡ true = sym (h .0) ∙ x in
+                  let q = h .2 ok in
+                  stepped-on has-plan ok (q .0) (q .1) (q .2) (q .3) (q .4) (h .1) (q .5);
+              halted = λ x.
+                  subst (λ (v : List ℕ). Halted m flags work₀ v used′) (sym (h .3 (sym (h .0) ∙ x)))
+                  (subst (λ (v : ℕ). Halted m flags work₀ wp v) (sym (h .1)) (halted (t .begun) has-plan (s .fit)));
+            }

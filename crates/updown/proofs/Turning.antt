@@ -23,9 +23,10 @@ use Rattle.emission.specs.Plans.{planFrom}
 use Rattle.updown.specs.Plans.{parentIn, InPlan}
 use Rattle.workspace.specs.Layout.{marksAt}
 use Rattle.updown.specs.Marks.{endAt, otherAt}
-use Rattle.updown.specs.Children.{Counts, PlanOf, ChainOf, oldOf, newOf}
-use Rattle.updown.specs.Turns.{larger, smaller, before, after, otherParent, labelAt, done, soFar, Shift, Tallied}
-use Rattle.updown.specs.Walks.{Columns, Parents, Turn}
+use Rattle.updown.proofs.Brought.{Counts, PlanOf, oldOf, newOf}
+use Rattle.updown.specs.Turns.{larger, smaller, before, after, otherParent, labelAt, done}
+use Rattle.updown.specs.SoFar.{SoFar}
+use Rattle.updown.specs.Walks.{ChainOf, Columns, Parents, Turn}
 use Rattle.updown.proofs.Plans.{touched-in, in-touched, region-same, Found, plans-find}
 
 -- ---- multiplicities
@@ -82,18 +83,15 @@ tally-frame {m} {w} {w′} {n} l h t =
       buffer = λ i x. h (2 * m + i) (omega arith) ∙ t .buffer i x;
     }
 
-pub tallied-frame : {m : ℕ} {R W : List Column} {adding : Bool} {w w′ : List ℕ} {n j : ℕ} {s : ℕ → ℕ} {place : ℕ → ℕ} → length w′ ≡ length w →
-    ((k : ℕ) → k < 3 * m → getD w′ k 0 ≡ getD w k 0) → 1 ≤ j → j ≤ m → Tallied m R W adding w n j s place → Tallied m R W adding w′ n j s place
-tallied-frame {m} {R} {W} {adding} {w} {w′} {n} {j} {s} {place} l h a b t =
+pub so-far-frame : {m : ℕ} {R W : List Column} {adding : Bool} {w w′ : List ℕ} {n j k : ℕ} {H : ℕ → Bool} → length w′ ≡ length w →
+    ((i : ℕ) → i < 3 * m → getD w′ i 0 ≡ getD w i 0) → 1 ≤ j → j ≤ m → SoFar m R W adding w n j k H → SoFar m R W adding w′ n j k H
+so-far-frame {m} {R} {W} {adding} {w} {w′} {n} {j} {k} {H} l h a b t =
     let u : Tally m w′ n (differenceAt w) = tally-frame l h (t .tally) in
     record {
       tally = record { touched = u .touched; values = λ i x y. refl; buffer = u .buffer };
-      shifts = λ i x y. go adding (differenceAt w′ i) (differenceAt w i) (ap shifted (h (i - 1) (omega arith))) i (t .shifts i x y);
+      rows = λ i x y. ap (λ (d : ℕ). multiplicity (before adding m R W) i j + d) (ap shifted (h (i - 1) (omega arith))) ∙ t .rows i x y;
       still = λ i x y. ap shifted (h (i - 1) (omega arith)) ∙ t .still i x y;
     }
-  where
-    go : (z : Bool) (d e : ℕ) → d ≡ e → (i : ℕ) → Shift z e (multiplicity (smaller m R) i j) (soFar m R W j place (s i) i) → Shift z d (multiplicity (smaller m R) i j) (soFar m R W j place (s i) i)
-    go z d e q i x = subst (λ (y : ℕ). Shift z y (multiplicity (smaller m R) i j) (soFar m R W j place (s i) i)) (sym q) x
 
 -- a plan's places lie past the differences, and not among the queues of other parents and the links
 pub plan-places : (m : ℕ) (R W : List Column) (j used : ℕ) → j ≤ suc m → (k : ℕ) → InPlan m used (done m R W j) k → (3 * m ≤ k) × ((k < 6 * m) ⊎ (8 * m ≤ k))
@@ -108,8 +106,8 @@ plan-places m R W j used h k (inl t) =
 
 -- ---- one done column
 
-module _ {heads rows next : List ℕ} {m : ℕ} {R W : List Column} {adding : Bool} (k : Columns heads rows next m R W adding) {work : List ℕ} {j used n except : ℕ} {place : ℕ → ℕ}
-    (t : Turn m R W adding work j used n except place) (c : ℕ) (a : 1 ≤ c) (b : c < j) (touched : isTouched (larger m R W) W c ≡ true) where
+module _ {m : ℕ} {R W : List Column} {adding : Bool} {work : List ℕ} {j used n except : ℕ} {H : ℕ → Bool} (t : Turn m R W adding work j used n except H)
+    (c : ℕ) (a : 1 ≤ c) (b : c < j) (touched : isTouched (larger m R W) W c ≡ true) where
   turn-found : Found m (before adding m R W) (after adding m R W) (labelAt m R W) work (done m R W j) j used c
   turn-found =
       plans-find m (before adding m R W) (after adding m R W) (labelAt m R W) work (done m R W j) 0 j used c
@@ -126,13 +124,13 @@ module _ {heads rows next : List ℕ} {m : ℕ} {R W : List Column} {adding : Bo
   turn-end : endAt m work c ≡ turn-found .end
   turn-end = ap (λ (x : ℕ). cell work (4 * m) (x - 1)) (turn-found .column .plan .next-is) ∙ turn-found .ends
 
-  pub turn-plan : PlanOf work m c adding (columnAt (larger m R W) c .counts) (columnAt (smaller m R) c .counts)
-  turn-plan =
+  pub turn-plan : m ≤ 4096 → length R + length W ≤ 60000 → PlanOf work m c adding (columnAt (larger m R W) c .counts) (columnAt (smaller m R) c .counts)
+  turn-plan narrow few =
       let f : Found m (before adding m R W) (after adding m R W) (labelAt m R W) work (done m R W j) j used c = turn-found in
       let part : planPart m work (cell work (4 * m) (c - 1)) (endAt m work c) ≡ planPart m work (f .start) (f .end) =
       ap (λ (x : ℕ). planPart m work x (endAt m work c)) (f .column .plan .starts) ∙ ap (λ (x : ℕ). planPart m work (f .start) x) turn-end in
       record {
-        column = column-counts m R W c a (omega (arith, t .high)) (k .narrow) (k .few);
+        column = column-counts m R W c a (omega (arith, t .high)) narrow few;
         long = omega (arith, turn-end, f .high, t .long);
         next-low = omega (arith, f .column .plan .next-is, next-range);
         next-high = omega (arith, f .column .plan .next-is, next-range);
@@ -149,8 +147,8 @@ module _ {heads rows next : List ℕ} {m : ℕ} {R W : List Column} {adding : Bo
       news true = refl
       news false = refl
 
-  pub turn-chain : ChainOf heads rows next m c (oldOf adding (columnAt (larger m R W) c .counts) (columnAt (smaller m R) c .counts))
-  turn-chain = subst (λ (x : List ℕ). ChainOf heads rows next m c x) (olds adding) (k .chains c a (omega (arith, t .high)))
+  pub turn-chain : {heads rows next : List ℕ} → Columns heads rows next m R W adding → ChainOf heads rows next m c (oldOf adding (columnAt (larger m R W) c .counts) (columnAt (smaller m R) c .counts))
+  turn-chain {heads} {rows} {next} k = subst (λ (x : List ℕ). ChainOf heads rows next m c x) (olds adding) (k .chains c a (omega (arith, t .high)))
     where
       olds : (z : Bool) → columnAt (before z m R W) c .counts ≡ oldOf z (columnAt (larger m R W) c .counts) (columnAt (smaller m R) c .counts)
       olds true = refl

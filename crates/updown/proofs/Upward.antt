@@ -16,16 +16,18 @@ use Rattle.symbolic.proofs.Labels.{label-child, touched-label, label-passes}
 use Rattle.workspace.specs.Regions.{cell, Outside}
 use Rattle.emission.specs.declared.Emission.{Emission}
 use Rattle.updown.specs.Marks.{Room, markAt, flagAt, raised, queued, Flagged, kept, steppedUp}
-use Rattle.updown.specs.Queues.{Queues, moved}
-use Rattle.updown.specs.Turns.{larger, after, treeParent, labelAt, standing}
-use Rattle.updown.specs.States.{startOf, MarksHold, Walking, Begun, Planned}
-use Rattle.updown.proofs.Queueing.{queues-ext, queues-fewer, queues-frame, queues-push, moved-self, moved-other}
-use Rattle.updown.proofs.Standing.{tree-above, stands-self}
+use Rattle.updown.specs.Queues.{Queues}
+use Rattle.updown.specs.Turns.{larger, after, treeParent, labelAt, standing, waiting}
+use Rattle.updown.specs.SoFar.{family}
+use Rattle.updown.specs.States.{startOf, MarksHold, Walking}
+use Rattle.updown.proofs.Worked.{Begun, Worked}
+use Rattle.updown.proofs.Queueing.{queues-ext, queues-fewer, queues-frame, queues-push, moved, moved-self, moved-other}
+use Rattle.updown.proofs.Standing.{tree-above, stands-self, family-places, family-own}
 use Rattle.updown.proofs.Marked.{raised-length, raised-other, raised-mark, raised-flag, raised-own}
 use Rattle.updown.proofs.Stepping.{label-same, walk-on}
 
 module _ {next : List ℕ} {m flags : ℕ} {R W : List Column} {adding : Bool} {work₀ w w₁ : List ℕ} {j used avail : ℕ} {e : Emission} (b : Begun m flags R W adding work₀ w j used)
-    (d : Planned next w w₁ m R W adding j used avail e) (ok : e .fits ≡ true) (fit : 8 * m + length next ≤ flags) (few : length W ≤ 64)
+    (d : Worked next w w₁ m R W adding j used avail e) (ok : e .fits ≡ true) (fit : 8 * m + length next ≤ flags) (few : length W ≤ 64)
     (within : (k : ℕ) → 1 ≤ k → k ≤ length W → startOf W k ≤ m) (p : ℕ) (parent : p ≡ parentOf (after adding m R W) j) where
   abbrev up : ℕ
   up = treeParent m R W j
@@ -90,8 +92,8 @@ module _ {next : List ℕ} {m flags : ℕ} {R W : List Column} {adding : Bool} {
         (queues-fewer (queues-frame m w₁ wk (omega (arith, long₁, b .room .low)) kept-length (d .queues) (b .low) (omega (arith, b .high)) (λ k x y. kept-other k (omega (arith, b .low, b .high))))
         (omega arith) (λ x _ n. n))
         (λ c x y. elim (eq-or-ne c j) [
-          | inl q ↦ ap (standing m R W (suc j)) q ∙ stands-self m R W j (b .low) (b .high) (b .touched) ∙ z ∙ sym (ap (d .place) q ∙ d .own)
-          | inr q ↦ sym (d .places c x y q)
+          | inl q ↦ ap (standing m R W (suc j)) q ∙ stands-self m R W j (b .low) (b .high) (b .touched) ∙ z ∙ sym (ap (waiting m R W j (family m R W j)) q ∙ family-own m R W j (b .low) (b .high))
+          | inr q ↦ sym (family-places m R W j (b .low) (b .high) c x y q)
         ]))
 
   -- a tree parent
@@ -228,15 +230,15 @@ module _ {next : List ℕ} {m flags : ℕ} {R W : List Column} {adding : Bool} {
 
     queues-up : Queues m wq (suc j) 0 (standing m R W (suc j))
     queues-up =
-        let qr : Queues m wr j 0 (d .place) =
+        let qr : Queues m wr j 0 (waiting m R W j (family m R W j)) =
         queues-frame m w₁ wr (omega (arith, long₁, b .room .low)) wr-length (d .queues) (b .low) (omega (arith, b .high))
         (λ k x y. raise-other k (omega (arith, above, b .low)) (omega (arith, b .room .low)) ∙ kept-other k (omega (arith, b .low, b .high))) in
         queues-ext (omega (arith, long₁, wq-length, b .room .low))
-        (queues-fewer (queues-push m wr (omega (arith, long₁, wr-length, b .room .low)) qr j up (b .low) (b .high) (d .own) (b .low) (omega (arith, above)) (omega (arith, above)) z)
+        (queues-fewer (queues-push m wr (omega (arith, long₁, wr-length, b .room .low)) qr j up (b .low) (b .high) (family-own m R W j (b .low) (b .high)) (b .low) (omega (arith, above)) (omega (arith, above)) z)
         (omega arith) (λ x _ n. n))
         (λ c x y. elim (eq-or-ne c j) [
-          | inl q ↦ ap (standing m R W (suc j)) q ∙ stands-self m R W j (b .low) (b .high) (b .touched) ∙ sym (ap (moved (d .place) j up) q ∙ moved-self (d .place) j up)
-          | inr q ↦ sym (d .places c x y q) ∙ sym (moved-other (d .place) j up c q)
+          | inl q ↦ ap (standing m R W (suc j)) q ∙ stands-self m R W j (b .low) (b .high) (b .touched) ∙ sym (ap (moved (waiting m R W j (family m R W j)) j up) q ∙ moved-self (waiting m R W j (family m R W j)) j up)
+          | inr q ↦ sym (family-places m R W j (b .low) (b .high) c x y q) ∙ sym (moved-other (waiting m R W j (family m R W j)) j up c q)
         ])
 
     pub stepped-parent : Walking m flags R W adding work₀ wq (suc j) (e .used)

@@ -3,7 +3,7 @@
 use mathlib.Core.Path.{_≡_, refl, sym, ap, _∙_, subst}
 use mathlib.Core.Logic.{_⊎_, inl, inr, _≢_}
 use mathlib.Core.Bool.{Bool, true, false, true≢false}
-use mathlib.Core.List.{List, _++_}
+use mathlib.Core.List.{List}
 use Prim.Native.Nat.{ℕ, suc, _+_, _-_, _*_, _/_, _≤_, _<_}
 use native.Mathlib.Omega.{arith}
 use lib.Dec.{eqb}
@@ -12,18 +12,20 @@ use lib.Seq.{getD-set-same, getD-set-other}
 use borrow.Author.Tests.{eq-eqb, ne-eqb}
 use Rattle.lists.specs.Lists.{pick, Mem}
 use Rattle.lists.proofs.Tests.{eq-or-ne, lt-or-le}
-use Rattle.symbolic.specs.Columns.{Column, startingWith}
+use Rattle.symbolic.specs.Columns.{Column}
 use Rattle.symbolic.specs.Batch.{isTouched}
 use Rattle.workspace.specs.Regions.{cell, OnlyIn}
 use Rattle.pool.specs.Chains.{lastOf}
 use Rattle.updown.specs.Plans.{InPlan}
 use Rattle.updown.specs.Marks.{markAt, begun}
-use Rattle.updown.specs.Turns.{larger, before, after, labelAt, done, standing, isHere, PlansTo, Tallied}
+use Rattle.updown.specs.Turns.{larger, before, after, labelAt, done, standing, PlansTo}
+use Rattle.updown.specs.SoFar.{nobody, SoFar}
 use Rattle.updown.specs.Walks.{Turn}
-use Rattle.updown.specs.States.{startOf, Busy, differs, plans, marks, queues, flagged, Walking, Begun}
+use Rattle.updown.specs.States.{startOf, Busy, differs, plans, marks, queues, flagged, Walking}
+use Rattle.updown.proofs.Worked.{Begun}
 use Rattle.updown.proofs.Queueing.{queue-none, links-length, queues-ext, queues-fewer, queues-frame}
 use Rattle.updown.proofs.Plans.{touched-rising, plans-frame, plans-link, last-in}
-use Rattle.updown.proofs.Standing.{stands-untouched, here-at, never-here}
+use Rattle.updown.proofs.Standing.{isHere, stands-untouched, here-at, never-here}
 use Rattle.updown.proofs.Turning.{plan-places}
 use Rattle.updown.proofs.Marked.{mark-touched, touched-mark, marks-skip, marks-frame}
 use Rattle.updown.proofs.Stepping.{done-skip, done-in, in-plan-wider, own-in}
@@ -175,7 +177,7 @@ module _ {m flags : ℕ} {R W : List Column} {adding : Bool} {work₀ w w′ : L
       }
 
 pub begun-turn : {m flags : ℕ} {R W : List Column} {adding : Bool} {work₀ w : List ℕ} {j used n : ℕ} → Begun m flags R W adding work₀ w j used →
-    Tallied m R W adding w n j (λ i. startingWith j i (R ++ W)) (standing m R W j) → Turn m R W adding w j used n 0 (standing m R W j)
+    SoFar m R W adding w n j (length W) nobody → Turn m R W adding w j used n 0 nobody
 begun-turn b t =
     record {
       low = b .low;
@@ -184,6 +186,5 @@ begun-turn b t =
       plans = b .plans;
       starts = b .starts;
       queues = b .queues;
-      places = λ c x y. inl refl;
-      tallied = t;
+      so-far = t;
     }

@@ -2,8 +2,8 @@ pub mod Plans
 pub mod Entries
 pub mod Marks
 pub mod Queues
-pub mod Children
 pub mod Turns
+pub mod SoFar
 pub mod Walks
 pub mod States
 pub mod Starts

@@ -73,3 +73,28 @@ kept m w j p = set w (marksAt m + (j - 1)) (markAt m w j + parentWeight * p)
 -- one step up from j: its new parent is kept; its tree parent, if it has one, is marked with j's label, and j waits in its queue
 abbrev pub steppedUp : (m flags : ℕ) (work : List ℕ) (j parent up : ℕ) → List ℕ
 steppedUp m f w j p q = pick (eqb q 0) (kept m w j p) (queued m (raised m f (kept m w j p) q (markAt m w j / labelWeight)) j q)
+
+-- ---- the first and the last step of a turn
+
+-- the next marked row past the last touched column, with its turn begun; or 0, and nothing is written
+pub record Taken (m : ℕ) (before after : List ℕ) (last used row : ℕ) : Type 0 where
+  pub next : Next m before last row
+  pub begins : row ≢ 0 → after ≡ begun m before last row used
+  pub ends : row ≡ 0 → after ≡ before
+
+-- the parent in the tree of all columns: the new one when adding, the stored one when removing
+abbrev pub upFrom : (parents : List ℕ) (j parent : ℕ) (adding : Bool) → ℕ
+upFrom ps j p z = pick z p (at ps j)
+
+-- one step up from j can be taken, and the numbers of the walk go on
+pub record CanStep (parents work : List ℕ) (m flags j parent : ℕ) (adding : Bool) (count entries larger : ℕ) : Type 0 where
+  pub room : Room m flags work
+  pub low : 1 ≤ j
+  pub high : j ≤ m
+  pub parents-long : length parents ≡ m
+  pub parent-high : parent ≤ m
+  pub up-high : upFrom parents j parent adding ≤ m
+  pub mark-small : markAt m work j < 260
+  pub count-small : count < 4096
+  pub entries-small : entries ≤ 16777216
+  pub larger-small : larger ≤ 4096

@@ -8,7 +8,7 @@ use mathlib.Core.List.{List}
 use Prim.Native.Nat.{ℕ, _-_, _*_, _≤_}
 use lib.Dec.{eqb}
 use lib.ListN.{length}
-use Rattle.lists.specs.Lists.{pick, one, times}
+use Rattle.lists.specs.Lists.{one, times}
 use Rattle.workspace.specs.Regions.{cell, region}
 use Rattle.workspace.specs.Layout.{childrenAt, linksAt}
 use Rattle.pool.specs.Chains.{Linked}
@@ -27,7 +27,3 @@ pub record Queue (next : List ℕ) (head : ℕ) (waits : ℕ → Bool) : Type 0 
 pub record Queues (m : ℕ) (work : List ℕ) (from except : ℕ) (place : ℕ → ℕ) : Type 0 where
   pub queue : (x : ℕ) → from ≤ x → x ≤ 2 * m → x ≢ except → Queue (links m work) (cell work (childrenAt m) (x - 1)) (λ c. eqb (place c) x)
   pub idle : (c : ℕ) → 1 ≤ c → c ≤ m → place c ≡ 0 → cell work (linksAt m) (c - 1) ≡ 0
-
--- where each column waits once one has moved
-abbrev pub moved : (place : ℕ → ℕ) (c x : ℕ) → ℕ → ℕ
-moved place c x d = pick (eqb d c) x (place d)

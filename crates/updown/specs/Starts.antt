@@ -2,18 +2,19 @@
 use mathlib.Core.Path.{_≡_}
 use mathlib.Core.Logic.{_≢_}
 use mathlib.Core.Bool.{Bool, true, false}
-use mathlib.Core.List.{List, _++_}
+use mathlib.Core.List.{List}
 use Prim.Native.Nat.{ℕ, suc, _+_, _*_, _/_, _%_, _≤_, _<_}
 use lib.ListN.{length, getD}
 use Rattle.lists.specs.Lists.{all}
-use Rattle.symbolic.specs.Columns.{Column, startingWith}
+use Rattle.symbolic.specs.Columns.{Column}
 use Rattle.workspace.specs.Regions.{Outside, IsZero, OnlyIn}
 use Rattle.updown.specs.Plans.{startBit, labelWeight}
 use Rattle.workspace.specs.Layout.{marksAt, flagCount}
 use Rattle.book.specs.Book as book
 use Rattle.updown.specs.Entries.{Listed, Booked}
 use Rattle.updown.specs.Marks.{Room, markAt, Flagged}
-use Rattle.updown.specs.Turns.{larger, smaller, Tallied}
+use Rattle.updown.specs.Turns.{larger, smaller}
+use Rattle.updown.specs.SoFar.{nobody, SoFar}
 use Rattle.symbolic.specs.Factor.{sizeSum}
 use Rattle.pool.specs.Chains.{chain, Linked}
 use Rattle.updown.specs.States.{startOf, Setting, Walking, Between, Halted}
@@ -44,28 +45,27 @@ pub record SomeMark (counts list : List ℕ) (m flags : ℕ) (work : List ℕ) :
 
 -- ---- counted
 
--- from no batch column counted at j to all
-pub record CanStart (m : ℕ) (R W : List Column) (adding : Bool) (work : List ℕ) (j : ℕ) (place : ℕ → ℕ) : Type 0 where
+-- A at column j: no batch column is handled
+pub record CanStart (m : ℕ) (R W : List Column) (adding : Bool) (work : List ℕ) (j : ℕ) : Type 0 where
   pub low : 1 ≤ j
   pub high : j ≤ m
   pub narrow : m ≤ 4096
   -- a loose bound above document 01's, as in Entries.antt
   pub few : length R + length W ≤ 60000
   pub fits : all (book.columnFits m) W ≡ true
-  pub tallied : Tallied m R W adding work 0 j (λ i. startingWith j i R) place
+  pub so-far : SoFar m R W adding work 0 j 0 nobody
 
--- all batch columns that start at j are counted, and nothing but the differences changed
-pub record Started (m : ℕ) (R W : List Column) (adding : Bool) (before after : List ℕ) (n j : ℕ) (place : ℕ → ℕ) : Type 0 where
-  pub tallied : Tallied m R W adding after n j (λ i. startingWith j i (R ++ W)) place
+-- all batch columns are handled, and nothing but the differences changed
+pub record Started (m : ℕ) (R W : List Column) (adding : Bool) (before after : List ℕ) (n j : ℕ) : Type 0 where
+  pub so-far : SoFar m R W adding after n j (length W) nobody
   pub only : OnlyIn 0 (marksAt m) before after
 
 -- what a caller shows: that listed columns that start at j can be counted, for some R and W
 pub record SomeStart (counts list : List ℕ) (m : ℕ) (work : List ℕ) (j : ℕ) : Type 0 where
   pub R : List Column
   pub W : List Column
-  pub place : ℕ → ℕ
   pub listed : Listed counts list W
-  pub can : CanStart m R W true work j place
+  pub can : CanStart m R W true work j
 
 -- ---- booked columns: a sound book that has them
 
@@ -94,9 +94,8 @@ pub record SomeMarkBooked (heads rows ids : List ℕ) (m flags : ℕ) (work : Li
 pub record SomeStartBooked (heads rows next ids : List ℕ) (m : ℕ) (work : List ℕ) (j : ℕ) : Type 0 where
   pub R : List Column
   pub W : List Column
-  pub place : ℕ → ℕ
   pub holds : BookHolds heads rows next ids m W
-  pub can : CanStart m R W false work j place
+  pub can : CanStart m R W false work j
 
 -- ---- a walk over booked columns that leave
 

@@ -2,18 +2,18 @@
 -- plans so far, the marks and queues of the rows to come, the flags, the differences. Assumes nothing: these are definitions.
 use mathlib.Core.Path.{_≡_}
 use mathlib.Core.Logic.{_⊎_, _≢_}
-use mathlib.Core.Bool.{Bool, true, false}
-use mathlib.Core.List.{List, _++_}
-use Prim.Native.Nat.{ℕ, suc, _+_, _-_, _*_, _/_, _%_, _≤_, _<_}
+use mathlib.Core.Bool.{Bool, true}
+use mathlib.Core.List.{List}
+use Prim.Native.Nat.{ℕ, suc, _+_, _-_, _/_, _%_, _≤_, _<_}
 use lib.Dec.{leb}
 use lib.ListN.{length, getD}
 use Rattle.lists.specs.Lists.{at, valuesAt}
-use Rattle.symbolic.specs.Columns.{Column, smallest, startingWith}
+use Rattle.symbolic.specs.Columns.{Column, smallest}
 use Rattle.symbolic.specs.Factor.{columnAt, sizeOf, nonZero}
 use Rattle.symbolic.specs.Batch.{atPosition, isTouched, sizeSumOf, entriesOf}
-use Rattle.workspace.specs.Regions.{cell, region, Outside}
+use Rattle.workspace.specs.Regions.{region, Outside}
 use Rattle.workspace.specs.Planned.{newKind}
-use Rattle.workspace.specs.Layout.{marksAt, startsAt, childrenAt, lostAt, planAt, flagCount}
+use Rattle.workspace.specs.Layout.{marksAt, startsAt, childrenAt, planAt, flagCount}
 use Rattle.pool.specs.Chains.{chain, lastOf, Linked}
 use Rattle.columns.specs.Plan.{ofKind}
 use Rattle.differences.specs.Tally.{base, Tally}
@@ -23,8 +23,9 @@ use Rattle.emission.specs.declared.Emission.{Emission}
 use Rattle.updown.specs.Plans.{InPlan, firstOf, startBit, labelWeight}
 use Rattle.updown.specs.Marks.{Room, markAt, Flagged}
 use Rattle.updown.specs.Queues.{Queues}
-use Rattle.updown.specs.Turns.{larger, before, after, treeParent, labelAt, done, standing, PlansTo, Tallied}
-use Rattle.updown.specs.Walks.{Columns, Parents, Turn}
+use Rattle.updown.specs.Turns.{larger, before, after, treeParent, labelAt, done, standing, PlansTo}
+use Rattle.updown.specs.SoFar.{IsDefinition}
+use Rattle.updown.specs.Walks.{Columns, Parents}
 
 -- ---- the tables of L
 
@@ -92,22 +93,6 @@ pub record Walking (m flags : ℕ) (R W : List Column) (adding : Bool) (work₀ 
   pub tally : Tally m work 0 (λ i. base)
   pub rest : (k : ℕ) → (Busy m flags used (done m R W j) j k → ⊥) → getD work k 0 ≡ getD work₀ k 0
 
--- the turn of j has begun: the plans so far go on to j, and j's own starts
-pub record Begun (m flags : ℕ) (R W : List Column) (adding : Bool) (work₀ work : List ℕ) (j used : ℕ) : Type 0 where
-  pub low : 1 ≤ j
-  pub high : j ≤ m
-  pub touched : isTouched (larger m R W) W j ≡ true
-  pub room : Room m flags work
-  pub plan-room : planAt m + used ≤ flags
-  pub same-length : length work ≡ length work₀
-  pub zero : (k : ℕ) → k < flags + flagCount → getD work₀ k 0 ≡ 0
-  pub plans : PlansTo m (before adding m R W) (after adding m R W) (labelAt m R W) work (done m R W j) 0 j used
-  pub starts : cell work (startsAt m) (j - 1) ≡ used
-  pub marks : MarksHold m R W work j
-  pub flagged : Flagged m flags work (j - 1)
-  pub queues : Queues m work j 0 (standing m R W j)
-  pub rest : (k : ℕ) → (Busy m flags used (done m R W (suc j)) j k → ⊥) → getD work k 0 ≡ getD work₀ k 0
-
 -- ---- a walk that stops since no free record is left
 
 -- beyond the first 8 m + used places, but for the flags, the work table is as lent, where it was zero
@@ -118,36 +103,33 @@ pub record Halted (m flags : ℕ) (work₀ work : List ℕ) (used : ℕ) : Type 
   pub zero : (k : ℕ) → k < flags + flagCount → getD work₀ k 0 ≡ 0
   pub rest : (k : ℕ) → planAt m + used ≤ k → Outside flags flagCount k → getD work k 0 ≡ getD work₀ k 0
 
--- ---- column j planned: its queues are empty, the differences cleared, and but for them only the queues and the plan changed
+-- ---- column j planned after D: the differences are cleared, and but for them only the plan is written
 
--- after the work on column j: where each column waits then, and j's plan if there are free records for it
+-- column j's plan, if there are free records for it
 pub record Planned (next before-work after-work : List ℕ) (m : ℕ) (R W : List Column) (adding : Bool) (j used avail : ℕ) (e : Emission) : Type 0 where
-  pub place : ℕ → ℕ
-  pub queues : Queues m after-work j 0 place
-  pub places : (c : ℕ) → 1 ≤ c → c ≤ m → c ≢ j → place c ≡ standing m R W (suc j) c
-  pub own : place j ≡ 0
-  pub none : (c : ℕ) → 1 ≤ c → c ≤ m → place c ≢ j
   pub tally : Tally m after-work 0 (λ i. base)
   pub used-low : used ≤ e .used
   pub used-high : e .used ≤ length next
   pub same-length : length after-work ≡ length before-work
-  pub still : (k : ℕ) → marksAt m ≤ k → Outside (lostAt m) (2 * m) k → k ≢ childrenAt m + (j - 1) → Outside (planAt m + used) (e .used - used) k → getD after-work k 0 ≡ getD before-work k 0
+  pub still : (k : ℕ) → marksAt m ≤ k → Outside (planAt m + used) (e .used - used) k → getD after-work k 0 ≡ getD before-work k 0
   pub fits : e .fits ≡ leb (ofKind newKind (planFrom 1 (columnAt (before adding m R W) j .counts) (columnAt (after adding m R W) j .counts))) (length (chain next avail))
   pub plan : e .fits ≡ true → emit.Plan next m j used avail (columnAt (before adding m R W) j .counts) (columnAt (after adding m R W) j .counts) after-work e
 
--- what a caller shows: tables that hold the factor and the turn of j with room for its plan, for some R and W
-pub record SomePlanned (heads parents rows counts next work : List ℕ) (m n j used avail : ℕ) (adding : Bool) : Type 0 where
+-- what a caller shows: tables that hold the factor, the definition's multiplicities of column j and room for its plan, for some R and W
+pub record SomePlanned (heads rows counts next work : List ℕ) (m n j used avail : ℕ) : Type 0 where
   pub R : List Column
   pub W : List Column
+  pub adding : Bool
   pub columns : Columns heads rows next m R W adding
-  pub parents-hold : Parents parents m R W adding
   pub multiplicities : Multiplicities heads counts next m R W adding
-  pub turn : Turn m R W adding work j used n 0 (standing m R W j)
+  pub low : 1 ≤ j
+  pub high : j ≤ m
+  pub definition : IsDefinition m R W adding work n j
   pub linked : Linked next avail (chain next avail)
   pub room : used + sizeOf (columnAt (before adding m R W) j) + length (chain next avail) ≤ length next
   pub long : planAt m + length next ≤ length work
 
--- ---- the turn of j, from the batch columns counted to the next row
+-- ---- the tables and numbers of a walk
 
 -- what the tables hold, all that a walk asks of them
 pub record Setting (heads parents rows counts next : List ℕ) (m flags : ℕ) (R W : List Column) (adding : Bool) (free : ℕ) : Type 0 where
@@ -159,28 +141,7 @@ pub record Setting (heads parents rows counts next : List ℕ) (m flags : ℕ) (
   pub records : length next ≤ 1048576
   pub starts : (k : ℕ) → 1 ≤ k → k ≤ length W → (1 ≤ startOf W k) × (startOf W k ≤ m)
 
--- the turn of j with its batch columns counted, and the numbers before it
-pub record Turning (next work₀ work : List ℕ) (m flags : ℕ) (R W : List Column) (adding : Bool) (free n j first last count entries used avail : ℕ) : Type 0 where
-  pub begun : Begun m flags R W adding work₀ work j used
-  pub tallied : Tallied m R W adding work n j (λ i. startingWith j i (R ++ W)) (standing m R W j)
-  pub numbers : Numbers next work m R W adding free j first last count entries used avail
-
--- what a caller shows: tables that hold the factor and such a turn, for some R and W
-pub record SomeTurning (heads parents rows counts next work : List ℕ) (m flags : ℕ) (adding : Bool) (n j first last count entries used avail : ℕ) : Type 0 where
-  pub R : List Column
-  pub W : List Column
-  pub free : ℕ
-  pub work₀ : List ℕ
-  pub setting : Setting heads parents rows counts next m flags R W adding free
-  pub turning : Turning next work₀ work m flags R W adding free n j first last count entries used avail
-
 -- between two turns, with the numbers
 pub record Between (next work₀ work : List ℕ) (m flags : ℕ) (R W : List Column) (adding : Bool) (free j first last count entries used avail : ℕ) : Type 0 where
   pub walking : Walking m flags R W adding work₀ work j used
   pub numbers : Numbers next work m R W adding free j first last count entries used avail
-
--- it fits exactly if there are free records for the new rows of j, and then the walk goes on
-pub record Turned (next work₀ work : List ℕ) (m flags : ℕ) (R W : List Column) (adding : Bool) (free j avail₀ : ℕ) (fits : Bool) (first last count entries used avail : ℕ) : Type 0 where
-  pub fits-is : fits ≡ leb (ofKind newKind (planFrom 1 (columnAt (before adding m R W) j .counts) (columnAt (after adding m R W) j .counts))) (length (chain next avail₀))
-  pub onward : fits ≡ true → Between next work₀ work m flags R W adding free (suc j) first last count entries used avail
-  pub halted : fits ≡ false → Halted m flags work₀ work used

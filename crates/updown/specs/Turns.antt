@@ -1,16 +1,14 @@
--- The walk of a batch W beside the columns R, in the tree of R ++ W, and the turn of column j in it: which queue a done column waits in, what of j's
--- multiplicities is counted so far, the plans of done columns. Adding goes from R to R ++ W, removing back. Assumes nothing: these are definitions.
+-- The walk of a batch W beside the columns R, in the tree of R ++ W, and the turn of column j in it: which queue a done column waits in, the plans of done
+-- columns. Adding goes from R to R ++ W, removing back. Assumes nothing: these are definitions.
 use mathlib.Core.Path.{_≡_}
-use mathlib.Core.Bool.{Bool, true, false, _&&_, _||_, not}
+use mathlib.Core.Bool.{Bool, _&&_, not}
 use mathlib.Core.List.{List, [], _∷_, _++_}
-use Prim.Native.Nat.{ℕ, _+_, _-_, _≤_, _<_}
+use Prim.Native.Nat.{ℕ, suc, _+_, _-_}
 use lib.Dec.{ltb, leb, eqb}
 use Rattle.lists.specs.Lists.{pick}
 use Rattle.symbolic.specs.Columns.{Column}
-use Rattle.symbolic.specs.Factor.{FactorColumn, factorOf, columnAt, multiplicity, parentOf}
+use Rattle.symbolic.specs.Factor.{FactorColumn, factorOf, columnAt, parentOf}
 use Rattle.symbolic.specs.Batch.{isTouched, touchedFrom, labelOf}
-use Rattle.symbolic.specs.Steps.{countSoFar}
-use Rattle.differences.specs.Tally.{base, differenceAt, Tally}
 use Rattle.differences.specs.Gather.{planPart}
 use Rattle.emission.specs.Plans.{planFrom}
 use Rattle.updown.specs.Plans.{ColumnPlan, firstOf}
@@ -76,26 +74,6 @@ PlansTo m L L′ label w (j ∷ js) start next used =
 
 -- ---- the turn of j
 
--- x is one of j's two queues
-abbrev pub isHere : (m j x : ℕ) → Bool
-isHere m j x = eqb x j || eqb x (m + j)
-
--- c waited for j and does not any more
-abbrev pub handled : (m : ℕ) (R W : List Column) (j : ℕ) (place : ℕ → ℕ) (c : ℕ) → Bool
-handled m R W j place c = isHere m j (standing m R W j c) && not (isHere m j (place c))
-
--- the multiplicity of row i in column j with the handled columns as with the batch, the others as without it; s of the batch columns counted so far
-abbrev pub soFar : (m : ℕ) (R W : List Column) (j : ℕ) (place : ℕ → ℕ) (s i : ℕ) → ℕ
-soFar m R W j place s i =
-    countSoFar m (handled m R W j place) (multiplicity (smaller m R)) (parentOf (smaller m R)) (multiplicity (larger m R W)) (parentOf (larger m R W)) s i j
-
--- a shifted difference d from a, without the batch, to x, up when adding, down when removing
-abbrev pub Shift : (adding : Bool) (d a x : ℕ) → Type 0
-Shift true d a x = d + a ≡ base + x
-Shift false d a x = d + x ≡ base + a
-
--- the differences in the turn of j: rows from j on as far as they are counted, none below
-pub record Tallied (m : ℕ) (R W : List Column) (adding : Bool) (work : List ℕ) (n j : ℕ) (s : ℕ → ℕ) (place : ℕ → ℕ) : Type 0 where
-  pub tally : Tally m work n (differenceAt work)
-  pub shifts : (i : ℕ) → j ≤ i → i ≤ m → Shift adding (differenceAt work i) (multiplicity (smaller m R) i j) (soFar m R W j place (s i) i)
-  pub still : (i : ℕ) → 1 ≤ i → i < j → differenceAt work i ≡ base
+-- where each column waits in the turn of j: the handled ones as after it, the others as before it
+abbrev pub waiting : (m : ℕ) (R W : List Column) (j : ℕ) (handled : ℕ → Bool) (c : ℕ) → ℕ
+waiting m R W j H c = pick (H c) (standing m R W (suc j) c) (standing m R W j c)

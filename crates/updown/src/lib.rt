@@ -8,8 +8,8 @@ ghost use Rattle.symbolic.specs.Columns.{Column};
 ghost use Rattle.book.specs.Book.{tablesOf};
 ghost use Rattle.updown.specs.Entries.{CanAdd, SomeAdd, AddPlanned, CanRemove, SomeRemove, RemovePlanned};
 
+mod children;
 mod marks;
-mod queues;
 mod starts;
 mod turns;
 mod walks;

@@ -2,7 +2,7 @@
 ghost use mathlib.Core.Path.{_≡_};
 ghost use mathlib.Core.Bool.{true, false};
 ghost use mathlib.Core.List.{List};
-ghost use Prim.Native.Nat.{ℕ, _*_, _%_, _≤_};
+ghost use Prim.Native.Nat.{ℕ, _%_, _≤_};
 ghost use lib.ListN.{length};
 ghost use Rattle.updown.specs.Marks.{markAt};
 ghost use Rattle.symbolic.specs.Columns.{Column};
@@ -57,7 +57,7 @@ pub fn mark_booked(
 // Counts up the listed columns that start at j, and gives the number of touched rows.
 fn count_listed(work: &mut [u32], row_counts: &[u32], row_list: &[u32], m: usize, j: Row) -> usize
     requires { ⌜ SomeStart (now «row_counts») (now «row_list») m (now work) (j .0) ⌝ }
-    ensures { λ r. ⌜ ((R W : List Column) (place : ℕ → ℕ) → Listed (now («row_counts» .entry)) (now («row_list» .entry)) W → CanStart m R W true (now (work .entry)) (j .0) place → Started m R W true (now (work .entry)) (now (work .exit)) r (j .0) place) ⌝ }
+    ensures { λ r. ⌜ ((R W : List Column) → Listed (now («row_counts» .entry)) (now («row_list» .entry)) W → CanStart m R W true (now (work .entry)) (j .0) → Started m R W true (now (work .entry)) (now (work .exit)) r (j .0)) ⌝ }
 {
     let mut n: usize = 0;
     let mut k: usize = 0;
@@ -88,7 +88,7 @@ fn count_booked(
     j: Row,
 ) -> usize
     requires { ⌜ SomeStartBooked (now «book_heads») (now «book_rows») (now «book_next») (now ids) m (now work) (j .0) ⌝ }
-    ensures { λ r. ⌜ ((R W : List Column) (place : ℕ → ℕ) → BookHolds (now («book_heads» .entry)) (now («book_rows» .entry)) (now («book_next» .entry)) (now (ids .entry)) m W → CanStart m R W false (now (work .entry)) (j .0) place → Started m R W false (now (work .entry)) (now (work .exit)) r (j .0) place) ⌝ }
+    ensures { λ r. ⌜ ((R W : List Column) → BookHolds (now («book_heads» .entry)) (now («book_rows» .entry)) (now («book_next» .entry)) (now (ids .entry)) m W → CanStart m R W false (now (work .entry)) (j .0) → Started m R W false (now (work .entry)) (now (work .exit)) r (j .0)) ⌝ }
 {
     let mut n: usize = 0;
     let mut k: usize = 0;
@@ -108,8 +108,8 @@ fn count_booked(
     n
 }
 
-// A for column j, if batch columns start there: the listed ones.
-pub fn start_listed(
+// A: handles the listed columns, if one starts at j, and gives the number of touched rows.
+pub fn case_a_listed(
     work: &mut [u32],
     row_counts: &[u32],
     row_list: &[u32],
@@ -117,7 +117,7 @@ pub fn start_listed(
     j: Row,
 ) -> usize
     requires { ⌜ SomeStart (now «row_counts») (now «row_list») m (now work) (j .0) × (startsAt m ≤ length (now work)) ⌝ }
-    ensures { λ r. ⌜ ((R W : List Column) (place : ℕ → ℕ) → Listed (now («row_counts» .entry)) (now («row_list» .entry)) W → CanStart m R W true (now (work .entry)) (j .0) place → ((i : ℕ) → 1 ≤ i → i ≤ length W → startOf W i ≡ j .0 → markAt m (now (work .entry)) (j .0) % labelWeight ≡ startBit) → Started m R W true (now (work .entry)) (now (work .exit)) r (j .0) place) ⌝ }
+    ensures { λ r. ⌜ ((R W : List Column) → Listed (now («row_counts» .entry)) (now («row_list» .entry)) W → CanStart m R W true (now (work .entry)) (j .0) → ((i : ℕ) → 1 ≤ i → i ≤ length W → startOf W i ≡ j .0 → markAt m (now (work .entry)) (j .0) % labelWeight ≡ startBit) → Started m R W true (now (work .entry)) (now (work .exit)) r (j .0)) ⌝ }
 {
     if work[MARKS * m + (j.0 - 1) as usize] % LABEL_WEIGHT == START_BIT {
         return count_listed(work, row_counts, row_list, m, j);
@@ -125,8 +125,8 @@ pub fn start_listed(
     0
 }
 
-// A for column j, if batch columns start there: the booked ones.
-pub fn start_booked(
+// A: handles the booked columns, if one starts at j, and gives the number of touched rows.
+pub fn case_a_booked(
     book_heads: &[u32],
     book_rows: &[u16],
     book_next: &[u32],
@@ -136,7 +136,7 @@ pub fn start_booked(
     j: Row,
 ) -> usize
     requires { ⌜ SomeStartBooked (now «book_heads») (now «book_rows») (now «book_next») (now ids) m (now work) (j .0) × (startsAt m ≤ length (now work)) ⌝ }
-    ensures { λ r. ⌜ ((R W : List Column) (place : ℕ → ℕ) → BookHolds (now («book_heads» .entry)) (now («book_rows» .entry)) (now («book_next» .entry)) (now (ids .entry)) m W → CanStart m R W false (now (work .entry)) (j .0) place → ((i : ℕ) → 1 ≤ i → i ≤ length W → startOf W i ≡ j .0 → markAt m (now (work .entry)) (j .0) % labelWeight ≡ startBit) → Started m R W false (now (work .entry)) (now (work .exit)) r (j .0) place) ⌝ }
+    ensures { λ r. ⌜ ((R W : List Column) → BookHolds (now («book_heads» .entry)) (now («book_rows» .entry)) (now («book_next» .entry)) (now (ids .entry)) m W → CanStart m R W false (now (work .entry)) (j .0) → ((i : ℕ) → 1 ≤ i → i ≤ length W → startOf W i ≡ j .0 → markAt m (now (work .entry)) (j .0) % labelWeight ≡ startBit) → Started m R W false (now (work .entry)) (now (work .exit)) r (j .0)) ⌝ }
 {
     if work[MARKS * m + (j.0 - 1) as usize] % LABEL_WEIGHT == START_BIT {
         return count_booked(book_heads, book_rows, book_next, work, ids, m, j);

@@ -1,22 +1,23 @@
-// The turn of one column: its children are counted, its plan is written, and its parent in the tree is marked.
+// The first and the last steps of a turn: the next column is taken, its plan is written, and one step is taken up the tree.
 ghost use mathlib.Core.Path.{_≡_};
+ghost use mathlib.Core.Bool.{Bool, true, false};
 ghost use mathlib.Core.List.{List};
-ghost use Prim.Native.Nat.{ℕ, _+_, _*_, _≤_, _<_};
+ghost use Prim.Native.Nat.{_+_, _≤_, _<_};
 ghost use lib.Dec.{eqb};
 ghost use lib.ListN.{length};
-ghost use Rattle.lists.specs.Lists.{pick, at};
-ghost use Rattle.updown.specs.Marks.{Room, markAt, begun, steppedUp};
+ghost use Rattle.lists.specs.Lists.{pick};
+ghost use Rattle.updown.specs.Marks.{Room, markAt, Flagged, begun, steppedUp, Taken, upFrom, CanStep};
 ghost use Rattle.symbolic.specs.Columns.{Column};
 ghost use Rattle.symbolic.specs.Factor.{columnAt, sizeOf};
 ghost use Rattle.pool.specs.Chains.{chain};
-ghost use Rattle.updown.specs.Turns.{before, standing};
-ghost use Rattle.updown.specs.States.{Multiplicities, Planned, SomePlanned, Setting, Turning, SomeTurning, Turned};
-ghost use Rattle.updown.specs.Walks.{Columns, Parents, Turn};
+ghost use Rattle.updown.specs.Turns.{before};
+ghost use Rattle.updown.specs.SoFar.{IsDefinition};
+ghost use Rattle.updown.specs.States.{Multiplicities, Planned, SomePlanned};
+ghost use Rattle.updown.specs.Walks.{Columns};
 ghost use Rattle.workspace.specs.Layout.{planAt};
 use crate::LABEL_WEIGHT;
 use crate::PARENT_WEIGHT;
 use crate::marks;
-use crate::queues;
 use book::Row;
 use emission::Emission;
 use pool::Rec;
@@ -37,8 +38,23 @@ pub struct Walk {
     pub avail: Rec,
 }
 
+// A walk before its first column, with free records from avail on.
+pub fn walk_from(avail: Rec) -> Walk
+    ensures { λ r. ⌜ (r .fits ≡ true) × (r .first .0 ≡ 0) × (r .last .0 ≡ 0) × (r .count ≡ 0) × (r .entries ≡ 0) × (r .used ≡ 0) × (r .avail .0 ≡ avail .0) ⌝ }
+{
+    Walk {
+        fits: true,
+        first: Row(0),
+        last: Row(0),
+        count: 0,
+        entries: 0,
+        used: 0,
+        avail: avail,
+    }
+}
+
 // Begins the turn of j after the last touched column: the list of touched columns goes on to j, and j's plan starts at used.
-pub fn begin(work: &mut [u32], m: usize, last: Row, j: Row, used: usize)
+fn begin(work: &mut [u32], m: usize, last: Row, j: Row, used: usize)
     requires { ⌜ (planAt m ≤ length (now work)) × (m ≤ 4096) × (last .0 ≤ m) × (1 ≤ j .0) × (j .0 ≤ m) × (used ≤ 1048576) ⌝ }
     ensures { λ _. ⌜ now (work .exit) ≡ begun m (now (work .entry)) (last .0) (j .0) used ⌝ }
 {
@@ -50,10 +66,22 @@ pub fn begin(work: &mut [u32], m: usize, last: Row, j: Row, used: usize)
     work[STARTS * m + (j.0 - 1) as usize] = used as u32;
 }
 
-// B, C and D for column j, then its plan, from place used on, with free records from avail on.
-fn plan_column(
+// Takes the next column: the first marked row past the last touched column, or row 0. Its turn begins.
+pub fn take_column(work: &mut [u32], m: usize, flags: usize, last: Row, used: usize) -> Row
+    requires { ⌜ Room m flags (now work) × Flagged m flags (now work) (last .0) × (last .0 ≤ m) × (used ≤ 1048576) ⌝ }
+    ensures { λ j. ⌜ Taken m (now (work .entry)) (now (work .exit)) (last .0) used (j .0) ⌝ }
+{
+    let j = marks::next_marked(work, m, flags, last.0 as usize);
+    if j.0 == 0 {
+        return j;
+    }
+    begin(work, m, last, j, used);
+    j
+}
+
+// Writes the plan of j, whose multiplicities so far are the definition's: from place used on, with free records from avail on.
+pub fn write_plan(
     heads: &[u32],
-    parents: &[u16],
     rows: &[u16],
     counts: &[u16],
     next: &[u32],
@@ -63,21 +91,18 @@ fn plan_column(
     j: Row,
     used: usize,
     avail: Rec,
-    adding: bool,
 ) -> Emission
-    requires { ⌜ SomePlanned (now heads) (now parents) (now rows) (now counts) (now next) (now work) m n (j .0) used (avail .0) adding ⌝ }
-    ensures { λ e. ⌜ ((R W : List Column) → Columns (now (heads .entry)) (now (rows .entry)) (now (next .entry)) m R W adding → Parents (now (parents .entry)) m R W adding → Multiplicities (now (heads .entry)) (now (counts .entry)) (now (next .entry)) m R W adding → Turn m R W adding (now (work .entry)) (j .0) used n 0 (standing m R W (j .0)) → used + sizeOf (columnAt (before adding m R W) (j .0)) + length (chain (now (next .entry)) (avail .0)) ≤ length (now (next .entry)) → Planned (now (next .entry)) (now (work .entry)) (now (work .exit)) m R W adding (j .0) used (avail .0) e) ⌝ }
+    requires { ⌜ SomePlanned (now heads) (now rows) (now counts) (now next) (now work) m n (j .0) used (avail .0) ⌝ }
+    ensures { λ e. ⌜ ((R W : List Column) (adding : Bool) → Columns (now (heads .entry)) (now (rows .entry)) (now (next .entry)) m R W adding → Multiplicities (now (heads .entry)) (now (counts .entry)) (now (next .entry)) m R W adding → IsDefinition m R W adding (now (work .entry)) n (j .0) → used + sizeOf (columnAt (before adding m R W) (j .0)) + length (chain (now (next .entry)) (avail .0)) ≤ length (now (next .entry)) → Planned (now (next .entry)) (now (work .entry)) (now (work .exit)) m R W adding (j .0) used (avail .0) e) ⌝ }
 {
-    let l = queues::count_children(heads, parents, rows, next, work, m, n, j, adding);
-    let k = queues::count_lost(heads, rows, next, work, m, l, j, adding);
     let h = Rec(heads[(j.0 - 1) as usize]);
-    emission::emit(rows, counts, next, work, m, k, j, h, used, avail)
+    emission::emit(rows, counts, next, work, m, n, j, h, used, avail)
 }
 
 // The parent of j in the tree of all columns: the new one when adding, the old one when removing.
 fn tree_parent(parents: &[u16], j: Row, parent: Row, adding: bool) -> Row
     requires { ⌜ (1 ≤ j .0) × (j .0 ≤ length (now parents)) ⌝ }
-    ensures { λ r. ⌜ r .0 ≡ pick adding (parent .0) (at (now (parents .entry)) (j .0)) ⌝ }
+    ensures { λ r. ⌜ r .0 ≡ upFrom (now (parents .entry)) (j .0) (parent .0) adding ⌝ }
 {
     if adding {
         return parent;
@@ -85,8 +110,8 @@ fn tree_parent(parents: &[u16], j: Row, parent: Row, adding: bool) -> Row
     Row(parents[(j.0 - 1) as usize] as u32)
 }
 
-// One step up: keeps the new parent of j, and marks its tree parent, whose queue j enters.
-fn step_up(work: &mut [u32], m: usize, flags: usize, j: Row, parent: Row, up: Row)
+// Keeps the new parent of j, and places j's label in the mark of its tree parent, whose queue of children j enters.
+fn place_marker(work: &mut [u32], m: usize, flags: usize, j: Row, parent: Row, up: Row)
     requires { ⌜ Room m flags (now work) × (1 ≤ j .0) × (j .0 ≤ m) × (parent .0 ≤ m) × (up .0 ≤ m) × (markAt m (now work) (j .0) < 260) ⌝ }
     ensures { λ _. ⌜ now (work .exit) ≡ steppedUp m flags (now (work .entry)) (j .0) (parent .0) (up .0) ⌝ }
 {
@@ -150,44 +175,24 @@ fn stopped(walk: Walk, e: Emission) -> Walk
     }
 }
 
-// The turn of j after A: B, C and D, the column's plan, and one step up.
-pub fn turn(
-    heads: &[u32],
+// One step up: j waits for its parent in the tree, and the walk has one column more. Where free records are too few for j's plan the walk ends.
+pub fn step_up(
     parents: &[u16],
-    rows: &[u16],
-    counts: &[u16],
-    next: &[u32],
     work: &mut [u32],
     m: usize,
     flags: usize,
-    n: usize,
     j: Row,
     walk: Walk,
+    e: Emission,
     adding: bool,
 ) -> Walk
-    requires { ⌜ SomeTurning (now heads) (now parents) (now rows) (now counts) (now next) (now work) m flags adding n (j .0) (walk .first .0) (walk .last .0) (walk .count) (walk .entries) (walk .used) (walk .avail .0) ⌝ }
-    ensures { λ r. ⌜ ((R W : List Column) (free : ℕ) («work₀» : List ℕ) → Setting (now (heads .entry)) (now (parents .entry)) (now (rows .entry)) (now (counts .entry)) (now (next .entry)) m flags R W adding free → Turning (now (next .entry)) «work₀» (now (work .entry)) m flags R W adding free n (j .0) (walk .first .0) (walk .last .0) (walk .count) (walk .entries) (walk .used) (walk .avail .0) → Turned (now (next .entry)) «work₀» (now (work .exit)) m flags R W adding free (j .0) (walk .avail .0) (r .fits) (r .first .0) (r .last .0) (r .count) (r .entries) (r .used) (r .avail .0)) ⌝ }
+    requires { ⌜ (e .fits ≡ true → CanStep (now parents) (now work) m flags (j .0) (e .parent .0) adding (walk .count) (walk .entries) (e .larger)) ⌝ }
+    ensures { λ r. ⌜ (r .fits ≡ e .fits) × (r .used ≡ e .used) × (e .fits ≡ true → (now (work .exit) ≡ steppedUp m flags (now (work .entry)) (j .0) (e .parent .0) (upFrom (now (parents .entry)) (j .0) (e .parent .0) adding)) × (r .first .0 ≡ pick (eqb (walk .first .0) 0) (j .0) (walk .first .0)) × (r .last .0 ≡ j .0) × (r .count ≡ walk .count + 1) × (r .entries ≡ walk .entries + e .larger) × (r .avail .0 ≡ e .avail .0)) × (e .fits ≡ false → now (work .exit) ≡ now (work .entry)) ⌝ }
 {
-    let used = walk.used;
-    let avail = walk.avail;
-    let e = plan_column(
-        heads,
-        parents,
-        rows,
-        counts,
-        next,
-        work,
-        m,
-        n,
-        j,
-        used,
-        avail,
-        adding,
-    );
     if e.fits {
         let parent = e.parent;
         let up = tree_parent(parents, j, parent, adding);
-        step_up(work, m, flags, j, parent, up);
+        place_marker(work, m, flags, j, parent, up);
         return advance(walk, j, e);
     }
     stopped(walk, e)

@@ -2,7 +2,7 @@
 -- Assumes nothing.
 use Rattle.updown.proofs.Booking.{booked-size, booked-first, booked-copy, part-length, booked-steady, booked-gathered, booked-here, booked-past}
 use Rattle.updown.proofs.Listing.{Counting, counting-start, counting-end}
-use Rattle.updown.proofs.Children.{can-count}
+use Rattle.updown.proofs.Gathering.{can-count}
 use Rattle.updown.specs.Starts.{CanStart, BookHolds}
 use Rattle.symbolic.specs.Columns.{Column}
 use lib.ListN.{length}
@@ -14,7 +14,7 @@ use Rattle.updown.proofs.starts.count_booked.Statement.{statement}
 use Rattle.updown.proofs.starts.count_booked.Tie as tie
 
 abbrev Inv-loop : tie.InvT-loop
-Inv-loop book-heads book-rows book-next work₀ ids m j n₀ k₀ work n k = (k ≤ length ids) × ((R W : List Column) (place : ℕ → ℕ) → BookHolds book-heads book-rows book-next ids m W → CanStart m R W false work₀ (j .0) place → Counting m R W false work₀ work n (j .0) k place)
+Inv-loop book-heads book-rows book-next work₀ ids m j n₀ k₀ work n k = (k ≤ length ids) × ((R W : List Column) → BookHolds book-heads book-rows book-next ids m W → CanStart m R W false work₀ (j .0) → Counting m R W false work₀ work n (j .0) k)
 
 abbrev μ-loop : tie.MeasureT-loop
 μ-loop book-heads book-rows book-next work₀ ids m j n₀ k₀ work n k = length ids - k
@@ -24,11 +24,11 @@ start c = c .before .before .before .before .before .before
 
 -- what holds at the loop's test, for the columns of the premise
 hand : (c : tie.At-loop Inv-loop μ-loop) →
-    Counting (start c .args .m) (start c .pre .R) (start c .pre .W) false (start c .args .work .now) (c .loop .work) (c .loop .n) (start c .args .j .0) (c .loop .k) (start c .pre .place)
-hand c = c .loop .inv .1 (start c .pre .R) (start c .pre .W) (start c .pre .place) (start c .pre .holds) (start c .pre .can)
+    Counting (start c .args .m) (start c .pre .R) (start c .pre .W) false (start c .args .work .now) (c .loop .work) (c .loop .n) (start c .args .j .0) (c .loop .k)
+hand c = c .loop .inv .1 (start c .pre .R) (start c .pre .W) (start c .pre .holds) (start c .pre .can)
 
 loop-holds : tie.Need-loop-holds Inv-loop μ-loop
-loop-holds c = (omega arith, λ R W place h can. counting-start can)
+loop-holds c = (omega arith, λ R W h can. counting-start can)
 
 mul-t15 : tie.Need-mul-t15 Inv-loop μ-loop
 mul-t15 c = omega arith
@@ -73,7 +73,7 @@ loop-less : tie.Need-loop-less Inv-loop μ-loop
 loop-less c = omega arith
 
 loop-again : tie.Need-loop-again Inv-loop μ-loop
-loop-again c = (omega arith, λ R W place h can. booked-here can h (c .before .before .before .before .before .before .before .before .before .before .before .before .before .before .loop .inv .1 R W place h can) (c .before .before .before .before .before .before .before .before .before .before .before .before .before .loop-test .taken) (c .before .before .before .before .before .before .before .before .before .before .before .smallest-row .ensures) (c .before .before .before .before .before .before .before .before .if1 .taken) (booked-gathered can h (c .before .before .before .before .before .before .before .before .before .before .before .before .before .before .loop .inv .1 R W place h can) (c .before .before .before .before .before .before .before .before .before .before .before .before .before .loop-test .taken) _ _ (c .before .before .before .before .before .before .copy-rows .ensures .0) (c .before .before .before .before .before .before .copy-rows .ensures .1)) (c .before .before .count-rows .ensures))
+loop-again c = (omega arith, λ R W h can. booked-here can h (c .before .before .before .before .before .before .before .before .before .before .before .before .before .before .loop .inv .1 R W h can) (c .before .before .before .before .before .before .before .before .before .before .before .before .before .loop-test .taken) (c .before .before .before .before .before .before .before .before .before .before .before .smallest-row .ensures) (c .before .before .before .before .before .before .before .before .if1 .taken) (booked-gathered can h (c .before .before .before .before .before .before .before .before .before .before .before .before .before .before .loop .inv .1 R W h can) (c .before .before .before .before .before .before .before .before .before .before .before .before .before .loop-test .taken) _ _ (c .before .before .before .before .before .before .copy-rows .ensures .0) (c .before .before .before .before .before .before .copy-rows .ensures .1)) (c .before .before .count-rows .ensures))
 
 add-k-2 : tie.Need-add-k-2 Inv-loop μ-loop
 add-k-2 c = omega arith
@@ -82,13 +82,13 @@ loop-less-2 : tie.Need-loop-less-2 Inv-loop μ-loop
 loop-less-2 c = omega arith
 
 loop-again-2 : tie.Need-loop-again-2 Inv-loop μ-loop
-loop-again-2 c = (omega arith, λ R W place h can. booked-past can h (c .before .before .before .before .before .before .loop .inv .1 R W place h can) (c .before .before .before .before .before .loop-test .taken) (c .before .before .before .smallest-row .ensures) (c .if1 .left))
+loop-again-2 c = (omega arith, λ R W h can. booked-past can h (c .before .before .before .before .before .before .loop .inv .1 R W h can) (c .before .before .before .before .before .loop-test .taken) (c .before .before .before .smallest-row .ensures) (c .if1 .left))
 
 same-length : tie.Need-same-length Inv-loop μ-loop
 same-length c = (hand (c .before)) .only .same-length
 
 returns : tie.Need-returns Inv-loop μ-loop
-returns c = λ R W place h can. counting-end (c .before .loop .inv .1 R W place h can) (omega (arith, booked-size h, c .loop-test .left))
+returns c = λ R W h can. counting-end can (c .before .loop .inv .1 R W h can) (omega (arith, booked-size h, c .loop-test .left))
 
 pub count-booked-spec : {M : Type 1} → statement M
 count-booked-spec =

@@ -1,7 +1,7 @@
 -- `updown::starts::count_listed` meets its contract: the loop's invariant is `Reading` and `Counting`, for all batches that the lists have; the measure is
 -- the columns left. Assumes nothing.
 use Rattle.updown.proofs.Listing.{Reading, Counting, reading-start, reading-end, reading-next, counting-start, counting-steady, counting-end, listed-first, listed-gather, listed-here, listed-past}
-use Rattle.updown.proofs.Children.{can-count}
+use Rattle.updown.proofs.Gathering.{can-count}
 use Rattle.updown.specs.Starts.{CanStart}
 use Rattle.updown.specs.Entries.{Listed}
 use Rattle.symbolic.specs.Columns.{Column}
@@ -14,7 +14,7 @@ use Rattle.updown.proofs.starts.count_listed.Statement.{statement}
 use Rattle.updown.proofs.starts.count_listed.Tie as tie
 
 abbrev Inv-loop : tie.InvT-loop
-Inv-loop work₀ row-counts row-list m j n₀ k₀ at₀ work n k at = (k ≤ length row-counts) × ((R W : List Column) (place : ℕ → ℕ) → Listed row-counts row-list W → CanStart m R W true work₀ (j .0) place → Reading row-counts row-list W k at × Counting m R W true work₀ work n (j .0) k place)
+Inv-loop work₀ row-counts row-list m j n₀ k₀ at₀ work n k at = (k ≤ length row-counts) × ((R W : List Column) → Listed row-counts row-list W → CanStart m R W true work₀ (j .0) → Reading row-counts row-list W k at × Counting m R W true work₀ work n (j .0) k)
 
 abbrev μ-loop : tie.MeasureT-loop
 μ-loop work₀ row-counts row-list m j n₀ k₀ at₀ work n k at = length row-counts - k
@@ -25,11 +25,11 @@ start c = c .before .before .before .before
 -- what holds at the loop's test, for the columns of the premise
 hand : (c : tie.At-loop Inv-loop μ-loop) →
     Reading (start c .args .row-counts .now) (start c .args .row-list .now) (start c .pre .W) (c .loop .k) (c .loop .at) ×
-    Counting (start c .args .m) (start c .pre .R) (start c .pre .W) true (start c .args .work .now) (c .loop .work) (c .loop .n) (start c .args .j .0) (c .loop .k) (start c .pre .place)
-hand c = c .loop .inv .1 (start c .pre .R) (start c .pre .W) (start c .pre .place) (start c .pre .listed) (start c .pre .can)
+    Counting (start c .args .m) (start c .pre .R) (start c .pre .W) true (start c .args .work .now) (c .loop .work) (c .loop .n) (start c .args .j .0) (c .loop .k)
+hand c = c .loop .inv .1 (start c .pre .R) (start c .pre .W) (start c .pre .listed) (start c .pre .can)
 
 loop-holds : tie.Need-loop-holds Inv-loop μ-loop
-loop-holds c = (omega arith, λ R W place h can. (reading-start h, counting-start can))
+loop-holds c = (omega arith, λ R W h can. (reading-start h, counting-start can))
 
 mul-end : tie.Need-mul-end Inv-loop μ-loop
 mul-end c = omega arith
@@ -74,7 +74,7 @@ loop-less : tie.Need-loop-less Inv-loop μ-loop
 loop-less c = omega arith
 
 loop-again : tie.Need-loop-again Inv-loop μ-loop
-loop-again c = (omega arith, λ R W place h can. (reading-next (c .before .before .before .before .before .before .before .before .before .before .before .before .before .before .loop .inv .1 R W place h can .0) (c .before .before .before .before .before .before .before .before .before .before .before .before .before .loop-test .taken), listed-here can (c .before .before .before .before .before .before .before .before .before .before .before .before .before .before .loop .inv .1 R W place h can .0) (c .before .before .before .before .before .before .before .before .before .before .before .before .before .before .loop .inv .1 R W place h can .1) (c .before .before .before .before .before .before .before .before .before .before .before .before .before .loop-test .taken) (c .before .before .before .before .before .before .before .before .before .if1 .taken) (c .before .before .before .before .before .before .gather-rows .ensures) (c .before .before .count-rows .ensures)))
+loop-again c = (omega arith, λ R W h can. (reading-next (c .before .before .before .before .before .before .before .before .before .before .before .before .before .before .loop .inv .1 R W h can .0) (c .before .before .before .before .before .before .before .before .before .before .before .before .before .loop-test .taken), listed-here can (c .before .before .before .before .before .before .before .before .before .before .before .before .before .before .loop .inv .1 R W h can .0) (c .before .before .before .before .before .before .before .before .before .before .before .before .before .before .loop .inv .1 R W h can .1) (c .before .before .before .before .before .before .before .before .before .before .before .before .before .loop-test .taken) (c .before .before .before .before .before .before .before .before .before .if1 .taken) (c .before .before .before .before .before .before .gather-rows .ensures) (c .before .before .count-rows .ensures)))
 
 add-k-2 : tie.Need-add-k-2 Inv-loop μ-loop
 add-k-2 c = omega arith
@@ -83,13 +83,13 @@ loop-less-2 : tie.Need-loop-less-2 Inv-loop μ-loop
 loop-less-2 c = omega arith
 
 loop-again-2 : tie.Need-loop-again-2 Inv-loop μ-loop
-loop-again-2 c = (omega arith, λ R W place h can. (reading-next (c .before .before .before .before .before .loop .inv .1 R W place h can .0) (c .before .before .before .before .loop-test .taken), listed-past can (c .before .before .before .before .before .loop .inv .1 R W place h can .0) (c .before .before .before .before .before .loop .inv .1 R W place h can .1) (c .before .before .before .before .loop-test .taken) (c .if1 .left)))
+loop-again-2 c = (omega arith, λ R W h can. (reading-next (c .before .before .before .before .before .loop .inv .1 R W h can .0) (c .before .before .before .before .loop-test .taken), listed-past can (c .before .before .before .before .before .loop .inv .1 R W h can .0) (c .before .before .before .before .before .loop .inv .1 R W h can .1) (c .before .before .before .before .loop-test .taken) (c .if1 .left)))
 
 same-length : tie.Need-same-length Inv-loop μ-loop
 same-length c = (hand (c .before)) .1 .only .same-length
 
 returns : tie.Need-returns Inv-loop μ-loop
-returns c = λ R W place h can. counting-end (c .before .loop .inv .1 R W place h can .1) (omega (arith, (c .before .loop .inv .1 R W place h can .0) .size, c .loop-test .left))
+returns c = λ R W h can. counting-end can (c .before .loop .inv .1 R W h can .1) (omega (arith, (c .before .loop .inv .1 R W h can .0) .size, c .loop-test .left))
 
 pub count-listed-spec : {M : Type 1} → statement M
 count-listed-spec =

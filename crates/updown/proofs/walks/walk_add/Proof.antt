@@ -1,9 +1,8 @@
--- `updown::walks::walk_add` meets its contract: the loop's invariant is `Seeking`, for all columns that the tables and lists suit; the measure is the rows
--- left. Assumes nothing.
-use borrow.Author.Tests.{not-true, not-false}
-use Rattle.updown.proofs.Entering.{enter-begin, enter-first, enter-end, enter-start, enter-turning, enter-flags, enter-on, enter-stops}
-use Rattle.updown.proofs.Leaving.{rowsLeft, rows-fewer}
-use Rattle.updown.proofs.Seeking.{Seeking, seeking-begin}
+-- `updown::walks::walk_add` meets its contract: at the loop's test the walk is between two turns or has stopped, for all columns that the tables and the list
+-- suit; the measure is the rows left. Assumes nothing.
+use Rattle.updown.proofs.Entering.{Entering, enter-begin, enter-stops, enter-ends, enter-start, enter-turning, enter-on}
+use Rattle.updown.proofs.Turned.{Turning, turning-ready, family-ready, plan-ready, step-ready, turned}
+use Rattle.updown.proofs.Seeking.{rowsLeft, rows-fewer, seeking-take}
 use Rattle.updown.specs.Starts.{CanEnter}
 use Rattle.pool.specs.Chains.{chain}
 use Rattle.symbolic.specs.Columns.{Column}
@@ -11,65 +10,141 @@ use lib.ListN.{length}
 use Prim.Native.Nat.{ℕ}
 use mathlib.Core.List.{List}
 use mathlib.Core.Bool.{true}
-use mathlib.Core.Path.{_≡_, refl, sym, _∙_}
-use native.Mathlib.Omega.{arith}
+use mathlib.Core.Path.{_≡_, sym, _∙_}
+use borrow.Author.Needs.{needs}
 use Rattle.updown.proofs.walks.walk_add.Statement.{statement}
 use Rattle.updown.proofs.walks.walk_add.Tie as tie
 
 abbrev Inv-loop : tie.InvT-loop
-Inv-loop heads parents rows counts next work₀ row-counts row-list m flags walk₀ j₀ work walk j = (walk .fits ≡ true) × ((R W : List Column) (lent : List ℕ) → CanEnter heads parents rows counts next lent work₀ row-counts row-list m flags (walk₀ .avail .0) R W → Seeking next lent work m flags R W true (length (chain next (walk₀ .avail .0))) (j .0) (walk .first .0) (walk .last .0) (walk .count) (walk .entries) (walk .used) (walk .avail .0))
+Inv-loop heads parents rows counts next work₀ row-counts row-list m flags walk₀ work walk =
+    (R W : List Column) (lent : List ℕ) (free : ℕ) → walk₀ .avail .0 ≡ free → CanEnter heads parents rows counts next lent work₀ row-counts row-list m flags free R W →
+    Entering next lent work m flags (length (chain next free)) R W (walk .fits) (walk .first .0) (walk .last .0) (walk .count) (walk .entries) (walk .used) (walk .avail .0)
 
 abbrev μ-loop : tie.MeasureT-loop
-μ-loop heads parents rows counts next work₀ row-counts row-list m flags walk₀ j₀ work walk j = rowsLeft m (j .0)
+μ-loop heads parents rows counts next work₀ row-counts row-list m flags walk₀ work walk = rowsLeft m (walk .fits) (walk .last .0)
+
+-- ---- places: the start, the loop's test, and before each call the call before it
 
 abbrev start : tie.At-loop Inv-loop μ-loop → tie.Start Inv-loop μ-loop
-start c = c .before .before .before .before .before .before .before .before .before .before .before
+start c = c .before .before .before .before .before .before .before .before .before .before
 
--- what holds at the loop's test, for the columns of the premise
-hand : (c : tie.At-loop Inv-loop μ-loop) →
-    Seeking (start c .args .next .now) (start c .pre .work₀) (c .loop .work) (start c .args .m) (start c .args .flags) (start c .pre .R) (start c .pre .W) true
-    (length (chain (start c .args .next .now) (start c .args .free .0))) (c .loop .j .0)
-    (c .loop .walk .first .0) (c .loop .walk .last .0) (c .loop .walk .count) (c .loop .walk .entries) (c .loop .walk .used) (c .loop .walk .avail .0)
-hand c = c .loop .inv .1 (start c .pre .R) (start c .pre .W) (start c .pre .work₀) (start c .pre .can)
+abbrev at-loop : tie.After-case-a-listed-arg Inv-loop μ-loop → tie.At-loop Inv-loop μ-loop
+at-loop c = c .before .before .before .before .before .before .before .before
 
-next-marked-requires : tie.Need-next-marked-requires Inv-loop μ-loop
-next-marked-requires c κs = enter-first (c .before .before .before .before .before .before .before .before .before .pre .can)
+abbrev at-a : tie.After-cases-b-and-c-arg Inv-loop μ-loop → tie.After-case-a-listed-arg Inv-loop μ-loop
+at-a c = c .before .before .before .before
+
+abbrev at-b : tie.After-case-d-arg Inv-loop μ-loop → tie.After-cases-b-and-c-arg Inv-loop μ-loop
+at-b c = c .before .before .before .before
+
+abbrev at-d : tie.After-write-plan-arg Inv-loop μ-loop → tie.After-case-d-arg Inv-loop μ-loop
+at-d c = c .before .before .before .before .before
+
+abbrev at-plan : tie.After-step-up-arg Inv-loop μ-loop → tie.After-write-plan-arg Inv-loop μ-loop
+at-plan c = c .before .before .before .before
+
+abbrev at-step : tie.After-slice-known7 Inv-loop μ-loop → tie.After-step-up-arg Inv-loop μ-loop
+at-step c = c .before .before .before
+
+-- ---- what holds there, for columns that can enter with the free records that the walk began with
+
+abbrev Enters : (c : tie.At-loop Inv-loop μ-loop) (R W : List Column) (lent : List ℕ) (free : ℕ) → Type 0
+Enters c R W lent free =
+    let s = start c .args in
+    (c .before .walk-from .result .avail .0 ≡ free) ×
+    CanEnter (s .heads .now) (s .parents .now) (s .rows .now) (s .counts .now) (s .next .now) lent (s .work .now) (s .row-counts .now) (s .row-list .now) (s .m) (s .flags) free R W
+
+-- those of the premise
+given : (c : tie.At-loop Inv-loop μ-loop) → let s = start c in Enters c (s .pre .R) (s .pre .W) (s .pre .work₀) (s .args .free .0)
+given c = (c .before .walk-from .ensures .6, start c .pre .can)
+
+-- the loop's test
+entering : (c : tie.At-loop Inv-loop μ-loop) {R W : List Column} {lent : List ℕ} {free : ℕ} → Enters c R W lent free →
+    let s = start c .args in
+    let l = c .loop .walk in
+    Entering (s .next .now) lent (c .loop .work) (s .m) (s .flags) (length (chain (s .next .now) free)) R W
+    (l .fits) (l .first .0) (l .last .0) (l .count) (l .entries) (l .used) (l .avail .0)
+entering c {R} {W} {lent} {free} h = c .loop .inv R W lent free (h .0) (h .1)
+
+-- the turn after A
+turning : (c : tie.After-cases-b-and-c-arg Inv-loop μ-loop) {R W : List Column} {lent : List ℕ} {free : ℕ} → Enters (at-loop (at-a c)) R W lent free →
+    let s = start (at-loop (at-a c)) .args in
+    let l = at-loop (at-a c) .loop .walk in
+    Turning (s .next .now) lent (c .before .before .before .case-a-listed .last .0) (s .m) (s .flags) R W true (length (chain (s .next .now) free)) (c .before .before .before .case-a-listed .result)
+    (at-a c .before .before .before .before .before .take-column .result .0) (l .first .0) (l .last .0) (l .count) (l .entries) (l .used) (l .avail .0)
+turning c h =
+    let a = at-a c in
+    enter-turning (h .1) (entering (at-loop a) h) (a .before .before .before .before .before .before .before .loop-test .taken) (a .before .before .before .before .before .take-column .ensures) (a .before .if1 .left) (c .before .before .before .case-a-listed .ensures)
+
+walk-from-requires : tie.Need-walk-from-requires Inv-loop μ-loop
+walk-from-requires c κs = search needs
 
 loop-holds : tie.Need-loop-holds Inv-loop μ-loop
-loop-holds c = (refl, λ R W lent can. enter-begin can (c .next-marked .ensures))
+loop-holds c = λ R W lent free e can. let t = c .walk-from .ensures in enter-begin can (t .0, t .1, t .2, t .3, t .4, t .5, e)
 
-begin-requires : tie.Need-begin-requires Inv-loop μ-loop
-begin-requires c κs = seeking-begin ((start (c .before .before .before .before) .pre .can) .setting) (hand (c .before .before .before .before)) (c .before .before .if1 .taken)
-
-start-listed-requires : tie.Need-start-listed-requires Inv-loop μ-loop
-start-listed-requires c κs = enter-start (start (c .before .before .before .before .before .before .before .before) .pre .can) (hand (c .before .before .before .before .before .before .before .before)) (c .before .before .before .before .before .before .if1 .taken) (c .before .before .before .begin .ensures)
-
-turn-requires : tie.Need-turn-requires Inv-loop μ-loop
-turn-requires c κs = enter-turning (start (c .before .before .before .before .before .before .before .before .before .before .before .before) .pre .can) (hand (c .before .before .before .before .before .before .before .before .before .before .before .before)) (c .before .before .before .before .before .before .before .before .before .before .if1 .taken) (c .before .before .before .before .before .before .before .begin .ensures) (c .before .before .before .start-listed .ensures)
+take-column-requires : tie.Need-take-column-requires Inv-loop μ-loop
+take-column-requires c κs =
+    let h = given (c .before .before) in
+    seeking-take (h .1 .setting) (entering (c .before .before) h .onward (c .before .loop-test .taken))
 
 same-length : tie.Need-same-length Inv-loop μ-loop
-same-length c = enter-stops (start (c .before .before .before .before .before .before .before .before .before .before .before .before .before .before .before .before .before) .pre .can) (hand (c .before .before .before .before .before .before .before .before .before .before .before .before .before .before .before .before .before)) (c .before .before .before .before .before .before .before .before .before .before .before .before .before .before .before .if1 .taken) (c .before .before .before .before .before .before .before .before .before .before .before .before .begin .ensures) (c .before .before .before .before .before .before .before .before .start-listed .ensures) (c .before .before .before .before .turn .ensures) (not-true (c .before .before .before .before .turn .result .fits) (c .if2 .taken)) .halted (not-true (c .before .before .before .before .turn .result .fits) (c .if2 .taken)) .0 .same-length ∙ sym ((start (c .before .before .before .before .before .before .before .before .before .before .before .before .before .before .before .before .before) .pre .can) .walking .same-length)
+same-length c =
+    let l = c .before .before .before .before .before .before .before in
+    let h = given l in
+    enter-ends (h .1) (entering l h) (c .before .before .before .before .before .before .loop-test .taken) (c .before .before .before .before .take-column .ensures) (c .if1 .taken) .made (c .before .before .before .before .before .before .loop-test .taken) .walking .same-length ∙ sym (h .1 .walking .same-length)
 
 returns : tie.Need-returns Inv-loop μ-loop
-returns c = λ R W lent can. enter-stops can (c .before .before .before .before .before .before .before .before .before .before .before .before .before .before .before .before .before .loop .inv .1 R W lent can) (c .before .before .before .before .before .before .before .before .before .before .before .before .before .before .before .if1 .taken) (c .before .before .before .before .before .before .before .before .before .before .before .before .begin .ensures) (c .before .before .before .before .before .before .before .before .start-listed .ensures) (c .before .before .before .before .turn .ensures) (not-true (c .before .before .before .before .turn .result .fits) (c .if2 .taken))
+returns c = λ R W lent can. enter-ends can (entering (c .before .before .before .before .before .before .before) (given (c .before .before .before .before .before .before .before) .0, can)) (c .before .before .before .before .before .before .loop-test .taken) (c .before .before .before .before .take-column .ensures) (c .if1 .taken)
 
-cast-next-marked : tie.Need-cast-next-marked Inv-loop μ-loop
-cast-next-marked c = omega (arith, (hand (c .before .before .before .before .before .before .before .before .before .before .before .before .before .before .before .before .before .before .before)) .marked (c .before .before .before .before .before .before .before .before .before .before .before .before .before .before .before .before .before .if1 .taken) .1, (start (c .before .before .before .before .before .before .before .before .before .before .before .before .before .before .before .before .before .before .before) .pre .can) .setting .columns .narrow)
+case-a-listed-requires : tie.Need-case-a-listed-requires Inv-loop μ-loop
+case-a-listed-requires c κs =
+    let h = given (at-loop c) in
+    enter-start (h .1) (entering (at-loop c) h) (c .before .before .before .before .before .before .before .loop-test .taken) (c .before .before .before .before .before .take-column .ensures) (c .before .if1 .left)
 
-next-marked-requires-2 : tie.Need-next-marked-requires-2 Inv-loop μ-loop
-next-marked-requires-2 c κs = enter-flags (start (c .before .before .before .before .before .before .before .before .before .before .before .before .before .before .before .before .before .before .before) .pre .can) (hand (c .before .before .before .before .before .before .before .before .before .before .before .before .before .before .before .before .before .before .before)) (c .before .before .before .before .before .before .before .before .before .before .before .before .before .before .before .before .before .if1 .taken) (c .before .before .before .before .before .before .before .before .before .before .before .before .before .before .begin .ensures) (c .before .before .before .before .before .before .before .before .before .before .start-listed .ensures) (c .before .before .before .before .before .before .turn .ensures) (not-false (c .before .before .before .before .before .before .turn .result .fits) (c .before .before .if2 .left))
+cases-b-and-c-requires : tie.Need-cases-b-and-c-requires Inv-loop μ-loop
+cases-b-and-c-requires c κs =
+    let h = given (at-loop (at-a c)) in
+    turning-ready (h .1 .setting) (turning c h)
+
+case-d-requires : tie.Need-case-d-requires Inv-loop μ-loop
+case-d-requires c κs =
+    let h = given (at-loop (at-a (at-b c))) in
+    family-ready (h .1 .setting) (turning (at-b c) h) (c .before .before .before .cases-b-and-c .ensures)
+
+write-plan-requires : tie.Need-write-plan-requires Inv-loop μ-loop
+write-plan-requires c κs =
+    let h = given (at-loop (at-a (at-b (at-d c)))) in
+    plan-ready (h .1 .setting) (turning (at-b (at-d c)) h) (at-d c .before .before .before .cases-b-and-c .ensures) (c .before .before .before .before .case-d .ensures)
+
+step-up-requires : tie.Need-step-up-requires Inv-loop μ-loop
+step-up-requires c κs =
+    let d = at-d (at-plan c) in
+    let h = given (at-loop (at-a (at-b d))) in
+    step-ready (h .1 .setting) (turning (at-b d) h) (d .before .before .before .cases-b-and-c .ensures) (at-plan c .before .before .before .before .case-d .ensures) (c .before .before .before .write-plan .ensures)
 
 loop-less : tie.Need-loop-less Inv-loop μ-loop
-loop-less c = rows-fewer (start (c .before .before .before .before .before .before .before .before .before .before .before .before .before .before .before .before .before .before .before .before) .args .m) (c .before .before .before .before .before .before .before .before .before .before .before .before .before .before .before .before .before .before .before .before .loop .j .0) (c .next-marked2 .result .0) (c .before .before .before .before .before .before .before .before .before .before .before .before .before .before .before .before .before .before .if1 .taken) ((hand (c .before .before .before .before .before .before .before .before .before .before .before .before .before .before .before .before .before .before .before .before)) .marked (c .before .before .before .before .before .before .before .before .before .before .before .before .before .before .before .before .before .before .if1 .taken) .1) (λ x. let t = c .next-marked2 .ensures .found x in (t .0, t .1 .0))
+loop-less c =
+    let a = at-a (at-b (at-d (at-plan (at-step c)))) in
+    let u = c .before .before .step-up .ensures in
+    rows-fewer (at-loop a .loop .walk .fits) (c .before .before .step-up .result .fits) (a .before .before .before .before .before .before .before .loop-test .taken) (a .before .before .before .before .before .take-column .ensures) (a .before .if1 .left) (λ x. u .2 (sym (u .0) ∙ x) .2)
 
 loop-again : tie.Need-loop-again Inv-loop μ-loop
-loop-again c = (not-false (c .before .before .before .before .before .before .before .turn .result .fits) (c .before .before .before .if2 .left), λ R W lent can. enter-on can (c .before .before .before .before .before .before .before .before .before .before .before .before .before .before .before .before .before .before .before .before .loop .inv .1 R W lent can) (c .before .before .before .before .before .before .before .before .before .before .before .before .before .before .before .before .before .before .if1 .taken) (c .before .before .before .before .before .before .before .before .before .before .before .before .before .before .before .begin .ensures) (c .before .before .before .before .before .before .before .before .before .before .before .start-listed .ensures) (c .before .before .before .before .before .before .before .turn .ensures) (not-false (c .before .before .before .before .before .before .before .turn .result .fits) (c .before .before .before .if2 .left)) (c .next-marked2 .ensures))
+loop-again c = λ R W lent free e can.
+    let p = at-plan (at-step c) in
+    let b = at-b (at-d p) in
+    let l = at-loop (at-a b) in
+    let t = turning b (e, can) in
+    enter-on can (entering l (e, can)) (at-a b .before .before .before .before .before .before .before .loop-test .taken) (at-a b .before .before .before .before .before .take-column .ensures) (at-a b .before .if1 .left) t
+    (turned (can .setting) t (at-d p .before .before .before .cases-b-and-c .ensures) (p .before .before .before .before .case-d .ensures) (at-step c .before .before .before .write-plan .ensures)
+    (c .before .before .step-up .ensures))
 
 same-length-2 : tie.Need-same-length-2 Inv-loop μ-loop
-same-length-2 c = (hand (c .before .before)) .ended (c .if1 .left) .walking .same-length ∙ sym ((start (c .before .before) .pre .can) .walking .same-length)
+same-length-2 c =
+    let h = given (c .before) in
+    entering (c .before) h .halted (c .loop-test .left) .0 .same-length ∙ sym (h .1 .walking .same-length)
 
 returns-2 : tie.Need-returns-2 Inv-loop μ-loop
-returns-2 c = λ R W lent can. enter-end can (c .before .before .loop .inv .1 R W lent can) (c .before .before .loop .inv .0) (c .if1 .left)
+returns-2 c = λ R W lent can. enter-stops (entering (c .before) (given (c .before) .0, can)) (c .loop-test .left)
 
 pub walk-add-spec : {M : Type 1} → statement M
 walk-add-spec =
@@ -77,15 +152,16 @@ walk-add-spec =
     (tie.spec
     Inv-loop
     μ-loop
-    next-marked-requires
+    walk-from-requires
     loop-holds
-    begin-requires
-    start-listed-requires
-    turn-requires
+    take-column-requires
     same-length
     returns
-    cast-next-marked
-    next-marked-requires-2
+    case-a-listed-requires
+    cases-b-and-c-requires
+    case-d-requires
+    write-plan-requires
+    step-up-requires
     loop-less
     loop-again
     same-length-2
