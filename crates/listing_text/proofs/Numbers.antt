@@ -12,9 +12,8 @@ use lib.ListN.{length, getD, drop, drop-of-length-le}
 use lib.Seq.{drop-cons}
 use borrow.Author.Tests.{ltb-true, le-ltb, lt-ltb, le-leb, lt-leb}
 use Rattle.lists.specs.Lists.{all}
-use Rattle.lists.proofs.Tests.{and-both, in-range}
+use Rattle.lists.proofs.Tests.{and-both, and-false, in-range}
 use Rattle.listing_text.specs.Command.{isDigit, valueAfter, isNumber}
-use Rattle.listing_text.proofs.Same.{and-no}
 
 -- digits that follow a value keep it below the limit
 abbrev pub isRest : ℕ → List ℕ → Bool
@@ -40,7 +39,7 @@ rest-high w v i h a b = rw (drop-cons w i 0 h, le-leb 48 (getD w i 0) a, lt-leb 
 
 -- a value only rises
 pub rest-large : (ds : List ℕ) (v : ℕ) → 2 ^ 32 ≤ v → isRest v ds ≡ false
-rest-large ds v h = rw (le-ltb (valueAfter v ds) (2 ^ 32) (omega (arith, value-rises v ds))) (and-no (all isDigit ds))
+rest-large ds v h = rw (le-ltb (valueAfter v ds) (2 ^ 32) (omega (arith, value-rises v ds))) (and-false (all isDigit ds))
 
 pub rest-end : (w : List ℕ) (v i : ℕ) → length w ≤ i → v < 2 ^ 32 → isRest v (drop i w) ≡ true
 unfolding all valueAfter

@@ -1,7 +1,7 @@
 -- Two lists compared place by place: how a loop finds that they are the same, or that they differ. What a comparison by the lists'
 -- members says is in the crate lists. Assumes nothing.
 use mathlib.Core.Path.{_≡_, refl, ap}
-use mathlib.Core.Bool.{Bool, true, false, _&&_}
+use mathlib.Core.Bool.{true, false}
 use mathlib.Core.Logic.{_≢_}
 use mathlib.Core.List.{List, [], _∷_}
 use Prim.Native.Nat.{ℕ, suc, _+_, _≤_, _<_}
@@ -11,10 +11,7 @@ use lib.ListN.{length, getD, drop, drop-of-length-le}
 use lib.Seq.{drop-cons}
 use borrow.Author.Tests.{eq-eqb, ne-eqb}
 use Rattle.lists.specs.Lists.{same}
-
-pub and-no : (a : Bool) → (a && false) ≡ false
-and-no true = refl
-and-no false = refl
+use Rattle.lists.proofs.Tests.{and-false}
 
 -- lists of two lengths
 pub same-short : (xs ys : List ℕ) → length xs ≢ length ys → same xs ys ≡ false
@@ -22,7 +19,7 @@ unfolding same
 same-short [] [] n = absurd (n refl)
 same-short [] (y ∷ ys) n = refl
 same-short (x ∷ xs) [] n = refl
-same-short (x ∷ xs) (y ∷ ys) n = rw (same-short xs ys (λ e. n (ap suc e))) (and-no (eqb x y))
+same-short (x ∷ xs) (y ∷ ys) n = rw (same-short xs ys (λ e. n (ap suc e))) (and-false (eqb x y))
 
 module _ (xs ys : List ℕ) (i : ℕ) (p : i < length xs) (q : i < length ys) where
   pub same-step : getD xs i 0 ≡ getD ys i 0 → same (drop (i + 1) xs) (drop (i + 1) ys) ≡ same (drop i xs) (drop i ys)

@@ -1,10 +1,10 @@
--- How many of 1 to n pass a test: finding one, comparing two tests, a test that differs at one number. Assumes nothing.
+-- How many of 1 to n pass a test: finding one, comparing two tests, a test that differs at one number, one test for some numbers and another for the rest. Assumes nothing.
 use mathlib.Core.Path.{_≡_, refl, ap}
 use mathlib.Core.Logic.{inl, inr, _≢_}
-use mathlib.Core.Bool.{Bool, true, false}
+use mathlib.Core.Bool.{Bool, true, false, _&&_}
 use Prim.Native.Nat.{ℕ, zero, suc, _+_, _≤_, _<_}
 use native.Mathlib.Omega.{arith}
-use Rattle.lists.specs.Lists.{one, count}
+use Rattle.lists.specs.Lists.{pick, one, count}
 use Rattle.lists.proofs.Tests.{cases, eq-or-ne, pos-one, one-le}
 
 pub count-ext : (f g : ℕ → Bool) (n : ℕ) → ((c : ℕ) → 1 ≤ c → c ≤ n → f c ≡ g c) → count f n ≡ count g n
@@ -97,3 +97,13 @@ pub count-shift : (f : ℕ → Bool) (n : ℕ) → count f (suc n) ≡ one (f 1)
 unfolding count
 count-shift f zero = omega arith
 count-shift f (suc n) = omega (arith, count-shift f n)
+
+-- numbers that pass h counted by g, the others by f
+pub count-split : (h f g : ℕ → Bool) (n : ℕ) → count (λ c. pick (h c) (g c) (f c)) n + count (λ c. h c && f c) n ≡ count f n + count (λ c. h c && g c) n
+unfolding count
+count-split h f g zero = refl
+count-split h f g (suc n) = omega (arith, count-split h f g n, at-one (h (suc n)) (f (suc n)) (g (suc n)))
+  where
+    at-one : (a x y : Bool) → one (pick a y x) + one (a && x) ≡ one x + one (a && y)
+    at-one true x y = omega arith
+    at-one false x y = refl

@@ -13,7 +13,7 @@ use lib.ListN.{length, getD, drop}
 use lib.Seq.{drop-cons, drop-length}
 use borrow.Author.Tests.{eqb-true}
 use Rattle.lists.specs.Lists.{at, all, among, isIn}
-use Rattle.lists.proofs.Tests.{refute, and-assoc, in-range}
+use Rattle.lists.proofs.Tests.{and-false, and-true, and-assoc, refute, in-range}
 use Rattle.lists.proofs.Member.{place-mem, all-at}
 use Rattle.symbolic.specs.Columns.{Register, live}
 use Rattle.symbolic.specs.Factor.{factorFor, multiplicity, parentOf}
@@ -28,14 +28,6 @@ use Rattle.questions.specs.Meeting.{PathsJoin}
 use Rattle.questions.proofs.Following.{step-up, path-none}
 
 -- ---- conjunctions
-
-and-false : (a : Bool) → (a && false) ≡ false
-and-false true = refl
-and-false false = refl
-
-and-true : (a : Bool) → (a && true) ≡ a
-and-true true = refl
-and-true false = refl
 
 and-swap : (a b : Bool) → (a && b) ≡ (b && a)
 and-swap true b = sym (and-true b)

@@ -41,7 +41,7 @@ module _ {s : Stored} {row-counts row-list work : List ℕ} {R W : List Column} 
 
   setting : Setting (s .heads) (s .parents) (s .rows) (s .counts) (s .next) m flags R W true F
   setting =
-      setting-of s R R W true (c .can .sized) (c .can .sound) refl (c .can .some) (c .can .m-bound) (c .can .f-bound) (c .can .few) (c .can .positions .1) (c .can .batch-fits) F (omega arith)
+      setting-of s R R W true (c .can .sized) (c .can .sound) refl (c .can .m-bound) (c .can .f-bound) (c .can .few) (c .can .positions .1) (c .can .batch-fits) F (omega arith)
 
   -- the starts are marked
   module _ {w₁ : List ℕ} (marks : (W : List Column) → CanMark row-counts row-list m flags work W → StartsTo m flags W work w₁ (length W)) where

@@ -1,7 +1,7 @@
 -- A child of j that is next in one of its queues: it is done, it waited there before the turn, its plan and chain can be read, and what was counted can be
 -- counted on; once its rows are counted it is handled (`handled-kept`: B, `handled-gained`: C, `handled-lost`: D). Assumes nothing.
-use mathlib.Core.Path.{_≡_, ap, _∙_}
-use mathlib.Core.Logic.{inl, inr, _≢_}
+use mathlib.Core.Path.{_≡_, refl, ap, _∙_}
+use mathlib.Core.Logic.{_⊎_, inl, inr, _≢_}
 use mathlib.Core.Bool.{Bool, true, false, not}
 use mathlib.Core.List.{List}
 use Prim.Native.Nat.{ℕ, _+_, _-_, _≤_, _<_}
@@ -25,47 +25,50 @@ use Rattle.updown.proofs.Turning.{turn-plan, turn-chain, turn-other}
 -- ---- what is known of it
 
 module _ {work : List ℕ} {m : ℕ} {R W : List Column} {adding : Bool} {j used n queue c : ℕ} {H : ℕ → Bool} (a : AtChild work m R W adding j used n queue c H) where
-  -- it is not handled, and waits there since before the turn
-  pub child-fresh : (H c ≡ false) × (standing m R W j c ≡ queue)
-  child-fresh = waits-fresh m R W j (a .turn .low) (a .turn .high) H c queue (a .low) (a .high) (a .side) (a .waits)
-
-  child-done : (c < j) × (isTouched (larger m R W) W c ≡ true)
-  child-done =
-      elim (a .side) [
-        | inl e ↦ let v : (isTouched (larger m R W) W c ≡ true) × (c < j) × (_ ≡ j) = waits-child m R W j (a .turn .low) (a .turn .high) c (child-fresh .1 ∙ e) in (v .1, v .0)
-        | inr e ↦
-            let v : (isTouched (larger m R W) W c ≡ true) × (c < j) × (_ < j) × (0 < _) × (_ ≡ j) =
-            waits-lost m R W j (a .turn .low) (a .turn .high) c (a .low) (a .high) (child-fresh .1 ∙ e) in
-            (v .1, v .0)
-      ]
-
-  pub child-plan : PlanOf work m c adding (columnAt (larger m R W) c .counts) (columnAt (smaller m R) c .counts)
-  child-plan = turn-plan (a .turn) c (a .low) (child-done .0) (child-done .1) (a .narrow) (a .few)
-
-  -- the end of its plan can be read
-  pub child-end : (planAt m ≤ length work) × (m ≤ 4096) × (1 ≤ c) × (c ≤ m) × (1 ≤ cell work (nextAt m) (c - 1)) × (cell work (nextAt m) (c - 1) ≤ m)
-  child-end = (omega (arith, a .turn .long), a .narrow, a .low, a .high, child-plan .next-low, child-plan .next-high)
-
-  pub child-chain : {heads rows next : List ℕ} → Columns heads rows next m R W adding →
-      ChainOf heads rows next m c (oldOf adding (columnAt (larger m R W) c .counts) (columnAt (smaller m R) c .counts))
-  child-chain k = turn-chain (a .turn) c (a .low) (child-done .0) (child-done .1) k
-
+  -- what was counted can be counted on
   pub child-steady : Steady m work n
   child-steady = so-far-steady m R W adding j (a .turn .low) (a .turn .high) (a .turn .so-far) (a .narrow) (a .few)
 
-  pub child-other : {parents : List ℕ} → Parents parents m R W adding → otherAt parents work m c adding ≡ otherParent m R c
-  child-other p = turn-other (a .turn) c (a .low) (child-done .0) (child-done .1) p
+  -- the queue is one of j's
+  module _ (side : (queue ≡ j) ⊎ (queue ≡ m + j)) where
+    -- it is not handled, and waits there since before the turn
+    pub child-fresh : (H c ≡ false) × (standing m R W j c ≡ queue)
+    child-fresh = waits-fresh m R W j (a .turn .low) (a .turn .high) H c queue (a .low) (a .high) side (a .waits)
 
-  -- whether it is kept, by the other parent that is read
-  pub child-kept : {parents : List ℕ} → Parents parents m R W adding → {o : ℕ} → o ≡ otherAt parents work m c adding → eqb o j ≡ eqb (otherParent m R c) j
-  child-kept p e = ap (λ (x : ℕ). eqb x j) (e ∙ child-other p)
+    child-done : (c < j) × (isTouched (larger m R W) W c ≡ true)
+    child-done =
+        elim side [
+          | inl e ↦ let v : (isTouched (larger m R W) W c ≡ true) × (c < j) × (_ ≡ j) = waits-child m R W j (a .turn .low) (a .turn .high) c (child-fresh .1 ∙ e) in (v .1, v .0)
+          | inr e ↦
+              let v : (isTouched (larger m R W) W c ≡ true) × (c < j) × (_ < j) × (0 < _) × (_ ≡ j) =
+              waits-lost m R W j (a .turn .low) (a .turn .high) c (a .low) (a .high) (child-fresh .1 ∙ e) in
+              (v .1, v .0)
+        ]
 
-  pub other-within : {parents : List ℕ} → Parents parents m R W adding → (o : ℕ) → o ≡ otherAt parents work m c adding → o ≤ m
-  other-within p o e =
-      elim (eq-or-ne (otherParent m R c) 0) [
-        | inl z ↦ omega (arith, child-other p)
-        | inr z ↦ omega (arith, child-other p, other-above m R W c (a .low) (a .high) (omega arith))
-      ]
+    pub child-plan : PlanOf work m c adding (columnAt (larger m R W) c .counts) (columnAt (smaller m R) c .counts)
+    child-plan = turn-plan (a .turn) c (a .low) (child-done .0) (child-done .1) (a .narrow) (a .few)
+
+    -- the end of its plan can be read
+    pub child-end : (planAt m ≤ length work) × (m ≤ 4096) × (1 ≤ c) × (c ≤ m) × (1 ≤ cell work (nextAt m) (c - 1)) × (cell work (nextAt m) (c - 1) ≤ m)
+    child-end = (omega (arith, a .turn .long), a .narrow, a .low, a .high, child-plan .next-low, child-plan .next-high)
+
+    pub child-chain : {heads rows next : List ℕ} → Columns heads rows next m R W adding →
+        ChainOf heads rows next m c (oldOf adding (columnAt (larger m R W) c .counts) (columnAt (smaller m R) c .counts))
+    child-chain k = turn-chain (a .turn) c (a .low) (child-done .0) (child-done .1) k
+
+    pub child-other : {parents : List ℕ} → Parents parents m R W adding → otherAt parents work m c adding ≡ otherParent m R c
+    child-other p = turn-other (a .turn) c (a .low) (child-done .0) (child-done .1) p
+
+    -- whether it is kept, by the other parent that is read
+    pub child-kept : {parents : List ℕ} → Parents parents m R W adding → {o : ℕ} → o ≡ otherAt parents work m c adding → eqb o j ≡ eqb (otherParent m R c) j
+    child-kept p e = ap (λ (x : ℕ). eqb x j) (e ∙ child-other p)
+
+    pub other-within : {parents : List ℕ} → Parents parents m R W adding → (o : ℕ) → o ≡ otherAt parents work m c adding → o ≤ m
+    other-within p o e =
+        elim (eq-or-ne (otherParent m R c) 0) [
+          | inl z ↦ omega (arith, child-other p)
+          | inr z ↦ omega (arith, child-other p, other-above m R W c (a .low) (a .high) (omega arith))
+        ]
 
 -- ---- its rows counted
 
@@ -75,8 +78,8 @@ module _ {work work′ : List ℕ} {m : ℕ} {R W : List Column} {adding : Bool}
       Bumps m work work′ n′ adding (keptRow (columnAt (larger m R W) c .counts) (columnAt (smaller m R) c .counts)) → Handled m R W adding work work′ n′ j c H
   handled-kept a o b =
       record {
-        so-far = so-far-kept m R W adding j (a .turn .low) (a .turn .high) c (a .low) (a .high) (child-fresh a .0) (child-done a .0) (a .turn .so-far) b
-            (waits-child m R W j (a .turn .low) (a .turn .high) c (child-fresh a .1) .2) o;
+        so-far = so-far-kept m R W adding j (a .turn .low) (a .turn .high) c (a .low) (a .high) (child-fresh a (inl refl) .0) (child-done a (inl refl) .0) (a .turn .so-far) b
+            (waits-child m R W j (a .turn .low) (a .turn .high) c (child-fresh a (inl refl) .1) .2) o;
         only = b .only;
       }
 
@@ -85,8 +88,8 @@ module _ {work work′ : List ℕ} {m : ℕ} {R W : List Column} {adding : Bool}
       Handled m R W adding work work′ n′ j c H
   handled-gained a o b =
       record {
-        so-far = so-far-gained m R W adding j (a .turn .low) (a .turn .high) c (a .low) (a .high) (child-fresh a .0) (child-done a .0) (a .turn .so-far) b
-            (waits-child m R W j (a .turn .low) (a .turn .high) c (child-fresh a .1) .2) o;
+        so-far = so-far-gained m R W adding j (a .turn .low) (a .turn .high) c (a .low) (a .high) (child-fresh a (inl refl) .0) (child-done a (inl refl) .0) (a .turn .so-far) b
+            (waits-child m R W j (a .turn .low) (a .turn .high) c (child-fresh a (inl refl) .1) .2) o;
         only = b .only;
       }
 
@@ -95,8 +98,8 @@ module _ {work work′ : List ℕ} {m : ℕ} {R W : List Column} {adding : Bool}
       Handled m R W adding work work′ n′ j c H
   handled-lost a b =
       let v : (isTouched (larger m R W) W c ≡ true) × (c < j) × (_ < j) × (0 < _) × (otherParent m R c ≡ j) =
-      waits-lost m R W j (a .turn .low) (a .turn .high) c (a .low) (a .high) (child-fresh a .1) in
+      waits-lost m R W j (a .turn .low) (a .turn .high) c (a .low) (a .high) (child-fresh a (inr refl) .1) in
       record {
-        so-far = so-far-lost m R W adding j (a .turn .low) (a .turn .high) c (a .low) (a .high) (child-fresh a .0) (v .1) (a .turn .so-far) b (omega arith) (v .4);
+        so-far = so-far-lost m R W adding j (a .turn .low) (a .turn .high) c (a .low) (a .high) (child-fresh a (inr refl) .0) (v .1) (a .turn .so-far) b (omega arith) (v .4);
         only = b .only;
       }

@@ -27,7 +27,7 @@ pub record Bumps (m : ℕ) (before after : List ℕ) (n : ℕ) (up : Bool) (p : 
   pub counts : counted up (differenceAt before) (differenceAt after) m p
   pub only : OnlyIn 0 (marksAt m) before after
 
--- ---- a column's multiplicities, its plan, its chain
+-- ---- a column's multiplicities, its plan
 
 -- column c with the batch (more) and without it (less): 16 bits hold its multiplicities, its diagonal stands, more has all rows of less
 pub record Counts (m c : ℕ) (more less : List ℕ) : Type 0 where

@@ -12,7 +12,7 @@ use Rattle.lists.proofs.Tests.{lt-or-le}
 use Rattle.symbolic.specs.Columns.{Column}
 use Rattle.symbolic.specs.Factor.{columnAt, sizeOf}
 use Rattle.pool.specs.Chains.{chain, Linked}
-use Rattle.emission.specs.Emit.{CanEmit, Ready, Emitted, Emits}
+use Rattle.emission.specs.Emit.{CanEmit, Ready, Emits}
 use Rattle.emission.specs.declared.Emission.{Emission}
 use Rattle.updown.proofs.Brought.{Counts}
 use Rattle.updown.specs.Turns.{larger, smaller, before, after}
@@ -74,14 +74,4 @@ module _ {heads rows counts next : List ℕ} {m : ℕ} {R W : List Column} {addi
   emit-ready = record { old = old; new = new; can = can-emit }
 
   pub planned : {w′ : List ℕ} {e : Emission} → Emits rows counts next w m n j (at heads j) used avail w′ e → Planned next w w′ m R W adding j used avail e
-  planned {w′} {e} h =
-      let o : Emitted next w m j used avail old new w′ e = h old new can-emit in
-      record {
-        tally = o .tally;
-        used-low = o .used-low;
-        used-high = o .used-high;
-        same-length = o .same-length;
-        still = λ x y z. o .frame x (inr (omega arith)) z;
-        fits = o .fits;
-        plan = o .plan;
-      }
+  planned h = h old new can-emit

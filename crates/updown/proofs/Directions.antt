@@ -1,9 +1,9 @@
--- Numbers counted up when adding and down when removing, and a count of which some are counted anew. Assumes nothing.
-use mathlib.Core.Path.{_≡_, refl}
-use mathlib.Core.Bool.{Bool, true, false, _&&_, not}
-use Prim.Native.Nat.{ℕ, zero, suc, _+_, _≤_}
+-- Numbers counted up when adding and down when removing. Assumes nothing.
+use mathlib.Core.Path.{_≡_}
+use mathlib.Core.Bool.{Bool, true, false, not}
+use Prim.Native.Nat.{ℕ, _+_, _≤_}
 use native.Mathlib.Omega.{arith}
-use Rattle.lists.specs.Lists.{pick, one, count}
+use Rattle.lists.specs.Lists.{pick, one}
 use Rattle.differences.specs.Tally.{base, counted}
 
 -- ---- a number counted up or down
@@ -38,14 +38,3 @@ counted-with false x x′ a b t e h = omega arith
 pub counted-without : (adding : Bool) (x x′ a b t : ℕ) → a ≡ b + t → x′ + pick adding a b ≡ x + pick adding b a → CountedAt (not adding) x x′ t
 counted-without true x x′ a b t e h = omega arith
 counted-without false x x′ a b t e h = omega arith
-
--- ---- those that are handled counted by one test, the others by another
-
-pub split-count : (H p q : ℕ → Bool) (m : ℕ) → count (λ c. pick (H c) (q c) (p c)) m + count (λ c. H c && p c) m ≡ count p m + count (λ c. H c && q c) m
-unfolding count
-split-count H p q zero = refl
-split-count H p q (suc n) = omega (arith, split-count H p q n, one-more (H (suc n)) (p (suc n)) (q (suc n)))
-  where
-    one-more : (h x y : Bool) → one (pick h y x) + one (h && x) ≡ one x + one (h && y)
-    one-more true x y = omega arith
-    one-more false x y = refl

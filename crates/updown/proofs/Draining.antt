@@ -1,17 +1,17 @@
 -- The queues of j emptied in its turn: opened into a local head (`turn-open`), a handled child passed on (`turn-child`: B or C) or taken out (`turn-lost`:
--- D), closed (`turn-close`); the chain from the local head gets shorter (`drain-less`). Assumes nothing.
+-- D); the chain from the local head gets shorter (`drained-less`). Assumes nothing.
 use mathlib.Core.Path.{_≡_, refl, sym, ap, _∙_, subst}
 use mathlib.Core.Logic.{_⊎_, inl, inr, _≢_}
-use mathlib.Core.Bool.{Bool, true, _&&_, not, true≢false}
+use mathlib.Core.Bool.{Bool, true, _&&_, not}
 use mathlib.Core.List.{List}
 use Prim.Native.Nat.{ℕ, suc, _+_, _-_, _*_, _≤_, _<_}
 use native.Mathlib.Omega.{arith}
 use lib.Dec.{eqb}
 use lib.ListN.{length, getD, set, length-set}
 use lib.Seq.{getD-set-same, getD-set-other, set-set}
-use borrow.Author.Tests.{eqb-false, eq-eqb, ne-eqb, not-true}
+use borrow.Author.Tests.{eqb-false, ne-eqb, not-true}
 use Rattle.lists.specs.Lists.{pick, one, among, count, Mem}
-use Rattle.lists.proofs.Tests.{cases, eq-or-ne, both-ways, one-pos, pos-one, and-both}
+use Rattle.lists.proofs.Tests.{cases, both-ways, one-pos, pos-one, and-both}
 use Rattle.lists.proofs.Times.{mem-times, times-mem, among-count, UpTo}
 use Rattle.lists.proofs.Member.{among-mem, mem-among}
 use Rattle.lists.proofs.Count.{count-ext, count-at}
@@ -22,14 +22,14 @@ use Rattle.workspace.specs.Layout.{childrenAt}
 use Rattle.pool.specs.Chains.{chain}
 use Rattle.pool.proofs.Chains.{linked-chain, linked-once, linked-in}
 use Rattle.updown.specs.Plans.{InPlan}
-use Rattle.updown.specs.Marks.{passedOn}
+use Rattle.updown.specs.Marks.{queued, passedOn}
 use Rattle.updown.specs.Queues.{links, Queue, Queues}
 use Rattle.updown.specs.Turns.{larger, before, after, treeParent, otherParent, labelAt, done, standing, PlansTo, waiting}
 use Rattle.updown.specs.SoFar.{also}
 use Rattle.updown.specs.Walks.{Turn, Still, AtChild, Handled}
-use Rattle.updown.proofs.Queueing.{queue-frame, queue-first, queue-empty, links-length, link-frame, queues-ext, queues-frame, queues-open, local-open, local-first, queues-pop, local-pop, queues-push, local-push, queues-close, moved, moved-self, moved-other}
+use Rattle.updown.proofs.Queueing.{queue-frame, queue-first, links-length, link-frame, queues-ext, queues-frame, queues-open, local-open, local-first, queues-pop, local-pop, queued-length, queued-other, queues-push, local-push, moved, moved-self, moved-other, moved-again}
 use Rattle.updown.proofs.Plans.{in-touched, plans-frame}
-use Rattle.updown.proofs.Standing.{here-at, never-here, waits-child, moves-child, moves-lost, other-above, waiting-also}
+use Rattle.updown.proofs.Standing.{never-here, waits-child, moves-child, moves-lost, other-above, waiting-also}
 use Rattle.updown.proofs.Turning.{so-far-frame, plan-places}
 use Rattle.updown.proofs.AtChild.{child-fresh}
 
@@ -129,25 +129,6 @@ module _ {m : ℕ} {R W : List Column} {adding : Bool} {w : List ℕ} {j used n 
         empty = getD-set-same w (5 * m + (h - 1)) 0 0 (omega (arith, range, t .low, t .long));
       }
 
--- ---- closed
-
-module _ {m : ℕ} {R W : List Column} {adding : Bool} {w : List ℕ} {j used n h c : ℕ} {H : ℕ → Bool} (t : Turn m R W adding w j used n h H) (d : Drain m w h c (waiting m R W j H)) (z : c ≡ 0) where
-  pub turn-close : Turn m R W adding w j used n 0 H
-  turn-close =
-      record {
-        low = t .low;
-        high = t .high;
-        long = t .long;
-        plans = t .plans;
-        starts = t .starts;
-        queues = queues-close m w (wide t) (t .queues) (d .empty) z (d .here) 0;
-        so-far = t .so-far;
-      }
-
-  pub closed-none : (x : ℕ) → 1 ≤ x → x ≤ m → waiting m R W j H x ≢ h
-  closed-none x a b e =
-      true≢false (sym (eq-eqb (waiting m R W j H x) h e) ∙ queue-empty z (d .here) x a (omega (arith, links-length m w (wide t))))
-
 -- ---- one column out of a queue of j
 
 -- the next column in the queue
@@ -156,16 +137,17 @@ pub drain-child : {m : ℕ} {R W : List Column} {adding : Bool} {w : List ℕ} {
 drain-child {m} {R} {W} {w = w} {j} {h = h} {c} {H} narrow few t d s side =
     let f : (1 ≤ c) × (c ≤ m) × (waiting m R W j H c ≡ h) =
     local-first m w (wide t) (t .queues) c s (d .here) (t .low) (elim side [ inl e ↦ omega (arith, t .low) | inr e ↦ omega (arith, t .low) ]) in
-    record { narrow = narrow; few = few; turn = t; side = side; low = f .0; high = f .1; waits = f .2 }
+    record { narrow = narrow; few = few; turn = t; low = f .0; high = f .1; waits = f .2 }
 
 -- what the steps of a queue's emptying carry along
-pub record Stepped (m : ℕ) (R W : List Column) (adding : Bool) (w w′ : List ℕ) (j used n h c cur : ℕ) (handled : ℕ → Bool) : Type 0 where
+pub record Drained (m : ℕ) (R W : List Column) (adding : Bool) (w w′ : List ℕ) (j used n h c cur : ℕ) (handled : ℕ → Bool) : Type 0 where
   pub turn : Turn m R W adding w′ j used n h (also handled c)
   pub drain : Drain m w′ h cur (waiting m R W j (also handled c))
   pub same-length : length w′ ≡ length w
   pub still : Still m j w w′
 
-module _ {m : ℕ} {R W : List Column} {adding : Bool} {w : List ℕ} {j used n h c : ℕ} {H : ℕ → Bool} (a : AtChild w m R W adding j used n h c H) (d : Drain m w h c (waiting m R W j H)) where
+module _ {m : ℕ} {R W : List Column} {adding : Bool} {w : List ℕ} {j used n h c : ℕ} {H : ℕ → Bool} (a : AtChild w m R W adding j used n h c H)
+    (side : (h ≡ j) ⊎ (h ≡ m + j)) (d : Drain m w h c (waiting m R W j H)) where
   abbrev t : Turn m R W adding w j used n h H
   t = a .turn
 
@@ -176,26 +158,30 @@ module _ {m : ℕ} {R W : List Column} {adding : Bool} {w : List ℕ} {j used n 
   target = standing m R W (suc j) c
 
   head-range : (1 ≤ h) × (5 * m + (h - 1) < 7 * m)
-  head-range = elim (a .side) [ inl e ↦ omega (arith, t .low, t .high) | inr e ↦ omega (arith, t .low, t .high) ]
+  head-range = elim side [ inl e ↦ omega (arith, t .low, t .high) | inr e ↦ omega (arith, t .low, t .high) ]
 
   some : c ≢ 0
   some = omega (arith, a .low)
 
   target-away : target ≢ h
   target-away e =
-      true≢false (sym (here-at m R W j (t .low) (t .high) target (elim (a .side) [ inl x ↦ inl (e ∙ x) | inr x ↦ inr (e ∙ x) ])) ∙
-      never-here m R W j (t .low) (t .high) c (a .low) (a .high))
+      let n : (target ≢ j) × (target ≢ m + j) = never-here m R W j (t .low) (t .high) c (a .low) (a .high) in
+      elim side [ inl x ↦ n .0 (e ∙ x) | inr x ↦ n .1 (e ∙ x) ]
 
   -- handled, then taken out of its queue and, where it has another parent to come, put into that one's
   module _ {w₁ : List ℕ} {n′ : ℕ} (b : Handled m R W adding w w₁ n′ j c H) (w₂ : List ℕ) (l : length w₂ ≡ length w₁) (h₂ : (k : ℕ) → Outside (6 * m) (2 * m) k → getD w₂ k 0 ≡ getD w₁ k 0)
-      (q : Queues m w₂ j h (moved place c target)) {cur : ℕ} (r : Queue (links m w₂) cur (λ x. eqb (moved place c target x) h)) (e₂ : cell w₂ (5 * m) (h - 1) ≡ 0) where
+      (place′ : ℕ → ℕ) (goes : (x : ℕ) → moved place c target x ≡ place′ x) (q : Queues m w₂ j h place′) {cur : ℕ} (r : Queue (links m w₂) cur (λ x. eqb (place′ x) h))
+      (e₂ : cell w₂ (5 * m) (h - 1) ≡ 0) where
     long-same : length w₂ ≡ length w
     long-same = l ∙ b .only .same-length
 
     all-still : Still m j w w₂
     all-still k x y e = h₂ k y ∙ b .only .outside k (inr (omega arith))
 
-    step-made : Stepped m R W adding w w₂ j used n′ h c cur H
+    now : (x : ℕ) → waiting m R W j (also H c) x ≡ place′ x
+    now x = waiting-also m R W j (t .low) (t .high) H c x ∙ goes x
+
+    step-made : Drained m R W adding w w₂ j used n′ h c cur H
     step-made =
         record {
           turn = record {
@@ -204,11 +190,11 @@ module _ {m : ℕ} {R W : List Column} {adding : Bool} {w : List ℕ} {j used n 
             long = omega (arith, t .long, long-same);
             plans = plans-stay t w₂ long-same all-still;
             starts = all-still (4 * m + (j - 1)) (omega arith) (inl (omega (arith, t .low, t .high))) (omega (arith, t .low, t .high)) ∙ t .starts;
-            queues = queues-ext (omega (arith, wide t, long-same)) q (λ x _ _. waiting-also m R W j (t .low) (t .high) H c x);
+            queues = queues-ext (omega (arith, wide t, long-same)) q (λ x _ _. now x);
             so-far = so-far-frame l (λ k x. h₂ k (inl (omega arith))) (t .low) (t .high) (b .so-far);
           };
           drain = record {
-            here = queue-frame r refl (λ x _ _ _. refl) (λ x _ _. ap (λ (y : ℕ). eqb y h) (waiting-also m R W j (t .low) (t .high) H c x));
+            here = queue-frame r refl (λ x _ _ _. refl) (λ x _ _. ap (λ (y : ℕ). eqb y h) (now x));
             empty = e₂;
           };
           same-length = long-same;
@@ -234,93 +220,69 @@ module _ {m : ℕ} {R W : List Column} {adding : Bool} {w : List ℕ} {j used n 
     abbrev popped : List ℕ
     popped = set w₁ (7 * m + (c - 1)) 0
 
-    place-in : 7 * m + (c - 1) < 8 * m
-    place-in = omega (arith, a .low, a .high)
+    popped-still : (k : ℕ) → Outside (6 * m) (2 * m) k → getD popped k 0 ≡ getD w₁ k 0
+    popped-still k o = getD-set-other w₁ (7 * m + (c - 1)) k 0 0 (λ e. elim o [ inl y ↦ omega arith | inr y ↦ omega (arith, a .low, a .high) ])
+
+    popped-empty : cell popped (5 * m) (h - 1) ≡ 0
+    popped-empty = getD-set-other w₁ (7 * m + (c - 1)) (5 * m + (h - 1)) 0 0 (omega (arith, head-range)) ∙ only .outside (5 * m + (h - 1)) (inr (omega arith)) ∙ d .empty
+
+    popped-queues : Queues m popped j h (moved place c 0)
+    popped-queues = queues-pop m w₁ long₁ queues₁ c some here₁ (t .low) (head-range .0)
+
+    popped-here : Queue (links m popped) (cell w₁ (7 * m) (c - 1)) (λ x. eqb (moved place c 0 x) h)
+    popped-here = local-pop m w₁ long₁ queues₁ c some here₁ (t .low) (head-range .0)
 
     -- out of the queue alone
-    step-pop : target ≡ 0 → Stepped m R W adding w popped j used n′ h c (cell w₁ (7 * m) (c - 1)) H
+    step-pop : target ≡ 0 → Drained m R W adding w popped j used n′ h c (cell w₁ (7 * m) (c - 1)) H
     step-pop z =
-        step-made b popped (length-set w₁ (7 * m + (c - 1)) 0) (λ k o. getD-set-other w₁ (7 * m + (c - 1)) k 0 0 (λ e. elim o [ inl y ↦ omega arith | inr y ↦ omega (arith, place-in) ]))
-        (subst (λ (y : ℕ). Queues m popped j h (moved place c y)) (sym z) (queues-pop m w₁ long₁ queues₁ c some here₁ (t .low) (head-range .0)))
-        (subst (λ (y : ℕ). Queue (links m popped) (cell w₁ (7 * m) (c - 1)) (λ x. eqb (moved place c y x) h)) (sym z)
-        (local-pop m w₁ long₁ queues₁ c some here₁ (t .low) (head-range .0)))
-        (getD-set-other w₁ (7 * m + (c - 1)) (5 * m + (h - 1)) 0 0 (omega (arith, head-range)) ∙ only .outside (5 * m + (h - 1)) (inr (omega arith)) ∙ d .empty)
+        step-made b popped (length-set w₁ (7 * m + (c - 1)) 0) popped-still (moved place c 0) (λ x. ap (λ (y : ℕ). moved place c y x) z) popped-queues popped-here popped-empty
 
     -- and into that of the other parent
-    step-push : (o : ℕ) → j < o → o ≤ m → target ≡ m + o →
-        Stepped m R W adding w (set (set w₁ (7 * m + (c - 1)) (cell w₁ (6 * m) (o - 1))) (6 * m + (o - 1)) c) j used n′ h c (cell w₁ (7 * m) (c - 1)) H
-    step-push o p p′ z =
-        let x : ℕ = m + o in
-        let ix : 5 * m + (x - 1) ≡ 6 * m + (o - 1) = omega arith in
-        let ne : x ≢ h = λ e. elim (a .side) [ inl y ↦ omega (arith, t .high) | inr y ↦ omega arith ] in
-        let q₀ : Queues m popped j h (moved place c 0) = queues-pop m w₁ long₁ queues₁ c some here₁ (t .low) (head-range .0) in
-        let r₀ : Queue (links m popped) (cell w₁ (7 * m) (c - 1)) (λ y. eqb (moved place c 0 y) h) = local-pop m w₁ long₁ queues₁ c some here₁ (t .low) (head-range .0) in
-        let lp : 8 * m ≤ length popped = omega (arith, long₁, length-set w₁ (7 * m + (c - 1)) 0) in
-        let c0 : moved place c 0 c ≡ 0 = moved-self place c 0 in
-        let q₁ : Queues m (pushing x) j h (moved (moved place c 0) c x) =
-        queues-push m popped lp q₀ c x (a .low) (a .high) c0 (t .low) (omega (arith, t .high)) (omega arith) ne in
-        let r₁ : Queue (links m (pushing x)) (cell w₁ (7 * m) (c - 1)) (λ y. eqb (moved (moved place c 0) c x y) h) =
-        local-push m popped lp q₀ c x (a .low) (a .high) c0 (t .low) (omega (arith, t .high)) (omega arith) ne (head-range .0) r₀ in
-        let lq : length (pushing x) ≡ length w₁ = pushing-long x in
-        let e : pushing x ≡ set (set w₁ (7 * m + (c - 1)) (cell w₁ (6 * m) (o - 1))) (6 * m + (o - 1)) c = pushing-is x o ix (omega arith) in
-        subst (λ (v : List ℕ). Stepped m R W adding w v j used n′ h c (cell w₁ (7 * m) (c - 1)) H) e
-        (step-made b (pushing x) lq
-        (λ k u. getD-set-other (set popped (7 * m + (c - 1)) (cell popped (5 * m) (x - 1))) (5 * m + (x - 1)) k c 0 (λ y. elim u [ inl v ↦ omega arith | inr v ↦ omega arith ]) ∙
-        getD-set-other popped (7 * m + (c - 1)) k (cell popped (5 * m) (x - 1)) 0 (λ y. elim u [ inl v ↦ omega arith | inr v ↦ omega (arith, place-in) ]) ∙
-        getD-set-other w₁ (7 * m + (c - 1)) k 0 0 (λ y. elim u [ inl v ↦ omega arith | inr v ↦ omega (arith, place-in) ]))
-        (subst (λ (y : ℕ). Queues m (pushing x) j h (moved place c y)) (sym z) (queues-ext (omega (arith, lq, long₁)) q₁ (λ y _ _. again place c x y)))
-        (subst (λ (v : ℕ). Queue (links m (pushing x)) (cell w₁ (7 * m) (c - 1)) (λ y. eqb (moved place c v y) h)) (sym z)
-        (queue-frame r₁ refl (λ y _ _ _. refl) (λ y _ _. ap (λ (v : ℕ). eqb v h) (again place c x y))))
-        (getD-set-other (set popped (7 * m + (c - 1)) (cell popped (5 * m) (x - 1))) (5 * m + (x - 1)) (5 * m + (h - 1)) c 0 (omega (arith, head-range)) ∙
-        getD-set-other popped (7 * m + (c - 1)) (5 * m + (h - 1)) (cell popped (5 * m) (x - 1)) 0 (omega (arith, head-range)) ∙
-        getD-set-other w₁ (7 * m + (c - 1)) (5 * m + (h - 1)) 0 0 (omega (arith, head-range)) ∙ only .outside (5 * m + (h - 1)) (inr (omega arith)) ∙ d .empty))
-      where
-        pushing : (x : ℕ) → List ℕ
-        pushing x = set (set popped (7 * m + (c - 1)) (cell popped (5 * m) (x - 1))) (5 * m + (x - 1)) c
+    module _ (o : ℕ) (p : j < o) (p′ : o ≤ m) where
+      pushing-is : queued m popped c (m + o) ≡ set (set w₁ (7 * m + (c - 1)) (cell w₁ (6 * m) (o - 1))) (6 * m + (o - 1)) c
+      pushing-is =
+          let i : 5 * m + (m + o - 1) ≡ 6 * m + (o - 1) = omega arith in
+          ap (λ (y : ℕ). set (set popped (7 * m + (c - 1)) (getD popped y 0)) y c) i ∙
+          ap (λ (y : ℕ). set (set popped (7 * m + (c - 1)) y) (6 * m + (o - 1)) c) (getD-set-other w₁ (7 * m + (c - 1)) (6 * m + (o - 1)) 0 0 (omega arith)) ∙
+          ap (λ (y : List ℕ). set y (6 * m + (o - 1)) c) (set-set w₁ (7 * m + (c - 1)) 0 (cell w₁ (6 * m) (o - 1)))
 
-        pushing-long : (x : ℕ) → length (pushing x) ≡ length w₁
-        pushing-long x =
-            length-set (set popped (7 * m + (c - 1)) (cell popped (5 * m) (x - 1))) (5 * m + (x - 1)) c ∙ length-set popped (7 * m + (c - 1)) (cell popped (5 * m) (x - 1)) ∙
-            length-set w₁ (7 * m + (c - 1)) 0
-
-        pushing-is : (x o : ℕ) → 5 * m + (x - 1) ≡ 6 * m + (o - 1) → 6 * m + (o - 1) < 7 * m → pushing x ≡ set (set w₁ (7 * m + (c - 1)) (cell w₁ (6 * m) (o - 1))) (6 * m + (o - 1)) c
-        pushing-is x o ix hi =
-            let v : cell popped (5 * m) (x - 1) ≡ cell w₁ (6 * m) (o - 1) =
-            ap (λ (y : ℕ). getD popped y 0) ix ∙ getD-set-other w₁ (7 * m + (c - 1)) (6 * m + (o - 1)) 0 0 (omega arith) in
-            ap (λ (y : ℕ). set (set popped (7 * m + (c - 1)) (cell popped (5 * m) (x - 1))) y c) ix ∙
-            ap (λ (y : ℕ). set (set popped (7 * m + (c - 1)) y) (6 * m + (o - 1)) c) v ∙
-            ap (λ (y : List ℕ). set y (6 * m + (o - 1)) c) (set-set w₁ (7 * m + (c - 1)) 0 (cell w₁ (6 * m) (o - 1)))
-
-        again : (place : ℕ → ℕ) (c x y : ℕ) → moved place c x y ≡ moved (moved place c 0) c x y
-        again place c x y = elim (eq-or-ne y c) [
-          | inl e ↦ rw (eq-eqb y c e) refl
-          | inr e ↦ rw (ne-eqb y c e) refl
-        ]
+      step-push : target ≡ m + o → Drained m R W adding w (set (set w₁ (7 * m + (c - 1)) (cell w₁ (6 * m) (o - 1))) (6 * m + (o - 1)) c) j used n′ h c (cell w₁ (7 * m) (c - 1)) H
+      step-push z =
+          let ne : m + o ≢ h = λ e. elim side [ inl y ↦ omega (arith, t .high) | inr y ↦ omega arith ] in
+          let l : 8 * m ≤ length popped = omega (arith, long₁, length-set w₁ (7 * m + (c - 1)) 0) in
+          let none : moved place c 0 c ≡ 0 = moved-self place c 0 in
+          subst (λ (v : List ℕ). Drained m R W adding w v j used n′ h c (cell w₁ (7 * m) (c - 1)) H) pushing-is
+          (step-made b (queued m popped c (m + o)) (queued-length m popped c (m + o) ∙ length-set w₁ (7 * m + (c - 1)) 0)
+          (λ k u. queued-other m popped c (m + o) k (λ y. elim u [ inl v ↦ omega arith | inr v ↦ omega (arith, a .low, a .high) ]) (λ y. elim u [ inl v ↦ omega arith | inr v ↦ omega arith ]) ∙ popped-still k u)
+          (moved (moved place c 0) c (m + o)) (λ x. ap (λ (y : ℕ). moved place c y x) z ∙ moved-again place c 0 (m + o) x)
+          (queues-push m popped l popped-queues c (m + o) (a .low) (a .high) none (t .low) (omega (arith, t .high)) (omega arith) ne)
+          (local-push m popped l popped-queues c (m + o) (a .low) (a .high) none (t .low) (omega (arith, t .high)) (omega arith) ne (head-range .0) popped-here)
+          (queued-other m popped c (m + o) (5 * m + (h - 1)) (omega (arith, head-range)) (omega (arith, head-range, ne)) ∙ popped-empty))
 
     -- B and C: what pass_on stores
-    pub turn-child : h ≡ j → Stepped m R W adding w (passedOn m w₁ c j (otherParent m R c)) j used n′ h c (cell w₁ (7 * m) (c - 1)) H
+    pub turn-child : h ≡ j → Drained m R W adding w (passedOn m w₁ c j (otherParent m R c)) j used n′ h c (cell w₁ (7 * m) (c - 1)) H
     turn-child e =
         let o : ℕ = otherParent m R c in
         let g : Bool = not (eqb o j) && not (eqb o 0) in
-        let k : target ≡ pick g (m + o) 0 = moves-child m R W j (t .low) (t .high) c (a .low) (a .high) (child-fresh a .1 ∙ e) in
+        let k : target ≡ pick g (m + o) 0 = moves-child m R W j (t .low) (t .high) c (a .low) (a .high) (child-fresh a side .1 ∙ e) in
         elim (cases g) [
           | inl x ↦
               let v : (not (eqb o j) ≡ true) × (not (eqb o 0) ≡ true) = and-both (not (eqb o j)) (not (eqb o 0)) x in
               let o≢j : o ≢ j = eqb-false o j (not-true (eqb o j) (v .0)) in
               let o≢0 : o ≢ 0 = eqb-false o 0 (not-true (eqb o 0) (v .1)) in
               let u : (0 < treeParent m R W c) × (treeParent m R W c ≤ o) × (c < o) × (o ≤ m) = other-above m R W c (a .low) (a .high) (omega arith) in
-              let y : (isTouched (larger m R W) W c ≡ true) × (c < j) × (treeParent m R W c ≡ j) = waits-child m R W j (t .low) (t .high) c (child-fresh a .1 ∙ e) in
+              let y : (isTouched (larger m R W) W c ≡ true) × (c < j) × (treeParent m R W c ≡ j) = waits-child m R W j (t .low) (t .high) c (child-fresh a side .1 ∙ e) in
               rw x (step-push o (omega arith) (u .3) (k ∙ rw x refl))
           | inr x ↦ rw x (step-pop (k ∙ rw x refl))
         ]
 
     -- D
-    pub turn-lost : h ≡ m + j → Stepped m R W adding w popped j used n′ h c (cell w₁ (7 * m) (c - 1)) H
-    turn-lost e = step-pop (moves-lost m R W j (t .low) (t .high) c (a .low) (a .high) (child-fresh a .1 ∙ e))
+    pub turn-lost : h ≡ m + j → Drained m R W adding w popped j used n′ h c (cell w₁ (7 * m) (c - 1)) H
+    turn-lost e = step-pop (moves-lost m R W j (t .low) (t .high) c (a .low) (a .high) (child-fresh a side .1 ∙ e))
 
   -- the chain gets shorter
-  pub stepped-less : {w₂ : List ℕ} {n′ cur : ℕ} → Stepped m R W adding w w₂ j used n′ h c cur H → length (chain (links m w₂) cur) < length (chain (links m w) c)
-  stepped-less {w₂} {cur = cur} s =
+  pub drained-less : {w₂ : List ℕ} {n′ cur : ℕ} → Drained m R W adding w w₂ j used n′ h c cur H → length (chain (links m w₂) cur) < length (chain (links m w) c)
+  drained-less {w₂} {cur = cur} s =
       let v : (x : ℕ) → waiting m R W j (also H c) x ≡ moved place c target x = waiting-also m R W j (t .low) (t .high) H c in
       drain-less m w w₂ (wide t) (s .same-length) h c cur place (waiting m R W j (also H c)) d some (λ e. target-away (sym (moved-self place c target) ∙ sym (v c) ∙ e))
       (λ x n. v x ∙ moved-other place c target x n) (s .drain)

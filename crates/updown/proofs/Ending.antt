@@ -55,9 +55,9 @@ module _ {next work₀ w : List ℕ} {m flags : ℕ} {R W : List Column} {adding
   long : flags + 64 ≤ length w
   long = h .room .long
 
-  -- nobody waits
-  nobody : (x : ℕ) → 1 ≤ x → x ≤ m → standing m R W (suc m) x ≡ 0
-  nobody x p q =
+  -- none-waits waits
+  none-waits : (x : ℕ) → 1 ≤ x → x ≤ m → standing m R W (suc m) x ≡ 0
+  none-waits x p q =
       elim (stands m R W (suc m) x) [
         | nowhere e z ↦ z
         | tree e y z ↦ absurd (omega (arith, tree-above m R W x p q (omega arith)))
@@ -72,12 +72,12 @@ module _ {next work₀ w : List ℕ} {m flags : ℕ} {R W : List Column} {adding
             let x : ℕ = i - 5 * m + 1 in
             let e : 5 * m + (x - 1) ≡ i = omega arith in
             sym (ap (λ (v : ℕ). getD w v 0) e) ∙
-            queue-none (λ d s t. ap (λ (v : ℕ). eqb v x) (nobody d s (omega (arith, links-length m w (omega (arith, h .room .low, long))))) ∙ ne-eqb 0 x (omega arith))
+            queue-none (λ d s t. ap (λ (v : ℕ). eqb v x) (none-waits d s (omega (arith, links-length m w (omega (arith, h .room .low, long))))) ∙ ne-eqb 0 x (omega arith))
             (h .queues .queue x (omega arith) (omega arith) (omega arith))
         | inr y ↦
             let d : ℕ = i - 7 * m + 1 in
             let e : 7 * m + (d - 1) ≡ i = omega arith in
-            sym (ap (λ (v : ℕ). getD w v 0) e) ∙ h .queues .idle d (omega arith) (omega arith) (nobody d (omega arith) (omega arith))
+            sym (ap (λ (v : ℕ). getD w v 0) e) ∙ h .queues .idle d (omega arith) (omega arith) (none-waits d (omega arith) (omega arith))
       ]
 
   -- a place of no plan is as lent

@@ -1,19 +1,17 @@
 -- Sizes after an addition: where the turn of j finds too few free records the sizes exceed the pool (`sizes-exceed`), and where all fit they do not
 -- (`sizes-fit`). Assumes nothing.
 use mathlib.Core.Path.{_≡_, refl, sym, ap, _∙_}
-use mathlib.Core.Logic.{inl, inr}
 use mathlib.Core.Bool.{true, false}
 use mathlib.Core.List.{List, [], _∷_, _++_}
-use Prim.Native.Nat.{ℕ, zero, suc, _+_, _-_, _≤_, _<_}
+use Prim.Native.Nat.{ℕ, suc, _+_, _-_, _≤_, _<_}
 use native.Mathlib.Omega.{arith}
 use lib.Dec.{leb}
 use lib.ListN.{length}
 use borrow.Author.Tests.{leb-false}
 use Rattle.lists.specs.Lists.{sumOf}
-use Rattle.lists.proofs.Tests.{cases}
 use Rattle.lists.proofs.Sum.{sum-le}
 use Rattle.symbolic.specs.Columns.{Column}
-use Rattle.symbolic.specs.Factor.{FactorColumn, columnAt, sizeOf, sizeSum}
+use Rattle.symbolic.specs.Factor.{columnAt, sizeOf, sizeSum}
 use Rattle.symbolic.specs.Batch.{isTouched, touchedFrom, touched, sizeSumOf}
 use Rattle.symbolic.proofs.Build.{factor-length}
 use Rattle.symbolic.proofs.Sizes.{size-grows, sizes-local-sum}
@@ -22,25 +20,9 @@ use Rattle.columns.specs.Plan.{ofKind}
 use Rattle.emission.specs.Plans.{planFrom}
 use Rattle.updown.specs.Turns.{larger, smaller, done}
 use Rattle.updown.specs.States.{Numbers}
-use Rattle.updown.proofs.Plans.{in-touched, sizes-append}
+use Rattle.updown.proofs.Plans.{in-touched, touched-join, sizes-append}
 use Rattle.updown.proofs.Stepping.{done-next}
 use Rattle.updown.proofs.Numbering.{column-grows}
-
-touched-split : (fs : List FactorColumn) (cs : List Column) (i n t : ℕ) → touchedFrom fs cs i (n + t) ≡ touchedFrom fs cs i n ++ touchedFrom fs cs (i + n) t
-unfolding touchedFrom
-touched-split fs cs i zero t =
-    let a : 0 + t ≡ t = omega arith in
-    let b : i ≡ i + 0 = omega arith in
-    ap (λ (x : ℕ). touchedFrom fs cs i x) a ∙ ap (λ (x : ℕ). touchedFrom fs cs x t) b
-touched-split fs cs i (suc n) t =
-    let a : suc n + t ≡ suc (n + t) = omega arith in
-    let b : suc i + n ≡ i + suc n = omega arith in
-    let ih : touchedFrom fs cs (suc i) (n + t) ≡ touchedFrom fs cs (suc i) n ++ touchedFrom fs cs (i + suc n) t =
-    touched-split fs cs (suc i) n t ∙ ap (λ (x : ℕ). touchedFrom fs cs (suc i) n ++ touchedFrom fs cs x t) b in
-    ap (λ (x : ℕ). touchedFrom fs cs i x) a ∙ elim (cases (isTouched fs cs i)) [
-      | inl e ↦ rw e (ap (λ (l : List ℕ). i ∷ l) ih)
-      | inr e ↦ rw e ih
-    ]
 
 module _ {next work : List ℕ} {m : ℕ} {R W : List Column} {free f l c k used avail : ℕ} (size : sizeSum (smaller m R) + free ≡ length next) where
   pub sizes-fit : Numbers next work m R W true free (suc m) f l c k used avail → sizeSum (larger m R W) ≤ length next
@@ -56,7 +38,7 @@ module _ {next work : List ℕ} {m : ℕ} {R W : List Column} {free f l c k used
       let q : (suc j - 1) + (m - j) ≡ length (larger m R W) = omega (arith, factor-length m (R ++ W)) in
       let rest : List ℕ = touchedFrom (larger m R W) W (1 + (suc j - 1)) (m - j) in
       let e : touched (larger m R W) W ≡ (done m R W j ++ (j ∷ [])) ++ rest =
-      ap (λ (x : ℕ). touchedFrom (larger m R W) W 1 x) (sym q) ∙ touched-split (larger m R W) W 1 (suc j - 1) (m - j) ∙ ap (λ (x : List ℕ). x ++ rest) (done-next m R W j a t) in
+      ap (λ (x : ℕ). touchedFrom (larger m R W) W 1 x) (sym q) ∙ touched-join (larger m R W) W 1 (suc j - 1) (m - j) ∙ ap (λ (x : List ℕ). x ++ rest) (done-next m R W j a t) in
       omega (
         arith,
         size,

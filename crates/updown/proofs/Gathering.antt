@@ -1,25 +1,25 @@
--- What a done column brings: gathered rows counted into the differences (`can-count`, `bumps`), the rows of its chain but the diagonal (`second-rows`), and
--- the rows that each of B, C and D gathers, as tests on its multiplicities with and without the batch. Assumes nothing.
+-- What a done column brings: gathered rows counted into the differences (`can-count`, `bumps`), the rows of its chain but the diagonal (`second-rises`,
+-- `second-test`), and the rows that each of B, C and D gathers, as tests on its multiplicities with and without the batch. Assumes nothing.
 use mathlib.Core.Path.{_≡_, refl, sym, ap, _∙_, subst}
 use mathlib.Core.Logic.{inl, inr, _≢_, _↔_}
 use mathlib.Core.Bool.{Bool, true, false, _&&_, _||_, not, true≢false, false≢true}
 use mathlib.Core.List.{List, [], _∷_}
-use Prim.Native.Nat.{ℕ, suc, _+_, _-_, _*_, _≤_, _<_}
+use Prim.Native.Nat.{ℕ, suc, _-_, _*_, _≤_, _<_}
 use native.Mathlib.Omega.{arith}
 use lib.Dec.{leb, eqb}
 use lib.ListN.{length, getD}
 use borrow.Author.Tests.{eq-eqb, ne-eqb}
 use Rattle.lists.specs.Lists.{one, at, among, rises, valuesAt, Mem, first}
-use Rattle.lists.proofs.Tests.{eq-or-ne, zero-or-pos, and-both, refute}
+use Rattle.lists.proofs.Tests.{eq-or-ne, zero-or-pos, and-both, refute, and-false, and-true, or-false}
 use Rattle.lists.proofs.Member.{among-mem, mem-among}
 use Rattle.lists.proofs.Rising.{rises-in, rises-first, rises-weaken}
 use Rattle.symbolic.specs.Factor.{FactorColumn, patternFrom}
 use Rattle.symbolic.proofs.Patterns.{pattern-members, pattern-rises}
 use Rattle.workspace.specs.Regions.{cell, region}
-use Rattle.workspace.proofs.Regions.{only-region, only-zero, only-trans, only-wider}
+use Rattle.workspace.proofs.Regions.{only-trans, only-wider}
 use Rattle.pool.specs.Chains.{chain}
 use Rattle.pool.proofs.Chains.{Step, linked-step, linked-end, linked-chain, linked-self}
-use Rattle.differences.specs.Tally.{shifted, differenceAt, Touched, counted}
+use Rattle.differences.specs.Tally.{shifted, differenceAt, counted}
 use Rattle.differences.specs.Gather.{rowsIn, rowsOfKind, planPart, CanGather, PlanRises, ChainRises, CanGrow, Gathered}
 use Rattle.differences.specs.Count.{CanCount, Counted}
 use Rattle.emission.specs.Plans.{planFrom}
@@ -27,6 +27,7 @@ use Rattle.updown.specs.Marks.{endAt}
 use Rattle.updown.proofs.Brought.{Steady, Bumps, Counts, oldOf, newOf, PlanOf, keptRow, wholeRow}
 use Rattle.updown.specs.Walks.{ChainOf}
 use Rattle.updown.proofs.Planning.{of-kind, kind-new, kind-gone, rows-rise}
+use Rattle.updown.proofs.Turning.{touched-frame}
 
 -- ---- gathered rows, counted
 
@@ -34,24 +35,10 @@ module _ {m : ℕ} {before mid : List ℕ} {k : ℕ} {p : ℕ → Bool} (g : Gat
   same-at : (i : ℕ) → 1 ≤ i → i ≤ m → at mid i ≡ at before i
   same-at i a b = g .only .outside (i - 1) (inl (omega arith))
 
-  same-touched : {n : ℕ} → Touched m before n → Touched m mid n
-  same-touched {n} t =
-      let r : region mid m n ≡ region before m n = only-region (g .only) m n (inr (omega (arith, t .within))) in
-      record {
-        long = omega (arith, t .long, g .only .same-length);
-        within = t .within;
-        rising = subst (λ (l : List ℕ). rises 1 m l ≡ true) (sym r) (t .rising);
-        listed = λ i a b. (
-          λ h z. t .listed i a b .0 (ap (λ (l : List ℕ). among i l) (sym r) ∙ h) (sym (same-at i a b) ∙ z),
-          λ h. ap (λ (l : List ℕ). among i l) r ∙ t .listed i a b .1 (λ z. h (same-at i a b ∙ z)),
-        );
-        rest = only-zero (g .only) (m + n) (m - n) (inr (omega (arith, t .within))) (t .rest);
-      }
-
   pub can-count : {n : ℕ} → Steady m before n → CanCount m mid n k
   can-count s =
       record {
-        touched = same-touched (s .tally .touched);
+        touched = touched-frame (g .only .same-length) (λ i x. g .only .outside i (inl x)) (s .tally .touched);
         buffered = g .buffered;
         ranges = λ i h.
             let t : (1 ≤ i) × (i ≤ m) = rises-in 1 m (among-mem i (region mid (2 * m) k) h) (g .buffered .rising) in
@@ -113,18 +100,10 @@ module _ (c m : ℕ) (ns : List ℕ) (a : 1 ≤ c) (b : c ≤ m) (l : length ns 
       elim (eq-or-ne i c) [
         | inl y ↦
             refute (among i xs) (λ h. let u : (suc c ≤ i) × (i ≤ m) = rises-in (suc c) m (among-mem i xs h) (t .1) in omega arith) ∙
-            sym (and-false (not (eqb (at ns i) 0)) (not (eqb i c)) (rw (eq-eqb i c y) refl))
-        | inr y ↦ drop-left (eqb i x) (among i xs) (ne-eqb i x (omega arith)) ∙ w ∙ sym (and-true (not (eqb (at ns i) 0)) (not (eqb i c)) (rw (ne-eqb i c y) refl))
+            sym (rw (eq-eqb i c y) (and-false (not (eqb (at ns i) 0))))
+        | inr y ↦ drop-left (eqb i x) (among i xs) (ne-eqb i x (omega arith)) ∙ w ∙ sym (rw (ne-eqb i c y) (and-true (not (eqb (at ns i) 0))))
       ]
     where
-      and-false : (x y : Bool) → y ≡ false → (x && y) ≡ false
-      and-false true y e = e
-      and-false false y e = refl
-
-      and-true : (x y : Bool) → y ≡ true → (x && y) ≡ x
-      and-true true y e = e
-      and-true false y e = refl
-
       drop-left : (x y : Bool) → x ≡ false → y ≡ (x || y)
       drop-left true y e = absurd (true≢false e)
       drop-left false y e = refl
@@ -228,14 +207,6 @@ module _ {m c : ℕ} {more less : List ℕ} (k : Counts m c more less) (i : ℕ)
             let n : i ≢ c = λ e. let w : at less i ≡ at less c = ap (at less) e in omega (arith, k .diagonal .1) in
             rw (eq-eqb (at less i) 0 y, ne-eqb i c n) (sym (and-true (not (eqb (at more i) 0))))
       ]
-    where
-      or-false : (x : Bool) → (x || false) ≡ x
-      or-false true = refl
-      or-false false = refl
-
-      and-true : (x : Bool) → (x && true) ≡ x
-      and-true true = refl
-      and-true false = refl
 
   pub pruned-test : (wholeRow more c i && not (keptRow more less i)) ≡ wholeRow less c i
   pruned-test =
@@ -244,10 +215,6 @@ module _ {m c : ℕ} {more less : List ℕ} (k : Counts m c more less) (i : ℕ)
         | inl y ↦ rw (eq-eqb (at less i) 0 y) (none (not (eqb (at more i) 0)) (not (eqb i c)))
       ]
     where
-      and-true : (x : Bool) → (x && true) ≡ x
-      and-true true = refl
-      and-true false = refl
-
       none : (x y : Bool) → ((x && y) && not x) ≡ false
       none true true = refl
       none true false = refl

@@ -24,7 +24,7 @@ module _ {next : List ℕ} {m flags : ℕ} {R W : List Column} {adding : Bool} {
   idle k h o (plans (inl x)) =
       let v = in-touched (larger m R W) W 1 (suc j - 1) (x .0) (x .1 .0) in
       elim (x .1 .1) [ inl y ↦ omega (arith, b .high, v) | inr (inl y) ↦ omega (arith, b .high, v) | inr (inr y) ↦ omega (arith, b .high, v) ]
-  idle k h o (plans (inr x)) = omega (arith, d .used-low)
+  idle k h o (plans (inr x)) = omega (arith, d .planned .used-low)
   idle k h o (marks x y) = omega arith
   idle k h o (queues x y) = omega arith
   idle k h o (flagged x y) = elim o [ inl z ↦ omega arith | inr z ↦ omega arith ]
@@ -32,11 +32,11 @@ module _ {next : List ℕ} {m flags : ℕ} {R W : List Column} {adding : Bool} {
   pub halted : Halted m flags work₀ w₁ (e .used)
   halted =
       record {
-        plan-room = omega (arith, d .used-high, fit);
+        plan-room = omega (arith, d .planned .used-high, fit);
         long = omega (arith, b .room .long, d .same-length);
         same-length = d .same-length ∙ b .same-length;
         zero = b .zero;
-        rest = λ k h o. d .still k (omega arith) (inr (omega arith)) (omega (arith, b .low, b .high)) (inr (omega (arith, d .used-low))) ∙ b .rest k (idle k h o);
+        rest = λ k h o. d .still k (omega arith) (inr (omega arith)) (omega (arith, b .low, b .high)) (inr (omega (arith, d .planned .used-low))) ∙ b .rest k (idle k h o);
       }
 
 module _ {m flags used : ℕ} {work₀ w w₁ : List ℕ} (h : Halted m flags work₀ w used) (x : w₁ ≡ cleared w flags 64) where

@@ -12,7 +12,8 @@ use Rattle.updown.specs.Marks.{markAt, Taken}
 use Rattle.updown.specs.States.{startOf, Between}
 use Rattle.updown.specs.Starts.{CanStart, Started, BookHolds, SomeStartBooked, CanLeave}
 use Rattle.updown.proofs.Turned.{Turning, Turned}
-use Rattle.updown.proofs.Seeking.{between-start, taken-begun, seeking-start, seeking-bits, turning-from, removing-fits}
+use Rattle.updown.proofs.Numbering.{removing-fits}
+use Rattle.updown.proofs.Seeking.{between-start, taken-begun, seeking-start, seeking-bits, turning-from}
 
 module _ {heads parents rows counts next book-heads book-rows book-next ids : List ℕ} {m flags : ℕ} {R W : List Column} {work₀ start : List ℕ}
     (c : CanLeave heads parents rows counts next book-heads book-rows book-next work₀ start ids m flags R W) where

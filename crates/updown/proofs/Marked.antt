@@ -1,5 +1,6 @@
 -- Marks during the walk: the mark of the next row says whether it is touched and what its label is (`mark-touched`, `touched-mark`, `mark-label`); the marks
--- stay where their places stay, for a row that is not touched, and when a tree parent is raised (`marks-raise`). Assumes nothing.
+-- stay where their places stay (`marks-frame`), past a row that has no tree parent (`marks-past`) or is not touched (`marks-skip`); and a tree parent raised
+-- (`raised-mark`, `raised-flag`). Assumes nothing.
 use mathlib.Core.Path.{_≡_, refl, sym, ap, _∙_}
 use mathlib.Core.Logic.{_⊎_, inl, inr, _≢_}
 use mathlib.Core.Bool.{Bool, true, false, true≢false}
@@ -54,17 +55,20 @@ module _ (m : ℕ) (R W : List Column) where
     pub touched-mark : markAt m work j ≡ 0 → T j ≡ false
     touched-mark z = refute (T j) (λ t. omega (arith, at-least t, touched-label (larger m R W) W j t))
 
-    -- a row that is not touched
-    pub marks-skip : T j ≡ false → MarksHold m R W work (suc j)
-    marks-skip z =
+    -- a row that has no tree parent or is not touched
+    pub marks-past : (T j ≡ true → treeParent m R W j ≡ 0) → MarksHold m R W work (suc j)
+    marks-past z =
         record {
           start = λ k x y l. h .start k x y (omega arith);
           bit = λ k x y l. h .bit k x y (omega arith);
-          child = λ c x y t l. elim (eq-or-ne c j) [ inl e ↦ absurd (true≢false (sym (sym (ap T e) ∙ t) ∙ z)) | inr e ↦ h .child c x (omega arith) t (omega arith) ];
+          child = λ c x y t l. elim (eq-or-ne c j) [ inl e ↦ absurd (omega (arith, ap (treeParent m R W) e, z (sym (ap T e) ∙ t))) | inr e ↦ h .child c x (omega arith) t (omega arith) ];
           bound = λ q x y. h .bound q (omega arith) y;
           whole = λ q x y n. h .whole q (omega arith) y n;
           cause = λ q x y n. elim (h .cause q (omega arith) y n) [ inl e ↦ inl e | inr e ↦ inr (e .0, e .1, omega (arith, e .2), e .3, e .4) ];
         }
+
+    pub marks-skip : T j ≡ false → MarksHold m R W work (suc j)
+    marks-skip z = marks-past (λ t. absurd (true≢false (sym t ∙ z)))
 
   -- marks that stay
   pub marks-frame : {work work′ : List ℕ} {j : ℕ} → MarksHold m R W work j → 1 ≤ j → ((k : ℕ) → 1 ≤ k → k ≤ length W → startOf W k ≤ m) →
@@ -84,10 +88,10 @@ module _ (m : ℕ) (R W : List Column) where
       }
     where
       tree-high : (c : ℕ) → 1 ≤ c → c < j → T c ≡ true → j ≤ treeParent m R W c → treeParent m R W c ≤ m
-      tree-high c x y t l = elim (lt-or-le m c) [ inl z ↦ absurd (omega (arith, beyond c z)) | inr z ↦ tree-above m R W c x z (omega arith) .1 ]
-        where
-          beyond : (c : ℕ) → m < c → treeParent m R W c ≡ 0
-          beyond c z = parent-outside m (R ++ W) c z
+      tree-high c x y t l = elim (lt-or-le m c) [
+        | inl z ↦ let e : treeParent m R W c ≡ 0 = parent-outside m (R ++ W) c z in absurd (omega arith)
+        | inr z ↦ tree-above m R W c x z (omega arith) .1
+      ]
 
 -- ---- a tree parent raised
 

@@ -1,17 +1,16 @@
--- The numbers of a walk, one touched column more: first and last column, count, entries, the free records taken, and the room that is left; and bounds of
--- them, so that they fit their types. Assumes nothing.
-use mathlib.Core.Path.{_≡_, refl, sym, ap, _∙_, subst}
-use mathlib.Core.Logic.{inl, inr}
+-- The numbers of a walk, one touched column more (`numbers-next`): first and last column, count, entries, the free records taken, and the room that is left;
+-- bounds of them, so that they fit their types; and the plan of one column: adding, the column grows by its new rows (`column-grows`); removing,
+-- there are none, so that it always fits (`removing-fits`). Assumes nothing.
+use mathlib.Core.Path.{_≡_, refl, sym, ap, _∙_}
 use mathlib.Core.Bool.{Bool, true, false, false≢true}
 use mathlib.Core.List.{List, [], _∷_, _++_}
 use Prim.Native.Nat.{ℕ, suc, _+_, _-_, _*_, _≤_, _<_, max}
 use native.Mathlib.Nat.{max-le}
 use native.Mathlib.Omega.{arith}
-use lib.Dec.{eqb}
+use lib.Dec.{eqb, leb}
 use lib.ListN.{length, getD, length-append}
-use borrow.Author.Tests.{eq-eqb, ne-eqb}
+use borrow.Author.Tests.{ne-eqb, le-leb}
 use Rattle.lists.specs.Lists.{pick, Mem, first, later, sumOf}
-use Rattle.lists.proofs.Tests.{cases, lt-or-le, zero-or-pos}
 use Rattle.lists.proofs.Count.{count-le}
 use Rattle.lists.proofs.Rising.{rises-length}
 use Rattle.symbolic.specs.Columns.{Column}
@@ -23,24 +22,18 @@ use Rattle.workspace.proofs.Regions.{region-join, region-length}
 use Rattle.pool.specs.Chains.{chain, lastOf}
 use Rattle.columns.specs.Plan.{ofKind}
 use Rattle.differences.specs.Gather.{planPart}
-use Rattle.workspace.specs.Planned.{packed, kindOf}
-use Rattle.workspace.proofs.Planned.{packed-kind}
-use Rattle.emission.specs.Plans.{kindFor, planFrom}
+use Rattle.emission.specs.Plans.{planFrom}
+use Rattle.emission.proofs.Plans.{kind-append}
 use Rattle.updown.proofs.Brought.{Counts}
 use Rattle.emission.specs.Emit as emit
 use Rattle.emission.specs.declared.Emission.{Emission}
 use Rattle.updown.specs.Plans.{firstOf}
 use Rattle.updown.specs.Turns.{larger, smaller, before, after, done}
 use Rattle.updown.specs.States.{Numbers}
-use Rattle.updown.proofs.Planning.{fits, plan-length, plan-sizes}
+use Rattle.updown.proofs.Planning.{isKind, none-new, none-gone, none-of-kind, plan-length, plan-sizes}
 use Rattle.updown.proofs.Plans.{touched-rising, region-same, last-append, sizes-append, entries-append}
-use Rattle.updown.proofs.Turning.{beyond, column-counts}
+use Rattle.updown.proofs.Turning.{column-counts, grows-at}
 use Rattle.updown.proofs.Stepping.{done-next, done-in}
-
-pub kind-append : (k : ℕ) (xs ys : List ℕ) → ofKind k (xs ++ ys) ≡ ofKind k xs + ofKind k ys
-unfolding ofKind
-kind-append k [] ys = omega arith
-kind-append k (x ∷ xs) ys = omega (arith, kind-append k xs ys)
 
 -- ---- bounds
 
@@ -79,39 +72,30 @@ module _ (m : ℕ) (R W : List Column) (adding : Bool) (j : ℕ) (a : 1 ≤ j) (
 
 -- ---- a column with the batch has its rows without it, and the new ones
 
-no-gone : (i : ℕ) (old new : List ℕ) → 1 ≤ i → i + length old ≤ 4097 → ((k : ℕ) → getD new k 0 < 65536) → ((k : ℕ) → 0 < getD old k 0 → 0 < getD new k 0) → ofKind 2 (planFrom i old new) ≡ 0
-unfolding ofKind planFrom
-no-gone i [] new a b h g = refl
-no-gone i (x ∷ xs) [] a b h g = refl
-no-gone i (x ∷ xs) (y ∷ ys) a b h g =
-    let ih : ofKind 2 (planFrom (suc i) xs ys) ≡ 0 = no-gone (suc i) xs ys (omega arith) (omega arith) (λ k. h (suc k)) (λ k. g (suc k)) in
-    let u : kindOf (packed i y (kindFor x y)) ≡ kindFor x y = packed-kind (fits i x y a (omega arith) (h 0)) in
-    elim (cases (eqb x y)) [
-      | inl e ↦ rw e ih
-      | inr e ↦ elim (zero-or-pos x) [
-        | inl v ↦ rw (e, u, eq-eqb x 0 v) (omega arith)
-        | inr v ↦ rw (e, u, ne-eqb x 0 (omega arith), ne-eqb y 0 (omega (arith, g 0 v))) (omega arith)
-      ]
-    ]
+module _ (m : ℕ) (R W : List Column) (j : ℕ) (a : 1 ≤ j) (b : j ≤ m) (narrow : m ≤ 4096) (few : length R + length W ≤ 60000) where
+  abbrev more : List ℕ
+  more = columnAt (larger m R W) j .counts
 
-pub column-grows : (m : ℕ) (R W : List Column) (j : ℕ) → 1 ≤ j → j ≤ m → m ≤ 4096 → length R + length W ≤ 60000 →
-    sizeOf (columnAt (larger m R W) j) ≡ sizeOf (columnAt (smaller m R) j) + ofKind 1 (planFrom 1 (columnAt (smaller m R) j .counts) (columnAt (larger m R W) j .counts))
-column-grows m R W j a b n f =
-    let k : Counts m j (columnAt (larger m R W) j .counts) (columnAt (smaller m R) j .counts) = column-counts m R W j a b n f in
-    let z : ofKind 2 (planFrom 1 (columnAt (smaller m R) j .counts) (columnAt (larger m R W) j .counts)) ≡ 0 =
-    no-gone 1 (columnAt (smaller m R) j .counts) (columnAt (larger m R W) j .counts) (omega arith) (omega (arith, k .less-long)) (k .more-small)
-    (λ i p. elim (lt-or-le i m) [
-      | inl l ↦
-          let q : suc i - 1 ≡ i = omega arith in
-          let o : 0 < getD (columnAt (smaller m R) j .counts) (suc i - 1) 0 = subst (λ (x : ℕ). 0 < getD (columnAt (smaller m R) j .counts) x 0) (sym q) p in
-          subst (λ (x : ℕ). 0 < getD (columnAt (larger m R W) j .counts) x 0) q (k .grows (suc i) (omega arith) (omega arith) o)
-      | inr l ↦ absurd (omega (arith, beyond (columnAt (smaller m R) j .counts) i (omega (arith, k .less-long))))
-    ]) in
-    omega (
-      arith,
-      z,
-      plan-sizes 1 (columnAt (smaller m R) j .counts) (columnAt (larger m R W) j .counts) (omega arith) (omega (arith, k .less-long)) (k .less-long ∙ sym (k .more-long)) (k .more-small),
-    )
+  abbrev less : List ℕ
+  less = columnAt (smaller m R) j .counts
+
+  -- adding, no row is gone
+  pub column-grows : sizeOf (columnAt (larger m R W) j) ≡ sizeOf (columnAt (smaller m R) j) + ofKind 1 (planFrom 1 less more)
+  column-grows =
+      let k : Counts m j more less = column-counts m R W j a b narrow few in
+      let gone : (i : ℕ) → isKind 2 (getD less i 0) (getD more i 0) ≡ false = λ i. none-gone (getD less i 0) (getD more i 0) (grows-at k i) in
+      omega (
+        arith,
+        none-of-kind 2 1 less more (omega arith) (omega (arith, k .less-long)) (k .more-small) gone,
+        plan-sizes 1 less more (omega arith) (omega (arith, k .less-long)) (k .less-long ∙ sym (k .more-long)) (k .more-small),
+      )
+
+  -- removing, no row is new: it needs no record
+  pub removing-fits : (n : ℕ) → leb (ofKind 1 (planFrom 1 more less)) n ≡ true
+  removing-fits n =
+      let k : Counts m j more less = column-counts m R W j a b narrow few in
+      let new : (i : ℕ) → isKind 1 (getD more i 0) (getD less i 0) ≡ false = λ i. none-new (getD more i 0) (getD less i 0) (grows-at k i) in
+      le-leb (ofKind 1 (planFrom 1 more less)) n (omega (arith, none-of-kind 1 1 more less (omega arith) (omega (arith, k .more-long)) (k .less-small) new))
 
 -- ---- one column more
 

@@ -9,7 +9,7 @@ use lib.Dec.{eqb}
 use lib.ListN.{length, getD}
 use borrow.Author.Tests.{le-ltb, ne-eqb}
 use Rattle.lists.specs.Lists.{one, among, rises}
-use Rattle.lists.proofs.Tests.{eq-or-ne, lt-or-le}
+use Rattle.lists.proofs.Tests.{eq-or-ne, lt-or-le, and-false}
 use Rattle.lists.proofs.Times.{times-nil}
 use Rattle.symbolic.specs.Columns.{Column}
 use Rattle.symbolic.specs.Batch.{isTouched, touchedFrom}
@@ -103,12 +103,8 @@ module _ {m flags : ℕ} (R : List Column) {W : List Column} (adding : Bool) {w�
         rest = λ k n. s .rest k (away (3 * m) m k (λ x y. n (marks (omega arith) (omega arith)))) (away flags 64 k (λ x y. n (flagged x y)));
       }
     where
-      off : (x : Bool) → (x && false) ≡ false
-      off true = refl
-      off false = refl
-
       unplaced : (c : ℕ) → 1 ≤ c → standing m R W 1 c ≡ 0
-      unplaced c a = stands-none m R W 1 c (ap (λ (z : Bool). isTouched (larger m R W) W c && z) (le-ltb c 1 a) ∙ off (isTouched (larger m R W) W c))
+      unplaced c a = stands-none m R W 1 c (ap (λ (z : Bool). isTouched (larger m R W) W c && z) (le-ltb c 1 a) ∙ and-false (isTouched (larger m R W) W c))
 
       away : (a t k : ℕ) → (a ≤ k → k < a + t → ⊥) → Outside a t k
       away a t k h = elim (lt-or-le k a) [

@@ -10,28 +10,19 @@ use lib.Dec.{eqb}
 use lib.ListN.{length, getD}
 use borrow.Author.Tests.{eqb-true, eqb-false, eq-eqb, ne-eqb, le-leb}
 use Rattle.lists.specs.Lists.{among, rises}
-use Rattle.lists.proofs.Tests.{cases, eq-or-ne, zero-or-pos, both-and}
+use Rattle.lists.proofs.Tests.{cases, eq-or-ne, zero-or-pos, both-and, and-false}
 use Rattle.lists.proofs.Rising.{rises-weaken}
 use Rattle.symbolic.specs.Factor.{patternFrom}
-use Rattle.workspace.specs.Planned.{packed, kindOf, FitsEntry}
+use Rattle.workspace.specs.Planned.{packed, kindOf}
 use Rattle.workspace.proofs.Planned.{packed-row, packed-kind}
 use Rattle.columns.specs.Plan.{ofKind}
 use Rattle.differences.specs.Gather.{rowsIn, rowsOfKind}
 use Rattle.emission.specs.Plans.{kindFor, planFrom}
+use Rattle.emission.proofs.Plans.{entry-fits}
 
 -- multiplicities that an entry can hold
 abbrev pub Small : List ℕ → Type 0
 Small ns = (k : ℕ) → getD ns k 0 < 65536
-
-kind-small : (n n′ : ℕ) → kindFor n n′ < 4
-kind-small n n′ =
-    elim (cases (eqb n 0)) [
-      | inl e ↦ rw e (omega arith)
-      | inr e ↦ elim (cases (eqb n′ 0)) [ inl g ↦ rw (e, g) (omega arith) | inr g ↦ rw (e, g) (omega arith) ]
-    ]
-
-pub fits : (i n n′ : ℕ) → 1 ≤ i → i ≤ 4096 → n′ < 65536 → FitsEntry i n′ (kindFor n n′)
-fits i n n′ a b h = record { row-low = a; row-high = b; multiplicity-fits = omega arith; kind-fits = kind-small n n′ }
 
 -- ---- the rows of a kind
 
@@ -49,7 +40,7 @@ of-kind-low k i (n ∷ ns) (n′ ∷ ns′) a b h x l =
       | inl e ↦ rw e ih
       | inr e ↦ elim (cases (eqb (kindOf (packed i n′ (kindFor n n′))) k)) [
         | inr g ↦ rw (e, g) ih
-        | inl g ↦ rw (e, g, packed-row (fits i n n′ a (omega arith) (h 0)), ne-eqb x i (omega arith)) ih
+        | inl g ↦ rw (e, g, packed-row (entry-fits i n n′ a (omega arith) (h 0)), ne-eqb x i (omega arith)) ih
       ]
     ]
 
@@ -69,9 +60,9 @@ of-kind k i (n ∷ ns) (n′ ∷ ns′) a b e h x l =
           (elim (cases (eqb n n′)) [
             | inl g ↦ rw (g) no
             | inr g ↦
-                let u : kindOf (packed i n′ (kindFor n n′)) ≡ kindFor n n′ = packed-kind (fits i n n′ a (omega arith) (h 0)) in
+                let u : kindOf (packed i n′ (kindFor n n′)) ≡ kindFor n n′ = packed-kind (entry-fits i n n′ a (omega arith) (h 0)) in
                 elim (cases (eqb (kindFor n n′) k)) [
-                  | inl d ↦ rw (g, ap (λ (t : ℕ). eqb t k) u ∙ d, packed-row (fits i n n′ a (omega arith) (h 0)), eq-eqb x i q, d) refl
+                  | inl d ↦ rw (g, ap (λ (t : ℕ). eqb t k) u ∙ d, packed-row (entry-fits i n n′ a (omega arith) (h 0)), eq-eqb x i q, d) refl
                   | inr d ↦ rw (g, ap (λ (t : ℕ). eqb t k) u ∙ d, d) no
                 ]
           ])
@@ -84,7 +75,7 @@ of-kind k i (n ∷ ns) (n′ ∷ ns′) a b e h x l =
             | inl g ↦ rw g refl
             | inr g ↦ elim (cases (eqb (kindOf (packed i n′ (kindFor n n′))) k)) [
               | inr d ↦ rw (g, d) refl
-              | inl d ↦ rw (g, d, packed-row (fits i n n′ a (omega arith) (h 0)), ne-eqb x i q) refl
+              | inl d ↦ rw (g, d, packed-row (entry-fits i n n′ a (omega arith) (h 0)), ne-eqb x i q) refl
             ]
           ] in
           step ∙ ih ∙ ap (λ (t : ℕ). isKind k (getD (n ∷ ns) t 0) (getD (n′ ∷ ns′) t 0)) z
@@ -98,26 +89,25 @@ kind-new o n =
         | inl y ↦ rw (z, y) refl
         | inr y ↦ rw (z, ne-eqb n 0 (omega arith), ne-eqb 0 n (omega arith)) refl
       ]
-      | inr z ↦ rw (ne-eqb o 0 (omega arith)) (elim (cases (eqb n 0)) [ inl e ↦ rw e (both (eqb o n)) | inr e ↦ rw e (both (eqb o n)) ])
+      | inr z ↦ rw (ne-eqb o 0 (omega arith)) (elim (cases (eqb n 0)) [ inl e ↦ rw e (and-false (not (eqb o n))) | inr e ↦ rw e (and-false (not (eqb o n))) ])
     ]
-  where
-    both : (b : Bool) → (not b && false) ≡ false
-    both true = refl
-    both false = refl
 
 pub kind-gone : (o n : ℕ) → isKind 2 o n ≡ (not (eqb o 0) && eqb n 0)
 kind-gone o n =
     elim (zero-or-pos o) [
-      | inl z ↦ rw (z) (both (eqb 0 n))
+      | inl z ↦ rw (z) (and-false (not (eqb 0 n)))
       | inr z ↦ elim (zero-or-pos n) [
         | inl y ↦ rw (y, ne-eqb o 0 (omega arith)) refl
-        | inr y ↦ rw (ne-eqb o 0 (omega arith), ne-eqb n 0 (omega arith)) (both (eqb o n))
+        | inr y ↦ rw (ne-eqb o 0 (omega arith), ne-eqb n 0 (omega arith)) (and-false (not (eqb o n)))
       ]
     ]
-  where
-    both : (b : Bool) → (not b && false) ≡ false
-    both true = refl
-    both false = refl
+
+-- no row is new where all were there, none is gone where all stay
+pub none-new : (o n : ℕ) → (0 < n → 0 < o) → isKind 1 o n ≡ false
+none-new o n h = kind-new o n ∙ elim (zero-or-pos n) [ inl z ↦ rw z (and-false (eqb o 0)) | inr z ↦ rw (ne-eqb o 0 (omega (arith, h z))) refl ]
+
+pub none-gone : (o n : ℕ) → (0 < o → 0 < n) → isKind 2 o n ≡ false
+none-gone o n h = kind-gone o n ∙ elim (zero-or-pos o) [ inl z ↦ rw z refl | inr z ↦ rw (ne-eqb n 0 (omega (arith, h z))) (and-false (not (eqb o 0))) ]
 
 -- ---- all rows rise
 
@@ -130,11 +120,26 @@ rows-rise i (n ∷ ns) (n′ ∷ ns′) b a l m h =
     elim (cases (eqb n n′)) [
       | inl e ↦ rw e (rises-weaken (suc i) b i (rowsIn (planFrom (suc i) ns ns′)) (omega arith) ih)
       | inr e ↦
-          rw (e, packed-row (fits i n n′ a (omega arith) (h 0)))
+          rw (e, packed-row (entry-fits i n n′ a (omega arith) (h 0)))
           (both-and (both-and (le-leb i i (omega arith)) (le-leb i b (omega arith))) ih)
     ]
 
 -- ---- how many
+
+-- a kind that no row is of has no entry
+pub none-of-kind : (k i : ℕ) (old new : List ℕ) → 1 ≤ i → i + length old ≤ 4097 → Small new → ((p : ℕ) → isKind k (getD old p 0) (getD new p 0) ≡ false) → ofKind k (planFrom i old new) ≡ 0
+unfolding ofKind planFrom
+none-of-kind k i [] new a b h g = refl
+none-of-kind k i (n ∷ ns) [] a b h g = refl
+none-of-kind k i (n ∷ ns) (n′ ∷ ns′) a b h g =
+    let ih : ofKind k (planFrom (suc i) ns ns′) ≡ 0 = none-of-kind k (suc i) ns ns′ (omega arith) (omega arith) (λ p. h (suc p)) (λ p. g (suc p)) in
+    let here : isKind k n n′ ≡ false = g 0 in
+    elim (cases (eqb n n′)) [
+      | inl e ↦ rw e ih
+      | inr e ↦
+          let d : eqb (kindFor n n′) k ≡ false = rw e at here in
+          rw (e, packed-kind (entry-fits i n n′ a (omega arith) (h 0)), d) (omega arith)
+    ]
 
 -- an entry that is not new is of a row that was there
 pub plan-length : (i : ℕ) (old new : List ℕ) → 1 ≤ i → i + length old ≤ 4097 → Small new →
@@ -145,7 +150,7 @@ plan-length i (n ∷ ns) [] a b h = omega arith
 plan-length i (n ∷ ns) (n′ ∷ ns′) a b h =
     let ih : length (planFrom (suc i) ns ns′) ≤ length (patternFrom (suc i) ns) + ofKind 1 (planFrom (suc i) ns ns′) =
     plan-length (suc i) ns ns′ (omega arith) (omega arith) (λ k. h (suc k)) in
-    let u : kindOf (packed i n′ (kindFor n n′)) ≡ kindFor n n′ = packed-kind (fits i n n′ a (omega arith) (h 0)) in
+    let u : kindOf (packed i n′ (kindFor n n′)) ≡ kindFor n n′ = packed-kind (entry-fits i n n′ a (omega arith) (h 0)) in
     elim (cases (eqb n n′)) [
       | inl e ↦ elim (cases (eqb n 0)) [ inl z ↦ rw (e, z) ih | inr z ↦ rw (e, z) (omega arith) ]
       | inr e ↦ elim (cases (eqb n 0)) [
@@ -163,7 +168,7 @@ plan-sizes i (n ∷ ns) [] a b e h = absurd (omega arith)
 plan-sizes i (n ∷ ns) (n′ ∷ ns′) a b e h =
     let ih : length (patternFrom (suc i) ns′) + ofKind 2 (planFrom (suc i) ns ns′) ≡ length (patternFrom (suc i) ns) + ofKind 1 (planFrom (suc i) ns ns′) =
     plan-sizes (suc i) ns ns′ (omega arith) (omega arith) (omega arith) (λ k. h (suc k)) in
-    let u : kindOf (packed i n′ (kindFor n n′)) ≡ kindFor n n′ = packed-kind (fits i n n′ a (omega arith) (h 0)) in
+    let u : kindOf (packed i n′ (kindFor n n′)) ≡ kindFor n n′ = packed-kind (entry-fits i n n′ a (omega arith) (h 0)) in
     elim (cases (eqb n n′)) [
       | inl g ↦
           let q : n ≡ n′ = eqb-true n n′ g in

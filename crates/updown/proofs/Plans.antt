@@ -4,19 +4,19 @@ use mathlib.Core.Path.{_≡_, refl, sym, ap, _∙_, subst}
 use mathlib.Core.Logic.{_⊎_, inl, inr, _≢_}
 use mathlib.Core.Bool.{true, _&&_}
 use mathlib.Core.List.{List, [], _∷_, _++_}
-use Prim.Native.Nat.{ℕ, zero, suc, _+_, _-_, _≤_, _<_, max}
+use Prim.Native.Nat.{ℕ, suc, _+_, _-_, _≤_, _<_, max}
 use native.Mathlib.Omega.{arith}
 use lib.Dec.{leb}
 use lib.ListN.{length, getD, drop, length-take, length-drop}
 use lib.Seq.{ext-getD}
 use Rattle.lists.specs.Lists.{pick, Mem, first, later, rises}
-use Rattle.lists.proofs.Tests.{cases, and-both}
+use Rattle.lists.proofs.Tests.{and-both}
 use Rattle.lists.proofs.Sum.{sum-append}
 use Rattle.lists.proofs.Rising.{rises-in}
 use Rattle.symbolic.specs.Columns.{Column}
 use Rattle.symbolic.specs.Factor.{FactorColumn, columnAt, sizeOf}
 use Rattle.symbolic.specs.Batch.{isTouched, touchedFrom, sizeSumOf, entriesOf}
-use Rattle.symbolic.proofs.Passing.{passing-mem, mem-passing, passing-rises, touched-passing}
+use Rattle.symbolic.proofs.Passing.{passing-join, passing-mem, mem-passing, passing-rises, touched-passing}
 use Rattle.workspace.specs.Regions.{cell, region}
 use Rattle.workspace.proofs.Regions.{region-cell}
 use Rattle.pool.specs.Chains.{lastOf}
@@ -27,19 +27,16 @@ use Rattle.updown.specs.Turns.{DoneColumn, PlansTo}
 
 -- ---- the touched columns below a row, one row more
 
+-- n rows from i on, then k more
+pub touched-join : (fs : List FactorColumn) (cs : List Column) (i n k : ℕ) → touchedFrom fs cs i (n + k) ≡ touchedFrom fs cs i n ++ touchedFrom fs cs (i + n) k
+touched-join fs cs i n k =
+    rw (touched-passing fs cs i (n + k), touched-passing fs cs i n, touched-passing fs cs (i + n) k) (passing-join (isTouched fs cs) i n k)
+
 pub touched-more : (fs : List FactorColumn) (cs : List Column) (i n : ℕ) → touchedFrom fs cs i (suc n) ≡ touchedFrom fs cs i n ++ pick (isTouched fs cs (i + n)) ((i + n) ∷ []) []
 unfolding touchedFrom
-touched-more fs cs i zero =
-    let q : i + 0 ≡ i = omega arith in
-    rw q refl
-touched-more fs cs i (suc n) =
-    let q : suc i + n ≡ i + suc n = omega arith in
-    let ih : touchedFrom fs cs (suc i) (suc n) ≡ touchedFrom fs cs (suc i) n ++ pick (isTouched fs cs (i + suc n)) ((i + suc n) ∷ []) [] =
-    touched-more fs cs (suc i) n ∙ ap (λ (x : ℕ). touchedFrom fs cs (suc i) n ++ pick (isTouched fs cs x) (x ∷ []) []) q in
-    elim (cases (isTouched fs cs i)) [
-      | inl e ↦ rw e (ap (λ (l : List ℕ). i ∷ l) ih)
-      | inr e ↦ rw e ih
-    ]
+touched-more fs cs i n =
+    let q : suc n ≡ n + 1 = omega arith in
+    ap (touchedFrom fs cs i) q ∙ touched-join fs cs i n 1
 
 pub touched-in : (fs : List FactorColumn) (cs : List Column) (i n c : ℕ) → i ≤ c → c < i + n → isTouched fs cs c ≡ true → Mem c (touchedFrom fs cs i n)
 touched-in fs cs i n c a b h = rw (touched-passing fs cs i n) (passing-mem (isTouched fs cs) i n c a b h)

@@ -32,7 +32,7 @@ use Rattle.updown.proofs.Ending.{plan-made}
 -- ---- the setting: tables that hold the factor before the batch
 
 module _ (s : Stored) (cs R W : List Column) (adding : Bool) (z : Sized s) (sound : isSoundFor cs s ≡ true) (e : factorOf (length (s .heads)) cs ≡ before adding (length (s .heads)) R W)
-    (some : 1 ≤ length (s .heads)) (narrow : length (s .heads) ≤ 4096) (records : length (s .next) ≤ 1048576) (few : length R + length W ≤ 60000) (positions : length W ≤ 64)
+    (narrow : length (s .heads) ≤ 4096) (records : length (s .next) ≤ 1048576) (few : length R + length W ≤ 60000) (positions : length W ≤ 64)
     (fits : all (book.columnFits (length (s .heads))) W ≡ true) (free : ℕ) (free-small : free ≤ length (chain (s .next) (s .free))) where
   abbrev m : ℕ
   m = length (s .heads)
@@ -44,10 +44,8 @@ module _ (s : Stored) (cs R W : List Column) (adding : Bool) (z : Sized s) (soun
   setting-of =
       record {
         columns = record {
-          some = some;
           narrow = narrow;
           few = few;
-          positions = positions;
           chains = λ c a b. subst (λ (fs : List FactorColumn). ChainOf (s .heads) (s .rows) (s .next) m c (columnAt fs c .counts)) e (sound-chain s cs z sound c a b);
         };
         parents-hold = record { long = z .parents-long; are = λ c a b. sound-column s cs z sound c a b .2 ∙ ap (λ (fs : List FactorColumn). parentOf fs c) e };
@@ -56,6 +54,7 @@ module _ (s : Stored) (cs R W : List Column) (adding : Bool) (z : Sized s) (soun
             (omega (arith, sizes-within m cs R W j a b, sound-size s cs z sound));
         fit = omega arith;
         records = records;
+        positions = positions;
         starts = starts-within;
       }
 
@@ -102,7 +101,7 @@ module _ {s : Stored} {b : book.Book} {ids work : List ℕ} {R W : List Column} 
   remove-leave {w} t =
       let st : Stored = storedOf (s .heads) (s .parents) (s .rows) (s .counts) (s .next) (c .free) in
       let g : Setting (s .heads) (s .parents) (s .rows) (s .counts) (s .next) (length (s .heads)) (8 * length (s .heads) + 4 * length (s .next)) R W false 0 =
-      setting-of st (c .columns) R W false (c .can .sized) (c .can .sound) same-factor (c .can .some) (c .can .m-bound) (c .can .f-bound) few-columns (c .can .positions .1) (c .can .batch-fits) 0 (omega arith) in
+      setting-of st (c .columns) R W false (c .can .sized) (c .can .sound) same-factor (c .can .m-bound) (c .can .f-bound) few-columns (c .can .positions .1) (c .can .batch-fits) 0 (omega arith) in
       record { setting = g; holds = book-holds; walking = walking-start R false t (room-of (c .can)) (zero-of (c .can)) (c .can .some) (g .starts) }
 
   pub remove-planned : {w : List ℕ} {f l n k used avail : ℕ} →

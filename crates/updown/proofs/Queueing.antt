@@ -17,6 +17,7 @@ use Rattle.workspace.specs.Regions.{cell}
 use Rattle.workspace.proofs.Regions.{region-length, region-cell}
 use Rattle.pool.specs.Chains.{Linked}
 use Rattle.pool.proofs.Chains.{Step, linked-frame, linked-cons, linked-step, linked-end, linked-low, linked-high, linked-once}
+use Rattle.updown.specs.Marks.{queued}
 use Rattle.updown.specs.Queues.{links, Queue, Queues}
 
 -- ---- one queue
@@ -103,6 +104,9 @@ moved-self place c x = rw (eq-eqb c c refl)
 
 pub moved-other : (place : ℕ → ℕ) (c x d : ℕ) → d ≢ c → moved place c x d ≡ place d
 moved-other place c x d n = rw (ne-eqb d c n)
+
+pub moved-again : (place : ℕ → ℕ) (c x y d : ℕ) → moved place c y d ≡ moved (moved place c x) c y d
+moved-again place c x y d = elim (eq-or-ne d c) [ inl e ↦ rw (eq-eqb d c e) refl | inr e ↦ rw (ne-eqb d c e) refl ]
 
 -- ---- all queues
 
@@ -219,17 +223,18 @@ module _ (m : ℕ) (w : List ℕ) (l : 8 * m ≤ length w) {from h : ℕ} {place
       let g : d ≡ c = omega arith in true≢false (sym u ∙ ap (λ (y : ℕ). eqb (moved place c 0 y) h) g ∙ gone)))
       (λ d x y. refl)
 
+-- what a column that is put into a queue leaves
+pub queued-length : (m : ℕ) (w : List ℕ) (c x : ℕ) → length (queued m w c x) ≡ length w
+queued-length m w c x = length-set (set w (7 * m + (c - 1)) (cell w (5 * m) (x - 1))) (5 * m + (x - 1)) c ∙ length-set w (7 * m + (c - 1)) (cell w (5 * m) (x - 1))
+
+pub queued-other : (m : ℕ) (w : List ℕ) (c x y : ℕ) → y ≢ 7 * m + (c - 1) → y ≢ 5 * m + (x - 1) → getD (queued m w c x) y 0 ≡ getD w y 0
+queued-other m w c x y d g =
+    getD-set-other (set w (7 * m + (c - 1)) (cell w (5 * m) (x - 1))) (5 * m + (x - 1)) y c 0 g ∙ getD-set-other w (7 * m + (c - 1)) y (cell w (5 * m) (x - 1)) 0 d
+
 -- a column that waits nowhere enters queue x
 module _ (m : ℕ) (w : List ℕ) (l : 8 * m ≤ length w) {from h : ℕ} {place : ℕ → ℕ} (q : Queues m w from h place) (c x : ℕ) (i : 1 ≤ c) (j : c ≤ m) (z : place c ≡ 0) (f : 1 ≤ from) (a : from ≤ x) (b : x ≤ 2 * m) (e : x ≢ h) where
   abbrev pushed : List ℕ
-  pushed = set (set w (7 * m + (c - 1)) (cell w (5 * m) (x - 1))) (5 * m + (x - 1)) c
-
-  pushed-length : length pushed ≡ length w
-  pushed-length = length-set (set w (7 * m + (c - 1)) (cell w (5 * m) (x - 1))) (5 * m + (x - 1)) c ∙ length-set w (7 * m + (c - 1)) (cell w (5 * m) (x - 1))
-
-  pushed-other : (y : ℕ) → y ≢ 7 * m + (c - 1) → y ≢ 5 * m + (x - 1) → getD pushed y 0 ≡ getD w y 0
-  pushed-other y d g =
-      getD-set-other (set w (7 * m + (c - 1)) (cell w (5 * m) (x - 1))) (5 * m + (x - 1)) y c 0 g ∙ getD-set-other w (7 * m + (c - 1)) y (cell w (5 * m) (x - 1)) 0 d
+  pushed = queued m w c x
 
   pushed-link : cell pushed (7 * m) (c - 1) ≡ cell w (5 * m) (x - 1)
   pushed-link =
@@ -241,13 +246,13 @@ module _ (m : ℕ) (w : List ℕ) (l : 8 * m ≤ length w) {from h : ℕ} {place
       getD-set-same (set w (7 * m + (c - 1)) (cell w (5 * m) (x - 1))) (5 * m + (x - 1)) c 0 (simp length-set (omega arith))
 
   links-pushed : length (links m pushed) ≡ length (links m w)
-  links-pushed = links-same m w pushed l pushed-length
+  links-pushed = links-same m w pushed l (queued-length m w c x)
 
   -- a queue other than x
   stays : (y g : ℕ) → 1 ≤ y → y ≢ x → Queue (links m w) g (λ d. eqb (place d) y) → (h′ : ℕ) → h′ ≡ g → Queue (links m pushed) h′ (λ d. eqb (moved place c x d) y)
   stays y g v u k h′ s =
-      link-frame m w pushed l pushed-length k s
-      (λ d o p t. pushed-other (7 * m + (d - 1)) (λ r.
+      link-frame m w pushed l (queued-length m w c x) k s
+      (λ d o p t. queued-other m w c x (7 * m + (d - 1)) (λ r.
       let eq : d ≡ c = omega arith in
       let at-y : place d ≡ y = eqb-true (place d) y t in
       let same : place d ≡ place c = ap place eq in
@@ -263,14 +268,14 @@ module _ (m : ℕ) (w : List ℕ) (l : 8 * m ≤ length w) {from h : ℕ} {place
   queues-push =
       record {
         queue = λ y o p d. elim (eq-or-ne y x) [
-          | inr r ↦ stays y (cell w (5 * m) (y - 1)) (omega arith) r (q .queue y o p d) (cell pushed (5 * m) (y - 1)) (pushed-other (5 * m + (y - 1)) (omega arith) (omega arith))
+          | inr r ↦ stays y (cell w (5 * m) (y - 1)) (omega arith) r (q .queue y o p d) (cell pushed (5 * m) (y - 1)) (queued-other m w c x (5 * m + (y - 1)) (omega arith) (omega arith))
           | inl r ↦
               subst (λ (t : ℕ). Queue (links m pushed) (cell pushed (5 * m) (t - 1)) (λ d. eqb (moved place c x d) t)) (sym r)
               (subst (λ (t : ℕ). Queue (links m pushed) t (λ d. eqb (moved place c x d) x)) (sym pushed-head) into)
         ];
         idle = λ d o p y. elim (eq-or-ne d c) [
           | inl r ↦ absurd (omega (arith, ap (moved place c x) r, moved-self place c x))
-          | inr r ↦ pushed-other (7 * m + (d - 1)) (omega arith) (omega arith) ∙ q .idle d o p (sym (moved-other place c x d r) ∙ y)
+          | inr r ↦ queued-other m w c x (7 * m + (d - 1)) (omega arith) (omega arith) ∙ q .idle d o p (sym (moved-other place c x d r) ∙ y)
         ];
       }
     where
@@ -279,7 +284,7 @@ module _ (m : ℕ) (w : List ℕ) (l : 8 * m ≤ length w) {from h : ℕ} {place
           queue-push c (q .queue x a b e) links-pushed i (omega (arith, links-length m w l)) (ne-eqb (place c) x (omega arith))
           (link-at m pushed c i j ∙ pushed-link)
           (λ d o p r. let u : d ≤ m = omega (arith, links-length m w l) in
-          link-at m pushed d o u ∙ pushed-other (7 * m + (d - 1)) (omega arith) (omega arith) ∙ sym (link-at m w d o u))
+          link-at m pushed d o u ∙ queued-other m w c x (7 * m + (d - 1)) (omega arith) (omega arith) ∙ sym (link-at m w d o u))
           (ap (λ (t : ℕ). eqb t x) (moved-self place c x) ∙ eq-eqb x x refl)
           (λ d o p r. ap (λ (t : ℕ). eqb t x) (moved-other place c x d r))
 

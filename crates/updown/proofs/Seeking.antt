@@ -1,28 +1,20 @@
 -- The walk's loop: from the state between two turns to the next marked row or the walk's end (`taken-none`), the turn begun there and its batch columns handled
--- (`turning-from`), and what the loop's calls ask. Removing always fits (`removing-fits`). Assumes nothing.
+-- (`turning-from`), what the loop's calls ask, and that each turn leaves fewer rows (`rows-fewer`). Assumes nothing.
 use mathlib.Core.Path.{_≡_, refl, sym, ap, _∙_, subst}
 use mathlib.Core.Logic.{_⊎_, inl, inr, _≢_}
 use mathlib.Core.Bool.{Bool, true, false}
-use mathlib.Core.List.{List, [], _∷_}
+use mathlib.Core.List.{List}
 use Prim.Native.Nat.{ℕ, zero, suc, _+_, _-_, _*_, _%_, _≤_, _<_}
 use native.Mathlib.Omega.{arith}
-use lib.Dec.{eqb, leb}
 use lib.ListN.{length, getD}
-use borrow.Author.Tests.{eqb-false, ne-eqb, le-leb}
 use Rattle.lists.specs.Lists.{pick, sumOf, all}
-use Rattle.lists.proofs.Tests.{cases, lt-or-le, zero-or-pos}
 use Rattle.symbolic.specs.Columns.{Column}
-use Rattle.symbolic.specs.Factor.{columnAt}
 use Rattle.symbolic.specs.Batch.{touchedFrom, sizeSumOf, entriesOf}
 use Rattle.workspace.specs.Regions.{region}
 use Rattle.pool.specs.Chains.{chain, lastOf, Linked}
-use Rattle.workspace.specs.Planned.{packed, kindOf}
-use Rattle.workspace.proofs.Planned.{packed-kind}
 use Rattle.columns.specs.Plan.{ofKind}
-use Rattle.emission.specs.Plans.{kindFor, planFrom}
 use Rattle.updown.specs.Marks.{Room, markAt, Flagged, Taken}
-use Rattle.updown.proofs.Brought.{Counts}
-use Rattle.updown.specs.Turns.{larger, smaller, before, after, done}
+use Rattle.updown.specs.Turns.{before, after, done}
 use Rattle.updown.specs.States.{startOf, Numbers, Walking, Setting, Between}
 use Rattle.updown.proofs.Worked.{Begun}
 use Rattle.updown.specs.Starts.{CanStart, Started}
@@ -32,8 +24,7 @@ use Rattle.updown.proofs.Marked.{touched-mark}
 use Rattle.updown.proofs.Stepping.{done-skip}
 use Rattle.updown.proofs.Walking.{walking-skip, walking-begin, begun-length, begun-past, begun-counted}
 use Rattle.updown.proofs.SoFar.{so-far-start}
-use Rattle.updown.proofs.Turning.{beyond, column-counts, tally-frame}
-use Rattle.updown.proofs.Planning.{fits}
+use Rattle.updown.proofs.Turning.{tally-frame}
 use Rattle.updown.proofs.Turned.{Turning}
 
 -- before the first row, with the numbers that walk_from gives
@@ -176,38 +167,3 @@ rowsLeft m fits l = pick fits (suc m - l) 0
 pub rows-fewer : {m l l′ j used : ℕ} {w w′ : List ℕ} (ok ok′ : Bool) → ok ≡ true → Taken m w w′ l used j → j ≢ 0 → (ok′ ≡ true → l′ ≡ j) → rowsLeft m ok′ l′ < rowsLeft m ok l
 rows-fewer ok true h t z e = rw h (omega (arith, t .next .found z, e refl))
 rows-fewer ok false h t z e = rw h (omega (arith, t .next .found z))
-
--- ---- removing needs no record
-
-no-new : (i : ℕ) (old new : List ℕ) → 1 ≤ i → i + length old ≤ 4097 → ((k : ℕ) → getD new k 0 < 65536) → ((k : ℕ) → 0 < getD new k 0 → 0 < getD old k 0) → ofKind 1 (planFrom i old new) ≡ 0
-unfolding ofKind planFrom
-no-new i [] new a b h g = refl
-no-new i (x ∷ xs) [] a b h g = refl
-no-new i (x ∷ xs) (y ∷ ys) a b h g =
-    let ih : ofKind 1 (planFrom (suc i) xs ys) ≡ 0 = no-new (suc i) xs ys (omega arith) (omega arith) (λ k. h (suc k)) (λ k. g (suc k)) in
-    let u : kindOf (packed i y (kindFor x y)) ≡ kindFor x y = packed-kind (fits i x y a (omega arith) (h 0)) in
-    elim (cases (eqb x y)) [
-      | inl e ↦ rw e ih
-      | inr e ↦ elim (zero-or-pos x) [
-        | inl v ↦ absurd (eqb-false x y e (elim (zero-or-pos y) [ inl t ↦ omega arith | inr t ↦ absurd (omega (arith, g 0 t)) ]))
-        | inr v ↦ elim (cases (eqb y 0)) [
-          | inl t ↦ rw (e, u, ne-eqb x 0 (omega arith), t) (omega arith)
-          | inr t ↦ rw (e, u, ne-eqb x 0 (omega arith), t) (omega arith)
-        ]
-      ]
-    ]
-
-pub removing-fits : (m : ℕ) (R W : List Column) (j : ℕ) → 1 ≤ j → j ≤ m → m ≤ 4096 → length R + length W ≤ 60000 → (n : ℕ) →
-    leb (ofKind 1 (planFrom 1 (columnAt (larger m R W) j .counts) (columnAt (smaller m R) j .counts))) n ≡ true
-removing-fits m R W j a b d e n =
-    let k : Counts m j (columnAt (larger m R W) j .counts) (columnAt (smaller m R) j .counts) = column-counts m R W j a b d e in
-    let z : ofKind 1 (planFrom 1 (columnAt (larger m R W) j .counts) (columnAt (smaller m R) j .counts)) ≡ 0 =
-    no-new 1 (columnAt (larger m R W) j .counts) (columnAt (smaller m R) j .counts) (omega arith) (omega (arith, k .more-long)) (k .less-small)
-    (λ i p. elim (lt-or-le i m) [
-      | inl l ↦
-          let q : suc i - 1 ≡ i = omega arith in
-          let o : 0 < getD (columnAt (smaller m R) j .counts) (suc i - 1) 0 = subst (λ (x : ℕ). 0 < getD (columnAt (smaller m R) j .counts) x 0) (sym q) p in
-          subst (λ (x : ℕ). 0 < getD (columnAt (larger m R W) j .counts) x 0) q (k .grows (suc i) (omega arith) (omega arith) o)
-      | inr l ↦ absurd (omega (arith, beyond (columnAt (smaller m R) j .counts) i (omega (arith, k .less-long))))
-    ]) in
-    le-leb (ofKind 1 (planFrom 1 (columnAt (larger m R W) j .counts) (columnAt (smaller m R) j .counts))) n (omega arith)

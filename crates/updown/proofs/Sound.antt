@@ -1,5 +1,5 @@
 -- Sound tables as the walk reads them: each chain holds its column (`sound-column`), all sizes and the free records make up the pool (`sound-size`), so that
--- touched columns fit (`sound-fitting`); with them the walk's setting, adding and removing. Assumes nothing.
+-- touched columns fit (`sizes-within`). Assumes nothing.
 use mathlib.Core.Path.{_≡_, refl, sym, ap, _∙_, subst}
 use mathlib.Core.Logic.{inl, inr}
 use mathlib.Core.Bool.{Bool, true, _&&_}

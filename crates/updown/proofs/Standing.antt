@@ -3,14 +3,14 @@
 -- each waits meanwhile (`waiting`). Assumes nothing.
 use mathlib.Core.Path.{_≡_, refl, sym, ap, _∙_}
 use mathlib.Core.Logic.{_⊎_, inl, inr, _≢_}
-use mathlib.Core.Bool.{Bool, true, false, _&&_, _||_, not, true≢false}
+use mathlib.Core.Bool.{Bool, true, false, _&&_, not, true≢false}
 use mathlib.Core.List.{List, _++_}
 use Prim.Native.Nat.{ℕ, suc, _+_, _≤_, _<_}
 use native.Mathlib.Omega.{arith}
 use lib.Dec.{ltb, leb, eqb}
 use borrow.Author.Tests.{ltb-true, lt-ltb, le-ltb, le-leb, lt-leb, eqb-true, eqb-false, eq-eqb, ne-eqb, not-true}
 use Rattle.lists.specs.Lists.{pick}
-use Rattle.lists.proofs.Tests.{cases, eq-or-ne, lt-or-le, zero-or-pos, and-both, both-and, both-ways, or-either, or-left, or-right, refute}
+use Rattle.lists.proofs.Tests.{cases, eq-or-ne, lt-or-le, zero-or-pos, and-both, both-and, both-ways, or-either, or-left, or-right, refute, and-false, or-false}
 use Rattle.symbolic.specs.Columns.{Column}
 use Rattle.symbolic.specs.Batch.{isTouched}
 use Rattle.symbolic.proofs.Build.{laws}
@@ -19,10 +19,6 @@ use Rattle.symbolic.proofs.Locality.{parent-stays-or-falls, touched-old-parent}
 use Rattle.updown.specs.Turns.{larger, treeParent, otherParent, isDone, standing, waiting}
 use Rattle.updown.specs.SoFar.{also, children, lost, family}
 use Rattle.updown.proofs.Queueing.{moved}
-
--- x is one of j's two queues
-abbrev pub isHere : (m j x : ℕ) → Bool
-isHere m j x = eqb x j || eqb x (m + j)
 
 module _ (m : ℕ) (R W : List Column) where
   abbrev T : ℕ → Bool
@@ -106,22 +102,6 @@ module _ (m : ℕ) (R W : List Column) where
   -- ---- who waits for j
 
   module _ (j : ℕ) (a : 1 ≤ j) (b : j ≤ m) where
-    here-child : isHere m j j ≡ true
-    here-child = or-left (eqb j j) (eqb j (m + j)) (eq-eqb j j refl)
-
-    here-lost : isHere m j (m + j) ≡ true
-    here-lost = or-right (eqb (m + j) j) (eqb (m + j) (m + j)) (eq-eqb (m + j) (m + j) refl)
-
-    pub here-at : (x : ℕ) → (x ≡ j) ⊎ (x ≡ m + j) → isHere m j x ≡ true
-    here-at x (inl e) = ap (isHere m j) e ∙ here-child
-    here-at x (inr e) = ap (isHere m j) e ∙ here-lost
-
-    at-here : (x : ℕ) → isHere m j x ≡ true → (x ≡ j) ⊎ (x ≡ m + j)
-    at-here x h = elim (or-either (eqb x j) (eqb x (m + j)) h) [ inl e ↦ inl (eqb-true x j e) | inr e ↦ inr (eqb-true x (m + j) e) ]
-
-    not-here : (x : ℕ) → x ≢ j → x ≢ m + j → isHere m j x ≡ false
-    not-here x p q = refute (isHere m j x) (λ h. elim (at-here x h) [ inl e ↦ p e | inr e ↦ q e ])
-
     pub waits-child : (c : ℕ) → standing m R W j c ≡ j → (T c ≡ true) × (c < j) × (U c ≡ j)
     waits-child c h =
         elim (stands j c) [
@@ -142,13 +122,14 @@ module _ (m : ℕ) (R W : List Column) where
 
     -- ---- one row more
 
-    pub never-here : (c : ℕ) → 1 ≤ c → c ≤ m → isHere m j (standing m R W (suc j) c) ≡ false
+    -- then nobody waits for j
+    pub never-here : (c : ℕ) → 1 ≤ c → c ≤ m → (standing m R W (suc j) c ≢ j) × (standing m R W (suc j) c ≢ m + j)
     never-here c x y =
         elim (stands (suc j) c) [
-          | nowhere e z ↦ not-here (standing m R W (suc j) c) (omega arith) (omega arith)
-          | tree e l z ↦ not-here (standing m R W (suc j) c) (omega arith) (omega (arith, tree-above c x y (omega arith)))
-          | other e l p n k z ↦ not-here (standing m R W (suc j) c) (omega arith) (omega arith)
-          | gone e l d z ↦ not-here (standing m R W (suc j) c) (omega arith) (omega arith)
+          | nowhere e z ↦ (omega arith, omega arith)
+          | tree e l z ↦ (omega arith, omega (arith, tree-above c x y (omega arith)))
+          | other e l p n k z ↦ (omega arith, omega arith)
+          | gone e l d z ↦ (omega arith, omega arith)
         ]
 
     done-more : (c : ℕ) → c ≢ j → isDone m R W (suc j) c ≡ isDone m R W j c
@@ -157,18 +138,13 @@ module _ (m : ℕ) (R W : List Column) where
         same : (c : ℕ) → c ≢ j → ltb c (suc j) ≡ ltb c j
         same c n = elim (lt-or-le c j) [ inl l ↦ lt-ltb c (suc j) (omega arith) ∙ sym (lt-ltb c j l) | inr l ↦ le-ltb c (suc j) (omega arith) ∙ sym (le-ltb c j l) ]
 
-    stands-keep : (c : ℕ) → 1 ≤ c → c ≤ m → c ≢ j → isHere m j (standing m R W j c) ≡ false → standing m R W (suc j) c ≡ standing m R W j c
-    stands-keep c x y n h =
+    -- who does not wait for j goes on waiting where it does
+    stands-keep : (c : ℕ) → c ≢ j → standing m R W j c ≢ j → standing m R W j c ≢ m + j → standing m R W (suc j) c ≡ standing m R W j c
+    stands-keep c n f g =
         elim (stands j c) [
           | nowhere e z ↦ stands-none (suc j) c (done-more c n ∙ e) ∙ sym z
-          | tree e l z ↦ elim (eq-or-ne (U c) j) [
-            | inl u ↦ absurd (true≢false (sym (here-at (standing m R W j c) (inl (z ∙ u))) ∙ h))
-            | inr u ↦ stands-tree (suc j) c (done-more c n ∙ e) (omega arith) ∙ sym z
-          ]
-          | other e l p k o z ↦ elim (eq-or-ne (O c) j) [
-            | inl u ↦ absurd (true≢false (sym (here-at (standing m R W j c) (inr (z ∙ ap (λ (t : ℕ). m + t) u))) ∙ h))
-            | inr u ↦ stands-other (suc j) c (done-more c n ∙ e) (omega arith) p k (omega arith) ∙ sym z
-          ]
+          | tree e l z ↦ stands-tree (suc j) c (done-more c n ∙ e) (omega arith) ∙ sym z
+          | other e l p k o z ↦ stands-other (suc j) c (done-more c n ∙ e) (omega arith) p k (omega arith) ∙ sym z
           | gone e l d z ↦
               stands-gone (suc j) c (done-more c n ∙ e) (omega arith) (elim d [ inl p ↦ inl p | inr (inl p) ↦ inr (inl p) | inr (inr p) ↦ inr (inr (omega arith)) ]) ∙ sym z
         ]
@@ -182,11 +158,7 @@ module _ (m : ℕ) (R W : List Column) where
         ]
 
     stands-before : standing m R W j j ≡ 0
-    stands-before = stands-none j j (ap (λ (z : Bool). T j && z) (le-ltb j j (omega arith)) ∙ none (T j))
-      where
-        none : (x : Bool) → (x && false) ≡ false
-        none true = refl
-        none false = refl
+    stands-before = stands-none j j (ap (λ (z : Bool). T j && z) (le-ltb j j (omega arith)) ∙ and-false (T j))
 
     -- a child of j moves on to its other parent, a lost child waits no more
     pub moves-child : (c : ℕ) → 1 ≤ c → c ≤ m → standing m R W j c ≡ j → standing m R W (suc j) c ≡ pick (not (eqb (O c) j) && not (eqb (O c) 0)) (m + O c) 0
@@ -216,14 +188,11 @@ module _ (m : ℕ) (R W : List Column) where
               let d : isDone m R W (suc j) c ≡ false = rw (ap T e ∙ t) refl in
               let k : isDone m R W j c ≡ false = rw (ap T e ∙ t) refl in
               stands-none (suc j) c d ∙ sym (stands-none j c k)
-          | inr e ↦ stands-keep c x y e (refute (isHere m j (standing m R W j c)) (λ h. elim (at-here (standing m R W j c) h) [
-            | inl z ↦
-                let w : (T c ≡ true) × (c < j) × (U c ≡ j) = waits-child c z in
-                true≢false (sym (sym (ap T (w .2)) ∙ touched-parent m (R ++ W) W c x y (w .0) (omega arith)) ∙ t)
-            | inr z ↦
-                let w : (T c ≡ true) × (c < j) × (U c < j) × (0 < U c) × (O c ≡ j) = waits-lost c x y z in
-                true≢false (sym (sym (ap T (w .4)) ∙ touched-old-parent m R W c x y (w .0) (omega arith)) ∙ t)
-          ]))
+          | inr e ↦ stands-keep c e
+              (λ z. let w : (T c ≡ true) × (c < j) × (U c ≡ j) = waits-child c z in
+              true≢false (sym (sym (ap T (w .2)) ∙ touched-parent m (R ++ W) W c x y (w .0) (omega arith)) ∙ t))
+              (λ z. let w : (T c ≡ true) × (c < j) × (U c < j) × (0 < U c) × (O c ≡ j) = waits-lost c x y z in
+              true≢false (sym (sym (ap T (w .4)) ∙ touched-old-parent m R W c x y (w .0) (omega arith)) ∙ t))
         ]
 
     -- ---- who is handled
@@ -261,7 +230,7 @@ module _ (m : ℕ) (R W : List Column) where
           | inr f ↦ (f, sym (by f) ∙ e)
           | inl t ↦
               let k : standing m R W (suc j) c ≡ h = sym (by t) ∙ e in
-              absurd (true≢false (sym (here-at (standing m R W (suc j) c) (elim side [ inl s ↦ inl (k ∙ s) | inr s ↦ inr (k ∙ s) ])) ∙ never-here c x y))
+              absurd (elim side [ inl s ↦ never-here c x y .0 (k ∙ s) | inr s ↦ never-here c x y .1 (k ∙ s) ])
         ]
       where
         by : {z : Bool} → H c ≡ z → waiting m R W j H c ≡ pick z (standing m R W (suc j) c) (standing m R W j c)
@@ -274,10 +243,6 @@ module _ (m : ℕ) (R W : List Column) where
           | inl e ↦ rw (eq-eqb d c e) (ap (λ (z : Bool). pick z (standing m R W (suc j) d) (standing m R W j d)) (or-right (H d) true refl) ∙ ap (standing m R W (suc j)) e)
           | inr e ↦ rw (ne-eqb d c e) (ap (λ (z : Bool). pick z (standing m R W (suc j) d) (standing m R W j d)) (or-false (H d)))
         ]
-      where
-        or-false : (x : Bool) → (x || false) ≡ x
-        or-false true = refl
-        or-false false = refl
 
     -- where columns wait after D
     pub family-places : (c : ℕ) → 1 ≤ c → c ≤ m → c ≢ j → waiting m R W j (family m R W j) c ≡ standing m R W (suc j) c
@@ -285,9 +250,9 @@ module _ (m : ℕ) (R W : List Column) where
         elim (cases (family m R W j c)) [
           | inl t ↦ ap (λ (z : Bool). pick z (standing m R W (suc j) c) (standing m R W j c)) t
           | inr f ↦ ap (λ (z : Bool). pick z (standing m R W (suc j) c) (standing m R W j c)) f ∙
-              sym (stands-keep c x y n (not-here (standing m R W j c)
+              sym (stands-keep c n
               (λ e. true≢false (sym (or-left (children m R W j c) (lost m R W j c) (children-wait c x y ∙ eq-eqb (standing m R W j c) j e)) ∙ f))
-              (λ e. true≢false (sym (or-right (children m R W j c) (lost m R W j c) (lost-wait c x y ∙ eq-eqb (standing m R W j c) (m + j) e)) ∙ f))))
+              (λ e. true≢false (sym (or-right (children m R W j c) (lost m R W j c) (lost-wait c x y ∙ eq-eqb (standing m R W j c) (m + j) e)) ∙ f)))
         ]
 
     pub family-own : waiting m R W j (family m R W j) j ≡ 0
@@ -303,5 +268,5 @@ module _ (m : ℕ) (R W : List Column) where
     family-none c x y e =
         elim (eq-or-ne c j) [
           | inl k ↦ omega (arith, family-own, ap (waiting m R W j (family m R W j)) k)
-          | inr k ↦ true≢false (sym (here-at (standing m R W (suc j) c) (inl (sym (family-places c x y k) ∙ e))) ∙ never-here c x y)
+          | inr k ↦ never-here c x y .0 (sym (family-places c x y k) ∙ e)
         ]

@@ -107,13 +107,13 @@ module _ {next : List ℕ} {m flags : ℕ} {R W : List Column} {adding : Bool} {
 
       own-column : DoneColumn m L L′ (labelAt m R W) w₂ j used (e .used) 0
       own-column =
-          let f : emit.Plan next m j used avail (columnAt L j .counts) (columnAt L′ j .counts) w₁ e = d .plan ok in
+          let f : emit.Plan next m j used avail (columnAt L j .counts) (columnAt L′ j .counts) w₁ e = d .planned .plan ok in
           let r : region w₂ (planAt m + used) (e .used - used) ≡ region w₁ (planAt m + used) (e .used - used) =
           region-same w₁ w₂ (planAt m + used) (e .used - used) l (λ i x.
-          other (planAt m + used + i) (omega (arith, b .high)) (inr (omega (arith, b .high))) (inr (omega (arith, b .high))) (inl (omega (arith, fit, d .used-high, d .used-low)))) in
+          other (planAt m + used + i) (omega (arith, b .high)) (inr (omega (arith, b .high))) (inr (omega (arith, b .high))) (inl (omega (arith, fit, d .planned .used-high, d .planned .used-low)))) in
           record {
             plan = record {
-              rises = d .used-low;
+              rises = d .planned .used-low;
               label-is = ap labelIn own ∙ omega (arith, label-same);
               parent-is = ap parentIn own ∙ omega (arith, label-same, parent);
               starts = stay (4 * m + (j - 1)) (omega arith) (omega (arith, b .high)) (omega (arith, b .high)) (inr (omega (arith, b .high))) (inl (omega (arith, b .high))) (omega (arith, b .high)) ∙ b .starts;
@@ -133,7 +133,7 @@ module _ {next : List ℕ} {m flags : ℕ} {R W : List Column} {adding : Bool} {
           other k at-mark (away (3 * m + j) (m - j) k (λ x y. n (marks (omega arith) (omega (arith, b .high)))))
           (away (5 * m + j) (3 * m - j) k (λ x y. n (queues (omega arith) (omega (arith, b .high))))) (away flags 64 k (λ x y. n (flagged x y))) ∙
           d .still k past (away (6 * m) (2 * m) k (λ x y. n (queues (omega (arith, b .high)) (omega arith)))) at-next
-          (away (8 * m + used) (e .used - used) k (λ x y. n (plans (inr (omega arith, omega (arith, d .used-low)))))) ∙
+          (away (8 * m + used) (e .used - used) k (λ x y. n (plans (inr (omega arith, omega (arith, d .planned .used-low)))))) ∙
           b .rest k (λ x. n (busier at-mark at-next x))
         where
           away : (s t k : ℕ) → (s ≤ k → k < s + t → ⊥) → Outside s t k
@@ -145,7 +145,7 @@ module _ {next : List ℕ} {m flags : ℕ} {R W : List Column} {adding : Bool} {
           busier : k ≢ 3 * m + (j - 1) → k ≢ 5 * m + (j - 1) → Busy m flags used (done m R W (suc j)) j k → Busy m flags (e .used) (done m R W (suc j)) (suc j) k
           busier x y (differs z) = differs z
           busier x y (plans (inl z)) = plans (inl z)
-          busier x y (plans (inr z)) = plans (inr (z .0, omega (arith, d .used-low)))
+          busier x y (plans (inr z)) = plans (inr (z .0, omega (arith, d .planned .used-low)))
           busier x y (marks u v) = marks (omega (arith, b .low)) v
           busier x y (queues u v) = queues (omega (arith, b .low)) v
           busier x y (flagged u v) = flagged u v
@@ -160,7 +160,7 @@ module _ {next : List ℕ} {m flags : ℕ} {R W : List Column} {adding : Bool} {
             low = omega arith;
             high = omega (arith, b .high);
             room = record { m-bound = b .room .m-bound; low = b .room .low; long = omega (arith, b .room .long, same) };
-            plan-room = omega (arith, d .used-high, fit);
+            plan-room = omega (arith, d .planned .used-high, fit);
             same-length = same ∙ b .same-length;
             zero = b .zero;
             plans = subst (λ (x : List ℕ). PlansTo m L L′ (labelAt m R W) w₂ x 0 0 (e .used)) (sym (done-next m R W j (b .low) (b .touched)))
@@ -168,6 +168,6 @@ module _ {next : List ℕ} {m flags : ℕ} {R W : List Column} {adding : Bool} {
             marks = ms;
             flagged = subst (λ (x : ℕ). Flagged m flags w₂ x) (sym q) fs;
             queues = qs;
-            tally = tally-frame l (λ k x. other k (omega arith) (inl (omega arith)) (inl (omega arith)) (inl (omega (arith, b .room .low)))) (d .tally);
+            tally = tally-frame l (λ k x. other k (omega arith) (inl (omega arith)) (inl (omega arith)) (inl (omega (arith, b .room .low)))) (d .planned .tally);
             rest = calm;
           }

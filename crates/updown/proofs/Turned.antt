@@ -18,7 +18,7 @@ use Rattle.pool.specs.Chains.{chain}
 use Rattle.columns.specs.Plan.{ofKind}
 use Rattle.emission.specs.Plans.{planFrom}
 use Rattle.emission.specs.declared.Emission.{Emission}
-use Rattle.updown.specs.Marks.{Room, markAt, steppedUp, upFrom, CanStep}
+use Rattle.updown.specs.Marks.{Room, markAt, steppedUp, upAt, CanStep, SteppedTo}
 use Rattle.updown.specs.Turns.{before, after, treeParent, done}
 use Rattle.updown.specs.SoFar.{nobody, children, SoFar, IsDefinition}
 use Rattle.updown.specs.Walks.{Columns, Parents, Turn, TurnTo, TurnDone, SomeTurn, SomeTurnD}
@@ -64,10 +64,10 @@ module _ {heads parents rows counts next : List ℕ} {m flags : ℕ} {R W : List
 
   module _ {w₁ : List ℕ} {e : Emission} (d : Worked next w w₁ m R W adding j used avail e) (ok : e .fits ≡ true) where
     abbrev up : ℕ
-    up = upFrom parents j (e .parent .0) adding
+    up = upAt parents j (e .parent .0) adding
 
     new-parent : e .parent .0 ≡ parentOf (after adding m R W) j
-    new-parent = d .plan ok .parent ∙ sym (go adding)
+    new-parent = d .planned .plan ok .parent ∙ sym (go adding)
       where
         go : (z : Bool) → parentOf (after z m R W) j ≡ firstAbove j 1 (columnAt (after z m R W) j .counts)
         go true = parent-is m (R ++ W) j (t .begun .low) (t .begun .high)
@@ -76,7 +76,7 @@ module _ {heads parents rows counts next : List ℕ} {m flags : ℕ} {R W : List
     tree-is : up ≡ treeParent m R W j
     tree-is = go adding new-parent (s .parents-hold .are j (t .begun .low) (t .begun .high))
       where
-        go : (z : Bool) → e .parent .0 ≡ parentOf (after z m R W) j → at parents j ≡ parentOf (before z m R W) j → upFrom parents j (e .parent .0) z ≡ treeParent m R W j
+        go : (z : Bool) → e .parent .0 ≡ parentOf (after z m R W) j → at parents j ≡ parentOf (before z m R W) j → upAt parents j (e .parent .0) z ≡ treeParent m R W j
         go true y u = y
         go false y u = u
 
@@ -96,7 +96,7 @@ module _ {heads parents rows counts next : List ℕ} {m flags : ℕ} {R W : List
     can-step : CanStep parents w₁ m flags j (e .parent .0) adding c k (e .larger)
     can-step =
         let b : Begun m flags R W adding work₀ w j used = t .begun in
-        let r : Room m flags w₁ × (1 ≤ j) × (j ≤ m) × (markAt m w₁ j < 260) = step-room b d ok (s .fit) (s .columns .positions) within (e .parent .0) new-parent in
+        let r : Room m flags w₁ × (1 ≤ j) × (j ≤ m) × (markAt m w₁ j < 260) = step-room b d ok (s .fit) (s .positions) within (e .parent .0) new-parent in
         record {
           room = r .0;
           low = r .1;
@@ -107,7 +107,7 @@ module _ {heads parents rows counts next : List ℕ} {m flags : ℕ} {R W : List
           mark-small = r .3;
           count-small = omega (arith, t .numbers .count-is, count-bound m R W adding j (b .low) (b .high) (s .columns .narrow), b .high, s .columns .narrow);
           entries-small = omega (arith, t .numbers .entries-is, entries-small m R W adding j (b .low) (b .high) (s .columns .narrow));
-          larger-small = omega (arith, d .plan ok .larger, larger-small m R W adding j (b .low) (b .high) (s .columns .narrow));
+          larger-small = omega (arith, d .planned .plan ok .larger, larger-small m R W adding j (b .low) (b .high) (s .columns .narrow));
         }
 
     stepped-on : {w₂ : List ℕ} → w₂ ≡ steppedUp m flags w₁ j (e .parent .0) up → {f′ l′ c′ k′ used′ avail′ : ℕ} →
@@ -116,13 +116,13 @@ module _ {heads parents rows counts next : List ℕ} {m flags : ℕ} {R W : List
     stepped-on {w₂} y {f′} {l′} {c′} {k′} {used′} {avail′} ef el ec ek eu ea =
         let b : Begun m flags R W adding work₀ w j used = t .begun in
         let h : Walking m flags R W adding work₀ w₂ (suc j) (e .used) =
-        subst (λ (v : List ℕ). Walking m flags R W adding work₀ v (suc j) (e .used)) (sym y) (stepped b d ok (s .fit) (s .columns .positions) within (e .parent .0) new-parent up tree-is) in
+        subst (λ (v : List ℕ). Walking m flags R W adding work₀ v (suc j) (e .used)) (sym y) (stepped b d ok (s .fit) (s .positions) within (e .parent .0) new-parent up tree-is) in
         let nums : Numbers next w₂ m R W adding free (suc j) f′ l′ c′ k′ (e .used) (e .avail .0) =
-        numbers-next (t .numbers) (b .low) (b .high) (s .columns .narrow) (s .columns .few) (b .touched) (d .used-low) (d .plan ok) (d .same-length)
-        (omega (arith, d .used-high, s .fit, b .room .long, d .same-length))
+        numbers-next (t .numbers) (b .low) (b .high) (s .columns .narrow) (s .columns .few) (b .touched) (d .planned .used-low) (d .planned .plan ok) (d .same-length)
+        (omega (arith, d .planned .used-high, s .fit, b .room .long, d .same-length))
         (λ i p q. d .still i (omega arith) (inr (omega arith)) (omega (arith, b .high, b .low)) (inl (omega arith)))
         (h .same-length ∙ sym (d .same-length ∙ b .same-length))
-        (λ i p q. ap (λ (v : List ℕ). getD v i 0) y ∙ stepped-frame b d ok (s .fit) (s .columns .positions) within (e .parent .0) new-parent up tree-is i p (omega (arith, d .used-high, s .fit)))
+        (λ i p q. ap (λ (v : List ℕ). getD v i 0) y ∙ stepped-frame b d ok (s .fit) (s .positions) within (e .parent .0) new-parent up tree-is i p (omega (arith, d .planned .used-high, s .fit)))
         ef el ec ek in
         subst (λ (v : ℕ). Between next work₀ w₂ m flags R W adding free (suc v) f′ l′ c′ k′ used′ avail′) (sym el)
         (subst (λ (v : ℕ). Between next work₀ w₂ m flags R W adding free (suc j) f′ l′ c′ k′ v avail′) (sym eu)
@@ -176,16 +176,14 @@ module _ {heads parents rows counts next : List ℕ} {m flags : ℕ} {R W : List
 
         -- the step up
         pub turned : {w′ : List ℕ} {fits : Bool} {f′ l′ c′ k′ used′ avail′ : ℕ} →
-            (fits ≡ e .fits) × (used′ ≡ e .used) × (e .fits ≡ true → (w′ ≡ steppedUp m flags wp j (e .parent .0) (upFrom parents j (e .parent .0) adding)) × (f′ ≡ pick (eqb f 0) j f) ×
-            (l′ ≡ j) × (c′ ≡ c + 1) × (k′ ≡ k + e .larger) × (avail′ ≡ e .avail .0)) × (e .fits ≡ false → w′ ≡ wp) →
+            SteppedTo parents wp w′ m flags j adding e f c k fits f′ l′ c′ k′ used′ avail′ →
             Turned next work₀ w′ m flags R W adding free j avail fits f′ l′ c′ k′ used′ avail′
         turned {w′} {used′ = used′} h =
             record {
-              fits-is = h .0 ∙ has-plan .fits;
-              onward = λ x. let ok : e .fits ≡ true = sym (h .0) ∙ x in
-                  let q = h .2 ok in
-                  stepped-on has-plan ok (q .0) (q .1) (q .2) (q .3) (q .4) (h .1) (q .5);
+              fits-is = h .fits-is ∙ has-plan .planned .fits;
+              onward = λ x. let ok : e .fits ≡ true = sym (h .fits-is) ∙ x in
+                  stepped-on has-plan ok (h .stored ok) (h .first-is ok) (h .last-is ok) (h .count-is ok) (h .entries-is ok) (h .used-is) (h .avail-is ok);
               halted = λ x.
-                  subst (λ (v : List ℕ). Halted m flags work₀ v used′) (sym (h .3 (sym (h .0) ∙ x)))
-                  (subst (λ (v : ℕ). Halted m flags work₀ wp v) (sym (h .1)) (halted (t .begun) has-plan (s .fit)));
+                  subst (λ (v : List ℕ). Halted m flags work₀ v used′) (sym (h .stays (sym (h .fits-is) ∙ x)))
+                  (subst (λ (v : ℕ). Halted m flags work₀ wp v) (sym (h .used-is)) (halted (t .begun) has-plan (s .fit)));
             }

@@ -1,5 +1,6 @@
 -- A done column in the turn of j, read from the work table: its multiplicities with and without the batch (`column-counts`), its plan (`turn-plan`), its
--- other parent (`turn-other`). And what leaves their places leaves the differences, the plans and the queues. Assumes nothing.
+-- other parent (`turn-other`). And what leaves their places leaves the touched rows, the differences and what is so far counted (`touched-frame`,
+-- `tally-frame`, `so-far-frame`), as a plan's places are past them (`plan-places`). Assumes nothing.
 use mathlib.Core.Path.{_≡_, refl, sym, ap, _∙_, subst}
 use mathlib.Core.Logic.{_⊎_, inl, inr}
 use mathlib.Core.Bool.{Bool, true, false}
@@ -17,7 +18,7 @@ use Rattle.symbolic.proofs.Build.{laws, counts-length}
 use Rattle.symbolic.proofs.Order.{count-bound}
 use Rattle.symbolic.proofs.Locality.{multiplicity-stays}
 use Rattle.workspace.specs.Regions.{cell, region}
-use Rattle.differences.specs.Tally.{shifted, differenceAt, Tally}
+use Rattle.differences.specs.Tally.{shifted, differenceAt, Touched, Tally}
 use Rattle.differences.specs.Gather.{planPart}
 use Rattle.emission.specs.Plans.{planFrom}
 use Rattle.updown.specs.Plans.{parentIn, InPlan}
@@ -31,7 +32,7 @@ use Rattle.updown.proofs.Plans.{touched-in, in-touched, region-same, Fo
 
 -- ---- multiplicities
 
-pub beyond : (xs : List ℕ) (k : ℕ) → length xs ≤ k → getD xs k 0 ≡ 0
+beyond : (xs : List ℕ) (k : ℕ) → length xs ≤ k → getD xs k 0 ≡ 0
 beyond [] k h = refl
 beyond (x ∷ xs) zero h = absurd (omega arith)
 beyond (x ∷ xs) (suc k) h = beyond xs k (omega arith)
@@ -62,23 +63,37 @@ column-counts m R W c a b n f =
       grows = λ i x y h. multiplicity-stays m R W i c x y a b h;
     }
 
+-- more has all rows of less, by their places
+pub grows-at : {m c : ℕ} {more less : List ℕ} → Counts m c more less → (i : ℕ) → 0 < getD less i 0 → 0 < getD more i 0
+grows-at {m} {c} {more} {less} k i p =
+    let q : suc i - 1 ≡ i = omega arith in
+    elim (lt-or-le i m) [
+      | inl l ↦ omega (arith, k .grows (suc i) (omega arith) (omega arith) (omega (arith, ap (λ (x : ℕ). getD less x 0) q)), ap (λ (x : ℕ). getD more x 0) q)
+      | inr l ↦ absurd (omega (arith, beyond less i (omega (arith, k .less-long))))
+    ]
+
 -- ---- what stays
+
+-- the touched rows, where the first 2 m places stay
+pub touched-frame : {m : ℕ} {w w′ : List ℕ} {n : ℕ} → length w′ ≡ length w → ((k : ℕ) → k < 2 * m → getD w′ k 0 ≡ getD w k 0) → Touched m w n → Touched m w′ n
+touched-frame {m} {w} {w′} {n} l h t =
+    let r : region w′ m n ≡ region w m n = region-same w w′ m n l (λ i x. h (m + i) (omega (arith, t .within))) in
+    record {
+      long = omega (arith, t .long);
+      within = t .within;
+      rising = subst (λ (x : List ℕ). rises 1 m x ≡ true) (sym r) (t .rising);
+      listed = λ i a b. (
+        λ x z. t .listed i a b .0 (ap (λ (y : List ℕ). among i y) (sym r) ∙ x) (sym (h (i - 1) (omega arith)) ∙ z),
+        λ x. ap (λ (y : List ℕ). among i y) r ∙ t .listed i a b .1 (λ z. x (h (i - 1) (omega arith) ∙ z)),
+      );
+      rest = λ i x. h (m + n + i) (omega (arith, t .within)) ∙ t .rest i x;
+    }
 
 -- the differences, where the first 3 m places stay
 pub tally-frame : {m : ℕ} {w w′ : List ℕ} {n : ℕ} {δ : ℕ → ℕ} → length w′ ≡ length w → ((k : ℕ) → k < 3 * m → getD w′ k 0 ≡ getD w k 0) → Tally m w n δ → Tally m w′ n δ
-tally-frame {m} {w} {w′} {n} l h t =
-    let r : region w′ m n ≡ region w m n = region-same w w′ m n l (λ i x. h (m + i) (omega (arith, t .touched .within))) in
+tally-frame {m} l h t =
     record {
-      touched = record {
-        long = omega (arith, t .touched .long);
-        within = t .touched .within;
-        rising = subst (λ (x : List ℕ). rises 1 m x ≡ true) (sym r) (t .touched .rising);
-        listed = λ i a b. (
-          λ x z. t .touched .listed i a b .0 (ap (λ (y : List ℕ). among i y) (sym r) ∙ x) (sym (h (i - 1) (omega arith)) ∙ z),
-          λ x. ap (λ (y : List ℕ). among i y) r ∙ t .touched .listed i a b .1 (λ z. x (h (i - 1) (omega arith) ∙ z)),
-        );
-        rest = λ i x. h (m + n + i) (omega (arith, t .touched .within)) ∙ t .touched .rest i x;
-      };
+      touched = touched-frame l (λ k x. h k (omega arith)) (t .touched);
       values = λ i a b. ap shifted (h (i - 1) (omega arith)) ∙ t .values i a b;
       buffer = λ i x. h (2 * m + i) (omega arith) ∙ t .buffer i x;
     }
@@ -124,6 +139,10 @@ module _ {m : ℕ} {R W : List Column} {adding : Bool} {work : List ℕ} {j used
   turn-end : endAt m work c ≡ turn-found .end
   turn-end = ap (λ (x : ℕ). cell work (4 * m) (x - 1)) (turn-found .column .plan .next-is) ∙ turn-found .ends
 
+  olds : (z : Bool) → columnAt (before z m R W) c .counts ≡ oldOf z (columnAt (larger m R W) c .counts) (columnAt (smaller m R) c .counts)
+  olds true = refl
+  olds false = refl
+
   pub turn-plan : m ≤ 4096 → length R + length W ≤ 60000 → PlanOf work m c adding (columnAt (larger m R W) c .counts) (columnAt (smaller m R) c .counts)
   turn-plan narrow few =
       let f : Found m (before adding m R W) (after adding m R W) (labelAt m R W) work (done m R W j) j used c = turn-found in
@@ -139,20 +158,12 @@ module _ {m : ℕ} {R W : List Column} {adding : Bool} {work : List ℕ} {j used
             ap (λ (x : List ℕ). planFrom 1 (oldOf adding (columnAt (larger m R W) c .counts) (columnAt (smaller m R) c .counts)) x) (news adding);
       }
     where
-      olds : (z : Bool) → columnAt (before z m R W) c .counts ≡ oldOf z (columnAt (larger m R W) c .counts) (columnAt (smaller m R) c .counts)
-      olds true = refl
-      olds false = refl
-
       news : (z : Bool) → columnAt (after z m R W) c .counts ≡ newOf z (columnAt (larger m R W) c .counts) (columnAt (smaller m R) c .counts)
       news true = refl
       news false = refl
 
   pub turn-chain : {heads rows next : List ℕ} → Columns heads rows next m R W adding → ChainOf heads rows next m c (oldOf adding (columnAt (larger m R W) c .counts) (columnAt (smaller m R) c .counts))
   turn-chain {heads} {rows} {next} k = subst (λ (x : List ℕ). ChainOf heads rows next m c x) (olds adding) (k .chains c a (omega (arith, t .high)))
-    where
-      olds : (z : Bool) → columnAt (before z m R W) c .counts ≡ oldOf z (columnAt (larger m R W) c .counts) (columnAt (smaller m R) c .counts)
-      olds true = refl
-      olds false = refl
 
   pub turn-other : {parents : List ℕ} → Parents parents m R W adding → otherAt parents work m c adding ≡ otherParent m R c
   turn-other {parents} p = go adding (p .are c a (omega (arith, t .high))) (turn-found .column .plan .parent-is)

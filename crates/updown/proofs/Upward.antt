@@ -6,7 +6,7 @@ use mathlib.Core.Bool.{Bool, true}
 use mathlib.Core.List.{List, _++_}
 use Prim.Native.Nat.{ℕ, suc, _+_, _-_, _*_, _/_, _%_, _≤_, _<_}
 use native.Mathlib.Omega.{arith}
-use lib.ListN.{length, getD, set, length-set}
+use lib.ListN.{length, getD, length-set}
 use lib.Seq.{getD-set-same, getD-set-other}
 use borrow.Author.Tests.{eq-eqb, ne-eqb}
 use Rattle.lists.proofs.Tests.{eq-or-ne}
@@ -21,9 +21,9 @@ use Rattle.updown.specs.Turns.{larger, after, treeParent, labelAt, stand
 use Rattle.updown.specs.SoFar.{family}
 use Rattle.updown.specs.States.{startOf, MarksHold, Walking}
 use Rattle.updown.proofs.Worked.{Begun, Worked}
-use Rattle.updown.proofs.Queueing.{queues-ext, queues-fewer, queues-frame, queues-push, moved, moved-self, moved-other}
+use Rattle.updown.proofs.Queueing.{queues-ext, queues-fewer, queues-frame, queues-push, queued-length, queued-other, moved, moved-self, moved-other}
 use Rattle.updown.proofs.Standing.{tree-above, stands-self, family-places, family-own}
-use Rattle.updown.proofs.Marked.{raised-length, raised-other, raised-mark, raised-flag, raised-own}
+use Rattle.updown.proofs.Marked.{marks-past, marks-frame, raised-length, raised-other, raised-mark, raised-flag, raised-own}
 use Rattle.updown.proofs.Stepping.{label-same, walk-on}
 
 module _ {next : List ℕ} {m flags : ℕ} {R W : List Column} {adding : Bool} {work₀ w w₁ : List ℕ} {j used avail : ℕ} {e : Emission} (b : Begun m flags R W adding work₀ w j used)
@@ -60,29 +60,12 @@ module _ {next : List ℕ} {m flags : ℕ} {R W : List Column} {adding : Bool} {
   flag-before q y =
       kept-other (flags + (q - 1) / 64) (omega (arith, b .room .low, b .high, b .low)) ∙
       d .still (flags + (q - 1) / 64) (omega (arith, b .room .low)) (inr (omega (arith, b .room .low))) (omega (arith, b .room .low, b .high, b .low))
-      (inr (omega (arith, fit, d .used-high, d .used-low)))
+      (inr (omega (arith, fit, d .planned .used-high, d .planned .used-low)))
 
   -- no tree parent
   module _ (z : up ≡ 0) where
     marks-root : MarksHold m R W wk (suc j)
-    marks-root =
-        let h : MarksHold m R W w j = b .marks in
-        record {
-          start = λ k x y l. omega (arith, h .start k x y (omega arith), ap (λ (v : ℕ). v / 4) (mark-before (startOf W k) (omega arith) (within k x y)));
-          bit = λ k x y l. ap (λ (v : ℕ). v % 4) (mark-before (startOf W k) (omega arith) (within k x y)) ∙ h .bit k x y (omega arith);
-          child = λ c x y t l. elim (eq-or-ne c j) [
-            | inl q ↦ absurd (omega (arith, ap (treeParent m R W) q))
-            | inr q ↦
-                let v : (c < treeParent m R W c) × (treeParent m R W c ≤ m) = tree-above m R W c x (omega (arith, b .high)) (omega arith) in
-                omega (arith, h .child c x (omega arith) t (omega arith), ap (λ (v : ℕ). v / 4) (mark-before (treeParent m R W c) (omega arith) (v .1)))
-          ];
-          bound = λ q x y. omega (arith, h .bound q (omega arith) y, ap (λ (v : ℕ). v / 4) (mark-before q (omega arith) y));
-          whole = λ q x y n. omega (arith, h .whole q (omega arith) y (λ v. n (mark-before q (omega arith) y ∙ v)), mark-before q (omega arith) y);
-          cause = λ q x y n. elim (h .cause q (omega arith) y (λ v. n (mark-before q (omega arith) y ∙ v))) [
-            | inl u ↦ inl u
-            | inr u ↦ inr (u .0, u .1, omega (arith, u .2), u .3, u .4)
-          ];
-        }
+    marks-root = marks-frame m R W (marks-past m R W (b .marks) (b .low) (b .high) (λ _. z)) (omega arith) within mark-before
 
     pub stepped-root : Walking m flags R W adding work₀ wk (suc j) (e .used)
     stepped-root =
@@ -117,29 +100,25 @@ module _ {next : List ℕ} {m flags : ℕ} {R W : List Column} {adding : Bool} {
     wr-length = raised-length m flags wk room-k up l (omega (arith, above)) (above .1) ∙ kept-length
 
     wq-length : length wq ≡ length w₁
-    wq-length = length-set (set wr (7 * m + (j - 1)) (cell wr (5 * m) (up - 1))) (5 * m + (up - 1)) j ∙ length-set wr (7 * m + (j - 1)) (cell wr (5 * m) (up - 1)) ∙ wr-length
-
-    queued-other : (k : ℕ) → k ≢ 7 * m + (j - 1) → k ≢ 5 * m + (up - 1) → getD wq k 0 ≡ getD wr k 0
-    queued-other k x y =
-        getD-set-other (set wr (7 * m + (j - 1)) (cell wr (5 * m) (up - 1))) (5 * m + (up - 1)) k j 0 y ∙ getD-set-other wr (7 * m + (j - 1)) k (cell wr (5 * m) (up - 1)) 0 x
+    wq-length = queued-length m wr j up ∙ wr-length
 
     raise-other : (k : ℕ) → k ≢ 3 * m + (up - 1) → k ≢ flags + (up - 1) / 64 → getD wr k 0 ≡ getD wk k 0
     raise-other = raised-other m flags wk room-k up l (omega (arith, above)) (above .1)
 
     all-other : (k : ℕ) → k ≢ 3 * m + (j - 1) → Outside (3 * m + j) (m - j) k → Outside (5 * m + j) (3 * m - j) k → Outside flags 64 k → getD wq k 0 ≡ getD w₁ k 0
     all-other k n x y f =
-        queued-other k (λ g. elim y [ inl v ↦ omega (arith, b .low) | inr v ↦ omega (arith, b .high, b .low) ]) (λ g. elim y [ inl v ↦ omega (arith, above) | inr v ↦ omega (arith, above) ]) ∙
+        queued-other m wr j up k (λ g. elim y [ inl v ↦ omega (arith, b .low) | inr v ↦ omega (arith, b .high, b .low) ]) (λ g. elim y [ inl v ↦ omega (arith, above) | inr v ↦ omega (arith, above) ]) ∙
         raise-other k (λ g. elim x [ inl v ↦ omega (arith, above) | inr v ↦ omega (arith, above) ]) (λ g. elim f [ inl v ↦ omega arith | inr v ↦ omega (arith, above, b .room .m-bound) ]) ∙
         kept-other k n
 
     wq-own : cell wq (3 * m) (j - 1) ≡ markAt m w₁ j + 262144 * p
     wq-own =
-        queued-other (3 * m + (j - 1)) (omega (arith, b .high, b .low)) (omega (arith, b .high, above)) ∙
+        queued-other m wr j up (3 * m + (j - 1)) (omega (arith, b .high, b .low)) (omega (arith, b .high, above)) ∙
         raise-other (3 * m + (j - 1)) (omega (arith, above, b .low)) (omega (arith, b .room .low, b .high, b .low)) ∙ kept-own
 
     -- a mark of a row to come in wq is that in wr
     mark-queued : (q : ℕ) → 1 ≤ q → q ≤ m → markAt m wq q ≡ markAt m wr q
-    mark-queued q x y = queued-other (3 * m + (q - 1)) (omega (arith, b .low)) (omega (arith, above))
+    mark-queued q x y = queued-other m wr j up (3 * m + (q - 1)) (omega (arith, b .low)) (omega (arith, above))
 
     mark-else : (q : ℕ) → j < q → q ≤ m → q ≢ up → markAt m wq q ≡ markAt m w q
     mark-else q x y n =
@@ -217,7 +196,7 @@ module _ {next : List ℕ} {m flags : ℕ} {R W : List Column} {adding : Bool} {
 
     flags-up : Flagged m flags wq j
     flags-up q x y n f =
-        let flag-queued : flagAt flags wq q ≡ flagAt flags wr q = queued-other (flags + (q - 1) / 64) (omega (arith, b .room .low, b .high, b .low)) (omega (arith, b .room .low, above)) in
+        let flag-queued : flagAt flags wq q ≡ flagAt flags wr q = queued-other m wr j up (flags + (q - 1) / 64) (omega (arith, b .room .low, b .high, b .low)) (omega (arith, b .room .low, above)) in
         elim (eq-or-ne q up) [
           | inr g ↦
               raised-flag m flags wk room-k up l (omega (arith, above)) (above .1) q

@@ -2,7 +2,7 @@
 -- the batch columns that start there may be counted (`begun-counted`, `begun-turn`). Assumes nothing.
 use mathlib.Core.Path.{_≡_, refl, sym, ap, _∙_, subst}
 use mathlib.Core.Logic.{_⊎_, inl, inr, _≢_}
-use mathlib.Core.Bool.{Bool, true, false, true≢false}
+use mathlib.Core.Bool.{Bool, true, false}
 use mathlib.Core.List.{List}
 use Prim.Native.Nat.{ℕ, suc, _+_, _-_, _*_, _/_, _≤_, _<_}
 use native.Mathlib.Omega.{arith}
@@ -25,7 +25,7 @@ use Rattle.updown.specs.States.{startOf, Busy, differs, plans, marks, qu
 use Rattle.updown.proofs.Worked.{Begun}
 use Rattle.updown.proofs.Queueing.{queue-none, links-length, queues-ext, queues-fewer, queues-frame}
 use Rattle.updown.proofs.Plans.{touched-rising, plans-frame, plans-link, last-in}
-use Rattle.updown.proofs.Standing.{isHere, stands-untouched, here-at, never-here}
+use Rattle.updown.proofs.Standing.{stands-untouched, never-here}
 use Rattle.updown.proofs.Turning.{plan-places}
 use Rattle.updown.proofs.Marked.{mark-touched, touched-mark, marks-skip, marks-frame}
 use Rattle.updown.proofs.Stepping.{done-skip, done-in, in-plan-wider, own-in}
@@ -41,7 +41,7 @@ module _ {m flags : ℕ} {R W : List Column} {adding : Bool} {work₀ w : List �
       let same : (c : ℕ) → 1 ≤ c → c ≤ m → standing m R W (suc j) c ≡ standing m R W j c = stands-untouched m R W j (h .low) b t in
       let none : cell w (5 * m) (j - 1) ≡ 0 =
       queue-none (λ c x y. let u : c ≤ m = omega (arith, links-length m w l) in
-      ne-eqb (standing m R W j c) j (λ q. true≢false (sym (here-at m R W j (h .low) b (standing m R W j c) (inl q)) ∙ sym (ap (isHere m j) (same c x u)) ∙ never-here m R W j (h .low) b c x u)))
+      ne-eqb (standing m R W j c) j (λ q. never-here m R W j (h .low) b c x u .0 (same c x u ∙ q)))
       (h .queues .queue j (omega arith) (omega arith) (omega (arith, h .low))) in
       record {
         low = omega arith;

@@ -1,23 +1,15 @@
 -- The work on column j: its turn begun (`Begun`); after A its children and lost children handled and its plan written, as one (`Worked`). Assumes nothing.
 use mathlib.Core.Path.{_≡_, _∙_}
-use mathlib.Core.Logic.{inl, _≢_}
+use mathlib.Core.Logic.{inl, inr, _≢_}
 use mathlib.Core.Bool.{Bool, true}
 use mathlib.Core.List.{List}
 use Prim.Native.Nat.{ℕ, suc, _+_, _-_, _*_, _≤_, _<_}
 use native.Mathlib.Omega.{arith}
-use lib.Dec.{leb}
 use lib.ListN.{length, getD}
 use Rattle.symbolic.specs.Columns.{Column}
-use Rattle.symbolic.specs.Factor.{columnAt}
 use Rattle.symbolic.specs.Batch.{isTouched}
 use Rattle.workspace.specs.Regions.{cell, Outside}
-use Rattle.workspace.specs.Planned.{newKind}
 use Rattle.workspace.specs.Layout.{marksAt, startsAt, childrenAt, lostAt, planAt, flagCount}
-use Rattle.pool.specs.Chains.{chain}
-use Rattle.columns.specs.Plan.{ofKind}
-use Rattle.differences.specs.Tally.{base, Tally}
-use Rattle.emission.specs.Plans.{planFrom}
-use Rattle.emission.specs.Emit as emit
 use Rattle.emission.specs.declared.Emission.{Emission}
 use Rattle.updown.specs.Marks.{Room, Flagged}
 use Rattle.updown.specs.Queues.{Queues}
@@ -48,26 +40,21 @@ pub record Begun (m flags : ℕ) (R W : List Column) (adding : Bool) (work₀ wo
 -- ---- from A to the plan
 
 pub record Worked (next before-work after-work : List ℕ) (m : ℕ) (R W : List Column) (adding : Bool) (j used avail : ℕ) (e : Emission) : Type 0 where
+  -- the work table after D
+  pub work : List ℕ
+  pub planned : Planned next work after-work m R W adding j used avail e
   pub queues : Queues m after-work j 0 (waiting m R W j (family m R W j))
-  pub tally : Tally m after-work 0 (λ i. base)
-  pub used-low : used ≤ e .used
-  pub used-high : e .used ≤ length next
   pub same-length : length after-work ≡ length before-work
   pub still : (k : ℕ) → marksAt m ≤ k → Outside (lostAt m) (2 * m) k → k ≢ childrenAt m + (j - 1) → Outside (planAt m + used) (e .used - used) k → getD after-work k 0 ≡ getD before-work k 0
-  pub fits : e .fits ≡ leb (ofKind newKind (planFrom 1 (columnAt (before adding m R W) j .counts) (columnAt (after adding m R W) j .counts))) (length (chain next avail))
-  pub plan : e .fits ≡ true → emit.Plan next m j used avail (columnAt (before adding m R W) j .counts) (columnAt (after adding m R W) j .counts) after-work e
 
 pub worked : {next w w₁ w₂ w₃ : List ℕ} {m : ℕ} {R W : List Column} {adding : Bool} {j used n n′ avail : ℕ} {e : Emission} → TurnTo m R W adding w w₁ j used n (children m R W j) →
     TurnDone m R W adding w₁ w₂ j used n′ → Planned next w₂ w₃ m R W adding j used avail e → Worked next w w₃ m R W adding j used avail e
 worked {w₂ = w₂} {w₃} {m} {R} {W} {adding} {j} {used} {n′ = n′} a b p =
     let t : Turn m R W adding w₂ j used n′ 0 (family m R W j) = b .goes .turn in
     record {
-      queues = queues-frame m w₂ w₃ (omega (arith, t .long)) (p .same-length) (t .queues) (t .low) (omega (arith, t .high)) (λ k x y. p .still k (omega arith) (inl (omega arith)));
-      tally = p .tally;
-      used-low = p .used-low;
-      used-high = p .used-high;
+      work = w₂;
+      planned = p;
+      queues = queues-frame m w₂ w₃ (omega (arith, t .long)) (p .same-length) (t .queues) (t .low) (omega (arith, t .high)) (λ k x y. p .frame k (inr (omega arith)) (inl (omega arith)));
       same-length = p .same-length ∙ b .goes .same-length ∙ a .same-length;
-      still = λ k x y z u. p .still k x u ∙ b .goes .still k x y z ∙ a .still k x y z;
-      fits = p .fits;
-      plan = p .plan;
+      still = λ k x y z u. p .frame k (inr (omega arith)) u ∙ b .goes .still k x y z ∙ a .still k x y z;
     }

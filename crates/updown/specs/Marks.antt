@@ -1,14 +1,15 @@
--- The walk's marks and flags, and raw reads and stores: a mark for each row, a flag for each block of 64 rows that has a marked one. Assumes nothing: these
--- are definitions.
+-- The walk's marks and flags, and raw reads and stores: a mark for each row, a flag for each block of 64 rows that has a marked one; the next column taken
+-- (Taken) and one step up (CanStep, SteppedTo). Assumes nothing: these are definitions.
 use mathlib.Core.Path.{_≡_}
 use mathlib.Core.Logic.{_≢_}
-use mathlib.Core.Bool.{Bool, _&&_, not}
+use mathlib.Core.Bool.{Bool, true, false, _&&_, not}
 use mathlib.Core.List.{List}
 use Prim.Native.Nat.{ℕ, _+_, _-_, _*_, _/_, _%_, _≤_, _<_}
 use lib.Dec.{ltb, eqb}
 use lib.ListN.{length, set}
 use Rattle.lists.specs.Lists.{pick, at}
 use Rattle.workspace.specs.Regions.{cell}
+use Rattle.emission.specs.declared.Emission.{Emission}
 use Rattle.updown.specs.Plans.{labelWeight, parentWeight, parentIn}
 use Rattle.workspace.specs.Layout.{marksAt, startsAt, childrenAt, nextAt, lostAt, linksAt, planAt, blockRows, flagCount}
 
@@ -53,7 +54,7 @@ endAt m w c = cell w (startsAt m) (cell w (nextAt m) (c - 1) - 1)
 abbrev pub otherAt : (parents work : List ℕ) (m c : ℕ) (adding : Bool) → ℕ
 otherAt ps w m c z = pick z (at ps c) (parentIn (markAt m w c))
 
--- a column out of one queue and into that of its other parent, if that is another one
+-- a column out of one queue and into that of its other parent, if it has one and that is another one
 abbrev pub passedOn : (m : ℕ) (work : List ℕ) (c j other : ℕ) → List ℕ
 passedOn m w c j o =
     pick (not (eqb o j) && not (eqb o 0)) (set (set w (linksAt m + (c - 1)) (cell w (lostAt m) (o - 1))) (lostAt m + (o - 1)) c) (set w (linksAt m + (c - 1)) 0)
@@ -83,8 +84,8 @@ pub record Taken (m : ℕ) (before after : List ℕ) (last used row : ℕ) : Typ
   pub ends : row ≡ 0 → after ≡ before
 
 -- the parent in the tree of all columns: the new one when adding, the stored one when removing
-abbrev pub upFrom : (parents : List ℕ) (j parent : ℕ) (adding : Bool) → ℕ
-upFrom ps j p z = pick z p (at ps j)
+abbrev pub upAt : (parents : List ℕ) (j parent : ℕ) (adding : Bool) → ℕ
+upAt ps j p z = pick z p (at ps j)
 
 -- one step up from j can be taken, and the numbers of the walk go on
 pub record CanStep (parents work : List ℕ) (m flags j parent : ℕ) (adding : Bool) (count entries larger : ℕ) : Type 0 where
@@ -93,8 +94,20 @@ pub record CanStep (parents work : List ℕ) (m flags j parent : ℕ) (adding : 
   pub high : j ≤ m
   pub parents-long : length parents ≡ m
   pub parent-high : parent ≤ m
-  pub up-high : upFrom parents j parent adding ≤ m
+  pub up-high : upAt parents j parent adding ≤ m
   pub mark-small : markAt m work j < 260
   pub count-small : count < 4096
   pub entries-small : entries ≤ 16777216
   pub larger-small : larger ≤ 4096
+
+-- where the plan of j fits, the step is stored and the numbers of the walk have one column more; else nothing is written, and the plan's places are told
+pub record SteppedTo (parents before after : List ℕ) (m flags j : ℕ) (adding : Bool) (e : Emission) (first count entries : ℕ) (fits : Bool) (first′ last′ count′ entries′ used′ avail′ : ℕ) : Type 0 where
+  pub fits-is : fits ≡ e .fits
+  pub used-is : used′ ≡ e .used
+  pub stored : e .fits ≡ true → after ≡ steppedUp m flags before j (e .parent .0) (upAt parents j (e .parent .0) adding)
+  pub first-is : e .fits ≡ true → first′ ≡ pick (eqb first 0) j first
+  pub last-is : e .fits ≡ true → last′ ≡ j
+  pub count-is : e .fits ≡ true → count′ ≡ count + 1
+  pub entries-is : e .fits ≡ true → entries′ ≡ entries + e .larger
+  pub avail-is : e .fits ≡ true → avail′ ≡ e .avail .0
+  pub stays : e .fits ≡ false → after ≡ before

@@ -56,10 +56,10 @@ countedNow z m R W k H i j = startingWith j i (pick z (take k W) []) + childrenC
 abbrev pub multiplicitySoFar : (adding : Bool) (m : ℕ) (R W : List Column) (k : ℕ) (handled : ℕ → Bool) (i j : ℕ) → ℕ
 multiplicitySoFar z m R W k H i j = multiplicity (before z m R W) i j - countedBefore z m R W k H i j + countedNow z m R W k H i j
 
--- ---- the statement, of the numbers that the code keeps: the old multiplicity is the stored one (Multiplicities in States.antt); n rows are touched, and the
--- place of a row holds base plus its difference
+-- ---- the statement, of the numbers that the code keeps: the old multiplicity is the stored one (Multiplicities in States.antt); n rows are touched; the
+-- place of a touched row holds base plus its difference, that of another 0
 
--- for rows from j on the old multiplicity plus the difference is the multiplicity so far; rows below have none
+-- for rows from j on the old multiplicity plus the difference is the multiplicity so far; rows below j have no difference
 pub record SoFar (m : ℕ) (R W : List Column) (adding : Bool) (work : List ℕ) (n j k : ℕ) (handled : ℕ → Bool) : Type 0 where
   pub tally : Tally m work n (differenceAt work)
   pub rows : (i : ℕ) → j ≤ i → i ≤ m → multiplicity (before adding m R W) i j + differenceAt work i ≡ base + multiplicitySoFar adding m R W k handled i j
@@ -87,11 +87,12 @@ CountedAnew =
     countSoFar m handled (multiplicity (before adding m R W)) (parentOf (before adding m R W)) (multiplicity (after adding m R W)) (parentOf (after adding m R W))
     (startingWith j i (R ++ pick adding (take k W) (drop k W))) i j
 
--- nothing handled: the old one; all of A to D handled: the definition's
+-- nothing handled: the old one
 abbrev pub NoneHandled : Type 0
 NoneHandled =
     (m : ℕ) (R W : List Column) (adding : Bool) (j : ℕ) → 1 ≤ j → j ≤ m → (i : ℕ) → j ≤ i → i ≤ m → multiplicitySoFar adding m R W 0 nobody i j ≡ multiplicity (before adding m R W) i j
 
+-- all of A to D handled: the definition's
 abbrev pub AllHandled : Type 0
 AllHandled =
     (m : ℕ) (R W : List Column) (adding : Bool) (j : ℕ) → 1 ≤ j → j ≤ m → (i : ℕ) → j ≤ i → i ≤ m →

@@ -1,4 +1,5 @@
--- Where the batch's columns start: marked before the walk, and counted at their row (A). For listed columns and for booked ones. Assumes nothing.
+-- Where the batch's columns start: marked before the walk, and counted at their row (A); and what the two walks ask and promise. For listed columns and for
+-- booked ones. Assumes nothing: these are definitions.
 use mathlib.Core.Path.{_≡_}
 use mathlib.Core.Logic.{_≢_}
 use mathlib.Core.Bool.{Bool, true, false}

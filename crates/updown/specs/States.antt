@@ -1,11 +1,10 @@
--- The work table between two turns (Walking), and after the differences of a column became its plan (Planned). A walk leaves alone what is not busy: the
--- plans so far, the marks and queues of the rows to come, the flags, the differences. Assumes nothing: these are definitions.
+-- The work table between two turns (Walking), and after the differences of a column became its plan (Planned). Busy are the plans so far, the marks and queues
+-- of the rows to come, the flags, the differences; a walk leaves all else alone. Assumes nothing: these are definitions.
 use mathlib.Core.Path.{_≡_}
 use mathlib.Core.Logic.{_⊎_, _≢_}
 use mathlib.Core.Bool.{Bool, true}
 use mathlib.Core.List.{List}
 use Prim.Native.Nat.{ℕ, suc, _+_, _-_, _/_, _%_, _≤_, _<_}
-use lib.Dec.{leb}
 use lib.ListN.{length, getD}
 use Rattle.lists.specs.Lists.{at, valuesAt}
 use Rattle.symbolic.specs.Columns.{Column, smallest}
@@ -17,7 +16,6 @@ use Rattle.workspace.specs.Layout.{marksAt, startsAt, childrenAt, planAt, flagC
 use Rattle.pool.specs.Chains.{chain, lastOf, Linked}
 use Rattle.columns.specs.Plan.{ofKind}
 use Rattle.differences.specs.Tally.{base, Tally}
-use Rattle.emission.specs.Plans.{planFrom}
 use Rattle.emission.specs.Emit as emit
 use Rattle.emission.specs.declared.Emission.{Emission}
 use Rattle.updown.specs.Plans.{InPlan, firstOf, startBit, labelWeight}
@@ -103,17 +101,11 @@ pub record Halted (m flags : ℕ) (work₀ work : List ℕ) (used : ℕ) : Type 
   pub zero : (k : ℕ) → k < flags + flagCount → getD work₀ k 0 ≡ 0
   pub rest : (k : ℕ) → planAt m + used ≤ k → Outside flags flagCount k → getD work k 0 ≡ getD work₀ k 0
 
--- ---- column j planned after D: the differences are cleared, and but for them only the plan is written
+-- ---- column j planned after D
 
--- column j's plan, if there are free records for it
-pub record Planned (next before-work after-work : List ℕ) (m : ℕ) (R W : List Column) (adding : Bool) (j used avail : ℕ) (e : Emission) : Type 0 where
-  pub tally : Tally m after-work 0 (λ i. base)
-  pub used-low : used ≤ e .used
-  pub used-high : e .used ≤ length next
-  pub same-length : length after-work ≡ length before-work
-  pub still : (k : ℕ) → marksAt m ≤ k → Outside (planAt m + used) (e .used - used) k → getD after-work k 0 ≡ getD before-work k 0
-  pub fits : e .fits ≡ leb (ofKind newKind (planFrom 1 (columnAt (before adding m R W) j .counts) (columnAt (after adding m R W) j .counts))) (length (chain next avail))
-  pub plan : e .fits ≡ true → emit.Plan next m j used avail (columnAt (before adding m R W) j .counts) (columnAt (after adding m R W) j .counts) after-work e
+-- its plan from before the call to after it, as emission leaves it
+abbrev pub Planned : (next before-work after-work : List ℕ) (m : ℕ) (R W : List Column) (adding : Bool) (j used avail : ℕ) (e : Emission) → Type 0
+Planned next w w′ m R W z j used avail e = emit.Emitted next w m j used avail (columnAt (before z m R W) j .counts) (columnAt (after z m R W) j .counts) w′ e
 
 -- what a caller shows: tables that hold the factor, the definition's multiplicities of column j and room for its plan, for some R and W
 pub record SomePlanned (heads rows counts next work : List ℕ) (m n j used avail : ℕ) : Type 0 where
@@ -139,6 +131,7 @@ pub record Setting (heads parents rows counts next : List ℕ) (m flags : ℕ) (
   pub fitting : Fitting next m R W adding free
   pub fit : planAt m + length next ≤ flags
   pub records : length next ≤ 1048576
+  pub positions : length W ≤ 64
   pub starts : (k : ℕ) → 1 ≤ k → k ≤ length W → (1 ≤ startOf W k) × (startOf W k ≤ m)
 
 -- between two turns, with the numbers

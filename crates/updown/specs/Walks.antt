@@ -1,7 +1,7 @@
 -- What B, C and D ask and promise: the tables hold the factor before the batch; the state of the work table in the turn of column j, with some children
 -- handled; a promise holds for all columns R and W that the tables suit. Assumes nothing: these are definitions.
 use mathlib.Core.Path.{_≡_}
-use mathlib.Core.Logic.{_⊎_, _≢_}
+use mathlib.Core.Logic.{_≢_}
 use mathlib.Core.Bool.{Bool}
 use mathlib.Core.List.{List}
 use Prim.Native.Nat.{ℕ, _+_, _-_, _*_, _≤_}
@@ -25,13 +25,11 @@ pub record ChainOf (heads rows next : List ℕ) (m c : ℕ) (old : List ℕ) : T
   pub linked : Linked next (at heads c) (chain next (at heads c))
   pub rows-are : valuesAt rows (chain next (at heads c)) ≡ patternFrom 1 old
 
--- the chains hold the rows of the factor before the batch, and columns and positions are few enough
+-- the chains hold the rows of the factor before the batch, and rows and columns are few enough
 pub record Columns (heads rows next : List ℕ) (m : ℕ) (R W : List Column) (adding : Bool) : Type 0 where
-  pub some : 1 ≤ m
   pub narrow : m ≤ 4096
   -- a loose bound above document 01's, as in Entries.antt
   pub few : length R + length W ≤ 60000
-  pub positions : length W ≤ 64
   pub chains : (c : ℕ) → 1 ≤ c → c ≤ m → ChainOf heads rows next m c (columnAt (before adding m R W) c .counts)
 
 -- the parents are those of the factor before the batch
@@ -41,7 +39,7 @@ pub record Parents (parents : List ℕ) (m : ℕ) (R W : List Column) (adding : 
 
 -- ---- the turn of j: the plans of the columns before it, the queues but for the one that is emptied, the multiplicities so far
 
--- in the turn of j, after A: some children are handled, n rows have a difference
+-- in the turn of j, after A: some children are handled, n rows are touched
 pub record Turn (m : ℕ) (R W : List Column) (adding : Bool) (work : List ℕ) (j used n except : ℕ) (handled : ℕ → Bool) : Type 0 where
   pub low : 1 ≤ j
   pub high : j ≤ m
@@ -85,13 +83,12 @@ pub record TurnDone (m : ℕ) (R W : List Column) (adding : Bool) (before after 
 
 -- ---- one child of j
 
--- child c waits in one of j's queues, so it is not handled: j for its children in the tree, m + j for the lost ones
+-- child c waits in a queue; the contracts take one of j's, so that c is not handled: j for its children in the tree, m + j for the lost ones
 pub record AtChild (work : List ℕ) (m : ℕ) (R W : List Column) (adding : Bool) (j used n queue c : ℕ) (handled : ℕ → Bool) : Type 0 where
   pub narrow : m ≤ 4096
   -- a loose bound above document 01's, as in Entries.antt
   pub few : length R + length W ≤ 60000
   pub turn : Turn m R W adding work j used n queue handled
-  pub side : (queue ≡ j) ⊎ (queue ≡ m + j)
   pub low : 1 ≤ c
   pub high : c ≤ m
   pub waits : waiting m R W j handled c ≡ queue

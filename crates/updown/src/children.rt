@@ -144,7 +144,8 @@ fn lost_child(
     differences::count_rows(work, m, n, k, true)
 }
 
-// Takes a column out of the queue of its tree parent, and puts it into that of its other parent, if that is another one. Gives the next in the queue.
+// Takes a column out of the queue of its tree parent, and puts it into that of its other parent, if it has one and that is another one. Gives the next in the
+// queue.
 fn pass_on(work: &mut [u32], m: usize, c: Row, j: Row, other: Row) -> Row
     requires { ⌜ (planAt m ≤ length (now work)) × (m ≤ 4096) × (1 ≤ c .0) × (c .0 ≤ m) × (other .0 ≤ m) ⌝ }
     ensures { λ r. ⌜ (r .0 ≡ cell (now (work .entry)) (linksAt m) (c .0 - 1)) × (now (work .exit) ≡ passedOn m (now (work .entry)) (c .0) (j .0) (other .0)) ⌝ }

@@ -1,12 +1,12 @@
 // The first and the last steps of a turn: the next column is taken, its plan is written, and one step is taken up the tree.
 ghost use mathlib.Core.Path.{_≡_};
-ghost use mathlib.Core.Bool.{Bool, true, false};
+ghost use mathlib.Core.Bool.{Bool, true};
 ghost use mathlib.Core.List.{List};
 ghost use Prim.Native.Nat.{_+_, _≤_, _<_};
 ghost use lib.Dec.{eqb};
 ghost use lib.ListN.{length};
 ghost use Rattle.lists.specs.Lists.{pick};
-ghost use Rattle.updown.specs.Marks.{Room, markAt, Flagged, begun, steppedUp, Taken, upFrom, CanStep};
+ghost use Rattle.updown.specs.Marks.{Room, markAt, Flagged, begun, steppedUp, Taken, upAt, CanStep, SteppedTo};
 ghost use Rattle.symbolic.specs.Columns.{Column};
 ghost use Rattle.symbolic.specs.Factor.{columnAt, sizeOf};
 ghost use Rattle.pool.specs.Chains.{chain};
@@ -66,7 +66,7 @@ fn begin(work: &mut [u32], m: usize, last: Row, j: Row, used: usize)
     work[STARTS * m + (j.0 - 1) as usize] = used as u32;
 }
 
-// Takes the next column: the first marked row past the last touched column, or row 0. Its turn begins.
+// Takes the next column, the first marked row past the last touched one, and begins its turn; row 0 if there is none.
 pub fn take_column(work: &mut [u32], m: usize, flags: usize, last: Row, used: usize) -> Row
     requires { ⌜ Room m flags (now work) × Flagged m flags (now work) (last .0) × (last .0 ≤ m) × (used ≤ 1048576) ⌝ }
     ensures { λ j. ⌜ Taken m (now (work .entry)) (now (work .exit)) (last .0) used (j .0) ⌝ }
@@ -102,7 +102,7 @@ pub fn write_plan(
 // The parent of j in the tree of all columns: the new one when adding, the old one when removing.
 fn tree_parent(parents: &[u16], j: Row, parent: Row, adding: bool) -> Row
     requires { ⌜ (1 ≤ j .0) × (j .0 ≤ length (now parents)) ⌝ }
-    ensures { λ r. ⌜ r .0 ≡ upFrom (now (parents .entry)) (j .0) (parent .0) adding ⌝ }
+    ensures { λ r. ⌜ r .0 ≡ upAt (now (parents .entry)) (j .0) (parent .0) adding ⌝ }
 {
     if adding {
         return parent;
@@ -187,7 +187,7 @@ pub fn step_up(
     adding: bool,
 ) -> Walk
     requires { ⌜ (e .fits ≡ true → CanStep (now parents) (now work) m flags (j .0) (e .parent .0) adding (walk .count) (walk .entries) (e .larger)) ⌝ }
-    ensures { λ r. ⌜ (r .fits ≡ e .fits) × (r .used ≡ e .used) × (e .fits ≡ true → (now (work .exit) ≡ steppedUp m flags (now (work .entry)) (j .0) (e .parent .0) (upFrom (now (parents .entry)) (j .0) (e .parent .0) adding)) × (r .first .0 ≡ pick (eqb (walk .first .0) 0) (j .0) (walk .first .0)) × (r .last .0 ≡ j .0) × (r .count ≡ walk .count + 1) × (r .entries ≡ walk .entries + e .larger) × (r .avail .0 ≡ e .avail .0)) × (e .fits ≡ false → now (work .exit) ≡ now (work .entry)) ⌝ }
+    ensures { λ r. ⌜ SteppedTo (now (parents .entry)) (now (work .entry)) (now (work .exit)) m flags (j .0) adding e (walk .first .0) (walk .count) (walk .entries) (r .fits) (r .first .0) (r .last .0) (r .count) (r .entries) (r .used) (r .avail .0) ⌝ }
 {
     if e.fits {
         let parent = e.parent;

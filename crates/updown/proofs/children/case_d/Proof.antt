@@ -12,7 +12,7 @@ use Rattle.updown.specs.Queues.{links}
 use Rattle.updown.specs.Turns.{waiting}
 use Rattle.updown.specs.SoFar.{children}
 use Rattle.updown.specs.Walks.{Columns, Turn, AtChild}
-use Rattle.updown.proofs.Draining.{Drain, turn-lost, stepped-less}
+use Rattle.updown.proofs.Draining.{Drain, turn-lost, drained-less}
 use Rattle.updown.proofs.Emptying.{Emptying, emptying-start, emptying-child, emptying-next, lost-open, lost-drain, family-handled}
 use Rattle.updown.proofs.children.case_d.Statement.{statement}
 use Rattle.updown.proofs.children.case_d.Tie as tie
@@ -93,10 +93,10 @@ slice-write-work-2 : tie.Need-slice-write-work-2 Inv-loop μ-loop
 slice-write-work-2 c = let a = child (c .before .before .before .before .before .before .before .before) (c .before .before .before .before .before .before .if1 .taken) in let b = c .before .before .before .before .lost-child .ensures _ _ _ _ _ (start (c .before .before .before .before .before .before .before .before) .pre .columns) a in omega (arith, a .low, a .high, a .narrow, a .turn .long, b .only .same-length)
 
 loop-less : tie.Need-loop-less Inv-loop μ-loop
-loop-less c = let a = child (c .before .before .before .before .before .before .before .before) (c .before .before .before .before .before .before .if1 .taken) in stepped-less a (hand (c .before .before .before .before .before .before .before .before) .drain) (turn-lost a (hand (c .before .before .before .before .before .before .before .before) .drain) (c .before .before .before .before .lost-child .ensures _ _ _ _ _ (start (c .before .before .before .before .before .before .before .before) .pre .columns) a) refl)
+loop-less c = let a = child (c .before .before .before .before .before .before .before .before) (c .before .before .before .before .before .before .if1 .taken) in drained-less a (inr refl) (hand (c .before .before .before .before .before .before .before .before) .drain) (turn-lost a (inr refl) (hand (c .before .before .before .before .before .before .before .before) .drain) (c .before .before .before .before .lost-child .ensures _ _ _ _ _ (start (c .before .before .before .before .before .before .before .before) .pre .columns) a) refl)
 
 loop-again : tie.Need-loop-again Inv-loop μ-loop
-loop-again c = λ R W j used k t d. let i = c .before .before .before .before .before .before .before .before .loop .inv R W j used k t d in let a = emptying-child k i (c .before .before .before .before .before .before .if1 .taken) (inr refl) in emptying-next i a (turn-lost a (i .drain) (c .before .before .before .before .lost-child .ensures _ _ _ _ _ k a) refl)
+loop-again c = λ R W j used k t d. let i = c .before .before .before .before .before .before .before .before .loop .inv R W j used k t d in let a = emptying-child k i (c .before .before .before .before .before .before .if1 .taken) (inr refl) in emptying-next i a (inr refl) (turn-lost a (inr refl) (i .drain) (c .before .before .before .before .lost-child .ensures _ _ _ _ _ k a) refl)
 
 same-length : tie.Need-same-length Inv-loop μ-loop
 same-length c = (hand (c .before .before)) .same-length ∙ length-set (start (c .before .before) .args .work .now) (6 * start (c .before .before) .args .m + (start (c .before .before) .args .j .0 - 1)) 0

@@ -13,8 +13,8 @@ use Rattle.updown.specs.Turns.{waiting}
 use Rattle.updown.specs.SoFar.{nobody}
 use Rattle.updown.specs.Walks.{Columns, Parents, Turn, AtChild}
 use Rattle.updown.proofs.AtChild.{child-kept, other-within}
-use Rattle.updown.proofs.Draining.{Drain, turn-open, drain-open, stepped-less}
-use Rattle.updown.proofs.Emptying.{Emptying, emptying-start, emptying-child, child-stepped, emptying-next, children-handled}
+use Rattle.updown.proofs.Draining.{Drain, turn-open, drain-open, drained-less}
+use Rattle.updown.proofs.Emptying.{Emptying, emptying-start, emptying-child, child-drained, emptying-next, children-handled}
 use Rattle.updown.proofs.children.cases_b_and_c.Statement.{statement}
 use Rattle.updown.proofs.children.cases_b_and_c.Tie as tie
 
@@ -74,13 +74,13 @@ case-b-or-c-requires : tie.Need-case-b-or-c-requires Inv-loop μ-loop
 case-b-or-c-requires c κs = record { R = start (c .before .before .before .before .before .before .before) .pre .R; W = start (c .before .before .before .before .before .before .before) .pre .W; j = start (c .before .before .before .before .before .before .before) .args .j .0; used = start (c .before .before .before .before .before .before .before) .pre .used; handled = hand (c .before .before .before .before .before .before .before) .handled; columns = start (c .before .before .before .before .before .before .before) .pre .columns; here = child (c .before .before .before .before .before .before .before) (c .before .before .before .before .before .if1 .taken) }
 
 pass-on-requires : tie.Need-pass-on-requires Inv-loop μ-loop
-pass-on-requires c κs = let a = child (c .before .before .before .before .before .before .before .before .before .before .before) (c .before .before .before .before .before .before .before .before .before .if1 .taken) in let b = c .before .before .before .case-b-or-c .ensures _ _ _ _ _ (start (c .before .before .before .before .before .before .before .before .before .before .before) .pre .columns) a (child-kept a (start (c .before .before .before .before .before .before .before .before .before .before .before) .pre .parents-hold) (c .before .before .before .before .before .before .before .other-parent .ensures)) in (omega (arith, b .only .same-length, a .turn .long), a .narrow, a .low, a .high, other-within a (start (c .before .before .before .before .before .before .before .before .before .before .before) .pre .parents-hold) _ (c .before .before .before .before .before .before .before .other-parent .ensures))
+pass-on-requires c κs = let a = child (c .before .before .before .before .before .before .before .before .before .before .before) (c .before .before .before .before .before .before .before .before .before .if1 .taken) in let b = c .before .before .before .case-b-or-c .ensures _ _ _ _ _ (start (c .before .before .before .before .before .before .before .before .before .before .before) .pre .columns) a (child-kept a (inl refl) (start (c .before .before .before .before .before .before .before .before .before .before .before) .pre .parents-hold) (c .before .before .before .before .before .before .before .other-parent .ensures)) in (omega (arith, b .only .same-length, a .turn .long), a .narrow, a .low, a .high, other-within a (inl refl) (start (c .before .before .before .before .before .before .before .before .before .before .before) .pre .parents-hold) _ (c .before .before .before .before .before .before .before .other-parent .ensures))
 
 loop-less : tie.Need-loop-less Inv-loop μ-loop
-loop-less c = let a = child (c .before .before .before .before .before .before .before .before .before .before .before .before .before .before) (c .before .before .before .before .before .before .before .before .before .before .before .before .if1 .taken) in stepped-less a (hand (c .before .before .before .before .before .before .before .before .before .before .before .before .before .before) .drain) (child-stepped (hand (c .before .before .before .before .before .before .before .before .before .before .before .before .before .before)) a refl (start (c .before .before .before .before .before .before .before .before .before .before .before .before .before .before) .pre .parents-hold) (c .before .before .before .before .before .before .before .before .before .before .other-parent .ensures) (c .before .before .before .before .before .before .case-b-or-c .ensures _ _ _ _ _ (start (c .before .before .before .before .before .before .before .before .before .before .before .before .before .before) .pre .columns) a (child-kept a (start (c .before .before .before .before .before .before .before .before .before .before .before .before .before .before) .pre .parents-hold) (c .before .before .before .before .before .before .before .before .before .before .other-parent .ensures))) (c .before .before .pass-on .ensures .0) (c .before .before .pass-on .ensures .1))
+loop-less c = let a = child (c .before .before .before .before .before .before .before .before .before .before .before .before .before .before) (c .before .before .before .before .before .before .before .before .before .before .before .before .if1 .taken) in drained-less a (inl refl) (hand (c .before .before .before .before .before .before .before .before .before .before .before .before .before .before) .drain) (child-drained (hand (c .before .before .before .before .before .before .before .before .before .before .before .before .before .before)) a refl (start (c .before .before .before .before .before .before .before .before .before .before .before .before .before .before) .pre .parents-hold) (c .before .before .before .before .before .before .before .before .before .before .other-parent .ensures) (c .before .before .before .before .before .before .case-b-or-c .ensures _ _ _ _ _ (start (c .before .before .before .before .before .before .before .before .before .before .before .before .before .before) .pre .columns) a (child-kept a (inl refl) (start (c .before .before .before .before .before .before .before .before .before .before .before .before .before .before) .pre .parents-hold) (c .before .before .before .before .before .before .before .before .before .before .other-parent .ensures))) (c .before .before .pass-on .ensures .0) (c .before .before .pass-on .ensures .1))
 
 loop-again : tie.Need-loop-again Inv-loop μ-loop
-loop-again c = λ R W used k p t d. let i = c .before .before .before .before .before .before .before .before .before .before .before .before .before .before .loop .inv R W used k p t d in let a = emptying-child k i (c .before .before .before .before .before .before .before .before .before .before .before .before .if1 .taken) (inl refl) in emptying-next i a (child-stepped i a refl p (c .before .before .before .before .before .before .before .before .before .before .other-parent .ensures) (c .before .before .before .before .before .before .case-b-or-c .ensures _ _ _ _ _ k a (child-kept a p (c .before .before .before .before .before .before .before .before .before .before .other-parent .ensures))) (c .before .before .pass-on .ensures .0) (c .before .before .pass-on .ensures .1))
+loop-again c = λ R W used k p t d. let i = c .before .before .before .before .before .before .before .before .before .before .before .before .before .before .loop .inv R W used k p t d in let a = emptying-child k i (c .before .before .before .before .before .before .before .before .before .before .before .before .if1 .taken) (inl refl) in emptying-next i a (inl refl) (child-drained i a refl p (c .before .before .before .before .before .before .before .before .before .before .other-parent .ensures) (c .before .before .before .before .before .before .case-b-or-c .ensures _ _ _ _ _ k a (child-kept a (inl refl) p (c .before .before .before .before .before .before .before .before .before .before .other-parent .ensures))) (c .before .before .pass-on .ensures .0) (c .before .before .pass-on .ensures .1))
 
 same-length : tie.Need-same-length Inv-loop μ-loop
 same-length c = (hand (c .before .before)) .same-length ∙ length-set (start (c .before .before) .args .work .now) (5 * start (c .before .before) .args .m + (start (c .before .before) .args .j .0 - 1)) 0

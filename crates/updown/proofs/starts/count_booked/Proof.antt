@@ -6,7 +6,7 @@ use Rattle.updown.proofs.Gathering.{can-count}
 use Rattle.updown.specs.Starts.{CanStart, BookHolds}
 use Rattle.symbolic.specs.Columns.{Column}
 use lib.ListN.{length}
-use Prim.Native.Nat.{ℕ, _-_, _≤_}
+use Prim.Native.Nat.{_-_, _≤_}
 use mathlib.Core.List.{List}
 use mathlib.Core.Bool.{false}
 use native.Mathlib.Omega.{arith}

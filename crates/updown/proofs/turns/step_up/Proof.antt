@@ -30,7 +30,17 @@ returns c =
     let s = c .before .before .before .before .before .before .before .before .before .before .args in
     let e = c .advance .ensures in
     let up = c .before .before .before .before .before .tree-parent .ensures in
-    (e .0, e .5, λ _. (c .before .before .before .place-marker .ensures ∙ ap (steppedUp (s .m) (s .flags) (s .work .now) (s .j .0) (s .e .parent .0)) up, e .1, e .2, e .3, e .4, e .6), λ x. absurd (true≢false (sym (c .before .before .before .before .before .before .before .if1 .taken) ∙ x)))
+    record {
+      fits-is = e .0;
+      used-is = e .5;
+      stored = λ _. c .before .before .before .place-marker .ensures ∙ ap (steppedUp (s .m) (s .flags) (s .work .now) (s .j .0) (s .e .parent .0)) up;
+      first-is = λ _. e .1;
+      last-is = λ _. e .2;
+      count-is = λ _. e .3;
+      entries-is = λ _. e .4;
+      avail-is = λ _. e .6;
+      stays = λ x. absurd (true≢false (sym (c .before .before .before .before .before .before .before .if1 .taken) ∙ x));
+    }
 
 stopped-requires : tie.Need-stopped-requires
 stopped-requires c κs = search needs
@@ -38,7 +48,18 @@ stopped-requires c κs = search needs
 returns-2 : tie.Need-returns-2
 returns-2 c =
     let e = c .stopped .ensures in
-    (e .0, e .1, λ x. absurd (true≢false (sym x ∙ c .before .if1 .left)), λ _. refl)
+    let no = c .before .if1 .left in
+    record {
+      fits-is = e .0;
+      used-is = e .1;
+      stored = λ x. absurd (true≢false (sym x ∙ no));
+      first-is = λ x. absurd (true≢false (sym x ∙ no));
+      last-is = λ x. absurd (true≢false (sym x ∙ no));
+      count-is = λ x. absurd (true≢false (sym x ∙ no));
+      entries-is = λ x. absurd (true≢false (sym x ∙ no));
+      avail-is = λ x. absurd (true≢false (sym x ∙ no));
+      stays = λ _. refl;
+    }
 
 pub step-up-spec : {M : Type 1} → statement M
 step-up-spec =
