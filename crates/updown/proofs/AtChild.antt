@@ -1,4 +1,4 @@
--- A child of j that is next in one of its queues: it is done, it waited there before the turn, its plan and chain can be read, and what was counted can be
+-- A child of j that waits in one of its queues: it is done, it waited there before the turn, its plan and chain can be read, and what was counted can be
 -- counted on; once its rows are counted it is handled (`handled-kept`: B, `handled-gained`: C, `handled-lost`: D). Assumes nothing.
 use mathlib.Core.Path.{_≡_, refl, ap, _∙_}
 use mathlib.Core.Logic.{_⊎_, inl, inr, _≢_}

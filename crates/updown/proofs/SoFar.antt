@@ -20,6 +20,7 @@ use Rattle.symbolic.specs.Factor.{FactorColumn, factorOf, multiplicity, parentO
 use Rattle.symbolic.specs.Definition.{childWith}
 use Rattle.symbolic.specs.Batch.{isTouched}
 use Rattle.symbolic.specs.Steps.{childSoFar, countSoFar, StepsAt}
+use Rattle.symbolic.proofs.Laws.{diagonal-in}
 use Rattle.symbolic.proofs.Build.{laws}
 use Rattle.symbolic.proofs.Columns.{starts-append, starts-le}
 use Rattle.symbolic.proofs.Order.{count-bound}
@@ -112,7 +113,7 @@ module _ (R W : List Column) where
 
 -- ---- what is handled counts anew, the rest as before
 
--- the handled children, in the factor before and by one of both
+-- the handled children counted anew, the others as before: against all of them as before; and the handled ones are no more than all
 split : (m j : ℕ) (H : ℕ → Bool) (i : ℕ) (L L′ : List FactorColumn) →
     (count (childSoFar H (multiplicity L) (parentOf L) (multiplicity L′) (parentOf L′) j i) m + childrenCount m L H i j ≡
     count (childWith (multiplicity L) (parentOf L) j i) m + childrenCount m L′ H i j) ×
@@ -202,7 +203,7 @@ module _ (m : ℕ) (R W : List Column) (adding : Bool) (j : ℕ) (a : 1 ≤ j) (
   abbrev P′ : ℕ → ℕ
   P′ = parentOf (after adding m R W)
 
-  -- as symbolic has them: the columns that start at j, then all
+  -- as symbolic has them: the columns counted that start at j and hold i, and with the children the multiplicity
   abbrev starting : (i k : ℕ) → ℕ
   starting i k = startingWith j i (counting R W adding k)
 
@@ -306,16 +307,13 @@ module _ (m : ℕ) (R W : List Column) (adding : Bool) (j : ℕ) (a : 1 ≤ j) (
     so-far-kept h u o =
         so-far-with (λ i. isNew A B i c) h low (λ i x z. child-kept-adding A O B U j i c (multiplicity-stays m R W i c (omega arith) z p q) o u)
       where
-        diagonal : 0 < A c c
-        diagonal = omega (arith, laws m R .counted c c p (omega arith) q, ap one (eq-eqb c c refl))
-
         low : (i : ℕ) → 1 ≤ i → i < j → isNew A B i c ≡ false
         low i x z =
             elim (lt-or-le c i) [
               | inl g ↦ rw (laws m (R ++ W) .parent-least i c p g (omega arith) (omega arith)) (and-false (eqb (A i c) 0))
               | inr g ↦ elim (eq-or-ne i c) [
                 | inr e ↦ rw (laws m (R ++ W) .below i c x (omega arith) q) (and-false (eqb (A i c) 0))
-                | inl e ↦ rw (e, ne-eqb (A c c) 0 (omega (arith, diagonal))) refl
+                | inl e ↦ rw (e, ne-eqb (A c c) 0 (omega (arith, diagonal-in (laws m R) c p q))) refl
               ]
             ]
 
