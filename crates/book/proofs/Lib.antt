@@ -8,4 +8,5 @@ pub mod Removing
 pub mod Changed
 pub mod Walks
 pub mod Through
+pub mod Reading
 pub mod Opened

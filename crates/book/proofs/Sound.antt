@@ -7,36 +7,28 @@ use mathlib.Core.Bool.{Bool, true, _&&_}
 use mathlib.Core.List.{List, [], _∷_}
 use Prim.Native.Nat.{ℕ, zero, suc, _+_, _≤_, _<_, min}
 use native.Mathlib.Omega.{arith}
-use lib.Dec.{leb, eqb}
+use lib.Dec.{leb}
 use lib.ListN.{length, getD, List·getD-eq-default}
-use borrow.Author.Tests.{eq-eqb, eqb-true, leb-true, le-leb}
+use borrow.Author.Tests.{eq-eqb, leb-true, le-leb}
 use Rattle.lists.specs.Lists.{Mem, first, later, isIn, all, at, times, sumOf, valuesAt, rises, allZero}
 use Rattle.lists.proofs.Tests.{lt-or-le, both-ways, and-both, both-and, in-range}
 use Rattle.lists.proofs.Member.{all-at, all-make}
-use Rattle.lists.proofs.Times.{times-self, times-cons, times-mem}
+use Rattle.lists.proofs.Times.{times-self, times-cons}
 use Rattle.lists.proofs.Rising.{rises-in}
 use Rattle.symbolic.specs.Columns.{Column, fitsRows}
 use Rattle.pool.specs.Chains.{chain, Linked}
 use Rattle.pool.specs.Whole.{isWhole, Pool}
 use Rattle.pool.proofs.Whole.{whole-pool, pool-whole}
+use Rattle.pool.proofs.Closed.{zero-value}
 use Rattle.book.specs.Book.{Book, isBooked, columnFor, columnsIn, columnFits, isSound}
 use Rattle.book.proofs.Columns.{Booked, columns-mem, mem-columns, columns-length}
 
--- ---- values that are all 0
+-- ---- values at numbers
 
-zero-member : (xs : List ℕ) (x : ℕ) (rs : List ℕ) → Mem x rs → allZero (valuesAt xs rs) ≡ true → at xs x ≡ 0
-unfolding valuesAt allZero
-zero-member xs x (r ∷ rs) m e =
-    let t : (eqb (at xs r) 0 ≡ true) × (allZero (valuesAt xs rs) ≡ true) = and-both (eqb (at xs r) 0) (allZero (valuesAt xs rs)) e in
-    go x m (eqb-true (at xs r) 0 (t .0)) (λ k. zero-member xs x rs k (t .1))
-  where
-    go : (x : ℕ) → Mem x (r ∷ rs) → at xs r ≡ 0 → (Mem x rs → at xs x ≡ 0) → at xs x ≡ 0
-    go x first z f = z
-    go x (later m) z f = f m
-zero-member xs x [] m e = elim m [ ]
-
-pub zero-values : (xs rs : List ℕ) → allZero (valuesAt xs rs) ≡ true → (x : ℕ) → 1 ≤ times x rs → at xs x ≡ 0
-zero-values xs rs e x n = zero-member xs x rs (times-mem x rs n) e
+pub values-mem : (xs : List ℕ) {x : ℕ} {rs : List ℕ} → Mem x rs → Mem (at xs x) (valuesAt xs rs)
+unfolding valuesAt
+values-mem xs first = first
+values-mem xs (later m) = later (values-mem xs m)
 
 pub values-zero : (xs rs : List ℕ) → ((x : ℕ) → 1 ≤ times x rs → at xs x ≡ 0) → allZero (valuesAt xs rs) ≡ true
 unfolding valuesAt allZero
@@ -84,7 +76,7 @@ sound-of m b e =
     let u : (w ≡ true) × (z ≡ true) = and-both w z (t .0) in
     record {
       pool = whole-pool (b .next) (b .heads) (b .free) (u .0);
-      zero = zero-values (b .rows) (chain (b .next) (b .free)) (u .1);
+      zero = λ x k. zero-value (b .rows) (chain (b .next) (b .free)) x (u .1) k;
       fits = λ l p k. all-at (columnFits m) (mem-columns b l p k) (t .1);
     }
 

@@ -8,13 +8,12 @@ ghost use lib.Dec.{leb};
 ghost use lib.ListN.{length, getD, replicate};
 ghost use Rattle.lists.specs.Lists.{over};
 ghost use Rattle.pool.specs.Chains.{chain, Linked};
-ghost use Rattle.pool.specs.Walks.{NoMarks};
 ghost use Rattle.book.specs.Book.{bookOf, tablesOf, isBooked, columnFor, isSound};
 ghost use Rattle.book.specs.Records.{HasChain, CanWrite, RowsWritten, Cleared};
-ghost use Rattle.book.specs.Walks.{CanWalk, FreeWalked, ColumnWalked};
+ghost use Rattle.book.specs.Walks.{CanWalk, ColumnWalked, CanReadThrough, ColumnsWalked};
 ghost use Rattle.book.specs.Entries.{opened, CanAdd, Added, CanRemove, Removed, CanCopy, HasHead, StartsAt};
+use pool::Chain;
 use pool::Rec;
-use pool::Visit;
 use pool::Walk;
 
 // A row number, from 1.
@@ -55,111 +54,97 @@ fn zero_rows(rows: &mut [u16])
     }
 }
 
-// Walks the free chain with marks: every record of it must have row 0.
-fn walk_free(rows: &[u16], next: &[u32], marks: &mut [u32], free: Rec) -> Walk
-    requires { ⌜ CanWalk (now rows) (now next) (now marks) 0 ⌝ }
-    ensures { λ a. ⌜ FreeWalked (now (rows .entry)) (now (next .entry)) (now (marks .entry)) (now (marks .exit)) (free .0) a ⌝ }
-{
-    let mut r = free;
-    let mut n: usize = 0;
-    while r.0 != 0 {
-        match pool::meet(next, marks, n, r) {
-            Visit::Broken => {
-                return Walk::Cut;
-            }
-            Visit::Next(after) => {
-                let k = r.0;
-                let row = rows[(k - 1) as usize];
-                if row != 0 {
-                    return Walk::Cut;
-                }
-                r = after;
-                n += 1;
-            }
-        }
-    }
-    Walk::Ended(n)
-}
-
 // The most rows that a column can have.
 const MOST: usize = 256;
 
-// Walks the chain of the head at place i with marks, after met records: its rows must rise within 1 to m, and be at most MOST.
-fn walk_column(
-    heads: &[u32],
-    rows: &[u16],
-    next: &[u32],
-    marks: &mut [u32],
-    i: usize,
-    met: usize,
-    m: u32,
-) -> Walk
-    requires { ⌜ CanWalk (now rows) (now next) (now marks) met × (i < length (now heads)) × (getD (now heads) i 0 ≢ 0) ⌝ }
-    ensures { λ a. ⌜ ColumnWalked (now (heads .entry)) (now (rows .entry)) (now (next .entry)) (now (marks .entry)) (now (marks .exit)) i met m a ⌝ }
+// Walks the chain of the head at place i, which is not 0, after met records: its rows must rise within 1 to m, and be at most MOST.
+fn walk_column(heads: &[u32], rows: &[u16], next: &[u32], i: usize, met: usize, m: u32) -> Chain
+    requires { ⌜ CanWalk (now heads) (now rows) (now next) i met ⌝ }
+    ensures { λ a. ⌜ ColumnWalked (now (heads .entry)) (now (rows .entry)) (now (next .entry)) i met m a ⌝ }
 {
-    let mut r = Rec(heads[i]);
-    let mut n = met;
+    let mut r = heads[i];
+    let mut last: u32 = 0;
     let mut above: u32 = 0;
-    while r.0 != 0 {
-        match pool::meet(next, marks, n, r) {
-            Visit::Broken => {
-                return Walk::Cut;
-            }
-            Visit::Next(after) => {
-                let k = r.0;
-                let row = rows[(k - 1) as usize] as u32;
-                if row <= above {
-                    return Walk::Cut;
-                }
-                if m < row {
-                    return Walk::Cut;
-                }
-                above = row;
-                r = after;
-                n += 1;
-            }
+    let mut k: usize = 0;
+    while r != 0 {
+        if next.len() < r as usize {
+            return Chain::Cut;
         }
+        let place = (r - 1) as usize;
+        let row = rows[place] as u32;
+        if row <= above {
+            return Chain::Cut;
+        }
+        if m < row {
+            return Chain::Cut;
+        }
+        above = row;
+        last = r;
+        r = next[place];
+        k += 1;
     }
-    if n - met <= MOST {
-        Walk::Ended(n)
-    } else {
-        Walk::Cut
+    if MOST < k {
+        return Chain::Cut;
     }
+    if next.len() - met < k {
+        return Chain::Cut;
+    }
+    Chain::Ended(met + k, Rec(last))
 }
 
-// Whether the book is sound, for any contents.
-pub fn read_through(
-    heads: &[u32],
-    rows: &[u16],
-    next: &[u32],
-    marks: &mut [u32],
-    free: Rec,
-    m: u32,
-) -> bool
-    requires { ⌜ (length (now rows) ≡ length (now next)) × NoMarks (now next) (now marks) ⌝ }
-    ensures { λ a. ⌜ a ≡ isSound m (bookOf (now (heads .entry)) (now (rows .entry)) (now (next .entry)) (free .0)) ⌝ }
+// Walks the chains of all ids; the last record of each is named in scratch, names first, then the last records by id. Gives the number of records met.
+fn walk_columns(heads: &[u32], rows: &[u16], next: &[u32], scratch: &mut [u32], m: u32) -> Walk
+    requires { ⌜ CanReadThrough (now heads) (now rows) (now next) (now scratch) ⌝ }
+    ensures { λ a. ⌜ ColumnsWalked (now (heads .entry)) (now (rows .entry)) (now (next .entry)) (now (scratch .exit)) m a ⌝ }
 {
-    let Walk::Ended(first) = walk_free(rows, next, marks, free) else {
-        return false;
-    };
-    let mut n = first;
+    let c = next.len();
+    let mut n: usize = 0;
     let mut i: usize = 0;
     while i < heads.len() {
+        let k = (i + 1) as u32;
         if heads[i] == 0 {
+            ends::name(scratch, c, 0, k, Rec(0));
             i += 1;
         } else {
-            match walk_column(heads, rows, next, marks, i, n, m) {
-                Walk::Cut => {
-                    return false;
+            match walk_column(heads, rows, next, i, n, m) {
+                Chain::Cut => {
+                    return Walk::Cut;
                 }
-                Walk::Ended(met) => {
+                Chain::Ended(met, last) => {
+                    ends::name(scratch, c, 0, k, last);
                     n = met;
                     i += 1;
                 }
             }
         }
     }
-    n == next.len()
+    Walk::Ended(n)
+}
+
+// Whether the book is sound, for any contents. Scratch, a place for each record and each id, may hold anything.
+pub fn read_through(
+    heads: &[u32],
+    rows: &[u16],
+    next: &[u32],
+    scratch: &mut [u32],
+    free: Rec,
+    m: u32,
+) -> bool
+    requires { ⌜ CanReadThrough (now heads) (now rows) (now next) (now scratch) ⌝ }
+    ensures { λ a. ⌜ a ≡ isSound m (bookOf (now (heads .entry)) (now (rows .entry)) (now (next .entry)) (free .0)) ⌝ }
+{
+    let c = next.len();
+    let Walk::Ended(n) = walk_columns(heads, rows, next, scratch, m) else {
+        return false;
+    };
+    if !ends::are_apart(scratch, c, 0, heads.len()) {
+        return false;
+    }
+    let left = c - n;
+    if free_chain::zeros(rows) != left {
+        return false;
+    }
+    free_chain::has(rows, next, scratch, free, left)
 }
 
 // Whether k more rows fit into the free records.

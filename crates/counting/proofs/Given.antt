@@ -5,19 +5,19 @@ use mathlib.Core.Logic.{inl, inr}
 use mathlib.Core.List.{List, [], _∷_, _++_}
 use Prim.Native.Nat.{ℕ, suc, _+_, _*_, _-_, _≤_, _<_}
 use native.Mathlib.Omega.{arith}
-use lib.ListN.{length, getD, take, set, length-append}
+use lib.ListN.{length, getD, take, set, length-take}
 use lib.Seq.{getD-take}
 use Rattle.lists.specs.Lists.{at, put, times}
 use Rattle.lists.proofs.Tests.{eq-or-ne}
 use Rattle.lists.proofs.Times.{times-nil, times-other, UpTo}
 use Rattle.workspace.specs.Layout.{childHead, childNext, columnHead, stashStart, rowStash, small, columnNext}
-use Rattle.workspace.specs.Regions.{cell, region, OnlyIn}
-use Rattle.workspace.proofs.Regions.{region-length, region-ext}
+use Rattle.workspace.specs.Regions.{cell, region, IsZero, OnlyIn}
+use Rattle.workspace.proofs.Regions.{region-length, region-cell, region-ext, zero-at}
 use Rattle.pool.proofs.Chains.{linked-short, linked-high}
-use Rattle.counting.specs.Counting.{gathered, tallied, OnlyTwo}
+use Rattle.counting.specs.Counting.{gathered, tallied, filled, OnlyTwo}
 use Rattle.counting.specs.Given.{Counted, Places, childrenIn, stashed, Stashed, CanTallyChildren, bookRows, startingIn, CanTallyColumns, givenIn, CanTallyAll}
 use Rattle.counting.proofs.Numbers.{gathered-ext, gathered-up, gathered-length}
-use Rattle.counting.proofs.Tallies.{tallied-append, tallied-cell, tallied-front, tallied-only, times-most}
+use Rattle.counting.proofs.Tallies.{tallied-append, tallied-cell, tallied-front, tallied-only, filled-raise, filled-most, filled-zero, tallied-raised, times-most}
 use Rattle.counting.proofs.Linking.{two-trans}
 use Rattle.counting.proofs.Children.{stashed-length}
 
@@ -63,6 +63,20 @@ module _ (m f : ℕ) {w₀ w : List ℕ} (o : OnlyTwo 0 m (small m f) 256 w₀ w
           rows-in = subst (λ (l : List ℕ). UpTo m l) (sym keep-stashed) (s .rows-in);
         }
 
+-- ---- how many counters are not 0
+
+pub counted-few : {m f : ℕ} {w₀ w rows : List ℕ} {size : ℕ} → Counted m f w₀ w rows size → size ≤ m
+counted-few {m} {f} {w₀} {w} c = omega (arith, c .size-is, filled-most (region w 0 m), length-take m w)
+
+-- after zero counters
+pub counted-filled : {m f : ℕ} {w₀ w rows : List ℕ} {size : ℕ} → Counted m f w₀ w rows size → IsZero w₀ 0 m → size ≡ filled (region w 0 m)
+counted-filled {m} {f} {w₀} {w} c z =
+    omega (
+      arith,
+      c .size-is,
+      filled-zero (region w₀ 0 m) (λ k h. let s : k < m = omega (arith, length-take m w₀) in region-cell w₀ 0 m k s ∙ z k s),
+    )
+
 -- ---- the three steps
 
 module _ {hs rs ns w₀ : List ℕ} {m f j : ℕ} (pre : CanTallyAll hs rs ns w₀ m f j) where
@@ -91,6 +105,11 @@ module _ {hs rs ns w₀ : List ℕ} {m f j : ℕ} (pre : CanTallyAll hs rs ns w�
         | inr e ↦ absurd (omega (arith, times-other x j [] e, times-nil x))
       ]
 
+  one-raised : 1 + filled (region w₀ 0 m) ≡ filled (region after-one 0 m)
+  one-raised =
+      let z : getD w₀ (j - 1) 0 ≡ 0 = zero-at w₀ 0 m (j - 1) (pre .zero) (omega arith) (omega (arith, pre .sizes .low, pre .sizes .high)) in
+      tallied-raised m 1 w₀ (j ∷ []) one-up one-is (sym (filled-raise w₀ (j - 1) 1 (omega (arith, pre .sizes)) z (omega arith)))
+
   one-only : OnlyTwo 0 m (small m f) 256 w₀ after-one
   one-only =
       let o : OnlyIn 0 m w₀ (tallied w₀ (j ∷ [])) = tallied-only m w₀ (j ∷ []) one-up in
@@ -115,16 +134,6 @@ module _ {hs rs ns w₀ : List ℕ} {m f j : ℕ} (pre : CanTallyAll hs rs ns w�
         linked-short (region w₀ (childNext m) m) (cell w₀ (childHead m) (j - 1)) (childrenIn w₀ m j) (pre .children),
         region-length w₀ (childNext m) m (omega (arith, pre .sizes .long)),
         pre .sizes .m-bound,
-      )
-
-  cols-few : length cols ≤ 51200000
-  cols-few =
-      omega (
-        arith,
-        gathered-length 256 (bookRows hs rs ns) (startingIn w₀ m f (length hs) (length ns) j) (λ c n. pre .copied c n .fits),
-        linked-short (region w₀ (columnNext m f (length ns)) (length hs)) (cell w₀ (columnHead m) (j - 1)) (startingIn w₀ m f (length hs) (length ns) j) (pre .starting),
-        region-length w₀ (columnNext m f (length ns)) (length hs) (pre .table-long),
-        pre .n-bound,
       )
 
   sizes-at : {w : List ℕ} → OnlyTwo 0 m (small m f) 256 w₀ w → Places m f w j
@@ -187,8 +196,8 @@ module _ {hs rs ns w₀ : List ℕ} {m f j : ℕ} (pre : CanTallyAll hs rs ns w�
           kids-few,
         )
 
-    pub giving-first : r ≤ 16777216
-    giving-first = omega (arith, d .number, ap length kids-same, kids-few)
+    pub giving-first : r ≤ 4096
+    giving-first = omega (arith, counted-few d, pre .sizes .m-bound)
 
     starting-same : startingIn w₂ m f (length hs) (length ns) j ≡ startingIn w₀ m f (length hs) (length ns) j
     starting-same = keep-starting m f both-only (pre .sizes .long) j (pre .sizes .low) (pre .sizes .high) (length hs) (length ns) (pre .table-long)
@@ -217,8 +226,8 @@ module _ {hs rs ns w₀ : List ℕ} {m f j : ℕ} (pre : CanTallyAll hs rs ns w�
       cols-same : gathered (bookRows hs rs ns) (startingIn w₂ m f (length hs) (length ns) j) ≡ cols
       cols-same = ap (gathered (bookRows hs rs ns)) starting-same
 
-      pub giving-second : q ≤ 51200000
-      giving-second = omega (arith, e .number, ap length cols-same, cols-few)
+      pub giving-second : q ≤ 4096
+      giving-second = omega (arith, counted-few e, pre .sizes .m-bound)
 
       pub giving-length : length w₃ ≡ length w₀
       giving-length = e .only .same-length ∙ both-only .same-length
@@ -232,5 +241,5 @@ module _ {hs rs ns w₀ : List ℕ} {m f j : ℕ} (pre : CanTallyAll hs rs ns w�
                 e .counters ∙ ap (tallied (region w₂ 0 m)) cols-same ∙ ap (λ (l : List ℕ). tallied l cols) (d .counters ∙ ap (tallied (region after-one 0 m)) kids-same) ∙
                 sym (tallied-append (region after-one 0 m) kids cols) ∙
                 ap (λ (l : List ℕ). tallied l (kids ++ cols)) (ap (take m) one-is ∙ tallied-front m w₀ (j ∷ []) one-up);
-            number = omega (arith, d .number, e .number, ap length kids-same, ap length cols-same, length-append kids cols);
+            size-is = omega (arith, d .size-is, e .size-is, one-raised);
           }

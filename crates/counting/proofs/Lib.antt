@@ -1,6 +1,8 @@
 pub mod Tallies
 pub mod Numbers
 pub mod Linking
+pub mod Booked
+pub mod Gathering
 pub mod Children
 pub mod Parts
 pub mod Starting

@@ -78,10 +78,6 @@ lists-more ns hs f n u room e low high l v p q =
 
 -- ---- what the numbers of a value bring
 
-pub gathered-nil : (g : ℕ → List ℕ) → gathered g [] ≡ []
-unfolding gathered
-gathered-nil g = refl
-
 pub gathered-more : (g : ℕ → List ℕ) (cs : List ℕ) (c : ℕ) → gathered g (cs ++ (c ∷ [])) ≡ gathered g cs ++ g c
 unfolding gathered
 gathered-more g [] c = append-nil (g c)

@@ -1,15 +1,13 @@
 -- A part of the work table that was lent and written: the rest of the table stays, and the part holds what was written. Assumes nothing.
-use mathlib.Core.Path.{_≡_, refl, sym, ap, subst, _∙_}
+use mathlib.Core.Path.{_≡_, sym, ap, subst, _∙_}
 use mathlib.Core.Logic.{inl, inr}
 use mathlib.Core.List.{List, _++_}
 use Prim.Native.Nat.{ℕ, _+_, _-_, _≤_}
 use native.Mathlib.Omega.{arith}
-use lib.ListN.{length, getD, take, drop, List·getD-append}
+use lib.ListN.{length, getD, take, List·getD-append}
 use lib.Seq.{getD-take, getD-drop, length-take-le, take-at, drop-at}
 use borrow.Rule.Slice.PartMut.{putMid, postOf, same-len-mid, mid-len, drop-put}
-use Rattle.lists.specs.Lists.{over}
 use Rattle.workspace.specs.Regions.{region, OnlyIn}
-use Rattle.workspace.proofs.Regions.{region-join, region-length}
 
 module _ (w ys : List ℕ) (a e : ℕ) (low : a ≤ e) (high : e ≤ length w) (long : length ys ≡ e - a) where
   pub part-only : OnlyIn a (e - a) w (putMid a (e - a) w ys)
@@ -28,12 +26,3 @@ module _ (w ys : List ℕ) (a e : ℕ) (low : a ≤ e) (high : e ≤ length w) (
   pub part-region : region (putMid a (e - a) w ys) a (e - a) ≡ ys
   part-region =
       ap (take (e - a)) (drop-at (take a w) (ys ++ postOf a (e - a) w) a (length-take-le a w (omega arith))) ∙ take-at ys (postOf a (e - a) w) (e - a) long
-
--- the front of a region over which a list was written
-pub front-region : (w : List ℕ) (a n : ℕ) (xs old : List ℕ) → a + n ≤ length w → length xs ≤ n → region w a n ≡ over xs old → region w a (length xs) ≡ xs
-front-region w a n xs old fits short e =
-    let q : length xs + (n - length xs) ≡ n = omega arith in
-    let j : region w a (length xs) ++ region w (a + length xs) (n - length xs) ≡ xs ++ drop (length xs) old =
-    sym (region-join w a (length xs) (n - length xs)) ∙ ap (region w a) q ∙ e in
-    sym (take-at (region w a (length xs)) (region w (a + length xs) (n - length xs)) (length xs) (region-length w a (length xs) (omega arith))) ∙
-    ap (take (length xs)) j ∙ take-at xs (drop (length xs) old) (length xs) refl

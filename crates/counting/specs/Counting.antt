@@ -34,6 +34,11 @@ tallied ns (x ∷ xs) = tallied (put ns x (at ns x + 1)) xs
 abbrev pub total : List ℕ → ℕ
 total ns = sumOf (λ (n : ℕ). n) ns
 
+-- how many counters are not 0
+unfoldable pub filled : List ℕ → ℕ
+filled [] = 0
+filled (n ∷ ns) = pick (eqb n 0) 0 1 + filled ns
+
 -- ---- lists in the work table: heads from place a on, nexts from place b on
 
 -- number i at the front of the list of v; value 0 has no list

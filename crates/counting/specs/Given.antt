@@ -10,7 +10,7 @@ use Rattle.workspace.specs.Regions.{cell, region, IsZero}
 use Rattle.pool.specs.Chains.{chain, Linked}
 use Rattle.book.specs.Book.{tablesOf, columnFor}
 use Rattle.book.specs.Entries.{CanCopy}
-use Rattle.counting.specs.Counting.{gathered, tallied, OnlyTwo}
+use Rattle.counting.specs.Counting.{gathered, tallied, filled, OnlyTwo}
 
 -- every number in a list is one of 1 to m
 abbrev pub WithinRows : (m : ℕ) → List ℕ → Type 0
@@ -18,11 +18,11 @@ WithinRows m xs = (x : ℕ) → 1 ≤ times x xs → (1 ≤ x) × (x ≤ m)
 
 -- ---- what was counted
 
--- the counters, the first m places, have the rows more, and but for them and 256 places nothing changed; how many rows
-pub record Counted (m f : ℕ) (work₀ work : List ℕ) (rows : List ℕ) (given : ℕ) : Type 0 where
+-- the counters, the first m places, have the rows more, and but for them and 256 places nothing changed; how many counters left 0
+pub record Counted (m f : ℕ) (work₀ work : List ℕ) (rows : List ℕ) (size : ℕ) : Type 0 where
   pub only : OnlyTwo 0 m (small m f) 256 work₀ work
   pub counters : region work 0 m ≡ tallied (region work₀ 0 m) rows
-  pub number : given ≡ length rows
+  pub size-is : size + filled (region work₀ 0 m) ≡ filled (region work 0 m)
 
 -- a work table long enough for the sizes, and a row of 1 to m
 pub record Places (m f : ℕ) (work : List ℕ) (j : ℕ) : Type 0 where
@@ -61,6 +61,14 @@ pub record CanTallyChildren (work : List ℕ) (m f j : ℕ) : Type 0 where
 -- the rows that the book has under an id
 abbrev pub bookRows : (heads rows next : List ℕ) → (id : ℕ) → List ℕ
 bookRows hs rs ns i = columnFor (tablesOf hs rs ns) i .rows
+
+-- an id of a sound book with at most 256 rows, all of 1 to m, and 32 bits hold the counters
+pub record CanTallyBook (heads rows next work : List ℕ) (id : ℕ) : Type 0 where
+  pub m : ℕ
+  pub column : CanCopy heads rows next id 256
+  pub rows-in : WithinRows m (bookRows heads rows next id)
+  pub long : m ≤ length work
+  pub room : (i : ℕ) → i < m → getD work i 0 + 256 < 4294967296
 
 -- the ids whose column starts at row j, as the work table lists them
 abbrev pub startingIn : (work : List ℕ) → (m f n c j : ℕ) → List ℕ

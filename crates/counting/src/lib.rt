@@ -1,16 +1,18 @@
 // Counting what the definition gives for a column of L, in the work table: the booked ids listed by smallest row, the children of a column listed, and the
-// rows that the diagonal, the children and the columns that start there bring, one more in the counter of each. The counters are the first m places.
+// rows that the diagonal, the children and the columns that start there bring, one more in the counter of each. The counters are the first m places;
+// each function that counts gives how many of them left 0, so that its caller knows the length of the column's chain before it walks it.
 ghost use mathlib.Core.Path.{_≡_};
 ghost use Prim.Native.Nat.{_+_, _-_, _*_, _<_};
 ghost use lib.ListN.{length};
 ghost use Rattle.workspace.specs.Regions.{region};
-ghost use Rattle.counting.specs.Counting.{linkedIn, CanLink, CanList, Listed, gathered, tallied, CanTally};
+ghost use Rattle.counting.specs.Counting.{linkedIn, CanLink, CanList, Listed, gathered, tallied, filled, CanTally};
 ghost use Rattle.counting.specs.Given.{
   Counted,
   childrenIn,
   stashed,
   CanTallyChildren,
   bookRows,
+  CanTallyBook,
   startingIn,
   CanTallyColumns,
   givenIn,
@@ -55,40 +57,75 @@ pub fn link_columns(
     }
 }
 
-// Counts the rows at places a to e - 1, one more in the counter of each.
-fn tally(work: &mut [u32], a: usize, e: usize)
+// Counts the rows at places a to e - 1, one more in the counter of each. Gives how many counters left 0.
+fn tally(work: &mut [u32], a: usize, e: usize) -> u32
     requires { ⌜ CanTally (now work) a e ⌝ }
-    ensures { λ _. ⌜ now (work .exit) ≡ tallied (now (work .entry)) (region (now (work .entry)) a (e - a)) ⌝ }
+    ensures counted { λ r. ⌜ now (work .exit) ≡ tallied (now (work .entry)) (region (now (work .entry)) a (e - a)) ⌝ }
+    ensures raised { λ r. ⌜ r + filled (now (work .entry)) ≡ filled (now (work .exit)) ⌝ }
 {
+    let mut size: u32 = 0;
     let mut k = a;
     while k < e {
         let i = (work[k] - 1) as usize;
-        work[i] += 1;
+        let v = work[i];
+        work[i] = v + 1;
+        if v == 0 {
+            size += 1;
+        }
         k += 1;
     }
+    size
 }
 
-// Counts the rows of each child of column j but the child's first, out of the stash. Gives their number.
+// Counts the rows of each child of column j but the child's first, out of the stash. Gives how many counters left 0.
 fn tally_children(work: &mut [u32], m: usize, f: usize, j: Row) -> u32
     requires { ⌜ CanTallyChildren (now work) m f (j .0) ⌝ }
     ensures { λ r. ⌜ Counted m f (now (work .entry)) (now (work .exit)) (gathered (stashed (now (work .entry)) m f) (childrenIn (now (work .entry)) m (j .0))) r ⌝ }
 {
     let column = j.0;
     let stash = 8 * m + f;
-    let mut given: u32 = 0;
+    let mut size: u32 = 0;
     let mut c = work[m + (column - 1) as usize];
     while c != 0 {
         let k = (c - 1) as usize;
         let a = work[4 * m + k];
         let e = work[4 * m + c as usize];
-        tally(work, stash + a as usize + 1, stash + e as usize);
-        given += e - a - 1;
+        let more = tally(work, stash + a as usize + 1, stash + e as usize);
+        size += more;
         c = work[2 * m + k];
     }
-    given
+    size
 }
 
-// Counts the rows of each book column whose smallest row is j. Gives their number.
+// Counts the rows of an id's book column, one more in the counter of each. Gives how many counters left 0.
+fn tally_book(
+    book_heads: &[u32],
+    book_rows: &[u16],
+    book_next: &[u32],
+    work: &mut [u32],
+    id: Id,
+) -> u32
+    requires { ⌜ CanTallyBook (now «book_heads») (now «book_rows») (now «book_next») (now work) (id .0) ⌝ }
+    ensures counted { λ r. ⌜ now (work .exit) ≡ tallied (now (work .entry)) (bookRows (now («book_heads» .entry)) (now («book_rows» .entry)) (now («book_next» .entry)) (id .0)) ⌝ }
+    ensures raised { λ r. ⌜ r + filled (now (work .entry)) ≡ filled (now (work .exit)) ⌝ }
+{
+    let k = id.0;
+    let mut size: u32 = 0;
+    let mut r = book_heads[(k - 1) as usize];
+    while r != 0 {
+        let i = (r - 1) as usize;
+        let c = (book_rows[i] - 1) as usize;
+        let v = work[c];
+        work[c] = v + 1;
+        if v == 0 {
+            size += 1;
+        }
+        r = book_next[i];
+    }
+    size
+}
+
+// Counts the rows of each book column whose smallest row is j. Gives how many counters left 0.
 fn tally_columns(
     book_heads: &[u32],
     book_rows: &[u16],
@@ -102,21 +139,19 @@ fn tally_columns(
     ensures { λ r. ⌜ Counted m f (now (work .entry)) (now (work .exit)) (gathered (bookRows (now («book_heads» .entry)) (now («book_rows» .entry)) (now («book_next» .entry))) (startingIn (now (work .entry)) m f (length (now («book_heads» .entry))) (length (now («book_next» .entry))) (j .0))) r ⌝ }
 {
     let column = j.0;
-    let a = 8 * m + 4 * f;
-    let e = a + 256;
-    let nexts = a + 1024 + book_next.len();
-    let mut given: u32 = 0;
+    let nexts = 8 * m + 4 * f + 1024 + book_next.len();
+    let mut size: u32 = 0;
     let mut i = work[3 * m + (column - 1) as usize];
     while i != 0 {
-        let n = book::copy_rows(book_heads, book_rows, book_next, &mut work[a..e], Id(i));
-        tally(work, a, a + n as usize);
-        given += n;
+        let more = tally_book(book_heads, book_rows, book_next, work, Id(i));
+        size += more;
         i = work[nexts + (i - 1) as usize];
     }
-    given
+    size
 }
 
 // Counts all that the definition gives for column j: 1 on the diagonal, its children's rows, the rows of the columns that start there.
+// Gives how many counters are not 0 then.
 pub fn tally_all(
     book_heads: &[u32],
     book_rows: &[u16],

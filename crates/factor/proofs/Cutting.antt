@@ -10,7 +10,7 @@ use lib.ListN.{length}
 use lib.Seq.{length-take-le}
 use Rattle.symbolic.specs.Columns.{live}
 use Rattle.symbolic.specs.Grades.{areLimits}
-use Rattle.workspace.specs.Layout.{workNeed, bookMarks}
+use Rattle.workspace.specs.Layout.{workNeed}
 use Rattle.workspace.specs.Regions.{IsZero, OnlyIn, cleared, zeroFirst}
 use Rattle.workspace.proofs.Regions.{cleared-zero, cleared-only, cleared-unique, only-trans, only-wider, only-zero, zero-part, first-cleared}
 use Rattle.book.specs.Book as book
@@ -135,21 +135,12 @@ module _ (s : State) {t : Tables} {w : List ℕ} (r : HasPlaces (s .sizes) t w) 
   room = omega (arith, r .room)
 
   -- the work table made ready
-  module _ {x : List ℕ} (e : x ≡ madeReady w (s .sizes .m) (s .sizes .f) (s .sizes .c)) where
-    abbrev front : List ℕ
-    front = cleared w 0 (8 * s .sizes .m + s .sizes .f)
-
-    front-only : OnlyIn 0 (8 * s .sizes .m + s .sizes .f) w front
-    front-only = cleared-only w 0 (8 * s .sizes .m + s .sizes .f) (omega (arith, r .room))
-
-    marks-room : bookMarks (s .sizes .m) (s .sizes .f) + s .sizes .c ≤ length front
-    marks-room = omega (arith, r .room, front-only .same-length)
-
-    marks-only : OnlyIn (bookMarks (s .sizes .m) (s .sizes .f)) (s .sizes .c) front x
-    marks-only = rw e (cleared-only front (bookMarks (s .sizes .m) (s .sizes .f)) (s .sizes .c) marks-room)
+  module _ {x : List ℕ} (e : x ≡ madeReady w (s .sizes .m)) where
+    front-only : OnlyIn 0 (4 * s .sizes .m + 1) w x
+    front-only = rw e (cleared-only w 0 (4 * s .sizes .m + 1) (omega (arith, r .room)))
 
     long : length x ≡ length w
-    long = marks-only .same-length ∙ front-only .same-length
+    long = front-only .same-length
 
     pub can-read-through : CanReadThrough (storedIn s t) (bookIn s t) x
     can-read-through =
@@ -165,14 +156,8 @@ module _ (s : State) {t : Tables} {w : List ℕ} (r : HasPlaces (s .sizes) t w) 
           c-bound = omega (arith, c .bookNext, i .c-high);
           long = omega (arith, need-is, r .room, long);
           front-zero =
-              let z : IsZero front 0 (8 * s .sizes .m + s .sizes .f) = cleared-zero w 0 (8 * s .sizes .m + s .sizes .f) (omega (arith, r .room)) in
-              zero-part x 0 (8 * s .sizes .m + s .sizes .f) 0 (8 * length (storedIn s t .heads) + length (storedIn s t .next))
-              (only-zero marks-only 0 (8 * s .sizes .m + s .sizes .f) (inr (omega arith)) z) (omega arith) (omega (arith, c .heads, c .next));
-          marks-zero =
-              let z : IsZero x (bookMarks (s .sizes .m) (s .sizes .f)) (s .sizes .c) =
-              rw e (cleared-zero front (bookMarks (s .sizes .m) (s .sizes .f)) (s .sizes .c) marks-room) in
-              zero-part x (bookMarks (s .sizes .m) (s .sizes .f)) (s .sizes .c) (bookMarks (length (storedIn s t .heads)) (length (storedIn s t .next)))
-              (length (bookIn s t .next)) z (omega (arith, c .heads, c .next)) (omega (arith, c .heads, c .next, c .bookNext));
+              let z : IsZero x 0 (4 * s .sizes .m + 1) = rw e (cleared-zero w 0 (4 * s .sizes .m + 1) (omega (arith, r .room))) in
+              zero-part x 0 (4 * s .sizes .m + 1) 0 (4 * length (storedIn s t .heads) + 1) z (omega arith) (omega (arith, c .heads));
         }
 
     module _ {y : List ℕ} (o : OnlyIn 0 need x y) where
@@ -183,7 +168,6 @@ module _ (s : State) {t : Tables} {w : List ℕ} (r : HasPlaces (s .sizes) t w) 
       pub read-clears : {n : ℕ} → n ≡ workFor (s .sizes) → cleared y 0 n ≡ zeroFirst (workFor (s .sizes)) w
       read-clears z =
           let W : ℕ = workFor (s .sizes) in
-          let p : OnlyIn 0 W w x =
-          only-trans (only-wider 0 W (omega arith) (omega arith) front-only) (only-wider 0 W (omega arith) (omega arith) marks-only) in
+          let p : OnlyIn 0 W w x = only-wider 0 W (omega arith) (omega arith) front-only in
           let q : OnlyIn 0 W x y = subst (λ (n : ℕ). OnlyIn 0 n x y) need-is o in
           ap (λ (n : ℕ). cleared y 0 n) z ∙ cleared-unique w 0 W room (only-trans (only-trans p q) (cleared-only y 0 W read-room)) (cleared-zero y 0 W read-room) ∙ sym (first-cleared W w (r .room))

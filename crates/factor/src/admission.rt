@@ -85,7 +85,7 @@ pub fn read_through(
     let n = factor.n as usize;
     let f = factor.f as usize;
     let c = factor.c as usize;
-    soundness::make_ready(work, m, f, c);
+    soundness::make_ready(work, m);
     let sound = soundness::read_through(
         &heads[..m],
         &parents[..m],

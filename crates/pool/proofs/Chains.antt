@@ -38,6 +38,12 @@ unfolding lastOf
 last-split r [] = ([], refl)
 last-split r (x ∷ xs) = let t : (ds : List ℕ) × (x ∷ xs ≡ ds ++ (lastOf x xs ∷ [])) = last-split x xs in (r ∷ t .0, ap (λ (l : List ℕ). r ∷ l) (t .1))
 
+-- the last record after some others
+pub last-append : (y : ℕ) (ds : List ℕ) (x : ℕ) (ts : List ℕ) → lastOf y (ds ++ (x ∷ ts)) ≡ lastOf x ts
+unfolding lastOf
+last-append y [] x ts = refl
+last-append y (d ∷ ds) x ts = last-append d ds x ts
+
 -- ---- what a linked list of records has
 
 pub linked-nil : (ns : List ℕ) → Linked ns 0 []

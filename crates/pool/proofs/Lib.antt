@@ -1,9 +1,8 @@
 pub mod Chains
 pub mod Whole
+pub mod Apart
+pub mod Closed
 pub mod Changes
-pub mod Marks
-pub mod Walking
-pub mod Testing
-pub mod Reading
+pub mod Runs
 pub mod Counting
 pub mod Opening

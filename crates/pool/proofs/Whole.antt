@@ -51,19 +51,19 @@ chains-mid-length ns xs h ys =
 
 -- ---- one head, or two, among the heads, by place
 
-place-times : (ns hs : List ℕ) (j x : ℕ) → j < length hs → times x (chain ns (getD hs j 0)) ≤ times x (chains ns hs)
+pub place-times : (ns hs : List ℕ) (j x : ℕ) → j < length hs → times x (chain ns (getD hs j 0)) ≤ times x (chains ns hs)
 place-times ns [] j x h = absurd (omega arith)
 place-times ns (y ∷ hs) zero x h = omega (arith, chains-times ns y hs x)
 place-times ns (y ∷ hs) (suc j) x h = omega (arith, chains-times ns y hs x, place-times ns hs j x (omega arith))
 
-place-two : (ns hs : List ℕ) (j i x : ℕ) → j < length hs → i < length hs → j ≢ i → times x (chain ns (getD hs j 0)) + times x (chain ns (getD hs i 0)) ≤ times x (chains ns hs)
+pub place-two : (ns hs : List ℕ) (j i x : ℕ) → j < length hs → i < length hs → j ≢ i → times x (chain ns (getD hs j 0)) + times x (chain ns (getD hs i 0)) ≤ times x (chains ns hs)
 place-two ns [] j i x p q d = absurd (omega arith)
 place-two ns (y ∷ hs) zero zero x p q d = absurd (d refl)
 place-two ns (y ∷ hs) zero (suc i) x p q d = omega (arith, chains-times ns y hs x, place-times ns hs i x (omega arith))
 place-two ns (y ∷ hs) (suc j) zero x p q d = omega (arith, chains-times ns y hs x, place-times ns hs j x (omega arith))
 place-two ns (y ∷ hs) (suc j) (suc i) x p q d = omega (arith, chains-times ns y hs x, place-two ns hs j i x (omega arith) (omega arith) (λ e. d (ap suc e)))
 
-place-linked : (ns hs : List ℕ) (j : ℕ) → j < length hs → AllLinked ns hs → Linked ns (getD hs j 0) (chain ns (getD hs j 0))
+pub place-linked : (ns hs : List ℕ) (j : ℕ) → j < length hs → AllLinked ns hs → Linked ns (getD hs j 0) (chain ns (getD hs j 0))
 unfolding AllLinked
 place-linked ns [] j h l = absurd (omega arith)
 place-linked ns (x ∷ hs) zero h l = l .0

@@ -1,5 +1,6 @@
 pub mod Chains
 pub mod Whole
-pub mod Walks
 pub mod Changes
 pub mod Opening
+pub mod Ends
+pub mod Free

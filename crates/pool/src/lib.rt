@@ -1,48 +1,26 @@
-// Records linked by one `next` table, with chains from heads and one free chain. For any contents of the table a walk meets records one by one and marks
-// them, so that it ends; a record taken, given back, inserted or unlinked leaves every other chain.
+// Records linked by one `next` table, with chains from heads and one free chain: a record taken, given back, inserted or unlinked leaves every other chain. What
+// shows, for any contents of the table, that a pool is whole is in proofs/Apart.antt and proofs/Closed.antt.
 ghost use mathlib.Core.Path.{_≡_};
 ghost use Prim.Native.Nat.{_≤_, _<_, min};
 ghost use lib.ListN.{length};
 ghost use Rattle.lists.specs.Lists.{at, put};
 ghost use Rattle.pool.specs.Chains.{chain, Linked};
-ghost use Rattle.pool.specs.Walks.{Visited};
 ghost use Rattle.pool.specs.Changes.{Has, insertAfter, unlinkAfter};
 ghost use Rattle.pool.specs.Opening.{freeHead, openedNexts};
 
 // A record number, from 1; 0 is none.
 pub struct Rec(pub u32);
 
-// What a visit finds: the record after this one, or a record that cannot be met.
-pub enum Visit {
-    Next(Rec),
-    Broken,
-}
-
-// What a walk finds: its end, with the number of records met, or a chain that does not end in the pool with fresh records.
+// What a walk of chains finds: their end, with the number of records met, or a chain that does not hold what it should.
 pub enum Walk {
     Ended(usize),
     Cut,
 }
 
-// Meets record r, which is not 0: it must be in the pool, have no mark, and fewer records than there are were met. Marks it.
-pub fn meet(next: &[u32], marks: &mut [u32], met: usize, r: Rec) -> Visit
-    requires { ⌜ (1 ≤ r .0) × (length (now next) ≤ length (now marks)) ⌝ }
-    ensures { λ a. ⌜ Visited (now (next .entry)) (now (marks .entry)) (now (marks .exit)) met (r .0) a ⌝ }
-{
-    let k = r.0;
-    if next.len() <= met {
-        return Visit::Broken;
-    }
-    if next.len() < k as usize {
-        return Visit::Broken;
-    }
-    let i = (k - 1) as usize;
-    let after = next[i];
-    if marks[i] != 0 {
-        return Visit::Broken;
-    }
-    marks[i] = 1;
-    Visit::Next(Rec(after))
+// The same of one chain, with its last record.
+pub enum Chain {
+    Ended(usize, Rec),
+    Cut,
 }
 
 // The number of records in the chain from head, counted up to a bound.

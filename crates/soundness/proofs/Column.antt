@@ -1,38 +1,36 @@
--- The chain of column j, walked after those before it: the walk's test is that the chain can be walked and holds the definition's rows and multiplicities
--- (fit-is). So a walk that is cut means that the tables are not sound (column-cut), and one that ended found the column (column-ended). Before that: what
--- soundness says of the pool and of each column, and the walked chains as the pool's own record. Assumes nothing.
+-- The chain of column j, walked after those before it: the walk's test is that the chain ends, holds the definition's rows and multiplicities (fits-held), and
+-- with those before has no more records than there are. So a walk that is cut means that the tables are not sound (column-cut), and one that ended found
+-- the column (column-ended). Before that: what soundness says of the pool and of each column. Assumes nothing.
 use mathlib.Core.Path.{_≡_, refl, sym, ap, subst, _∙_}
 use mathlib.Core.Logic.{inl, inr}
-use mathlib.Core.Bool.{Bool, true, false, _&&_, true≢false}
-use mathlib.Core.List.{List, _∷_}
+use mathlib.Core.Bool.{Bool, true, false, _&&_}
+use mathlib.Core.List.{List, _∷_, _++_}
 use Prim.Native.Nat.{ℕ, zero, suc, _+_, _-_, _≤_, _<_}
 use native.Mathlib.Omega.{arith}
 use lib.Dec.{eqb}
-use lib.ListN.{length, drop}
+use lib.ListN.{length, take, drop}
 use lib.Seq.{split-at}
 use Rattle.lists.specs.Lists.{at, same, valuesAt}
 use Rattle.lists.proofs.Tests.{cases, eq-or-ne, and-both, both-and, refute}
-use Rattle.workspace.specs.Layout.{factorMarks}
 use Rattle.workspace.specs.Regions.{region}
 use Rattle.workspace.proofs.Regions.{region-length}
 use Rattle.symbolic.specs.Columns.{Column}
 use Rattle.symbolic.specs.Factor.{FactorColumn, factorOf, columnAt, patternOf, multiplicitiesOf}
-use Rattle.pool.specs.declared.Walk.{Walk}
-use Rattle.pool.specs.declared.Walk.the-variants.{Ended, Cut}
-use Rattle.pool.specs.Whole.{isWhole}
-use Rattle.pool.specs.Walks.{walks, walkAnswer}
-use Rattle.pool.proofs.Marks.{mark-length}
-use Rattle.pool.proofs.Walking.{walked-cut}
-use Rattle.pool.proofs.Reading.{Reading, reading-cut}
-use Rattle.pool.specs.Whole.{chains}
+use Rattle.pool.specs.declared.Rec.{Rec}
+use Rattle.pool.specs.declared.Chain.{Chain}
+use Rattle.pool.specs.declared.Chain.the-variants.{Ended, Cut}
+use Rattle.pool.specs.Chains.{Linked}
+use Rattle.pool.specs.Whole.{chains, isWhole, Pool}
+use Rattle.pool.specs.Ends.{lastFrom, chainAnswer}
+use Rattle.pool.proofs.Whole.{chains-mid-length, pool-linked, whole-pool}
 use Rattle.book.specs.Book as book
 use Rattle.tables.specs.Stored.{Stored, recordsOf, holdsColumn, holdsFrom, freeZero, isSoundFor}
 use Rattle.soundness.specs.Fitting.{fits}
 use Rattle.counting.specs.Given.{Counted, givenIn}
-use Rattle.soundness.specs.Checking.{marksIn, chainFits, Checked}
-use Rattle.soundness.specs.State.{liveIn, walked, Walked, State}
+use Rattle.soundness.specs.Checking.{chainFits, Checked}
+use Rattle.soundness.specs.State.{liveIn, walked, State}
 use Rattle.soundness.proofs.Fitting.{fits-same}
-use Rattle.counting.proofs.Given.{keep-region}
+use Rattle.soundness.proofs.Checking.{FitParts, fit-parts, fit-make}
 use Rattle.soundness.proofs.Ready.{ready-counters}
 
 -- ---- what soundness says
@@ -65,30 +63,13 @@ sound-parts cs s e =
     let u : (w ≡ true) × (freeZero s ≡ true) = and-both w (freeZero s) (t .0) in
     record { whole = u .0; free-zero = u .1; holds = λ c p q. holds-at s L 1 (length (s .heads)) (t .1) c p (omega arith) }
 
--- ---- the walked chains
-
-pub reading-of : {s : Stored} {marks : List ℕ} {j met : ℕ} (c : Walked s marks j met) → Reading (s .next) (c .marks₀) 0 (walked s j) marks met
-reading-of {s} {marks} {j} {met} c =
-    record {
-      linked = c .linked;
-      counted = omega (arith, c .counted);
-      within = c .within;
-      long = ap length (c .marked) ∙ mark-length (c .marks₀) (chains (s .next) (walked s j));
-      marked = c .marked;
-      unmarked = c .unmarked;
-    }
-
--- where the pool is whole, the next chain can be walked
-pub whole-walks : {s : Stored} {marks : List ℕ} {j met : ℕ} → Walked s marks j met → 1 ≤ j → j ≤ length (s .heads) → isWhole (s .next) (s .heads) (s .free) ≡ true →
-    walks (s .next) marks met (at (s .heads) j) ≡ true
-whole-walks {s} {marks} {j} {met} c p q e =
-    elim (cases (walks (s .next) marks met (at (s .heads) j))) [
-      | inl t ↦ t
-      | inr t ↦
-          absurd (true≢false (sym e ∙
-          reading-cut (c .none) (s .heads) (walked s j) (drop (suc (j - 1)) (s .heads)) (ap (λ (l : List ℕ). s .free ∷ l) (split-at (s .heads) (j - 1) 0 (omega arith))) (reading-of c)
-          (walked-cut {ms = marks} t) refl))
-    ]
+-- in a whole pool, a column and those before it have no more records than there are
+pub pool-room : (s : Stored) (j met : ℕ) → Pool (s .next) (s .heads) (s .free) → met ≡ length (chains (s .next) (walked s j)) → 1 ≤ j → j ≤ length (s .heads) →
+    met + length (recordsOf s j) ≤ length (s .next)
+pool-room s j met p e low high =
+    let rest : List ℕ = drop (suc (j - 1)) (s .heads) in
+    let cut : s .heads ≡ take (j - 1) (s .heads) ++ (at (s .heads) j ∷ rest) = split-at (s .heads) (j - 1) 0 (omega arith) in
+    omega (arith, p .size, ap (λ (l : List ℕ). length (chains (s .next) l)) cut, chains-mid-length (s .next) (take (j - 1) (s .heads)) (at (s .heads) j) rest)
 
 -- ---- column j
 
@@ -97,57 +78,60 @@ abbrev pub entriesHeld : Stored → (j : ℕ) → FactorColumn → Bool
 entriesHeld s j f = same (valuesAt (s .rows) (recordsOf s j)) (patternOf f) && same (valuesAt (s .counts) (recordsOf s j)) (multiplicitiesOf f)
 
 -- a walk that ended, after the rows given were counted in w₁
-pub record Found (s : Stored) (b : book.Book) (w w₁ : List ℕ) (j met n : ℕ) : Type 0 where
+pub record Found (s : Stored) (b : book.Book) (w₁ : List ℕ) (j met n last : ℕ) : Type 0 where
   pub fitted : chainFits (s .rows) (s .counts) (s .next) w₁ (length (s .heads)) met (at (s .heads) j) ≡ true
   pub count : n ≡ met + length (recordsOf s j)
-  pub walks-here : walks (s .next) (marksIn w (length (s .heads)) (length (s .next))) met (at (s .heads) j) ≡ true
+  pub within : n ≤ length (s .next)
+  pub last-is : last ≡ lastFrom (s .next) (at (s .heads) j)
+  pub linked : Linked (s .next) (at (s .heads) j) (recordsOf s j)
   pub held : entriesHeld s j (columnAt (factorOf (length (s .heads)) (liveIn s b)) j) ≡ true
 
 module _ {s : Stored} {b : book.Book} {w : List ℕ} {j met : ℕ} (st : State s b w j met) (inside : j ≤ length (s .heads))
-    {w₁ : List ℕ} {given : ℕ} (d : Counted (length (s .heads)) (length (s .next)) w w₁ (givenIn (b .heads) (b .rows) (b .next) w (length (s .heads)) (length (s .next)) j) given) where
+    {w₁ : List ℕ} {size : ℕ} (d : Counted (length (s .heads)) (length (s .next)) w w₁ (givenIn (b .heads) (b .rows) (b .next) w (length (s .heads)) (length (s .next)) j) size) where
   abbrev m : ℕ
   m = length (s .heads)
-
-  abbrev f : ℕ
-  f = length (s .next)
 
   abbrev column : FactorColumn
   column = columnAt (factorOf (length (s .heads)) (liveIn s b)) j
 
-  pub marks-same : marksIn w₁ m f ≡ marksIn w m f
-  marks-same = keep-region m f (d .only) (omega (arith, st .sizes .long)) (factorMarks m) f (omega arith) (omega arith)
+  abbrev head : ℕ
+  head = at (s .heads) j
 
-  abbrev test : Bool
-  test = entriesHeld s j column
-
-  fit-is : chainFits (s .rows) (s .counts) (s .next) w₁ m met (at (s .heads) j) ≡ (walks (s .next) (marksIn w m f) met (at (s .heads) j) && test)
-  fit-is =
-      let t : fits (s .rows) (s .counts) m (region w₁ 0 m) (recordsOf s j) ≡ test =
+  fits-held : fits (s .rows) (s .counts) m (region w₁ 0 m) (recordsOf s j) ≡ entriesHeld s j column
+  fits-held =
       fits-same (s .rows) (s .counts) m (region w₁ 0 m) (recordsOf s j) (region-length w₁ 0 m (omega (arith, st .sizes .long, d .only .same-length))) ∙
-      ap (λ (ns : List ℕ). same (valuesAt (s .rows) (recordsOf s j)) (patternOf (record { counts = ns; parent = 0 })) && same (valuesAt (s .counts) (recordsOf s j)) (multiplicitiesOf (record { counts = ns; parent = 0 })))
-      (ready-counters st inside d) in
-      rw (marks-same, t) refl
+      ap (λ (ns : List ℕ). entriesHeld s j (record { counts = ns; parent = 0 })) (ready-counters st inside d)
 
-  module _ {w₂ : List ℕ} {a : Walk} (k : Checked (s .rows) (s .counts) (s .next) w₁ w₂ m met (at (s .heads) j) a) where
+  module _ {w₂ : List ℕ} {a : Chain} (k : Checked (s .rows) (s .counts) (s .next) w₁ w₂ m met (at (s .heads) j) a) where
     pub column-cut : a ≡ Cut → isSoundFor (liveIn s b) s ≡ false
     column-cut e =
         refute (isSoundFor (liveIn s b) s) (λ t.
         (let p : SoundParts (liveIn s b) s = sound-parts (liveIn s b) s t in
-        let h : (test ≡ true) × (eqb (at (s .parents) j) (column .parent) ≡ true) = and-both test (eqb (at (s .parents) j) (column .parent)) (p .holds j (st .low) inside) in
-        let y : chainFits (s .rows) (s .counts) (s .next) w₁ m met (at (s .heads) j) ≡ true = fit-is ∙ both-and (whole-walks (st .chains-walked) (st .low) inside (p .whole)) (h .0) in
-        let n : ℕ = met + length (recordsOf s j) in
-        let z : Cut ≡ walkAnswer true n = sym e ∙ k .answer ∙ ap (λ (x : Bool). walkAnswer x n) y in
+        let pool : Pool (s .next) (s .heads) (s .free) = whole-pool (s .next) (s .heads) (s .free) (p .whole) in
+        let h : (entriesHeld s j column ≡ true) × (eqb (at (s .parents) j) (column .parent) ≡ true) =
+        and-both (entriesHeld s j column) (eqb (at (s .parents) j) (column .parent)) (p .holds j (st .low) inside) in
+        let y : chainFits (s .rows) (s .counts) (s .next) w₁ m met head ≡ true =
+        fit-make (s .rows) (s .counts) (s .next) w₁ m met head (pool-linked pool j (st .low) inside) (fits-held ∙ h .0) (pool-room s j met pool (st .chains-walked .counted) (st .low) inside) in
+        let z : Cut ≡ chainAnswer true met (s .next) head = sym e ∙ k .answer ∙ ap (λ (x : Bool). chainAnswer x met (s .next) head) y in
         let o : _≡_ {A = ℕ} 0 1 = cc in omega arith))
 
-    pub column-ended : {n : ℕ} → a ≡ Ended n → Found s b w w₁ j met n
-    column-ended {n} e =
-        let l : ℕ = met + length (recordsOf s j) in
-        elim (cases (chainFits (s .rows) (s .counts) (s .next) w₁ m met (at (s .heads) j))) [
+    pub column-ended : {n : ℕ} {last : Rec} → a ≡ Ended n last → Found s b w₁ j met n (last .0)
+    column-ended {n} {last} e =
+        elim (cases (chainFits (s .rows) (s .counts) (s .next) w₁ m met head)) [
           | inl y ↦
-              let z : Ended n ≡ walkAnswer true l = sym e ∙ k .answer ∙ ap (λ (x : Bool). walkAnswer x l) y in
-              let t : (walks (s .next) (marksIn w m f) met (at (s .heads) j) ≡ true) × (test ≡ true) = and-both (walks (s .next) (marksIn w m f) met (at (s .heads) j)) test (sym fit-is ∙ y) in
-              record { fitted = y; count = cc; walks-here = t .0; held = t .1 }
+              let z : Ended n last ≡ chainAnswer true met (s .next) head = sym e ∙ k .answer ∙ ap (λ (x : Bool). chainAnswer x met (s .next) head) y in
+              let count : n ≡ met + length (recordsOf s j) = cc in
+              let same-last : last ≡ record { 0 = lastFrom (s .next) head } = cc in
+              let p : FitParts (s .rows) (s .counts) (s .next) w₁ m met head = fit-parts (s .rows) (s .counts) (s .next) w₁ m met head y in
+              record {
+                fitted = y;
+                count = count;
+                within = omega (arith, p .room);
+                last-is = ap (λ (x : Rec). x .0) same-last;
+                linked = p .linked;
+                held = sym fits-held ∙ p .fitting;
+              }
           | inr y ↦
-              let z : Ended n ≡ walkAnswer false l = sym e ∙ k .answer ∙ ap (λ (x : Bool). walkAnswer x l) y in
+              let z : Ended n last ≡ chainAnswer false met (s .next) head = sym e ∙ k .answer ∙ ap (λ (x : Bool). chainAnswer x met (s .next) head) y in
               absurd (let o : _≡_ {A = ℕ} 0 1 = cc in omega arith)
         ]

@@ -15,10 +15,10 @@ use Rattle.lists.proofs.Tests.{eq-or-ne, lt-or-le, and-both, both-and, both-way
 use Rattle.lists.proofs.Member.{same-eq, same-self}
 use Rattle.lists.proofs.Place.{put-length, at-put-same, at-put-other}
 use Rattle.symbolic.specs.Factor.{patternFrom, nonZero}
-use Rattle.counting.specs.Counting.{total}
+use Rattle.counting.specs.Counting.{total, filled}
 use Rattle.soundness.specs.Fitting.{entryFits, passes, struck, fits}
 use Rattle.soundness.specs.Checking.{EntryChecked}
-use Rattle.counting.proofs.Tallies.{total-place}
+use Rattle.counting.proofs.Tallies.{total-place, filled-lower, filled-zero, filled-none, filled-total}
 
 -- ---- record after record
 
@@ -232,3 +232,29 @@ module _ (rs vs : List ℕ) where
       let u : (passes rs vs m ns 0 ds ≡ true) × (Left ns ds ≡ 0) =
       pattern-fits m ns 0 ds l (λ y a b. absurd (omega arith)) (same-eq (valuesAt rs ds) (patternFrom 1 ns) (t .0)) (same-eq (valuesAt vs ds) (nonZero ns) (t .1)) in
       both-and (u .0) (eq-eqb (Left ns ds) 0 (u .1)))
+
+-- ---- as many records as counters
+
+-- each record that fits takes one counter away
+pub passes-filled : (rs vs : List ℕ) (m : ℕ) (ns : List ℕ) (z : ℕ) (ds : List ℕ) → passes rs vs m ns z ds ≡ true → length ds + filled (struck ns (valuesAt rs ds)) ≡ filled ns
+unfolding passes struck valuesAt
+passes-filled rs vs m ns z [] p = omega arith
+passes-filled rs vs m ns z (d ∷ ds) p =
+    let x : ℕ = at rs d in
+    let t : (entryFits m ns z x (at vs d) ≡ true) × (passes rs vs m (put ns x 0) x ds ≡ true) = and-both (entryFits m ns z x (at vs d)) (passes rs vs m (put ns x 0) x ds) p in
+    let f : Entry m ns z x (at vs d) = entry-of m ns z x (at vs d) (t .0) in
+    omega (arith, passes-filled rs vs m (put ns x 0) x ds (t .1), filled-lower ns (x - 1) (λ e. f .some (sym (f .counter) ∙ e)))
+
+-- so records that fit are as many as the counters that are not 0
+pub fits-filled : (rs vs : List ℕ) (m : ℕ) (ns ds : List ℕ) → fits rs vs m ns ds ≡ true → length ds ≡ filled ns
+fits-filled rs vs m ns ds h =
+    let left : List ℕ = struck ns (valuesAt rs ds) in
+    let t : (passes rs vs m ns 0 ds ≡ true) × (eqb (total left) 0 ≡ true) = and-both (passes rs vs m ns 0 ds) (eqb (total left) 0) h in
+    omega (arith, passes-filled rs vs m ns 0 ds (t .0), filled-zero left (λ k l. omega (arith, total-place left k, eqb-true (total left) 0 (t .1))))
+
+-- and as many records that pass leave none
+pub filled-fits : (rs vs : List ℕ) (m : ℕ) (ns ds : List ℕ) → passes rs vs m ns 0 ds ≡ true → length ds ≡ filled ns → ((k : ℕ) → getD (struck ns (valuesAt rs ds)) k 0 ≡ 0) × (fits rs vs m ns ds ≡ true)
+filled-fits rs vs m ns ds p l =
+    let left : List ℕ = struck ns (valuesAt rs ds) in
+    let e : filled left ≡ 0 = omega (arith, passes-filled rs vs m ns 0 ds p) in
+    (filled-none left e, both-and p (eq-eqb (total left) 0 (filled-total left e)))

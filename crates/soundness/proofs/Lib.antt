@@ -1,9 +1,10 @@
 pub mod Fitting
-pub mod Freeing
 pub mod Checking
 pub mod Local
 pub mod Ready
 pub mod Column
 pub mod Closing
+pub mod Storing
+pub mod Columns
 pub mod ReadThrough
 pub mod Preparing

@@ -1,4 +1,4 @@
--- The first steps of the whole pass: the book is read in its region of marks; where it is not sound nothing is (preparing-unsound), and where it is its columns
+-- The first steps of the whole pass: the book is read in its region; where it is not sound nothing is (preparing-unsound), and where it is its columns
 -- can be listed (preparing-list), which leaves all that the columns of L need (preparing-done); then the answer is both (preparing-answer).
 -- Assumes nothing.
 use mathlib.Core.Path.{_≡_, sym, ap, subst, _∙_}
@@ -7,15 +7,14 @@ use mathlib.Core.Bool.{Bool, true, false, _&&_}
 use mathlib.Core.List.{List}
 use Prim.Native.Nat.{ℕ, _+_, _*_, _-_, _≤_}
 use native.Mathlib.Omega.{arith}
-use lib.ListN.{length, List·getD-eq-default}
+use lib.ListN.{length}
 use borrow.Rule.Slice.PartMut.{putMid}
-use Rattle.lists.proofs.Tests.{lt-or-le}
-use Rattle.workspace.specs.Layout.{childHead, factorMarks, bookMarks, columnNext}
+use Rattle.workspace.specs.Layout.{childHead, columnNext}
 use Rattle.workspace.specs.Regions.{cell, region, IsZero, OnlyIn}
-use Rattle.workspace.proofs.Regions.{region-length, region-cell, zero-part, only-trans, only-zero}
+use Rattle.workspace.proofs.Regions.{region-length, zero-part, only-trans, only-zero}
 use Rattle.pool.specs.Chains.{Linked}
-use Rattle.pool.specs.Walks.{NoMarks}
 use Rattle.book.specs.Book as book
+use Rattle.book.specs.Walks.{CanReadThrough as CanReadBook}
 use Rattle.book.proofs.Sound.{Sound, sound-of}
 use Rattle.tables.specs.Stored.{Stored, isSoundFor}
 use Rattle.counting.specs.Counting.{numbered, startIn, CanList, Listed}
@@ -31,43 +30,41 @@ module _ {s : Stored} {b : book.Book} {w : List ℕ} (pre : CanReadThrough s b w
   abbrev f : ℕ
   f = length (s .next)
 
-  module _ (a e : ℕ) (a-is : a ≡ 8 * m + 4 * f + 1024) (e-is : e ≡ a + length (b .next)) where
-    pub preparing-marks : NoMarks (b .next) (region w a (e - a))
-    preparing-marks =
-        let l : length (region w a (e - a)) ≡ e - a = region-length w a (e - a) (omega (arith, pre .long)) in
-        let z : IsZero w a (e - a) = zero-part w (bookMarks m f) (length (b .next)) a (e - a) (pre .marks-zero) (omega arith) (omega arith) in
+  -- the book's region: C places from a on for names, n from c on for last records, which are listed after
+  module _ (a c e : ℕ) (a-is : a ≡ 8 * m + 4 * f + 1024) (c-is : c ≡ a + length (b .next)) (e-is : e ≡ c + length (b .heads)) where
+    pub preparing-book : CanReadBook (b .heads) (b .rows) (b .next) (region w a (e - a))
+    preparing-book =
         record {
-          long = omega arith;
-          zero = λ x. elim (lt-or-le (x - 1) (e - a)) [
-            | inl h ↦ region-cell w a (e - a) (x - 1) h ∙ z (x - 1) h
-            | inr h ↦ List·getD-eq-default (region w a (e - a)) 0 (omega arith)
-          ];
+          sized = pre .booked;
+          room = omega (arith, region-length w a (e - a) (omega (arith, pre .long)));
+          few-records = omega (arith, pre .c-bound);
+          few-ids = omega (arith, pre .n-bound);
         }
 
     module _ (ms : List ℕ) (kept : length ms ≡ length (region w a (e - a))) where
-      marked-only : OnlyIn a (e - a) w (putMid a (e - a) w ms)
-      marked-only = part-only w ms a e (omega arith) (omega (arith, pre .long)) (kept ∙ region-length w a (e - a) (omega (arith, pre .long)))
+      read-only : OnlyIn a (e - a) w (putMid a (e - a) w ms)
+      read-only = part-only w ms a e (omega arith) (omega (arith, pre .long)) (kept ∙ region-length w a (e - a) (omega (arith, pre .long)))
 
       pub preparing-only : WithinWork s b w (putMid a (e - a) w ms)
       preparing-only =
           record {
-            same-length = marked-only .same-length;
-            outside = λ x o. marked-only .outside x (elim o [ inl h ↦ absurd (omega arith) | inr h ↦ inr (omega arith) ]);
+            same-length = read-only .same-length;
+            outside = λ x o. read-only .outside x (elim o [ inl h ↦ absurd (omega arith) | inr h ↦ inr (omega arith) ]);
           }
 
       pub preparing-unsound : (r : Bool) → r ≡ book.isSound m b → r ≡ false → false ≡ areSound s b
       preparing-unsound r p q = sym (ap (λ (t : Bool). t && isSoundFor (liveIn s b) s) (sym p ∙ q))
 
-      -- a region that was zero, before the book's marks
-      zero-before : (c l : ℕ) → c + l ≤ 8 * m + f → IsZero (putMid a (e - a) w ms) c l
-      zero-before c l h =
-          only-zero marked-only c l (inr (omega arith)) (zero-part w 0 (8 * m + f) c l (pre .front-zero) (omega arith) (omega arith))
+      -- a region that was zero
+      zero-before : (x l : ℕ) → x + l ≤ 4 * m + 1 → IsZero (putMid a (e - a) w ms) x l
+      zero-before x l h =
+          only-zero read-only x l (inr (omega arith)) (zero-part w 0 (4 * m + 1) x l (pre .front-zero) (omega arith) (omega arith))
 
       module _ (sound : book.isSound (length (s .heads)) b ≡ true) where
         book-sound : Sound m b
         book-sound = sound-of m b sound
 
-        pub preparing-list : CanList (b .heads) (b .rows) (putMid a (e - a) w ms) (3 * m) m e
+        pub preparing-list : CanList (b .heads) (b .rows) (putMid a (e - a) w ms) (3 * m) m c
         preparing-list =
             record {
               next = b .next;
@@ -76,16 +73,16 @@ module _ {s : Stored} {b : book.Book} {w : List ℕ} (pre : CanReadThrough s b w
               heads-in = λ i p q. omega (arith, head-in book-sound i p q, pre .booked);
               rows-in = λ i p q. start-in book-sound i p;
               apart = omega arith;
-              long = omega (arith, pre .long, marked-only .same-length);
+              long = omega (arith, pre .long, read-only .same-length);
               empty = zero-before (3 * m) m (omega arith);
             }
 
-        module _ {x : List ℕ} (listed : Listed (b .heads) (b .rows) (putMid a (e - a) w ms) x (3 * m) m e) where
+        module _ {x : List ℕ} (listed : Listed (b .heads) (b .rows) (putMid a (e - a) w ms) x (3 * m) m c) where
           x-long : length x ≡ length w
-          x-long = listed .only .same-length ∙ marked-only .same-length
+          x-long = listed .only .same-length ∙ read-only .same-length
 
-          x-zero : (c l : ℕ) → c + l ≤ 3 * m → IsZero x c l
-          x-zero c l h i q = listed .only .outside (c + i) (inl (omega arith)) (inl (omega arith)) ∙ zero-before c l (omega arith) i q
+          x-zero : (y l : ℕ) → y + l ≤ 3 * m → IsZero x y l
+          x-zero y l h i q = listed .only .outside (y + i) (inl (omega arith)) (inl (omega arith)) ∙ zero-before y l (omega arith) i q
 
           pub preparing-done : Prepared s b x
           preparing-done =
@@ -103,10 +100,10 @@ module _ {s : Stored} {b : book.Book} {w : List ℕ} (pre : CanReadThrough s b w
                 sound = sound;
                 zero = x-zero 0 m (omega arith);
                 heads-zero = x-zero (childHead m) m (omega arith);
-                marks-zero = λ i h.
-                    listed .only .outside (factorMarks m + i) (inr (omega arith)) (inl (omega arith)) ∙ zero-before (factorMarks m) f (omega arith) i h;
+                start-zero =
+                    listed .only .outside (4 * m + 0) (inr (omega arith)) (inl (omega arith)) ∙ zero-before (4 * m) 1 (omega arith) 0 (omega arith);
                 columns = λ v p q.
-                    (let k : e ≡ columnNext m f (length (b .next)) = omega arith in
+                    (let k : c ≡ columnNext m f (length (b .next)) = omega arith in
                     subst (λ (z : ℕ). Linked (region x z (length (b .heads))) (cell x (3 * m) (v - 1)) (numbered (startIn b) v (length (b .heads)))) k (listed .lists (b .next) (pre .booked) v p q));
               }
 

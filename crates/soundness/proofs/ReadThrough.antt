@@ -1,227 +1,185 @@
--- The whole pass. The loop over the columns (ColumnsReading); the state before the first column, after the free chain was walked (first-state); the answer after
--- the last: every column holds and every chain was walked, so the tables are sound just where as many records were met as there are (last-answer); and
--- the book read first, its columns listed (Prepared). Assumes nothing.
+-- The end of the pass. What is asked of the records that the columns do not have, test by test (free-rows, free-pairs, free-all). After the last column: every
+-- chain ends and every column holds, so rows are from 1 on in their records (rowed), and the tables are sound exactly if the pool is closed and free records
+-- have multiplicity 0 (sound-closed, closed-sound). Then the answers (last-shared, last-answer), with what of the work table stays. Assumes nothing.
 use mathlib.Core.Path.{_≡_, refl, sym, ap, subst, _∙_}
 use mathlib.Core.Logic.{inl, inr, _≢_}
-use mathlib.Core.Bool.{Bool, true, false, _&&_, true≢false}
-use mathlib.Core.List.{List, [], _∷_}
-use Prim.Native.Nat.{ℕ, _+_, _*_, _-_, _≤_, _<_}
+use mathlib.Core.Bool.{Bool, true, false, _&&_, false≢true}
+use mathlib.Core.List.{List}
+use Prim.Native.Nat.{ℕ, suc, _+_, _*_, _-_, _≤_, _<_}
 use native.Mathlib.Omega.{arith}
-use lib.Dec.{eqb}
-use lib.ListN.{length, getD, take, set, length-set, List·getD-eq-default}
-use lib.Seq.{getD-set-same, getD-set-other, take-all}
+use lib.ListN.{length, getD, take}
+use lib.Seq.{take-all}
 use borrow.Rule.Slice.PartMut.{putMid}
-use Rattle.lists.specs.Lists.{at}
-use Rattle.lists.proofs.Tests.{lt-or-le, refute}
-use Rattle.workspace.specs.Layout.{childHead, childNext, columnHead, stashStart, factorMarks, columnNext}
-use Rattle.workspace.specs.Regions.{region, Outside, OnlyIn}
-use Rattle.workspace.proofs.Regions.{region-length, region-cell, region-ext, only-refl, only-trans}
-use Rattle.symbolic.specs.Factor.{factorOf}
-use Rattle.pool.specs.declared.Walk.{Walk}
-use Rattle.pool.specs.declared.Walk.the-variants.{Ended, Cut}
-use Rattle.pool.specs.Whole.{isWhole}
-use Rattle.pool.specs.Walks.{walks, NoMarks}
-use Rattle.pool.specs.Walks as pool-walks
-use Rattle.pool.proofs.Walking.{walked-cut}
-use Rattle.pool.proofs.Reading.{Reading, reading-one, reading-end, reading-free-cut}
+use Rattle.lists.specs.Lists.{Mem, at, times, valuesAt, allZero}
+use Rattle.lists.proofs.Tests.{and-both, both-and, both-ways, refute}
+use Rattle.lists.proofs.Times.{times-mem}
+use Rattle.lists.proofs.Rising.{rises-in}
+use Rattle.workspace.specs.Layout.{lastsAt, namesAt, piecesAt}
+use Rattle.workspace.specs.Regions.{region, OnlyIn}
+use Rattle.workspace.proofs.Regions.{region-length, only-wider, only-trans}
+use Rattle.symbolic.specs.Factor.{FactorColumn, factorOf, columnAt}
+use Rattle.symbolic.proofs.Patterns.{pattern-within-rows}
+use Rattle.pool.specs.Chains.{chain}
+use Rattle.pool.specs.Whole.{chains, isWhole, AllLinked, Pool}
+use Rattle.pool.specs.Ends.{lasts, NoneTwice, Decides}
+use Rattle.pool.specs.Free.{FreeHas, Closed, zeroPairs}
+use Rattle.pool.proofs.Whole.{whole-pool}
+use Rattle.pool.proofs.Apart.{chains-find}
+use Rattle.pool.proofs.Closed.{Rowed, closed-whole, whole-closed, zero-pairs, zero-pairs-back}
+use Rattle.ends.specs.Naming.{Named, CanCompare}
+use Rattle.free_chain.specs.Pieces.{CanWalk}
+use Rattle.free_chain.proofs.Walking.{decides-no}
 use Rattle.book.specs.Book as book
-use Rattle.pool.specs.Walks.{WalkedWith}
-use Rattle.pool.proofs.Testing.{ended-walked, cut-unwalked}
-use Rattle.tables.specs.Stored.{Stored, freeZero, holdsFrom, isSoundFor}
-use Rattle.soundness.specs.Checking.{CanCheckFree, zeroChain, marksIn}
-use Rattle.soundness.specs.State.{liveIn, walked, Walked, State, WithinWork, CanReadColumn, ColumnsRead, Prepared, FactorRead}
-use Rattle.counting.specs.Counting.{startIn}
-use Rattle.counting.proofs.Linking.{listed-start}
-use Rattle.counting.proofs.Parts.{part-only, part-region}
-use Rattle.soundness.proofs.Column.{holds-make, SoundParts, sound-parts, reading-of}
-use Rattle.soundness.proofs.Closing.{listed-keep}
+use Rattle.book.proofs.Sound.{values-mem}
+use Rattle.tables.specs.Stored.{Stored, recordsOf, holdsFrom, freeZero, isSoundFor}
+use Rattle.counting.proofs.Parts.{part-only}
+use Rattle.soundness.specs.Checking.{CanReadFree, FreeRead}
+use Rattle.soundness.specs.State.{liveIn, walked, State, WithinWork, FactorRead}
+use Rattle.soundness.proofs.Ready.{HeldColumn, held}
+use Rattle.soundness.proofs.Column.{holds-make, SoundParts, sound-parts}
 
--- ---- the columns, one after another
+-- ---- the records that the columns do not have
 
-pub record ColumnsReading (s : Stored) (b : book.Book) (w₀ w : List ℕ) (n i : ℕ) : Type 0 where
-  pub inside : i ≤ length (s .heads)
-  pub state : State s b w (i + 1) n
-  pub only : WithinWork s b w₀ w
+module _ {rows counts next : List ℕ} {free k : ℕ} where
+  pub free-rows : {z : ℕ} → z ≡ times 0 rows → z ≢ k → Decides (FreeRead rows counts next free k) false
+  free-rows e d = decides-no (λ r. d (e ∙ r .rows-zero))
 
-module _ {s : Stored} {b : book.Book} {w₀ : List ℕ} where
-  pub columns-start : {met : ℕ} → State s b w₀ 1 met → ColumnsReading s b w₀ w₀ met 0
-  columns-start st = record { inside = omega arith; state = st; only = only-refl }
+  pub free-pairs : {z : ℕ} → z ≡ zeroPairs rows counts → z ≢ k → Decides (FreeRead rows counts next free k) false
+  free-pairs e d = decides-no (λ r. d (e ∙ r .both-zero))
 
-  module _ {w : List ℕ} {n i : ℕ} (c : ColumnsReading s b w₀ w n i) where
-    pub columns-can : i < length (s .heads) → CanReadColumn s b w (i + 1) n
-    columns-can h = record { state = c .state; inside = omega arith }
+  pub free-all : {y z : ℕ} {a : Bool} → y ≡ times 0 rows → y ≡ k → z ≡ zeroPairs rows counts → z ≡ k → Decides (FreeHas rows next free k) a → Decides (FreeRead rows counts next free k) a
+  free-all e p f q d =
+      record {
+        yes = λ t. record { rows-zero = sym e ∙ p; both-zero = sym f ∙ q; has = d .yes t };
+        no = λ r. d .no (r .has);
+      }
 
-    module _ {x : List ℕ} {a : Walk} (r : ColumnsRead s b w x (i + 1 + 1) a) where
-      pub columns-cut : a ≡ Cut → ColumnsRead s b w₀ x (length (s .heads) + 1) Cut
-      columns-cut e =
-          record { only = only-trans (c .only) (r .only); cut = λ _. r .cut e; next = λ l t. absurd (let z : _≡_ {A = ℕ} 0 1 = cc in omega arith) }
+module _ {rows counts next w : List ℕ} {m : ℕ} (pre : CanReadFree rows counts next w m) where
+  pub free-can : CanWalk rows next
+  free-can = record { same-size = pre .rows-long; small = omega (arith, pre .f-bound) }
 
-      pub columns-next : {k : ℕ} → i < length (s .heads) → a ≡ Ended k → ColumnsReading s b w₀ x k (i + 1)
-      columns-next {k} h e = record { inside = omega arith; state = r .next k e; only = only-trans (c .only) (r .only) }
+  pub free-only : (a e : ℕ) → a ≡ 8 * m + 2 * length next → e ≡ a + 2 * length next → (ms : List ℕ) → length ms ≡ length (region w a (e - a)) →
+      OnlyIn (piecesAt m (length next)) (2 * length next) w (putMid a (e - a) w ms)
+  free-only a e p q ms kept =
+      only-wider (piecesAt m (length next)) (2 * length next) (omega arith) (omega arith)
+      (part-only w ms a e (omega arith) (omega (arith, pre .long)) (kept ∙ region-length w a (e - a) (omega (arith, pre .long))))
 
-    pub columns-end : length (s .heads) ≤ i → ColumnsRead s b w₀ w (length (s .heads) + 1) (Ended n)
-    columns-end h =
-        let q : i ≡ length (s .heads) = omega (arith, c .inside) in
-        record {
-          only = c .only;
-          cut = λ e. absurd (let z : _≡_ {A = ℕ} 0 1 = cc in omega arith);
-          next = λ l e. (let t : n ≡ l = cc in subst (State s b w (length (s .heads) + 1)) t (subst (λ (k : ℕ). State s b w (k + 1) n) q (c .state)));
-        }
+-- ---- after the last column
 
--- ---- the free chain, and the state before the first column
-
-module _ {s : Stored} {b : book.Book} {w : List ℕ} (pre : Prepared s b w) where
+module _ {s : Stored} {b : book.Book} {w : List ℕ} {n : ℕ} (st : State s b w (length (s .heads) + 1) n) where
   abbrev m : ℕ
   m = length (s .heads)
 
   abbrev f : ℕ
   f = length (s .next)
 
-  module _ (a e : ℕ) (a-is : a ≡ 8 * m) (e-is : e ≡ a + f) where
-    part-is : region w a (e - a) ≡ marksIn w m f
-    part-is = let q : e - a ≡ f = omega arith in rw (q, a-is) refl
+  abbrev L : List FactorColumn
+  L = factorOf (length (s .heads)) (liveIn s b)
 
-    pub first-can : CanCheckFree (s .rows) (s .counts) (s .next) (region w a (e - a))
-    first-can =
+  last-number : length (s .heads) + 1 - 1 ≡ length (s .heads)
+  last-number = omega arith
+
+  heads-are : walked s (length (s .heads) + 1) ≡ s .heads
+  heads-are = ap (λ (i : ℕ). take i (s .heads)) last-number ∙ take-all (length (s .heads)) (s .heads) (omega arith)
+
+  all-linked : AllLinked (s .next) (s .heads)
+  all-linked = subst (AllLinked (s .next)) heads-are (st .chains-walked .linked)
+
+  counted : n ≡ length (chains (s .next) (s .heads))
+  counted = st .chains-walked .counted ∙ ap (λ (l : List ℕ). length (chains (s .next) l)) heads-are
+
+  lasts-are : region w (lastsAt m) m ≡ lasts (s .next) (s .heads)
+  lasts-are = sym (ap (region w (lastsAt m)) last-number) ∙ st .chains-walked .lasts-are ∙ ap (lasts (s .next)) heads-are
+
+  holds-all : holdsFrom s L 1 m ≡ true
+  holds-all = holds-make s L 1 m (λ j p h. st .holds j p (omega arith))
+
+  -- a record of a column has one of the definition's rows
+  rowed : Rowed (s .rows) (s .next) (s .heads)
+  rowed x p =
+      let t : (i : ℕ) × (i < m) × (1 ≤ times x (chain (s .next) (getD (s .heads) i 0))) = chains-find (s .next) (s .heads) x p in
+      let c : ℕ = suc (t .0) in
+      let e : c - 1 ≡ t .0 = omega arith in
+      let h : HeldColumn s (columnAt L c) c = held s (columnAt L c) c (st .holds c (omega arith) (omega (arith, t .1))) in
+      let here : Mem x (recordsOf s c) =
+      times-mem x (recordsOf s c) (subst (λ (i : ℕ). 1 ≤ times x (chain (s .next) (getD (s .heads) i 0))) (sym e) (t .2)) in
+      rises-in 1 m (subst (λ (l : List ℕ). Mem (at (s .rows) x) l) (h .rows-are) (values-mem (s .rows) here)) (pattern-within-rows m (liveIn s b) c (omega arith) (omega (arith, t .1))) .0
+
+  -- ---- sound, and closed with zero multiplicities
+
+  sound-closed : isSoundFor (liveIn s b) s ≡ true → Closed (s .rows) (s .next) (s .heads) (s .free) × (zeroPairs (s .rows) (s .counts) ≡ times 0 (s .rows))
+  sound-closed e =
+      let p : SoundParts (liveIn s b) s = sound-parts (liveIn s b) s e in
+      let x : Bool = allZero (valuesAt (s .rows) (chain (s .next) (s .free))) in
+      let y : Bool = allZero (valuesAt (s .counts) (chain (s .next) (s .free))) in
+      let z : (x ≡ true) × (y ≡ true) = and-both x y (p .free-zero) in
+      let pool : Pool (s .next) (s .heads) (s .free) = whole-pool (s .next) (s .heads) (s .free) (p .whole) in
+      (whole-closed (st .sizes .stored .rows-long) all-linked rowed (p .whole) (z .0), zero-pairs-back (s .rows) (s .counts) (st .sizes .stored .rows-long) (st .sizes .stored .counts-long) pool rowed (z .0) (z .1))
+
+  closed-sound : Closed (s .rows) (s .next) (s .heads) (s .free) → zeroPairs (s .rows) (s .counts) ≡ times 0 (s .rows) → isSoundFor (liveIn s b) s ≡ true
+  closed-sound c e =
+      let t : (isWhole (s .next) (s .heads) (s .free) ≡ true) × (allZero (valuesAt (s .rows) (chain (s .next) (s .free))) ≡ true) = closed-whole (st .sizes .stored .rows-long) all-linked rowed c in
+      let pool : Pool (s .next) (s .heads) (s .free) = whole-pool (s .next) (s .heads) (s .free) (t .0) in
+      let z : allZero (valuesAt (s .counts) (chain (s .next) (s .free))) ≡ true =
+      zero-pairs (s .rows) (s .counts) (st .sizes .stored .rows-long) (st .sizes .stored .counts-long) pool rowed (t .1) e in
+      both-and (both-and (t .0) (both-and (t .1) z)) holds-all
+
+  -- ---- the answers
+
+  pub last-compare : CanCompare w (6 * m) (8 * m) m
+  last-compare =
+      record {
+        f = f;
+        named = subst (λ (k : ℕ). Named w (lastsAt m) k (namesAt m) f) last-number (st .chains-walked .named);
+        lasts-in = omega (arith, st .sizes .long);
+        names-in = omega (arith, st .sizes .long);
+        few = omega (arith, st .sizes .m-bound);
+      }
+
+  pub last-within : n ≤ length (s .next)
+  last-within = st .chains-walked .within
+
+  pub last-can : CanReadFree (s .rows) (s .counts) (s .next) w (length (s .heads))
+  last-can =
+      record {
+        rows-long = st .sizes .stored .rows-long;
+        counts-long = st .sizes .stored .counts-long;
+        m-bound = st .sizes .m-bound;
+        f-bound = st .sizes .f-bound;
+        long = omega (arith, st .sizes .long);
+      }
+
+  module _ {w₀ : List ℕ} (only : WithinWork s b w₀ w) {a : Bool} (apart : Decides (NoneTwice (region w (6 * length (s .heads)) (length (s .heads)))) a) where
+    -- two columns share a record
+    pub last-shared : a ≡ false → FactorRead s b w₀ w false
+    last-shared e =
         record {
-          rows-long = pre .sizes .stored .rows-long;
-          counts-long = pre .sizes .stored .counts-long;
-          marks-long = omega (arith, region-length w a (e - a) (omega (arith, pre .sizes .long)));
+          only = only;
+          answer = sym (refute (isSoundFor (liveIn s b) s) (λ t.
+              false≢true (sym e ∙ apart .no (subst NoneTwice (sym lasts-are) (sound-closed t .0 .apart)))));
         }
 
-    no-marks : NoMarks (s .next) (marksIn w m f)
-    no-marks =
-        let l : length (marksIn w m f) ≡ f = region-length w (factorMarks m) f (omega (arith, pre .sizes .long)) in
+    pub last-answer : {y : List ℕ} {c : Bool} → a ≡ true → Decides (FreeRead (s .rows) (s .counts) (s .next) (s .free) (length (s .next) - n)) c →
+        OnlyIn (piecesAt (length (s .heads)) (length (s .next))) (2 * length (s .next)) w y → FactorRead s b w₀ y c
+    last-answer {y} {c} e d o =
         record {
-          long = omega arith;
-          zero = λ x. elim (lt-or-le (x - 1) f) [
-            | inl h ↦ region-cell w (factorMarks m) f (x - 1) h ∙ pre .marks-zero (x - 1) h
-            | inr h ↦ List·getD-eq-default (marksIn w m f) 0 (omega arith)
-          ];
+          only = only-trans only (only-wider 0 _ (omega arith) (omega arith) o);
+          answer = both-ways c (isSoundFor (liveIn s b) s) sound found;
         }
+      where
+        sound : c ≡ true → isSoundFor (liveIn s b) s ≡ true
+        sound t =
+            let r : FreeRead (s .rows) (s .counts) (s .next) (s .free) (length (s .next) - n) = d .yes t in
+            closed-sound
+            (record {
+              apart = subst NoneTwice lasts-are (apart .yes e);
+              size = omega (arith, r .rows-zero, counted, last-within);
+              free-has = subst (FreeHas (s .rows) (s .next) (s .free)) (sym (r .rows-zero)) (r .has);
+            })
+            (r .both-zero ∙ sym (r .rows-zero))
 
-    module _ {ms : List ℕ} {v : Walk} (kept : length ms ≡ length (region w a (e - a))) (walk : WalkedWith (zeroChain (s .rows) (s .counts) (s .next) (s .free)) (s .next) (region w a (e - a)) ms 0 (s .free) v) where
-      free-walk : WalkedWith (zeroChain (s .rows) (s .counts) (s .next) (s .free)) (s .next) (marksIn w m f) ms 0 (s .free) v
-      free-walk = subst (λ (l : List ℕ). WalkedWith (zeroChain (s .rows) (s .counts) (s .next) (s .free)) (s .next) l ms 0 (s .free) v) part-is walk
-
-      marked-only : OnlyIn a (e - a) w (putMid a (e - a) w ms)
-      marked-only = part-only w ms a e (omega arith) (omega (arith, pre .sizes .long)) (kept ∙ region-length w a (e - a) (omega (arith, pre .sizes .long)))
-
-      pub first-only : WithinWork s b w (putMid a (e - a) w ms)
-      first-only =
-          record {
-            same-length = marked-only .same-length;
-            outside = λ x o. marked-only .outside x (elim o [ inl h ↦ absurd (omega arith) | inr h ↦ inr (omega arith) ]);
-          }
-
-      pub first-cut : v ≡ Cut → FactorRead s b w (putMid a (e - a) w ms) false
-      first-cut c =
-          record {
-            only = first-only;
-            answer = sym (refute (isSoundFor (liveIn s b) s) (λ t.
-                (let p : SoundParts (liveIn s b) s = sound-parts (liveIn s b) s t in
-                let u : walks (s .next) (marksIn w m f) 0 (s .free) ≡ false = cut-unwalked free-walk c (p .free-zero) in
-                true≢false (sym (p .whole) ∙ reading-free-cut no-marks (s .heads) (walked-cut {ms = marksIn w m f} u) refl))));
-          }
-
-      module _ {n : ℕ} (ended : v ≡ Ended n) where
-        the-walk : pool-walks.Walked (s .next) (marksIn w m f) ms 0 (s .free) v × (zeroChain (s .rows) (s .counts) (s .next) (s .free) ≡ true)
-        the-walk = ended-walked free-walk ended
-
-        the-reading : Reading (s .next) (marksIn w m f) 0 (s .free ∷ []) ms n
-        the-reading = reading-one (the-walk .0) ended
-
-        pub first-free : freeZero s ≡ true
-        first-free = the-walk .1
-
-        pub first-within : n ≤ f
-        first-within = the-reading .within
-
-        module _ {x : List ℕ} (x-is : x ≡ set (putMid a (e - a) w ms) (4 * m) n) where
-          x-long : length x ≡ length w
-          x-long = ap length x-is ∙ length-set (putMid a (e - a) w ms) (4 * m) n ∙ marked-only .same-length
-
-          x-place : (k : ℕ) → Outside (factorMarks m) f k → k ≢ 4 * m → getD x k 0 ≡ getD w k 0
-          x-place k o d =
-              ap (λ (l : List ℕ). getD l k 0) x-is ∙ getD-set-other (putMid a (e - a) w ms) (4 * m) k n 0 d ∙
-              marked-only .outside k (elim o [ inl h ↦ inl (omega arith) | inr h ↦ inr (omega arith) ])
-
-          x-marks : marksIn x m f ≡ ms
-          x-marks =
-              let q : e - a ≡ f = omega arith in
-              region-ext (putMid a (e - a) w ms) x (factorMarks m) (factorMarks m) f (omega (arith, pre .sizes .long, marked-only .same-length)) (omega (arith, pre .sizes .long, x-long))
-              (λ i h. ap (λ (l : List ℕ). getD l (factorMarks m + i) 0) x-is ∙ getD-set-other (putMid a (e - a) w ms) (4 * m) (factorMarks m + i) n 0 (λ z. omega (arith, pre .sizes .some))) ∙
-              subst (λ (l : ℕ). region (putMid a (e - a) w ms) (factorMarks m) l ≡ ms) q (subst (λ (l : ℕ). region (putMid a (e - a) w ms) l (e - a) ≡ ms) a-is
-              (part-region w ms a e (omega arith) (omega (arith, pre .sizes .long)) (kept ∙ region-length w a (e - a) (omega (arith, pre .sizes .long)))))
-
-          pub second-only : WithinWork s b w x
-          second-only =
-              record { same-length = x-long; outside = λ k o. x-place k (elim o [ inl h ↦ absurd (omega arith) | inr h ↦ inr (omega arith) ]) (elim o [ inl h ↦ absurd (omega arith) | inr h ↦ λ z. omega (arith, pre .sizes .some) ]) }
-
-          pub first-state : State s b x 1 n
-          first-state =
-              record {
-                sizes = record {
-                  stored = pre .sizes .stored;
-                  booked = pre .sizes .booked;
-                  some = pre .sizes .some;
-                  m-bound = pre .sizes .m-bound;
-                  n-bound = pre .sizes .n-bound;
-                  f-bound = pre .sizes .f-bound;
-                  c-bound = pre .sizes .c-bound;
-                  long = omega (arith, pre .sizes .long, x-long);
-                };
-                low = omega arith;
-                high = omega arith;
-                sound = pre .sound;
-                chains-walked = record {
-                  marks₀ = marksIn w m f;
-                  none = no-marks;
-                  linked = the-reading .linked;
-                  counted = omega (arith, the-reading .counted);
-                  within = the-reading .within;
-                  marked = x-marks ∙ the-reading .marked;
-                  unmarked = the-reading .unmarked;
-                };
-                zero = λ i h. x-place (0 + i) (inl (omega arith)) (λ z. omega arith) ∙ pre .zero i h;
-                children =
-                    listed-start x (childHead m) m (childNext m) m (at (s .parents)) (omega (arith, pre .sizes .long, x-long))
-                    (λ i h. x-place (childHead m + i) (inl (omega arith)) (λ z. omega arith) ∙ pre .heads-zero i h);
-                columns =
-                    listed-keep w x (columnHead m) m (columnNext m f (length (b .next))) (length (b .heads)) (startIn b) (length (b .heads))
-                    (region-ext w x (columnNext m f (length (b .next))) (columnNext m f (length (b .next))) (length (b .heads)) (omega (arith, pre .sizes .long)) (omega (arith, pre .sizes .long, x-long))
-                    (λ i h. x-place (columnNext m f (length (b .next)) + i) (inr (omega arith)) (λ z. omega arith)))
-                    (λ i h. x-place (columnHead m + i) (inl (omega arith)) (λ z. omega arith)) (pre .columns);
-                stash = record {
-                  here =
-                      (let z : stashStart m + (1 - 1) ≡ 4 * m = omega arith in
-                      ap (λ (k : ℕ). getD x k 0) z ∙ ap (λ (l : List ℕ). getD l (4 * m) 0) x-is ∙
-                      getD-set-same (putMid a (e - a) w ms) (4 * m) n 0 (omega (arith, pre .sizes .long, marked-only .same-length, pre .sizes .some)));
-                  start = λ c g h. absurd (omega arith);
-                  below = λ c g h. absurd (omega arith);
-                  rows-are = λ c g h. absurd (omega arith);
-                };
-                holds = λ c g h. absurd (omega arith);
-              }
-
-          -- ---- the answer after the last column
-
-          module _ {y : List ℕ} {u : Walk} (r : ColumnsRead s b x y (length (s .heads) + 1) u) where
-            pub last-cut : u ≡ Cut → FactorRead s b w y false
-            last-cut c = record { only = only-trans second-only (r .only); answer = sym (r .cut c) }
-
-            pub last-answer : {k : ℕ} → u ≡ Ended k → FactorRead s b w y (eqb k (length (s .next)))
-            last-answer {k} c =
-                let st : State s b y (length (s .heads) + 1) k = r .next k c in
-                let q : length (s .heads) + 1 - 1 ≡ length (s .heads) = omega arith in
-                let heads-are : walked s (length (s .heads) + 1) ≡ s .free ∷ s .heads = ap (λ (l : List ℕ). s .free ∷ l) (ap (λ (i : ℕ). take i (s .heads)) q ∙ take-all (length (s .heads)) (s .heads) (omega arith)) in
-                let g : Reading (s .next) (st .chains-walked .marks₀) 0 (s .free ∷ s .heads) (marksIn y m f) k =
-                subst (λ (l : List ℕ). Reading (s .next) (st .chains-walked .marks₀) 0 l (marksIn y m f) k) heads-are (reading-of (st .chains-walked)) in
-                let whole : isWhole (s .next) (s .heads) (s .free) ≡ eqb k (length (s .next)) = reading-end (st .chains-walked .none) (s .heads) g in
-                let all : holdsFrom s (factorOf (length (s .heads)) (liveIn s b)) 1 (length (s .heads)) ≡ true =
-                holds-make s (factorOf (length (s .heads)) (liveIn s b)) 1 (length (s .heads)) (λ j p h. st .holds j p (omega arith)) in
-                record { only = only-trans second-only (r .only); answer = sym (rw (whole, first-free, all) (and-true (eqb k (length (s .next))))) }
-              where
-                and-true : (t : Bool) → ((t && true) && true) ≡ t
-                and-true true = refl
-                and-true false = refl
+        found : isSoundFor (liveIn s b) s ≡ true → c ≡ true
+        found t =
+            let p : Closed (s .rows) (s .next) (s .heads) (s .free) × (zeroPairs (s .rows) (s .counts) ≡ times 0 (s .rows)) = sound-closed t in
+            let q : times 0 (s .rows) ≡ length (s .next) - n = omega (arith, p .0 .size, counted) in
+            d .no (record { rows-zero = q; both-zero = p .1 ∙ q; has = subst (FreeHas (s .rows) (s .next) (s .free)) q (p .0 .free-has) })

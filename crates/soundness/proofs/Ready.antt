@@ -4,13 +4,13 @@
 use mathlib.Core.Path.{_≡_, refl, sym, ap, subst, _∙_}
 use mathlib.Core.Bool.{Bool, true, _&&_}
 use mathlib.Core.List.{List, _∷_, _++_}
-use Prim.Native.Nat.{ℕ, zero, suc, _+_, _-_, _≤_, _<_}
+use Prim.Native.Nat.{ℕ, suc, _+_, _-_, _≤_, _<_}
 use native.Mathlib.Omega.{arith}
 use lib.Dec.{eqb}
 use lib.ListN.{length, getD, drop, replicate}
 use lib.Seq.{drop-at}
 use borrow.Author.Tests.{eqb-true}
-use Rattle.lists.specs.Lists.{at, times, sumOf, same, valuesAt, rises}
+use Rattle.lists.specs.Lists.{at, times, same, valuesAt, rises}
 use Rattle.lists.proofs.Tests.{and-both}
 use Rattle.lists.proofs.Member.{same-eq}
 use Rattle.lists.proofs.Times.{times-cons, UpTo}
@@ -26,23 +26,18 @@ use Rattle.pool.proofs.Chains.{linked-chain, linked-self}
 use Rattle.book.specs.Book as book
 use Rattle.book.proofs.Sound.{Sound, sound-of}
 use Rattle.tables.specs.Stored.{Stored, recordsOf, holdsColumn}
-use Rattle.counting.specs.Counting.{numbered, gathered, tallied, total, startIn}
+use Rattle.counting.specs.Counting.{numbered, gathered, tallied, startIn}
 use Rattle.counting.specs.Given.{Counted, childrenIn, stashed, Stashed, bookRows, startingIn, givenIn, CanTallyAll}
 use Rattle.soundness.specs.Checking.{CanCheck}
 use Rattle.soundness.specs.State.{liveIn, State}
 use Rattle.counting.proofs.Numbers.{numbered-in, gathered-ext}
-use Rattle.counting.proofs.Tallies.{tallied-total}
-use Rattle.soundness.proofs.Local.{rows-rise, rows-few, rises-up, Verified, given-up, given-is}
+use Rattle.counting.proofs.Given.{counted-filled}
+use Rattle.soundness.proofs.Local.{rows-rise, rows-few, rises-up, Verified, given-is}
 
 -- ---- a region but its first place
 
 pub region-tail : (w : List ℕ) (a l : ℕ) → a + (1 + l) ≤ length w → region w (a + 1) l ≡ drop 1 (region w a (1 + l))
 region-tail w a l h = sym (ap (drop 1) (region-join w a 1 l) ∙ drop-at (region w a 1) (region w (a + 1) l) 1 (region-length w a 1 (omega arith)))
-
-pub total-zero : (n : ℕ) → total (replicate n 0) ≡ 0
-unfolding sumOf
-total-zero zero = refl
-total-zero (suc n) = omega (arith, total-zero n)
 
 -- ---- a column that was read
 
@@ -190,27 +185,17 @@ module _ {s : Stored} {b : book.Book} {w : List ℕ} {j met : ℕ} (st : State s
         ap (gathered (λ (i : ℕ). book.columnFor b i .rows)) cols-are in
         rw (k, l) refl
 
-    rows-up : UpTo m given-rows
-    rows-up = given-up book-sound (at (s .parents)) (tailOf s) j (st .low) inside read-verified
-
     front-zero : region w 0 m ≡ replicate m 0
     front-zero = zero-region w 0 m (omega (arith, st .sizes .long)) (st .zero)
 
-    module _ {w₁ : List ℕ} {given : ℕ} (d : Counted m f w w₁ (givenIn (b .heads) (b .rows) (b .next) w m f j) given) where
+    module _ {w₁ : List ℕ} {size : ℕ} (d : Counted m f w w₁ (givenIn (b .heads) (b .rows) (b .next) w m f j) size) where
       -- the counters are the definition's multiplicities
       pub ready-counters : region w₁ 0 m ≡ columnAt L j .counts
       ready-counters =
           d .counters ∙ ap (tallied (region w 0 m)) given-same ∙ ap (λ (l : List ℕ). tallied l given-rows) front-zero ∙
           given-is book-sound (at (s .parents)) (tailOf s) j (st .low) inside read-verified
 
-      given-total : given ≡ total (region w₁ 0 m)
-      given-total =
-          let l : length (region w 0 m) ≡ m = region-length w 0 m (omega (arith, st .sizes .long)) in
-          let t : total (tallied (region w 0 m) given-rows) ≡ total (region w 0 m) + length given-rows =
-          tallied-total (region w 0 m) given-rows (subst (λ (n : ℕ). UpTo n given-rows) (sym l) rows-up) in
-          omega (arith, d .number, ap length given-same, ap total (d .counters ∙ ap (tallied (region w 0 m)) given-same), t, ap total front-zero, total-zero m)
-
-      pub ready-check : CanCheck (s .rows) (s .counts) (s .next) w₁ m met given
+      pub ready-check : CanCheck (s .rows) (s .counts) (s .next) w₁ m met size
       ready-check =
           record {
             rows-long = st .sizes .stored .rows-long;
@@ -219,5 +204,5 @@ module _ {s : Stored} {b : book.Book} {w : List ℕ} {j met : ℕ} (st : State s
             f-bound = st .sizes .f-bound;
             long = omega (arith, st .sizes .long, d .only .same-length);
             within = st .chains-walked .within;
-            given-is = given-total;
+            size-is = counted-filled d (st .zero);
           }

@@ -3,7 +3,7 @@ use mathlib.Core.Bool.{Bool, _&&_}
 use mathlib.Core.List.{List}
 use Prim.Native.Nat.{ℕ, _+_, _*_, _≤_}
 use lib.ListN.{length}
-use Rattle.workspace.specs.Layout.{workNeed, bookMarks}
+use Rattle.workspace.specs.Layout.{workNeed}
 use Rattle.workspace.specs.Regions.{IsZero, cleared}
 use Rattle.book.specs.Book as book
 use Rattle.tables.specs.Stored.{Stored, Sized, isSoundFor}
@@ -21,13 +21,12 @@ pub record CanReadThrough (s : Stored) (b : book.Book) (work : List ℕ) : Type 
   -- of book records: a loose bound above document 01's 262,144, likewise
   pub c-bound : length (b .next) ≤ 4194304
   pub long : workNeed (length (s .heads)) (length (b .heads)) (length (s .next)) (length (b .next)) ≤ length work
-  -- counters, heads of lists and marks of L; then the marks of the book
-  pub front-zero : IsZero work 0 (8 * length (s .heads) + length (s .next))
-  pub marks-zero : IsZero work (bookMarks (length (s .heads)) (length (s .next))) (length (b .next))
+  -- counters, heads of lists, and where the rows of column 1 begin
+  pub front-zero : IsZero work 0 (4 * length (s .heads) + 1)
 
--- a work table made ready, by the sizes m, F and C
-abbrev pub madeReady : (work : List ℕ) → (m f c : ℕ) → List ℕ
-madeReady w m f c = cleared (cleared w 0 (8 * m + f)) (bookMarks m f) c
+-- a work table made ready, for m columns
+abbrev pub madeReady : (work : List ℕ) → (m : ℕ) → List ℕ
+madeReady w m = cleared w 0 (4 * m + 1)
 
 -- what the tables hold is sound: the book is, and the stored columns are the definition's for the columns that count
 abbrev pub areSound : Stored → book.Book → Bool

@@ -1,24 +1,24 @@
--- What is known when columns 1 to j − 1 of L were read: their chains were walked and marked, their rows stand in the stash, the children and the book's
--- columns are listed, no counter is left, and each column is the definition's. What reading one column and all columns answer.
+-- What is known when columns 1 to j − 1 of L were read: their chains end, and their last records are named; their rows stand in the stash, the children and
+-- the book's columns are listed, no counter is left, and each column is the definition's. What reading one column and all columns answer.
 -- Assumes nothing: these are definitions.
 use mathlib.Core.Path.{_≡_}
 use mathlib.Core.Bool.{Bool, true, false}
-use mathlib.Core.List.{List, _∷_}
+use mathlib.Core.List.{List}
 use Prim.Native.Nat.{ℕ, suc, _+_, _-_, _≤_, _<_}
 use lib.ListN.{length, take}
 use Rattle.lists.specs.Lists.{at, valuesAt}
-use Rattle.workspace.specs.Layout.{workNeed, childHead, childNext, columnHead, stashStart, factorMarks, rowStash, columnNext}
+use Rattle.workspace.specs.Layout.{workNeed, childHead, childNext, columnHead, stashStart, lastsAt, namesAt, rowStash, columnNext}
 use Rattle.workspace.specs.Regions.{cell, region, IsZero, OnlyIn}
 use Rattle.symbolic.specs.Columns.{Column, live}
 use Rattle.symbolic.specs.Factor.{factorOf, columnAt}
 use Rattle.pool.specs.Whole.{chains, AllLinked}
-use Rattle.pool.specs.Walks.{fresh, markAll, NoMarks}
+use Rattle.pool.specs.Ends.{lasts}
 use Rattle.pool.specs.declared.Walk.{Walk}
 use Rattle.pool.specs.declared.Walk.the-variants.{Ended, Cut}
+use Rattle.ends.specs.Naming.{Named}
 use Rattle.book.specs.Book as book
 use Rattle.tables.specs.Stored.{Stored, Sized, recordsOf, holdsColumn, isSoundFor}
 use Rattle.counting.specs.Counting.{ListedIn, startIn}
-use Rattle.soundness.specs.Checking.{marksIn}
 
 -- the columns that count: the live ones of the book's register
 abbrev pub liveIn : Stored → book.Book → List Column
@@ -37,19 +37,17 @@ pub record TablesFit (s : Stored) (b : book.Book) (work : List ℕ) : Type 0 whe
   pub c-bound : length (b .next) ≤ 4194304
   pub long : workNeed (length (s .heads)) (length (b .heads)) (length (s .next)) (length (b .next)) ≤ length work
 
--- the heads whose chains were walked: the free one, and those of columns 1 to j - 1
+-- the heads whose chains were walked: those of columns 1 to j - 1
 abbrev pub walked : Stored → (j : ℕ) → List ℕ
-walked s j = s .free ∷ take (j - 1) (s .heads)
+walked s j = take (j - 1) (s .heads)
 
--- the chains from these heads end and share no record; met is the number of their records, and just these are marked
-pub record Walked (s : Stored) (marks : List ℕ) (j met : ℕ) : Type 0 where
-  pub marks₀ : List ℕ
-  pub none : NoMarks (s .next) marks₀
+-- the chains from these heads end; met is the number of their records; the last record of each is kept, and named by its column
+pub record Walked (s : Stored) (work : List ℕ) (j met : ℕ) : Type 0 where
   pub linked : AllLinked (s .next) (walked s j)
   pub counted : met ≡ length (chains (s .next) (walked s j))
   pub within : met ≤ length (s .next)
-  pub marked : marks ≡ markAll marks₀ (chains (s .next) (walked s j))
-  pub unmarked : fresh marks₀ (chains (s .next) (walked s j)) ≡ true
+  pub lasts-are : region work (lastsAt (length (s .heads))) (j - 1) ≡ lasts (s .next) (walked s j)
+  pub named : Named work (lastsAt (length (s .heads))) (j - 1) (namesAt (length (s .heads))) (length (s .next))
 
 -- the stash: where each column's rows begin, and the rows
 pub record Stash (s : Stored) (work : List ℕ) (j met : ℕ) : Type 0 where
@@ -66,7 +64,7 @@ pub record State (s : Stored) (b : book.Book) (work : List ℕ) (j met : ℕ) : 
   pub low : 1 ≤ j
   pub high : j ≤ suc (length (s .heads))
   pub sound : book.isSound (length (s .heads)) b ≡ true
-  pub chains-walked : Walked s (marksIn work (length (s .heads)) (length (s .next))) j met
+  pub chains-walked : Walked s work j met
   pub zero : IsZero work 0 (length (s .heads))
   pub children : ListedIn work (childHead (length (s .heads))) (length (s .heads)) (childNext (length (s .heads))) (length (s .heads)) (at (s .parents)) (j - 1)
   pub columns : ListedIn work (columnHead (length (s .heads))) (length (s .heads)) (columnNext (length (s .heads)) (length (s .next)) (length (b .next))) (length (b .heads)) (startIn b) (length (b .heads))
@@ -96,7 +94,7 @@ pub record Prepared (s : Stored) (b : book.Book) (work : List ℕ) : Type 0 wher
   pub sound : book.isSound (length (s .heads)) b ≡ true
   pub zero : IsZero work 0 (length (s .heads))
   pub heads-zero : IsZero work (childHead (length (s .heads))) (length (s .heads))
-  pub marks-zero : IsZero work (factorMarks (length (s .heads))) (length (s .next))
+  pub start-zero : cell work (stashStart (length (s .heads))) 0 ≡ 0
   pub columns : ListedIn work (columnHead (length (s .heads))) (length (s .heads)) (columnNext (length (s .heads)) (length (s .next)) (length (b .next))) (length (b .heads)) (startIn b) (length (b .heads))
 
 -- after all columns were read: the answer is whether the stored columns are sound for those that count

@@ -1,49 +1,21 @@
-// Decides number 6 as far as tables go: for any contents of all of them, whether they are sound, in time proportional to m + n + F + C. Every chain is walked
-// once, with marks. (The record's limits are tested in `factor`.)
-// Columns of L are read by rising number: what the definition gives for a column is counted from the book and from its children, which were read before.
+// Decides number 6 as far as tables go: for any contents of all of them, whether they are sound, in time proportional to m + n + F + C. (The record's limits
+// are tested in `factor`.) Columns of L are read by rising number: what the definition gives for a column is counted from the book and from its children,
+// which were read before. Records are not marked: chains that end are apart if their last records are, and the free chain if its last record has row 0.
 ghost use mathlib.Core.Path.{_≡_};
 ghost use Prim.Native.Nat.{_+_, _*_, _-_, _≤_};
 ghost use lib.ListN.{length, getD};
 ghost use Rattle.tables.specs.Stored.{storedOf};
-ghost use Rattle.workspace.specs.Regions.{region};
+ghost use Rattle.workspace.specs.Layout.{piecesAt};
+ghost use Rattle.workspace.specs.Regions.{region, OnlyIn};
 ghost use Rattle.book.specs.Book.{bookOf};
-ghost use Rattle.pool.specs.Walks.{WalkedWith};
-ghost use Rattle.soundness.specs.Checking.{CanCheckFree, zeroChain, CanCheckEntry, EntryChecked, CanCheck, Checked};
+ghost use Rattle.pool.specs.Ends.{Decides};
+ghost use Rattle.soundness.specs.Checking.{CanCheckEntry, EntryChecked, CanCheck, Checked, CanReadFree, FreeRead};
 ghost use Rattle.soundness.specs.State.{State, CanReadColumn, ColumnsRead, Prepared, FactorRead, WithinWork};
 ghost use Rattle.soundness.specs.ReadThrough.{CanReadThrough, areSound, madeReady};
 use book::Row;
+use pool::Chain;
 use pool::Rec;
-use pool::Visit;
 use pool::Walk;
-
-// Walks the free chain of L with marks: every record of it must have row and multiplicity 0.
-fn check_free(rows: &[u16], counts: &[u16], next: &[u32], marks: &mut [u32], free: Rec) -> Walk
-    requires { ⌜ CanCheckFree (now rows) (now counts) (now next) (now marks) ⌝ }
-    ensures { λ a. ⌜ WalkedWith (zeroChain (now (rows .entry)) (now (counts .entry)) (now (next .entry)) (free .0)) (now (next .entry)) (now (marks .entry)) (now (marks .exit)) 0 (free .0) a ⌝ }
-{
-    let mut r = free;
-    let mut n: usize = 0;
-    while r.0 != 0 {
-        match pool::meet(next, marks, n, r) {
-            Visit::Broken => {
-                return Walk::Cut;
-            }
-            Visit::Next(after) => {
-                let k = r.0;
-                let i = (k - 1) as usize;
-                if rows[i] != 0 {
-                    return Walk::Cut;
-                }
-                if counts[i] != 0 {
-                    return Walk::Cut;
-                }
-                r = after;
-                n += 1;
-            }
-        }
-    }
-    Walk::Ended(n)
-}
 
 // Whether a row and its multiplicity are the next entry of a column with the counters: then takes the counter away and writes the row at place p.
 fn check_entry(work: &mut [u32], m: usize, p: usize, before: Row, row: Row, count: u32) -> bool
@@ -70,8 +42,8 @@ fn check_entry(work: &mut [u32], m: usize, p: usize, before: Row, row: Row, coun
     true
 }
 
-// Walks the chain of a column with marks, after met records: its entries must be the counters, whose total is given. Takes the counters away and stashes
-// the rows. Gives the number of records met.
+// Walks the chain of a column, after met records: its entries must be the counters, of which size are not 0, so it must have so many records. Takes the
+// counters away and stashes the rows. Gives the number of records met, and the last one.
 fn check_chain(
     rows: &[u16],
     counts: &[u16],
@@ -79,41 +51,42 @@ fn check_chain(
     work: &mut [u32],
     m: usize,
     met: usize,
-    given: u32,
+    size: usize,
     head: Rec,
-) -> Walk
-    requires { ⌜ CanCheck (now rows) (now counts) (now next) (now work) m met given ⌝ }
+) -> Chain
+    requires { ⌜ CanCheck (now rows) (now counts) (now next) (now work) m met size ⌝ }
     ensures { λ a. ⌜ Checked (now (rows .entry)) (now (counts .entry)) (now (next .entry)) (now (work .entry)) (now (work .exit)) m met (head .0) a ⌝ }
 {
-    let a = 8 * m;
-    let e = a + next.len();
+    if next.len() - met < size {
+        return Chain::Cut;
+    }
+    let stash = 8 * m + next.len() + met;
     let mut r = head.0;
-    let mut n = met;
-    let mut left = given;
+    let mut last: u32 = 0;
     let mut before: u32 = 0;
-    while r != 0 {
-        match pool::meet(next, &mut work[a..e], n, Rec(r)) {
-            Visit::Broken => {
-                return Walk::Cut;
-            }
-            Visit::Next(after) => {
-                let i = (r - 1) as usize;
-                let row = rows[i] as u32;
-                let count = counts[i] as u32;
-                if !check_entry(work, m, e + n, Row(before), Row(row), count) {
-                    return Walk::Cut;
-                }
-                left -= count;
-                before = row;
-                r = after.0;
-                n += 1;
-            }
+    let mut k: usize = 0;
+    while k < size {
+        if r == 0 {
+            return Chain::Cut;
         }
+        if next.len() < r as usize {
+            return Chain::Cut;
+        }
+        let i = (r - 1) as usize;
+        let row = rows[i] as u32;
+        let count = counts[i] as u32;
+        if !check_entry(work, m, stash + k, Row(before), Row(row), count) {
+            return Chain::Cut;
+        }
+        before = row;
+        last = r;
+        r = next[i];
+        k += 1;
     }
-    if left != 0 {
-        return Walk::Cut;
+    if r != 0 {
+        return Chain::Cut;
     }
-    Walk::Ended(n)
+    Chain::Ended(met + size, Rec(last))
 }
 
 // The second of the rows at places a to e - 1, or 0 where there is none.
@@ -128,7 +101,8 @@ fn second(work: &[u32], a: usize, e: usize) -> Row
     Row(0)
 }
 
-// Reads column j of L, after met records: its chain must hold what the definition gives, and its parent be the second row or 0. Links it to its parent.
+// Reads column j of L, after met records: its chain must hold what the definition gives, and its parent be the second row or 0. Links it to its parent,
+// and names its last record.
 fn read_column(
     heads: &[u32],
     parents: &[u16],
@@ -151,13 +125,13 @@ fn read_column(
     let f = next.len();
     let column = j.0;
     let i = (column - 1) as usize;
-    let given = counting::tally_all(book_heads, book_rows, book_next, work, m, f, j);
+    let size = counting::tally_all(book_heads, book_rows, book_next, work, m, f, j) as usize;
     let head = heads[i];
-    match check_chain(rows, counts, next, work, m, met, given, Rec(head)) {
-        Walk::Cut => {
+    match check_chain(rows, counts, next, work, m, met, size, Rec(head)) {
+        Chain::Cut => {
             return Walk::Cut;
         }
-        Walk::Ended(n) => {
+        Chain::Ended(n, last) => {
             let stash = 8 * m + f;
             let up = second(work, stash + met, stash + n);
             let parent = up.0;
@@ -166,12 +140,13 @@ fn read_column(
             }
             counting::link(work, m, 2 * m, up, column);
             work[4 * m + column as usize] = n as u32;
+            ends::name(work, 6 * m, 8 * m, column, last);
             return Walk::Ended(n);
         }
     }
 }
 
-// Reads the columns of L by rising number, after met records. Gives the number of records met.
+// Reads the columns of L by rising number. Gives the number of records met.
 fn read_columns(
     heads: &[u32],
     parents: &[u16],
@@ -184,12 +159,11 @@ fn read_columns(
     work: &mut [u32],
     free: Rec,
     book_free: Rec,
-    met: usize,
 ) -> Walk
-    requires { ⌜ State (storedOf (now heads) (now parents) (now rows) (now counts) (now next) (free .0)) (bookOf (now «book_heads») (now «book_rows») (now «book_next») («book_free» .0)) (now work) 1 met ⌝ }
+    requires { ⌜ State (storedOf (now heads) (now parents) (now rows) (now counts) (now next) (free .0)) (bookOf (now «book_heads») (now «book_rows») (now «book_next») («book_free» .0)) (now work) 1 0 ⌝ }
     ensures { λ a. ⌜ ColumnsRead (storedOf (now (heads .entry)) (now (parents .entry)) (now (rows .entry)) (now (counts .entry)) (now (next .entry)) (free .0)) (bookOf (now («book_heads» .entry)) (now («book_rows» .entry)) (now («book_next» .entry)) («book_free» .0)) (now (work .entry)) (now (work .exit)) (length (now (heads .entry)) + 1) a ⌝ }
 {
-    let mut n = met;
+    let mut n: usize = 0;
     let mut i: usize = 0;
     while i < heads.len() {
         let j = (i + 1) as u32;
@@ -220,7 +194,32 @@ fn read_columns(
     Walk::Ended(n)
 }
 
-// Decides whether the stored columns are those of the book: the free chain, the columns by rising number, and that every record was met.
+// Whether k records have row 0, all of them multiplicity 0, and the free chain has so many. Writes the pieces of the free chain.
+fn read_free(
+    rows: &[u16],
+    counts: &[u16],
+    next: &[u32],
+    work: &mut [u32],
+    m: usize,
+    free: Rec,
+    k: usize,
+) -> bool
+    requires { ⌜ CanReadFree (now rows) (now counts) (now next) (now work) m ⌝ }
+    ensures answer { λ a. ⌜ Decides (FreeRead (now (rows .entry)) (now (counts .entry)) (now (next .entry)) (free .0) k) a ⌝ }
+    ensures work { λ a. ⌜ OnlyIn (piecesAt m (length (now (next .entry)))) (2 * length (now (next .entry))) (now (work .entry)) (now (work .exit)) ⌝ }
+{
+    if free_chain::zeros(rows) != k {
+        return false;
+    }
+    if free_chain::zero_pairs(rows, counts) != k {
+        return false;
+    }
+    let a = 8 * m + 2 * next.len();
+    let e = a + 2 * next.len();
+    free_chain::has(rows, next, &mut work[a..e], free, k)
+}
+
+// Decides whether the stored columns are those of the book: the columns by rising number, that they are apart, and that all other records are free.
 fn read_factor(
     heads: &[u32],
     parents: &[u16],
@@ -238,47 +237,38 @@ fn read_factor(
     ensures { λ a. ⌜ FactorRead (storedOf (now (heads .entry)) (now (parents .entry)) (now (rows .entry)) (now (counts .entry)) (now (next .entry)) (free .0)) (bookOf (now («book_heads» .entry)) (now («book_rows» .entry)) (now («book_next» .entry)) («book_free» .0)) (now (work .entry)) (now (work .exit)) a ⌝ }
 {
     let m = heads.len();
-    let f = next.len();
-    let marks = 8 * m;
-    let end = marks + f;
-    match check_free(rows, counts, next, &mut work[marks..end], free) {
+    match read_columns(
+        heads,
+        parents,
+        rows,
+        counts,
+        next,
+        book_heads,
+        book_rows,
+        book_next,
+        work,
+        free,
+        book_free,
+    ) {
         Walk::Cut => {
             return false;
         }
-        Walk::Ended(first) => {
-            work[4 * m] = first as u32;
-            match read_columns(
-                heads,
-                parents,
-                rows,
-                counts,
-                next,
-                book_heads,
-                book_rows,
-                book_next,
-                work,
-                free,
-                book_free,
-                first,
-            ) {
-                Walk::Cut => {
-                    return false;
-                }
-                Walk::Ended(n) => {
-                    return n == f;
-                }
+        Walk::Ended(n) => {
+            if !ends::are_apart(work, 6 * m, 8 * m, m) {
+                return false;
             }
+            let left = next.len() - n;
+            return read_free(rows, counts, next, work, m, free, left);
         }
     }
 }
 
-// Makes a work table of any content ready to be read through with, by the sizes m, F and C: what the pass counts and marks in is zero.
-pub fn make_ready(work: &mut [u32], m: usize, f: usize, c: usize)
-    requires { ⌜ 8 * m + 4 * f + 1024 + c ≤ length (now work) ⌝ }
-    ensures { λ _. ⌜ now (work .exit) ≡ madeReady (now (work .entry)) m f c ⌝ }
+// Makes a work table of any content ready to be read through with, for m columns: what the pass counts and lists in is zero.
+pub fn make_ready(work: &mut [u32], m: usize)
+    requires { ⌜ 4 * m + 1 ≤ length (now work) ⌝ }
+    ensures { λ _. ⌜ now (work .exit) ≡ madeReady (now (work .entry)) m ⌝ }
 {
-    workspace::clear(work, 0, 8 * m + f);
-    workspace::clear(work, 8 * m + 4 * f + 1024, c);
+    workspace::clear(work, 0, 4 * m + 1);
 }
 
 // Whether what all tables hold is sound, for any contents. The work table was made ready, and holds anything in its first W places after.
@@ -302,7 +292,8 @@ pub fn read_through(
     let m = heads.len();
     let f = next.len();
     let a = 8 * m + 4 * f + 1024;
-    let e = a + book_next.len();
+    let b = a + book_next.len();
+    let e = b + book_heads.len();
     if !book::read_through(
         book_heads,
         book_rows,
@@ -313,7 +304,7 @@ pub fn read_through(
     ) {
         return false;
     }
-    counting::link_columns(book_heads, book_rows, work, 3 * m, m, e);
+    counting::link_columns(book_heads, book_rows, work, 3 * m, m, b);
     read_factor(
         heads,
         parents,

@@ -23,10 +23,12 @@ use Rattle.workspace.specs.Layout.{
   childNext,
   columnHead,
   stashStart,
-  factorMarks,
+  lastsAt,
+  namesAt,
   rowStash,
+  piecesAt,
   small,
-  bookMarks,
+  bookNames,
   columnNext,
 }
 
@@ -68,11 +70,13 @@ pub record ReadRegions (m n f c : ℕ) : Type 0 where
   pub child-head-end : childHead m + m ≡ childNext m
   pub child-next-end : childNext m + m ≡ columnHead m
   pub column-head-end : columnHead m + m ≡ stashStart m
-  pub stash-start-end : stashStart m + (m + 1) ≤ factorMarks m
-  pub factor-marks-end : factorMarks m + f ≡ rowStash m f
-  pub row-stash-end : rowStash m f + f ≤ small m f
-  pub small-end : small m f + 1024 ≡ bookMarks m f
-  pub book-marks-end : bookMarks m f + c ≡ columnNext m f c
+  pub stash-start-end : stashStart m + (m + 1) ≤ lastsAt m
+  pub lasts-end : lastsAt m + m ≤ namesAt m
+  pub names-end : namesAt m + f ≡ rowStash m f
+  pub row-stash-end : rowStash m f + f ≡ piecesAt m f
+  pub pieces-end : piecesAt m f + 2 * f ≡ small m f
+  pub small-end : small m f + 1024 ≡ bookNames m f
+  pub book-names-end : bookNames m f + c ≡ columnNext m f c
   pub column-next-end : columnNext m f c + n ≡ workNeed m n f c
 
 pub read-regions : (m n f c : ℕ) → 1 ≤ m → ReadRegions m n f c
@@ -83,9 +87,11 @@ read-regions m n f c h =
       child-next-end = omega arith;
       column-head-end = omega arith;
       stash-start-end = omega arith;
-      factor-marks-end = omega arith;
+      lasts-end = omega arith;
+      names-end = omega arith;
       row-stash-end = omega arith;
+      pieces-end = omega arith;
       small-end = omega arith;
-      book-marks-end = omega arith;
+      book-names-end = omega arith;
       column-next-end = omega arith;
     }

@@ -91,22 +91,30 @@ columnHead m = 3 * m
 abbrev pub stashStart : (m : ℕ) → ℕ
 stashStart m = 4 * m
 
--- per record of the columns of L: met or not, F places
-abbrev pub factorMarks : (m : ℕ) → ℕ
-factorMarks m = 8 * m
+-- per column: its last record
+abbrev pub lastsAt : (m : ℕ) → ℕ
+lastsAt m = 6 * m
+
+-- per record of L: the last column read whose chain ends there, F places, written before they are read
+abbrev pub namesAt : (m : ℕ) → ℕ
+namesAt m = 8 * m
 
 -- the rows met, column by column, F places
 abbrev pub rowStash : (m f : ℕ) → ℕ
 rowStash m f = 8 * m + f
 
+-- pieces of the free chain, 2F places
+abbrev pub piecesAt : (m f : ℕ) → ℕ
+piecesAt m f = 8 * m + 2 * f
+
 -- the rows of one book column, copied out, 256 places of 1,024
 abbrev pub small : (m f : ℕ) → ℕ
 small m f = 8 * m + 4 * f
 
--- per record of the book: met or not, C places
-abbrev pub bookMarks : (m f : ℕ) → ℕ
-bookMarks m f = 8 * m + 4 * f + 1024
+-- per record of the book: the last id read whose column ends there, C places, written before they are read; then pieces of the book's free chain
+abbrev pub bookNames : (m f : ℕ) → ℕ
+bookNames m f = 8 * m + 4 * f + 1024
 
--- per book column: the next with the same smallest row, n places
+-- per id: the last record of its column while the book is read, then the next id with the same smallest row, n places
 abbrev pub columnNext : (m f c : ℕ) → ℕ
 columnNext m f c = 8 * m + 4 * f + 1024 + c

@@ -1,144 +1,123 @@
 -- `book::walk_column` meets its contract.
--- The loop's invariant is `ColumnTesting`: some records were met, and their rows rise up to `above`.
--- The measure is how many more can be met. Assumes nothing.
-use mathlib.Core.Path.{_∙_}
+-- The loop's invariant is `Following`: some records were followed, and their rows rise up to `above`.
+-- The measure is how far rows can still rise. Assumes nothing.
+use mathlib.Core.Path.{refl}
 use Prim.Native.Nat.{_-_, _*_, _^_, _≤_, _<_}
 use native.Mathlib.Omega.{arith}
-use borrow.Author.Needs.{needs}
 use lib.ListN.{length}
-use Rattle.pool.proofs.Testing.{visited-meets}
-use Rattle.book.proofs.Walks.{ColumnTesting, column-start, column-refused, column-low, column-high, column-next, column-many, column-ended}
-use Rattle.book.proofs.Through.{column-walked}
+use Rattle.book.proofs.Walks.{Following, following-start, following-next, following-cut, following-many, following-full, following-ended}
 use Rattle.book.proofs.walk_column.Statement.{statement}
 use Rattle.book.proofs.walk_column.Tie as tie
 
 abbrev Inv-loop : tie.InvT-loop
-Inv-loop heads rows next marks₀ i met m r₀ n₀ above₀ marks r n above = ColumnTesting rows next marks₀ n₀ m (r₀ .0) marks (r .0) n above
+Inv-loop heads rows next i met m r₀ last₀ above₀ k₀ r last above k = Following rows next m r₀ r last above k
 
 abbrev μ-loop : tie.MeasureT-loop
-μ-loop heads rows next marks₀ i met m r₀ n₀ above₀ marks r n above = length next - n
+μ-loop heads rows next i met m r₀ last₀ above₀ k₀ r last above k = m - above
 
--- ---- the places, named: the loop's test, a call of meet, a visit refused and a record met
-abbrev entry : tie.Then1 Inv-loop μ-loop → tie.Start Inv-loop μ-loop
-entry t = t .before .before .before .before .before .before .before .before
+-- ---- the places, named: the loop's test, and a record in the pool
+abbrev entry : tie.In-loop Inv-loop μ-loop → tie.Start Inv-loop μ-loop
+entry d = d .before .before .before
 
-abbrev test : tie.After-meet Inv-loop μ-loop → tie.Then1 Inv-loop μ-loop
-test d = d .before .before
+abbrev here : tie.Else3 Inv-loop μ-loop → tie.Else1 Inv-loop μ-loop
+here c = c .before .before .before
 
-abbrev refused : tie.After-enum-told Inv-loop μ-loop → tie.After-meet Inv-loop μ-loop
-refused c = c .before .before .before .before
+-- what every need at such a record asks
+pub record Facts (c : tie.Else1 Inv-loop μ-loop) : Type 0 where
+  pub low : 1 ≤ c .before .before .loop .r
+  pub in-next : c .before .before .loop .r ≤ length (entry (c .before) .args .next .now)
+  pub in-rows : c .before .before .loop .r ≤ length (entry (c .before) .args .rows .now)
+  pub room : length (entry (c .before) .args .next .now) * 4 < 2 ^ 63
 
-abbrev met-one : tie.After-known-told Inv-loop μ-loop → tie.After-meet Inv-loop μ-loop
-met-one c = c .before .before .before .before .before
-
--- what every need after a record was met asks
-pub record Facts (c : tie.After-known-told Inv-loop μ-loop) : Type 0 where
-  pub low : 1 ≤ test (met-one c) .before .before .loop .r .0
-  pub in-rows : test (met-one c) .before .before .loop .r .0 ≤ length (entry (test (met-one c)) .args .rows .now)
-  pub more : test (met-one c) .before .before .loop .n < length (entry (test (met-one c)) .args .next .now)
-  pub room : length (entry (test (met-one c)) .args .next .now) * 4 < 2 ^ 63
-
-facts : (c : tie.After-known-told Inv-loop μ-loop) → Facts c
+facts : (c : tie.Else1 Inv-loop μ-loop) → Facts c
 facts c =
-    let d = met-one c in
-    let e = entry (test d) in
-    let k = visited-meets (d .meet .ensures) (c .before .after .given .1) in
-    record { low = omega (arith, test d .if1 .taken); in-rows = omega (arith, k .high, e .pre .0 .sized); more = k .room; room = omega (arith, e .good) }
+    let e = entry (c .before) in
+    record { low = omega (arith, c .before .loop-test .taken); in-next = c .if1 .left; in-rows = omega (arith, c .if1 .left, e .pre .sized); room = omega (arith, e .good) }
 
-mul-t14 : tie.Need-mul-t14 Inv-loop μ-loop
-mul-t14 c = omega arith
+mul-r : tie.Need-mul-r Inv-loop μ-loop
+mul-r c = omega (arith, c .pre .inside, c .good)
 
-shared-slice-read-t16 : tie.Need-shared-slice-read-t16 Inv-loop μ-loop
-shared-slice-read-t16 c = omega arith
+shared-slice-read-r : tie.Need-shared-slice-read-r Inv-loop μ-loop
+shared-slice-read-r c = c .before .pre .inside
 
 loop-holds : tie.Need-loop-holds Inv-loop μ-loop
-loop-holds c = column-start (c .before .before .before .before .before .pre .0 .within)
+loop-holds c = following-start (omega (arith, c .shared-slice-known .given (c .before .args .i)))
 
-meet-requires : tie.Need-meet-requires Inv-loop μ-loop
-meet-requires c κs = let t = c .before in omega (arith, t .if1 .taken, t .before .before .loop .inv .testing .walking .long, entry t .pre .0 .long)
-
-enum-told : tie.Need-enum-told Inv-loop μ-loop
-enum-told c = search needs
-
-same-length : tie.Need-same-length Inv-loop μ-loop
-same-length c = refused c .meet .kept .1 .0 ∙ test (refused c) .before .before .loop .inv .testing .walking .long
+cast-if1 : tie.Need-cast-if1 Inv-loop μ-loop
+cast-if1 c = omega (arith, c .before .loop .inv .narrow)
 
 returns : tie.Need-returns Inv-loop μ-loop
 returns c =
-    let d = refused c in
-    let s = entry (test d) in
-    column-walked (s .args .heads .now) (s .args .rows .now) (s .args .i) (s .args .m)
-    (column-refused (test d .before .before .loop .inv) (test d .if1 .taken) (d .meet .ensures) (c .enum-told .given .1))
+    let d = c .before in
+    following-cut (entry d .args .heads .now) (entry d .args .i) (entry d .args .met) (d .before .loop .inv) (d .loop-test .taken) (λ g. omega (arith, g .inside, c .if1 .taken))
 
-enum-known-after : tie.Need-enum-known-after Inv-loop μ-loop
-enum-known-after c = search needs
+sub-place : tie.Need-sub-place Inv-loop μ-loop
+sub-place c = facts c .low
 
-sub-row : tie.Need-sub-row Inv-loop μ-loop
-sub-row c = facts c .low
-
-cast-row : tie.Need-cast-row Inv-loop μ-loop
-cast-row c = let f = facts c in omega arith
+cast-place : tie.Need-cast-place Inv-loop μ-loop
+cast-place c = let f = facts c in omega arith
 
 mul-row : tie.Need-mul-row Inv-loop μ-loop
-mul-row c = let f = facts c in omega (arith, entry (test (met-one c)) .pre .0 .sized)
+mul-row c = let f = facts c in omega arith
 
 shared-slice-read-row : tie.Need-shared-slice-read-row Inv-loop μ-loop
 shared-slice-read-row c = let f = facts (c .before) in omega arith
 
-cast-row-2 : tie.Need-cast-row-2 Inv-loop μ-loop
-cast-row-2 c = omega (arith, c .shared-slice-known5 .given (test (met-one (c .before)) .before .before .loop .r .0 - 1))
-
-same-length-2 : tie.Need-same-length-2 Inv-loop μ-loop
-same-length-2 c = let d = met-one (c .before .before) in d .meet .kept .1 .0 ∙ test d .before .before .loop .inv .testing .walking .long
+cast-row : tie.Need-cast-row Inv-loop μ-loop
+cast-row c = omega (arith, c .shared-slice-known2 .given (c .before .before .before .loop .r - 1))
 
 returns-2 : tie.Need-returns-2 Inv-loop μ-loop
 returns-2 c =
-    let d = met-one (c .before .before) in
-    let s = entry (test d) in
-    column-walked (s .args .heads .now) (s .args .rows .now) (s .args .i) (s .args .m)
-    (column-low (test d .before .before .loop .inv) (test d .if1 .taken) (d .meet .ensures) (c .before .before .before .after .given .1) (c .if2 .taken))
-
-same-length-3 : tie.Need-same-length-3 Inv-loop μ-loop
-same-length-3 c = let d = met-one (c .before .before .before) in d .meet .kept .1 .0 ∙ test d .before .before .loop .inv .testing .walking .long
+    let d = c .before .before .before in
+    following-cut (entry d .args .heads .now) (entry d .args .i) (entry d .args .met) (d .before .loop .inv) (d .loop-test .taken) (λ g. omega (arith, g .low, c .if2 .taken))
 
 returns-3 : tie.Need-returns-3 Inv-loop μ-loop
 returns-3 c =
-    let d = met-one (c .before .before .before) in
-    let s = entry (test d) in
-    column-walked (s .args .heads .now) (s .args .rows .now) (s .args .i) (s .args .m)
-    (column-high (test d .before .before .loop .inv) (test d .if1 .taken) (d .meet .ensures) (c .before .before .before .before .after .given .1) (c .if3 .taken))
+    let d = c .before .before .before .before in
+    following-cut (entry d .args .heads .now) (entry d .args .i) (entry d .args .met) (d .before .loop .inv) (d .loop-test .taken) (λ g. omega (arith, g .high, c .if3 .taken))
 
-add-n : tie.Need-add-n Inv-loop μ-loop
-add-n c = let f = facts (c .before .before .before) in omega arith
+mul-r-2 : tie.Need-mul-r-2 Inv-loop μ-loop
+mul-r-2 c = let f = facts (here c) in omega arith
+
+shared-slice-read-r-2 : tie.Need-shared-slice-read-r-2 Inv-loop μ-loop
+shared-slice-read-r-2 c = let f = facts (here (c .before)) in omega arith
+
+add-k : tie.Need-add-k Inv-loop μ-loop
+add-k c = let d = here (c .before) in omega (arith, d .before .before .loop .inv .few, d .before .before .loop .inv .high, entry (d .before) .good)
 
 loop-less : tie.Need-loop-less Inv-loop μ-loop
-loop-less c = let f = facts (c .before .before .before) in omega arith
+loop-less c = omega (arith, c .before .if3 .left, c .before .before .if2 .left)
 
 loop-again : tie.Need-loop-again Inv-loop μ-loop
 loop-again c =
-    let d = met-one (c .before .before .before) in
-    column-next (test d .before .before .loop .inv) (test d .if1 .taken) (d .meet .ensures) (c .before .before .before .before .after .given .1) (c .before .if2 .left) (c .if3 .left)
-
-sub-if4 : tie.Need-sub-if4 Inv-loop μ-loop
-sub-if4 c = omega (arith, c .before .before .loop .inv .testing .walking .counted)
-
-same-length-4 : tie.Need-same-length-4 Inv-loop μ-loop
-same-length-4 c = c .before .before .before .loop .inv .testing .walking .long
+    let d = here (c .before) in
+    following-next (d .before .before .loop .inv) (d .before .loop-test .taken) (d .if1 .left) refl (c .before .before .if2 .left) (c .before .if3 .left)
+    (omega (arith, c .shared-slice-known3 .given (d .before .before .loop .r - 1)))
 
 returns-4 : tie.Need-returns-4 Inv-loop μ-loop
 returns-4 c =
-    let s = c .before .before .before .before .before .before .before .before .before in
-    column-walked (s .args .heads .now) (s .args .rows .now) (s .args .i) (s .args .m)
-    (column-ended (c .before .before .before .loop .inv) (c .before .if1 .left) (s .pre .2) (c .if4 .taken))
+    let d = c .before in
+    let e = d .before .before .before in
+    following-many (e .args .heads .now) (e .args .i) (e .args .met) (d .before .loop .inv) (d .loop-test .left) (c .if4 .taken)
 
-same-length-5 : tie.Need-same-length-5 Inv-loop μ-loop
-same-length-5 c = c .before .before .before .loop .inv .testing .walking .long
+sub-if5 : tie.Need-sub-if5 Inv-loop μ-loop
+sub-if5 c = c .before .before .before .before .pre .within
 
 returns-5 : tie.Need-returns-5 Inv-loop μ-loop
 returns-5 c =
-    let s = c .before .before .before .before .before .before .before .before .before in
-    column-walked (s .args .heads .now) (s .args .rows .now) (s .args .i) (s .args .m)
-    (column-many (c .before .before .before .loop .inv) (c .before .if1 .left) (c .if4 .left))
+    let d = c .before .before in
+    let e = d .before .before .before in
+    following-full (e .args .heads .now) (e .args .i) (e .args .met) (d .before .loop .inv) (d .loop-test .left) (omega (arith, c .if5 .taken))
+
+add-t13 : tie.Need-add-t13 Inv-loop μ-loop
+add-t13 c = omega (arith, c .if5 .left, c .before .before .before .before .before .pre .within, c .before .before .before .before .before .good)
+
+returns-6 : tie.Need-returns-6 Inv-loop μ-loop
+returns-6 c =
+    let d = c .before .before in
+    let e = d .before .before .before in
+    following-ended (e .args .heads .now) (e .args .i) (e .args .met) (d .before .loop .inv) (d .loop-test .left) (e .pre .booked) (c .before .if4 .left)
+    (omega (arith, c .if5 .left, e .pre .within)) refl refl
 
 pub walk-column-spec : {M : Type 1} → statement M
 walk-column-spec =
@@ -146,28 +125,25 @@ walk-column-spec =
     (tie.spec
     Inv-loop
     μ-loop
-    mul-t14
-    shared-slice-read-t16
+    mul-r
+    shared-slice-read-r
     loop-holds
-    meet-requires
-    enum-told
-    same-length
+    cast-if1
     returns
-    enum-known-after
-    sub-row
-    cast-row
+    sub-place
+    cast-place
     mul-row
     shared-slice-read-row
-    cast-row-2
-    same-length-2
+    cast-row
     returns-2
-    same-length-3
     returns-3
-    add-n
+    mul-r-2
+    shared-slice-read-r-2
+    add-k
     loop-less
     loop-again
-    sub-if4
-    same-length-4
     returns-4
-    same-length-5
-    returns-5)
+    sub-if5
+    returns-5
+    add-t13
+    returns-6)

@@ -6,21 +6,22 @@ use lib.ListN.{length}
 use Rattle.workspace.specs.Layout.{childNext}
 use Rattle.workspace.specs.Regions.{region}
 use Rattle.pool.specs.Chains.{chain}
-use Rattle.counting.proofs.Children.{Children, ChildFacts, children-start, children-length, children-facts, children-can, children-next, children-less, children-end}
+use Rattle.counting.proofs.Gathering.{gathering-start, gathering-length, gathering-few, gathering-next, gathering-less, gathering-end}
+use Rattle.counting.proofs.Children.{Children, ChildFacts, children-gathers, children-facts, children-can, children-tally}
 use Rattle.counting.proofs.tally_children.Statement.{statement}
 use Rattle.counting.proofs.tally_children.Tie as tie
 
 abbrev Inv-loop : tie.InvT-loop
-Inv-loop work₀ m f column stash given₀ c₀ work given c = Children work₀ m f column work given c
+Inv-loop work₀ m f column stash size₀ c₀ work size c = Children work₀ m f column work size c
 
 abbrev μ-loop : tie.MeasureT-loop
-μ-loop work₀ m f column stash given₀ c₀ work given c = length (chain (region work₀ (childNext m) m) c)
+μ-loop work₀ m f column stash size₀ c₀ work size c = length (chain (region work₀ (childNext m) m) c)
 
 abbrev start : tie.In-loop Inv-loop μ-loop → tie.Start Inv-loop μ-loop
 start c = c .before .before .before .before
 
 facts : (c : tie.In-loop Inv-loop μ-loop) →
-    ChildFacts (start c .args .work .now) (start c .args .m) (start c .args .f) (c .before .loop .work) (c .before .loop .given) (c .before .loop .c)
+    ChildFacts (start c .args .work .now) (start c .args .m) (start c .args .f) (c .before .loop .work) (c .before .loop .size) (c .before .loop .c)
 facts c = children-facts (start c .pre) (c .before .loop .inv) (c .loop-test .taken)
 
 mul-stash : tie.Need-mul-stash Inv-loop μ-loop
@@ -45,7 +46,7 @@ slice-read-c : tie.Need-slice-read-c Inv-loop μ-loop
 slice-read-c c = let s = c .before .before .pre .sizes in omega arith
 
 loop-holds : tie.Need-loop-holds Inv-loop μ-loop
-loop-holds c = children-start (c .before .before .pre)
+loop-holds c = gathering-start (children-gathers (c .before .before .pre))
 
 sub-k : tie.Need-sub-k Inv-loop μ-loop
 sub-k c = let f = facts c in omega arith
@@ -100,14 +101,17 @@ tally-requires c κs =
     let d = c .before .before .before in
     children-can (start d .pre) (d .before .loop .inv) (d .loop-test .taken) _ _ refl refl
 
-sub-given : tie.Need-sub-given Inv-loop μ-loop
-sub-given c = let f = facts (c .before .before .before .before .before .before) in omega arith
-
-sub-given-2 : tie.Need-sub-given-2 Inv-loop μ-loop
-sub-given-2 c = let f = facts (c .before .before .before .before .before .before) in omega arith
-
-add-given : tie.Need-add-given Inv-loop μ-loop
-add-given c = let f = facts (c .before .before .before .before .before .before) in omega arith
+add-size : tie.Need-add-size Inv-loop μ-loop
+add-size c =
+    let d = c .before .before .before .before .before .before in
+    let f = facts d in
+    let t = c .before .before .tally in
+    omega (
+      arith,
+      gathering-few (children-gathers (start d .pre))
+          (gathering-next (children-gathers (start d .pre)) (d .before .loop .inv) (d .loop-test .taken)
+          (children-tally (start d .pre) (d .before .loop .inv) (d .loop-test .taken) _ _ refl refl (t .ensures .0) (t .ensures .1))),
+    )
 
 mul-c-2 : tie.Need-mul-c-2 Inv-loop μ-loop
 mul-c-2 c = let f = facts (c .before .before .before .before .before .before) in omega arith
@@ -124,18 +128,22 @@ slice-read-c-2 c = let f = facts (c .before .before .before .before .before .bef
 loop-less : tie.Need-loop-less Inv-loop μ-loop
 loop-less c =
     let d = c .before .before .before .before .before .before .before in
-    children-less (start d .pre) (d .before .loop .inv) (d .loop-test .taken) _ _ refl refl (c .before .before .before .tally .ensures)
+    let t = c .before .before .before .tally in
+    gathering-less (children-gathers (start d .pre)) (d .before .loop .inv) (d .loop-test .taken)
+    (children-tally (start d .pre) (d .before .loop .inv) (d .loop-test .taken) _ _ refl refl (t .ensures .0) (t .ensures .1))
 
 loop-again : tie.Need-loop-again Inv-loop μ-loop
 loop-again c =
     let d = c .before .before .before .before .before .before .before in
-    children-next (start d .pre) (d .before .loop .inv) (d .loop-test .taken) _ _ refl refl (c .before .before .before .tally .ensures) refl
+    let t = c .before .before .before .tally in
+    gathering-next (children-gathers (start d .pre)) (d .before .loop .inv) (d .loop-test .taken)
+    (children-tally (start d .pre) (d .before .loop .inv) (d .loop-test .taken) _ _ refl refl (t .ensures .0) (t .ensures .1))
 
 same-length : tie.Need-same-length Inv-loop μ-loop
-same-length c = children-length (c .before .before .before .before .pre) (c .before .loop .inv)
+same-length c = gathering-length (children-gathers (c .before .before .before .before .pre)) (c .before .loop .inv)
 
 returns : tie.Need-returns Inv-loop μ-loop
-returns c = children-end (c .before .before .before .before .pre) (c .before .loop .inv) (c .loop-test .left)
+returns c = let p = c .before .before .before .before in gathering-end (children-gathers (p .pre)) (c .before .loop .inv) (p .args .f) (c .loop-test .left)
 
 pub tally-children-spec : {M : Type 1} → statement M
 tally-children-spec =
@@ -168,9 +176,7 @@ tally-children-spec =
     cast-tally-2
     add-tally-3
     tally-requires
-    sub-given
-    sub-given-2
-    add-given
+    add-size
     mul-c-2
     add-c-2
     mul-c-3

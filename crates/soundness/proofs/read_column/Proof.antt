@@ -1,6 +1,6 @@
 -- `soundness::read_column` meets its contract: what column j is given is counted, its chain is walked against the counters, its parent compared with the
 -- second row; a test that fails means that the tables are not sound, and after all of them the state is that of one column more (proofs/Ready.antt,
--- proofs/Column.antt, proofs/Closing.antt). Assumes nothing.
+-- proofs/Column.antt, proofs/Closing.antt, proofs/Storing.antt). Assumes nothing.
 use mathlib.Core.Path.{refl, sym, _∙_}
 use Prim.Native.Nat.{_+_, _-_}
 use native.Mathlib.Omega.{arith}
@@ -8,7 +8,8 @@ use Rattle.book.specs.Book.{Book, bookOf}
 use Rattle.tables.specs.Stored.{Stored, storedOf}
 use Rattle.soundness.proofs.Ready.{ready-tally, ready-check}
 use Rattle.soundness.proofs.Column.{Found, column-cut, column-ended}
-use Rattle.soundness.proofs.Closing.{CloseFacts, closing-cut, closing-differs, closing-facts, closing-second, closing-link, closing-only, closing-end}
+use Rattle.soundness.proofs.Closing.{CloseFacts, closing-cut, closing-differs, closing-facts, closing-second, closing-link}
+use Rattle.soundness.proofs.Storing.{closing-name, closing-only, closing-end}
 use borrow.Author.Needs.{needs}
 use Rattle.soundness.proofs.read_column.Statement.{statement}
 use Rattle.soundness.proofs.read_column.Tie as tie
@@ -39,8 +40,8 @@ abbrev booked : tie.Start → Book
 booked e = bookOf (e .args .book-heads .now) (e .args .book-rows .now) (e .args .book-next .now) (e .args .book-free .0)
 
 found : (c : tie.After-known-told) →
-    Found (stored (started (tallied-at (walked-at c)))) (booked (started (tallied-at (walked-at c)))) (started (tallied-at (walked-at c)) .args .work .now)
-    (tallied-at (walked-at c) .tally-all .last .1 .1 .1 .0) (started (tallied-at (walked-at c)) .args .j .0) (started (tallied-at (walked-at c)) .args .met) (c .before .n .given .0 .0)
+    Found (stored (started (tallied-at (walked-at c)))) (booked (started (tallied-at (walked-at c))))
+    (tallied-at (walked-at c) .tally-all .last .1 .1 .1 .0) (started (tallied-at (walked-at c)) .args .j .0) (started (tallied-at (walked-at c)) .args .met) (c .before .n .given .0 .0) (c .before .n .given .0 .1 .0 .0)
 found c =
     let k = walked-at c in
     let t = tallied-at k in
@@ -62,6 +63,9 @@ cast-i c = search needs
 
 tally-all-requires : tie.Need-tally-all-requires
 tally-all-requires c κs = let p = c .before .before .before .before .before .before .before .before .before .before .pre in ready-tally (p .state) (p .inside)
+
+cast-size : tie.Need-cast-size
+cast-size c = search needs
 
 mul-head : tie.Need-mul-head
 mul-head c = search needs
@@ -96,7 +100,7 @@ mul-stash : tie.Need-mul-stash
 mul-stash c = search needs
 
 add-stash : tie.Need-add-stash
-add-stash c = search needs
+add-stash c = let f = facts c in omega arith
 
 add-second : tie.Need-add-second
 add-second c = let f = facts (c .before) in omega arith
@@ -108,7 +112,7 @@ second-requires : tie.Need-second-requires
 second-requires c κs = let f = facts (c .before) in omega arith
 
 mul-if1 : tie.Need-mul-if1
-mul-if1 c = search needs
+mul-if1 c = let f = facts (c .before .before) in omega arith
 
 shared-slice-read-if1 : tie.Need-shared-slice-read-if1
 shared-slice-read-if1 c = let f = facts (compared c) in omega arith
@@ -161,27 +165,51 @@ mul-work-2 c = let f = facts (compared (linking c)) in omega arith
 slice-write-work : tie.Need-slice-write-work
 slice-write-work c = let f = facts (compared (linking c)) in omega (arith, c .before .before .link .kept)
 
-same-length-3 : tie.Need-same-length-3
-same-length-3 c =
-    let h = compared (linking c) in
+mul-name : tie.Need-mul-name
+mul-name c = let f = facts (compared (linking (c .before))) in omega arith
+
+mul-name-2 : tie.Need-mul-name-2
+mul-name-2 c = let f = facts (compared (linking (c .before))) in omega arith
+
+name-requires : tie.Need-name-requires
+name-requires c κs =
+    let l = linking (c .before) in
+    let h = compared l in
     let k = walked-at h in
     let t = tallied-at k in
     let p = started t .pre in
     let f = found h in
-    closing-only (p .state) (p .inside) f (t .tally-all .ensures) (k .check-chain .ensures) (linking c .before .second .result .0)
-    (linking c .before .second .ensures ∙ closing-second (p .state) (p .inside) f (t .tally-all .ensures) (k .check-chain .ensures) _ _ refl refl)
-    (c .before .before .before .before .if1 .left) (c .before .before .link .ensures) refl .same-length
+    closing-name (p .state) (p .inside) f (t .tally-all .ensures) (k .check-chain .ensures) (l .before .second .result .0)
+    (l .before .second .ensures ∙ closing-second (p .state) (p .inside) f (t .tally-all .ensures) (k .check-chain .ensures) _ _ refl refl)
+    (c .before .before .before .before .before .if1 .left) (c .before .before .before .link .ensures) refl
+
+same-length-3 : tie.Need-same-length-3
+same-length-3 c =
+    let n = c .before .before in
+    let q = n .before .before in
+    let l = linking q in
+    let h = compared l in
+    let k = walked-at h in
+    let t = tallied-at k in
+    let p = started t .pre in
+    let f = found h in
+    closing-only (p .state) (p .inside) f (t .tally-all .ensures) (k .check-chain .ensures) (l .before .second .result .0)
+    (l .before .second .ensures ∙ closing-second (p .state) (p .inside) f (t .tally-all .ensures) (k .check-chain .ensures) _ _ refl refl)
+    (q .before .before .before .before .if1 .left) (q .before .before .link .ensures) refl (n .name .ensures) .same-length
 
 returns-3 : tie.Need-returns-3
 returns-3 c =
-    let h = compared (linking c) in
+    let n = c .before .before in
+    let q = n .before .before in
+    let l = linking q in
+    let h = compared l in
     let k = walked-at h in
     let t = tallied-at k in
     let p = started t .pre in
     let f = found h in
-    closing-end (p .state) (p .inside) f (t .tally-all .ensures) (k .check-chain .ensures) (linking c .before .second .result .0)
-    (linking c .before .second .ensures ∙ closing-second (p .state) (p .inside) f (t .tally-all .ensures) (k .check-chain .ensures) _ _ refl refl)
-    (c .before .before .before .before .if1 .left) (c .before .before .link .ensures) refl
+    closing-end (p .state) (p .inside) f (t .tally-all .ensures) (k .check-chain .ensures) (l .before .second .result .0)
+    (l .before .second .ensures ∙ closing-second (p .state) (p .inside) f (t .tally-all .ensures) (k .check-chain .ensures) _ _ refl refl)
+    (q .before .before .before .before .if1 .left) (q .before .before .link .ensures) refl (n .name .ensures)
 
 pub read-column-spec : {M : Type 1} → statement M
 read-column-spec =
@@ -190,6 +218,7 @@ read-column-spec =
     sub-i
     cast-i
     tally-all-requires
+    cast-size
     mul-head
     shared-slice-read-head
     check-chain-requires
@@ -215,5 +244,8 @@ read-column-spec =
     add-work
     mul-work-2
     slice-write-work
+    mul-name
+    mul-name-2
+    name-requires
     same-length-3
     returns-3)

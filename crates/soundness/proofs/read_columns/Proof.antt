@@ -1,20 +1,20 @@
--- `soundness::read_columns` meets its contract. The loop's invariant: columns 1 to i were read (ColumnsReading of proofs/ReadThrough.antt). The measure is how
+-- `soundness::read_columns` meets its contract. The loop's invariant: columns 1 to i were read (ColumnsReading of proofs/Columns.antt). The measure is how
 -- many columns are left. Assumes nothing.
 use Prim.Native.Nat.{_-_}
 use native.Mathlib.Omega.{arith}
 use lib.ListN.{length}
 use Rattle.book.specs.Book.{bookOf}
 use Rattle.tables.specs.Stored.{storedOf}
-use Rattle.soundness.proofs.ReadThrough.{ColumnsReading, columns-start, columns-can, columns-cut, columns-next, columns-end}
+use Rattle.soundness.proofs.Columns.{ColumnsReading, columns-start, columns-can, columns-cut, columns-next, columns-end}
 use borrow.Author.Needs.{needs}
 use Rattle.soundness.proofs.read_columns.Statement.{statement}
 use Rattle.soundness.proofs.read_columns.Tie as tie
 
 abbrev Inv-loop : tie.InvT-loop
-Inv-loop heads parents rows counts next book-heads book-rows book-next work₀ free book-free met n₀ i₀ work n i = ColumnsReading (storedOf heads parents rows counts next (free .0)) (bookOf book-heads book-rows book-next (book-free .0)) work₀ work n i
+Inv-loop heads parents rows counts next book-heads book-rows book-next work₀ free book-free n₀ i₀ work n i = ColumnsReading (storedOf heads parents rows counts next (free .0)) (bookOf book-heads book-rows book-next (book-free .0)) work₀ work n i
 
 abbrev μ-loop : tie.MeasureT-loop
-μ-loop heads parents rows counts next book-heads book-rows book-next work₀ free book-free met n₀ i₀ work n i = length heads - i
+μ-loop heads parents rows counts next book-heads book-rows book-next work₀ free book-free n₀ i₀ work n i = length heads - i
 
 abbrev test : tie.After-read-column Inv-loop μ-loop → tie.In-loop Inv-loop μ-loop
 test d = d .before .before

@@ -1,170 +1,106 @@
--- `soundness::read_factor` meets its contract: the free chain, the columns by rising number, and at the end as many records met as there are (first-state and
--- last-answer of proofs/ReadThrough.antt). Assumes nothing.
-use mathlib.Core.Path.{refl}
-use Prim.Native.Nat.{ℕ, _+_, _*_}
+-- `soundness::read_factor` meets its contract: the columns by rising number (first-state of proofs/Columns.antt), their last records compared, then the records
+-- that they do not have (last-shared and last-answer of proofs/ReadThrough.antt). Assumes nothing.
+use mathlib.Core.Path.{sym}
 use native.Mathlib.Omega.{arith}
-use lib.ListN.{length}
-use Rattle.soundness.proofs.ReadThrough.{first-can, first-only, first-cut, first-within, first-state, last-cut, last-answer}
+use borrow.Author.Tests.{not-true, not-false}
+use Rattle.soundness.proofs.Columns.{first-state}
+use Rattle.soundness.proofs.ReadThrough.{last-compare, last-within, last-can, last-shared, last-answer}
 use borrow.Author.Needs.{needs}
 use Rattle.soundness.proofs.read_factor.Statement.{statement}
 use Rattle.soundness.proofs.read_factor.Tie as tie
 
 -- ---- the places, named
-abbrev entry : tie.After-slice-known → tie.Start
-entry c = c .before .before .before .before .before .before .before .before .before
+abbrev entry : tie.After-read-columns → tie.Start
+entry d = d .before .before .before .before .before .before .before .before .before .before .before
 
-abbrev opened : tie.After-check-free → tie.After-slice-known
-opened d = d .before .before
-
-abbrev refused : tie.After-enum-told → tie.After-check-free
+abbrev refused : tie.After-enum-told → tie.After-read-columns
 refused c = c .before .before .before .before
 
-abbrev freed : tie.After-known-told → tie.After-check-free
-freed c = c .before .before .before .before .before
+abbrev ended : tie.After-known-told → tie.After-read-columns
+ended c = c .before .before .before .before .before
 
-abbrev stored : tie.After-read-columns → tie.After-known-told
-stored d = d .before .before
+abbrev compared : tie.After-are-apart → tie.After-known-told
+compared c = c .before .before
 
-abbrev cut-at : tie.After-enum-told2 → tie.After-read-columns
-cut-at c = c .before .before .before .before
-
-abbrev ended-at : tie.After-known-told2 → tie.After-read-columns
-ended-at c = c .before .before .before .before .before
-
-abbrev from : tie.After-slice-known → ℕ
-from c = 8 * length (entry c .args .heads .now)
-
-abbrev to : tie.After-slice-known → ℕ
-to c = from c + length (entry c .args .next .now)
-
-mul-marks : tie.Need-mul-marks
-mul-marks c = let p = entry c .pre .sizes in omega arith
-
-add-end : tie.Need-add-end
-add-end c = let p = entry c .pre .sizes in omega arith
-
-mul-check-free : tie.Need-mul-check-free
-mul-check-free c = let p = entry c .pre .sizes in omega arith
-
-sub-check-free : tie.Need-sub-check-free
-sub-check-free c = let p = entry c .pre .sizes in omega arith
-
-part-check-free-start : tie.Need-part-check-free-start
-part-check-free-start c = let p = entry c .pre .sizes in omega arith
-
-part-check-free-end : tie.Need-part-check-free-end
-part-check-free-end c = let p = entry c .pre .sizes in omega arith
-
-check-free-requires : tie.Need-check-free-requires
-check-free-requires c κs = let o = c .before in first-can (entry o .pre) (from o) (to o) refl refl
+read-columns-requires : tie.Need-read-columns-requires
+read-columns-requires c κs = first-state (c .before .before .before .before .before .before .before .before .before .before .pre)
 
 enum-told : tie.Need-enum-told
 enum-told c = search needs
 
 same-length : tie.Need-same-length
-same-length c =
-    let d = refused c in
-    let o = opened d in
-    first-cut (entry o .pre) (from o) (to o) refl refl (d .check-free .kept .1 .1 .1 .0) (d .check-free .ensures) (c .enum-told .given .1) .only .same-length
+same-length c = refused c .read-columns .ensures .only .same-length
 
 returns : tie.Need-returns
-returns c =
-    let d = refused c in
-    let o = opened d in
-    first-cut (entry o .pre) (from o) (to o) refl refl (d .check-free .kept .1 .1 .1 .0) (d .check-free .ensures) (c .enum-told .given .1)
-
-enum-known-first : tie.Need-enum-known-first
-enum-known-first c = search needs
-
-cast-work : tie.Need-cast-work
-cast-work c =
-    let d = freed c in
-    let o = opened d in
-    omega (arith, entry o .pre .sizes .f-bound, first-within (entry o .pre) (from o) (to o) refl refl (d .check-free .kept .1 .1 .1 .0) (d .check-free .ensures) (c .before .first .given .1))
-
-mul-work : tie.Need-mul-work
-mul-work c = let p = entry (opened (freed c)) .pre .sizes in omega arith
-
-mul-work-2 : tie.Need-mul-work-2
-mul-work-2 c = let p = entry (opened (freed c)) .pre .sizes in omega arith
-
-slice-write-work : tie.Need-slice-write-work
-slice-write-work c =
-    let d = freed c in
-    let o = opened d in
-    let p = entry o .pre .sizes in
-    omega (arith, first-only (entry o .pre) (from o) (to o) refl refl (d .check-free .kept .1 .1 .1 .0) (d .check-free .ensures) .same-length)
-
-read-columns-requires : tie.Need-read-columns-requires
-read-columns-requires c κs =
-    let h = c .before in
-    let d = freed h in
-    let o = opened d in
-    first-state (entry o .pre) (from o) (to o) refl refl (d .check-free .kept .1 .1 .1 .0) (d .check-free .ensures) (h .before .first .given .1) refl
-
-enum-told-2 : tie.Need-enum-told-2
-enum-told-2 c = search needs
-
-same-length-2 : tie.Need-same-length-2
-same-length-2 c =
-    let r = cut-at c in
-    let h = stored r in
-    let d = freed h in
-    let o = opened d in
-    last-cut (entry o .pre) (from o) (to o) refl refl (d .check-free .kept .1 .1 .1 .0) (d .check-free .ensures) (h .before .first .given .1) refl (r .read-columns .ensures)
-    (c .enum-told2 .given .1) .only .same-length
-
-returns-2 : tie.Need-returns-2
-returns-2 c =
-    let r = cut-at c in
-    let h = stored r in
-    let d = freed h in
-    let o = opened d in
-    last-cut (entry o .pre) (from o) (to o) refl refl (d .check-free .kept .1 .1 .1 .0) (d .check-free .ensures) (h .before .first .given .1) refl (r .read-columns .ensures) (c .enum-told2 .given .1)
+returns c = let r = refused c in record { only = r .read-columns .ensures .only; answer = sym (r .read-columns .ensures .cut (c .enum-told .given .1)) }
 
 enum-known-n : tie.Need-enum-known-n
 enum-known-n c = search needs
 
+mul-are-apart : tie.Need-mul-are-apart
+mul-are-apart c = let p = entry (ended (c .before)) .pre .sizes in omega arith
+
+mul-are-apart-2 : tie.Need-mul-are-apart-2
+mul-are-apart-2 c = let p = entry (ended (c .before)) .pre .sizes in omega arith
+
+are-apart-requires : tie.Need-are-apart-requires
+are-apart-requires c κs = let h = c .before in last-compare (ended h .read-columns .ensures .next (h .before .n .given .0 .0) (h .before .n .given .1))
+
+same-length-2 : tie.Need-same-length-2
+same-length-2 c = ended (compared (c .before)) .read-columns .ensures .only .same-length
+
+returns-2 : tie.Need-returns-2
+returns-2 c =
+    let d = c .before in
+    let h = compared d in
+    let r = ended h in
+    last-shared (r .read-columns .ensures .next (h .before .n .given .0 .0) (h .before .n .given .1)) (r .read-columns .ensures .only) (d .are-apart .ensures)
+    (not-true (d .are-apart .result) (c .if1 .taken))
+
+sub-left : tie.Need-sub-left
+sub-left c =
+    let h = compared (c .before) in
+    omega (arith, last-within (ended h .read-columns .ensures .next (h .before .n .given .0 .0) (h .before .n .given .1)))
+
+read-free-requires : tie.Need-read-free-requires
+read-free-requires c κs =
+    let h = compared (c .before .before) in last-can (ended h .read-columns .ensures .next (h .before .n .given .0 .0) (h .before .n .given .1))
+
 same-length-3 : tie.Need-same-length-3
 same-length-3 c =
-    let r = ended-at c in
-    let h = stored r in
-    let d = freed h in
-    let o = opened d in
-    last-answer (entry o .pre) (from o) (to o) refl refl (d .check-free .kept .1 .1 .1 .0) (d .check-free .ensures) (h .before .first .given .1) refl (r .read-columns .ensures)
-    (c .before .n .given .1) .only .same-length
+    let f = c .before .before in
+    let e = f .before .before in
+    let d = e .before in
+    let h = compared d in
+    let r = ended h in
+    last-answer (r .read-columns .ensures .next (h .before .n .given .0 .0) (h .before .n .given .1)) (r .read-columns .ensures .only) (d .are-apart .ensures)
+    (not-false (d .are-apart .result) (e .if1 .left)) (f .read-free .ensures .0) (f .read-free .ensures .1) .only .same-length
 
 returns-3 : tie.Need-returns-3
 returns-3 c =
-    let r = ended-at c in
-    let h = stored r in
-    let d = freed h in
-    let o = opened d in
-    last-answer (entry o .pre) (from o) (to o) refl refl (d .check-free .kept .1 .1 .1 .0) (d .check-free .ensures) (h .before .first .given .1) refl (r .read-columns .ensures) (c .before .n .given .1)
+    let f = c .before .before in
+    let e = f .before .before in
+    let d = e .before in
+    let h = compared d in
+    let r = ended h in
+    last-answer (r .read-columns .ensures .next (h .before .n .given .0 .0) (h .before .n .given .1)) (r .read-columns .ensures .only) (d .are-apart .ensures)
+    (not-false (d .are-apart .result) (e .if1 .left)) (f .read-free .ensures .0) (f .read-free .ensures .1)
 
 pub read-factor-spec : {M : Type 1} → statement M
 read-factor-spec =
     tie.close
     (tie.spec
-    mul-marks
-    add-end
-    mul-check-free
-    sub-check-free
-    part-check-free-start
-    part-check-free-end
-    check-free-requires
+    read-columns-requires
     enum-told
     same-length
     returns
-    enum-known-first
-    cast-work
-    mul-work
-    mul-work-2
-    slice-write-work
-    read-columns-requires
-    enum-told-2
+    enum-known-n
+    mul-are-apart
+    mul-are-apart-2
+    are-apart-requires
     same-length-2
     returns-2
-    enum-known-n
+    sub-left
+    read-free-requires
     same-length-3
     returns-3)

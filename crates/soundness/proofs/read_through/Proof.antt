@@ -6,7 +6,7 @@ use Prim.Native.Nat.{ℕ, _+_, _*_}
 use native.Mathlib.Omega.{arith}
 use lib.ListN.{length}
 use borrow.Author.Tests.{not-true, not-false}
-use Rattle.soundness.proofs.Preparing.{preparing-marks, preparing-only, preparing-unsound, preparing-list, preparing-done, preparing-answer, preparing-end}
+use Rattle.soundness.proofs.Preparing.{preparing-book, preparing-only, preparing-unsound, preparing-list, preparing-done, preparing-answer, preparing-end}
 use Rattle.soundness.proofs.read_through.Statement.{statement}
 use Rattle.soundness.proofs.read_through.Tie as tie
 
@@ -26,11 +26,14 @@ book-read c = c .before .before .before
 abbrev from : tie.After-slice-known → ℕ
 from c = 8 * length (entry c .args .heads .now) + 4 * length (entry c .args .next .now) + 1024
 
-abbrev to : tie.After-slice-known → ℕ
-to c = from c + length (entry c .args .book-next .now)
+abbrev mid : tie.After-slice-known → ℕ
+mid c = from c + length (entry c .args .book-next .now)
 
-abbrev marks : tie.After-read-through → List ℕ
-marks d = d .read-through .last .1 .1 .1 .0
+abbrev to : tie.After-slice-known → ℕ
+to c = mid c + length (entry c .args .book-heads .now)
+
+abbrev scratch : tie.After-read-through → List ℕ
+scratch d = d .read-through .last .1 .1 .1 .0
 
 mul-a : tie.Need-mul-a
 mul-a c = let p = entry c .pre in omega arith
@@ -43,6 +46,9 @@ add-a c = let p = entry c .pre in omega arith
 
 add-a-2 : tie.Need-add-a-2
 add-a-2 c = let p = entry c .pre in omega arith
+
+add-b : tie.Need-add-b
+add-b c = let p = entry c .pre in omega arith
 
 add-e : tie.Need-add-e
 add-e c = let p = entry c .pre in omega arith
@@ -63,21 +69,21 @@ cast-read-through : tie.Need-cast-read-through
 cast-read-through c = let p = entry (c .before) .pre in omega arith
 
 read-through-requires : tie.Need-read-through-requires
-read-through-requires c κs = let o = c .before in (entry o .pre .booked, preparing-marks (entry o .pre) (from o) (to o) refl refl)
+read-through-requires c κs = let o = c .before in preparing-book (entry o .pre) (from o) (mid o) (to o) refl refl refl
 
 same-length : tie.Need-same-length
 same-length c =
     let d = c .before .before .before in
     let o = opened d in
-    preparing-only (entry o .pre) (from o) (to o) refl refl (marks d) (d .read-through .kept .1 .1 .1 .0) .same-length
+    preparing-only (entry o .pre) (from o) (mid o) (to o) refl refl refl (scratch d) (d .read-through .kept .1 .1 .1 .0) .same-length
 
 returns : tie.Need-returns
 returns c =
     let d = c .before .before .before in
     let o = opened d in (
-      preparing-unsound (entry o .pre) (from o) (to o) refl refl (marks d) (d .read-through .kept .1 .1 .1 .0) (d .read-through .result) (d .read-through .ensures)
+      preparing-unsound (entry o .pre) (from o) (mid o) (to o) refl refl refl (scratch d) (d .read-through .kept .1 .1 .1 .0) (d .read-through .result) (d .read-through .ensures)
           (not-true (d .read-through .result) (c .if1 .taken)),
-      preparing-only (entry o .pre) (from o) (to o) refl refl (marks d) (d .read-through .kept .1 .1 .1 .0),
+      preparing-only (entry o .pre) (from o) (mid o) (to o) refl refl refl (scratch d) (d .read-through .kept .1 .1 .1 .0),
     )
 
 mul-link-columns : tie.Need-mul-link-columns
@@ -88,7 +94,7 @@ link-columns-requires c κs =
     let k = c .before in
     let d = book-read k in
     let o = opened d in
-    preparing-list (entry o .pre) (from o) (to o) refl refl (marks d) (d .read-through .kept .1 .1 .1 .0) (sym (d .read-through .ensures) ∙ not-false (d .read-through .result) (k .if1 .left))
+    preparing-list (entry o .pre) (from o) (mid o) (to o) refl refl refl (scratch d) (d .read-through .kept .1 .1 .1 .0) (sym (d .read-through .ensures) ∙ not-false (d .read-through .result) (k .if1 .left))
 
 read-factor-requires : tie.Need-read-factor-requires
 read-factor-requires c κs =
@@ -96,7 +102,7 @@ read-factor-requires c κs =
     let k = listed-from l in
     let d = book-read k in
     let o = opened d in
-    preparing-done (entry o .pre) (from o) (to o) refl refl (marks d) (d .read-through .kept .1 .1 .1 .0) (sym (d .read-through .ensures) ∙ not-false (d .read-through .result) (k .if1 .left))
+    preparing-done (entry o .pre) (from o) (mid o) (to o) refl refl refl (scratch d) (d .read-through .kept .1 .1 .1 .0) (sym (d .read-through .ensures) ∙ not-false (d .read-through .result) (k .if1 .left))
     (l .link-columns .ensures)
 
 same-length-2 : tie.Need-same-length-2
@@ -106,7 +112,7 @@ same-length-2 c =
     let k = listed-from l in
     let d = book-read k in
     let o = opened d in
-    preparing-end (entry o .pre) (from o) (to o) refl refl (marks d) (d .read-through .kept .1 .1 .1 .0) (sym (d .read-through .ensures) ∙ not-false (d .read-through .result) (k .if1 .left))
+    preparing-end (entry o .pre) (from o) (mid o) (to o) refl refl refl (scratch d) (d .read-through .kept .1 .1 .1 .0) (sym (d .read-through .ensures) ∙ not-false (d .read-through .result) (k .if1 .left))
     (l .link-columns .ensures) (r .read-factor .ensures) .same-length
 
 returns-2 : tie.Need-returns-2
@@ -117,8 +123,8 @@ returns-2 c =
     let d = book-read k in
     let o = opened d in
     let sound = sym (d .read-through .ensures) ∙ not-false (d .read-through .result) (k .if1 .left) in (
-      preparing-answer (entry o .pre) (from o) (to o) refl refl (marks d) (d .read-through .kept .1 .1 .1 .0) sound (l .link-columns .ensures) (r .read-factor .ensures),
-      preparing-end (entry o .pre) (from o) (to o) refl refl (marks d) (d .read-through .kept .1 .1 .1 .0) sound (l .link-columns .ensures) (r .read-factor .ensures),
+      preparing-answer (entry o .pre) (from o) (mid o) (to o) refl refl refl (scratch d) (d .read-through .kept .1 .1 .1 .0) sound (l .link-columns .ensures) (r .read-factor .ensures),
+      preparing-end (entry o .pre) (from o) (mid o) (to o) refl refl refl (scratch d) (d .read-through .kept .1 .1 .1 .0) sound (l .link-columns .ensures) (r .read-factor .ensures),
     )
 
 pub read-through-spec : {M : Type 1} → statement M
@@ -129,6 +135,7 @@ read-through-spec =
     mul-a-2
     add-a
     add-a-2
+    add-b
     add-e
     mul-read-through
     sub-read-through

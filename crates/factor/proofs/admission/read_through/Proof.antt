@@ -40,7 +40,7 @@ lengths c = let s : tie.Start = entry (first c) in cut (stateAt s) (tablesAt s) 
 
 -- the work table that is read with
 ready-is : (c : tie.After-make-ready) →
-    c .make-ready .last .0 ≡ madeReady (entry c .args .work .now) (entry c .args .factor .m) (entry c .args .factor .f) (entry c .args .factor .c)
+    c .make-ready .last .0 ≡ madeReady (entry c .args .work .now) (entry c .args .factor .m)
 ready-is c = c .make-ready .ensures
 
 cast-m : tie.Need-cast-m
