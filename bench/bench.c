@@ -2,16 +2,16 @@
      inner   a batch on tables known to be sound: plain C's inner way; the library's unchecked entries, run by bench_driver
      check   reading all tables through
      public  a batch with all input checked first
-   A second table has questions (questions.c).
+   A second table has questions (questions.c), a third the read-through of tables of several kinds (reading.c).
    usage: bench [seed [passes]] */
 #include "measure.h"
 #include "ours.h"
 #include "plain.h"
 #include "questions.h"
+#include "reading.h"
 #include "workload.h"
 #include <stdio.h>
 #include <stdlib.h>
-#include <string.h>
 
 enum { INNER, OUR_INNER, CHECK, OUR_CHECK, PUBLIC, OUR_PUBLIC, KINDS };
 static uint16_t touched[4096], labels[4096];
@@ -57,8 +57,8 @@ static void public_pass(const Load *w, double *t, double *mean_touched, double *
         s = now(); Ans a = plain_batch(&f, &x, b, 1); u[PUBLIC][b] = now() - s;
         s = now(); Ans c = ours_public(&g, &x, b, touched, labels); u[OUR_PUBLIC][b] = now() - s;
         if (a.number || c.number || a.touched != c.touched || a.entries != c.entries || a.grade != c.grade) die("the answers differ");
-        s = now(); if (!sound(&f)) die("plain check");
-        memset(f.work, 0, 4 * work_places(f.m, f.n, f.F, f.C)); u[CHECK][b] = now() - s;
+        s = now(); if (host_check(&f)) die("plain check");
+        u[CHECK][b] = now() - s;
         s = now(); if (ours_check(&g)) die("check");
         u[OUR_CHECK][b] = now() - s;
         nt += c.touched; ne += c.entries;
@@ -94,5 +94,7 @@ int main(int argc, char **argv)
     for (int shape = 0; shape < 2; shape++) for (int q = 0; q < 2; q++) for (int z = 0; z < 3; z++) row(shape, ms[q], rs[z], pairs[shape][z], seed, passes, 0);
     for (int z = 0; z < 3; z++) row(NESTED, 4096, rs[z], pairs[NESTED][z], seed, passes, 1);
     questions(seed, passes);
+    const Way ways[] = {ours_way, plain_way};
+    reading(ways, 2, seed, passes);
     return 0;
 }

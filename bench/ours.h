@@ -3,6 +3,7 @@
 #define OURS_H
 #include "nigvalds.h"
 #include "plain.h"
+#include "reading.h"
 #include "workload.h"
 
 /* ---- crates/bench_driver: each begins with a check, which may refuse it, and then uses the unchecked entries */
@@ -21,20 +22,35 @@ Asked bench_common(nigvalds_factor factor, NIGVALDS_READ_TABLES, const uint32_t 
 /* the next row of each pair of row_list, row then column: the sum is of rows and multiplicities */
 Asked bench_next(nigvalds_factor factor, NIGVALDS_READ_TABLES, const uint32_t *row_list, size_t row_list_length);
 
-/* ---- the same over the tables of plain.h, and the public entries */
+/* ---- the tables of plain.h as the library takes them */
 
-/* a list of batches by the unchecked entries: the number that refused one, or 0 */
-uint32_t ours_run(Fac *f, const Flat *x, uint16_t *touched, uint16_t *labels);
-/* batch b by the public entry */
+#define TABLES(f)                                                                                                                                   \
+    (f)->fhead, (f)->m, (f)->parent, (f)->m, (f)->frow, (f)->F, (f)->fmult, (f)->F, (f)->fnext, (f)->F, (f)->bhead, (f)->n, (f)->brow, (f)->C,      \
+        (f)->bnext, (f)->C, (f)->work, work_places((f)->m, (f)->n, (f)->F, (f)->C)
+#define REPORT(f) touched, (f)->m, labels, (f)->m
+
+static inline nigvalds_factor record(const Fac *f)
+{ nigvalds_factor r = {f->m, f->n, f->F, f->C, f->ffree, f->bfree, f->grade2, f->grade3, f->grade4}; return r; }
+
+static inline void keep(Fac *f, nigvalds_factor r) { f->ffree = r.free; f->bfree = r.book_free; }
+
+/* ---- the public entries (ours.c) */
+
+extern const Way ours_way;
+/* batch b */
 Ans ours_public(Fac *f, const Flat *x, size_t b, uint16_t *touched, uint16_t *labels);
 /* 0 when sound, or the number */
 uint32_t ours_check(Fac *f);
-/* the columns that meet row i by the public entry: how many, or 0 where it is refused */
+/* the columns that meet row i: how many, or 0 where it is refused */
 uint32_t ours_meets(Fac *f, uint32_t i, uint32_t *list, size_t places);
-/* the first row at or above i in column j by the public entry */
+/* the first row at or above i in column j */
 nigvalds_found ours_next(Fac *f, uint32_t i, uint32_t j);
-/* questions by the unchecked entries: the columns that meet each of n rows; the common rows of n rows, r at a time; the next rows of n numbers, row then
-   column */
+
+/* ---- the unchecked entries (unchecked.c) */
+
+/* a list of batches: the number that refused one, or 0 */
+uint32_t ours_run(Fac *f, const Flat *x, uint16_t *touched, uint16_t *labels);
+/* questions: the columns that meet each of n rows; the common rows of n rows, r at a time; the next rows of n numbers, row then column */
 Asked ours_meets_all(Fac *f, const uint32_t *rows, size_t n, uint32_t *list, size_t places);
 Asked ours_common_all(Fac *f, const uint32_t *rows, size_t n, size_t r);
 Asked ours_next_all(Fac *f, const uint32_t *pairs, size_t n);

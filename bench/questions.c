@@ -85,8 +85,7 @@ static Run plain_next(const Fac *f, size_t n)
 /* so many questions by plain C, its tables read through before as the library's are */
 static Run plain(Fac *f, const Line *l, size_t n)
 {
-    if (!sound(f)) die("plain check");
-    memset(f->work, 0, 4 * work_places(f->m, f->n, f->F, f->C));
+    if (host_check(f)) die("plain check");
     return l->kind == MEETS ? plain_meets(f) : l->kind == COMMON ? plain_common(f, l->size, n) : plain_next(f, n);
 }
 
