@@ -318,6 +318,27 @@ fn entries_that_count_nothing() {
     }
 }
 
+// Two entries of a column of L, or two rows of an id, exchanged: all are there, but they do not rise.
+#[test]
+fn entries_out_of_order() {
+    let mut random = Random::new(14);
+    for _ in 0..5 {
+        let mut x = laid(SMALL, Order::Random, &mut random);
+        for part in PARTS {
+            for column in x.columns(part).into_iter().map(|c| c.1) {
+                for (a, b) in column.iter().enumerate().flat_map(|(k, a)| column[..k].iter().map(move |b| (*a, *b))) {
+                    let mut y = x.clone();
+                    (*y.row(part, a), *y.row(part, b)) = (*x.row(part, b), *x.row(part, a));
+                    if part == Part::Factor {
+                        y.tables.counts.swap(a as usize - 1, b as usize - 1);
+                    }
+                    assert!(!judged(&y, &mut random));
+                }
+            }
+        }
+    }
+}
+
 // No free record in one pool or in both; a free head leads somewhere then.
 #[test]
 fn full_pools() {

@@ -6,7 +6,7 @@ use mathlib.Core.Path.{_≡_, refl, sym, ap, subst, _∙_}
 use mathlib.Core.Logic.{inl, inr, _≢_}
 use mathlib.Core.Bool.{Bool, true, false, _&&_, true≢false}
 use mathlib.Core.List.{List, [], _∷_, _++_, append-assoc, append-nil}
-use Prim.Native.Nat.{ℕ, suc, _+_, _*_, _-_, _≤_, _<_}
+use Prim.Native.Nat.{ℕ, _+_, _*_, _-_, _≤_, _<_}
 use native.Mathlib.Omega.{arith}
 use lib.Dec.{leb}
 use lib.ListN.{length, getD, take, set, length-set, length-append}
@@ -17,7 +17,7 @@ use Rattle.lists.proofs.Tests.{and-both, both-and, both-ways, refute}
 use Rattle.lists.proofs.Place.{values-append, values-one}
 use Rattle.workspace.specs.Layout.{rowStash}
 use Rattle.workspace.specs.Regions.{cell, region}
-use Rattle.workspace.proofs.Regions.{region-length, region-ext, store-push, store-leaves-region}
+use Rattle.workspace.proofs.Regions.{region-ext, store-push, store-leaves-region}
 use Rattle.pool.specs.declared.Chain.the-variants.{Ended, Cut}
 use Rattle.pool.specs.Chains.{chain, ends, lastOf, Linked}
 use Rattle.pool.proofs.Chains.{Step, linked-step, linked-ends, chain-linked}
@@ -155,7 +155,7 @@ module _ {rows counts next w₀ : List ℕ} {m met size head : ℕ} (pre : CanCh
     unfolding passes
     met-pass = ap (passes rows counts m (region w₀ 0 m) 0) (sym (append-nil (i .records))) ∙ i .same []
 
-    pub checking-within : k ≤ size
+    checking-within : k ≤ size
     checking-within = omega (arith, i .counted, pre .size-is, passes-filled rows counts m (region w₀ 0 m) 0 (i .records) met-pass)
 
     -- the chain ends while counters are left

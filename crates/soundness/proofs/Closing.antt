@@ -2,7 +2,7 @@
 -- (closing-differs); and what the code asks from there on. What is stored then: proofs/Storing.antt. Assumes nothing.
 use mathlib.Core.Path.{_≡_, ap, _∙_}
 use mathlib.Core.Logic.{inl, inr, _≢_}
-use mathlib.Core.Bool.{true, false, _&&_}
+use mathlib.Core.Bool.{true, false}
 use mathlib.Core.List.{List, _∷_}
 use Prim.Native.Nat.{ℕ, suc, _+_, _*_, _-_, _≤_}
 use native.Mathlib.Omega.{arith}
@@ -19,6 +19,7 @@ use Rattle.symbolic.proofs.Patterns.{pattern-parts}
 use Rattle.symbolic.proofs.Theorems.{parent-above}
 use Rattle.pool.specs.declared.Chain.{Chain}
 use Rattle.pool.specs.declared.Walk.the-variants.{Cut}
+use Rattle.pool.proofs.Apart.{last-within}
 use Rattle.book.specs.Book as book
 use Rattle.tables.specs.Stored.{Stored, recordsOf, isSoundFor}
 use Rattle.counting.specs.Counting.{CanLink}
@@ -29,9 +30,10 @@ use Rattle.soundness.proofs.Column.{SoundParts, sound-parts, entriesHel
 
 -- ---- what the code asks after a chain fitted
 
-pub record CloseFacts (s : Stored) (b : book.Book) (w₂ : List ℕ) (j met n : ℕ) : Type 0 where
+pub record CloseFacts (s : Stored) (b : book.Book) (w₂ : List ℕ) (j met n last : ℕ) : Type 0 where
   pub met-within : met ≤ n
   pub within : n ≤ length (s .next)
+  pub last-in : last ≤ length (s .next)
   pub low : 1 ≤ j
   pub inside : j ≤ length (s .heads)
   pub long : workNeed (length (s .heads)) (length (b .heads)) (length (s .next)) (length (b .next)) ≤ length w₂
@@ -105,11 +107,12 @@ module _ {s : Stored} {b : book.Book} {w : List ℕ} {j met : ℕ} (st : State s
         let l : e - x ≡ length (recordsOf s j) = omega (arith, found .count) in
         ap (λ (z : ℕ). getD (region w₂ x z) 1 0) l ∙ ap (λ (z : ℕ). getD (region w₂ z (length (recordsOf s j))) 1 0) p ∙ ap (λ (z : List ℕ). getD z 1 0) (chain-read .stash) ∙ closing-parent
 
-    pub closing-facts : CloseFacts s b w₂ j met n
+    pub closing-facts : CloseFacts s b w₂ j met n last
     closing-facts =
         record {
           met-within = omega (arith, found .count);
           within = found .within;
+          last-in = omega (arith, found .last-is, last-within (s .next) (at (s .heads) j) (recordsOf s j) (found .linked));
           low = st .low;
           inside = inside;
           long = omega (arith, closing-length, st .sizes .long);

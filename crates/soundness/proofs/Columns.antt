@@ -1,12 +1,12 @@
 -- The loop over the columns (ColumnsReading): its start, a column that is not the definition's, one column more, the end. Then the state before the first
 -- column (first-state). Assumes nothing.
-use mathlib.Core.Path.{_≡_, refl, sym, ap, subst, _∙_}
-use mathlib.Core.List.{List, []}
-use Prim.Native.Nat.{ℕ, _+_, _*_, _-_, _≤_, _<_}
+use mathlib.Core.Path.{_≡_, sym, ap, subst}
+use mathlib.Core.List.{List}
+use Prim.Native.Nat.{ℕ, _+_, _≤_, _<_}
 use native.Mathlib.Omega.{arith}
 use lib.ListN.{length}
 use Rattle.lists.specs.Lists.{at}
-use Rattle.workspace.specs.Layout.{childHead, childNext, stashStart, lastsAt, namesAt}
+use Rattle.workspace.specs.Layout.{childHead, childNext, lastsAt, namesAt}
 use Rattle.workspace.proofs.Regions.{only-refl, only-trans}
 use Rattle.pool.specs.declared.Walk.{Walk}
 use Rattle.pool.specs.declared.Walk.the-variants.{Ended, Cut}

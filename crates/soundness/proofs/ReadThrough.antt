@@ -1,9 +1,9 @@
 -- The end of the pass. What is asked of the records that the columns do not have, test by test (free-rows, free-pairs, free-all). After the last column: every
 -- chain ends and every column holds, so rows are from 1 on in their records (rowed), and the tables are sound exactly if the pool is closed and free records
 -- have multiplicity 0 (sound-closed, closed-sound). Then the answers (last-shared, last-answer), with what of the work table stays. Assumes nothing.
-use mathlib.Core.Path.{_≡_, refl, sym, ap, subst, _∙_}
-use mathlib.Core.Logic.{inl, inr, _≢_}
-use mathlib.Core.Bool.{Bool, true, false, _&&_, false≢true}
+use mathlib.Core.Path.{_≡_, sym, ap, subst, _∙_}
+use mathlib.Core.Logic.{_≢_}
+use mathlib.Core.Bool.{Bool, true, false, false≢true}
 use mathlib.Core.List.{List}
 use Prim.Native.Nat.{ℕ, suc, _+_, _*_, _-_, _≤_, _<_}
 use native.Mathlib.Omega.{arith}
@@ -31,7 +31,7 @@ use Rattle.free_chain.specs.Pieces.{CanWalk}
 use Rattle.free_chain.proofs.Walking.{decides-no}
 use Rattle.book.specs.Book as book
 use Rattle.book.proofs.Sound.{values-mem}
-use Rattle.tables.specs.Stored.{Stored, recordsOf, holdsFrom, freeZero, isSoundFor}
+use Rattle.tables.specs.Stored.{Stored, recordsOf, holdsFrom, isSoundFor}
 use Rattle.counting.proofs.Parts.{part-only}
 use Rattle.soundness.specs.Checking.{CanReadFree, FreeRead}
 use Rattle.soundness.specs.State.{liveIn, walked, State, WithinWork, FactorRead}

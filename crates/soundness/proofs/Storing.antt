@@ -1,10 +1,10 @@
 -- What is stored after a column's chain fitted and its parent was found the same: the column is linked to its parent, the end of its rows is stored and its
 -- last record named. Each part of the state of one column more, in this order: what the stores leave, counters and lists, the stash, the chains and
 -- their last records; then the whole (closing-state). Assumes nothing.
-use mathlib.Core.Path.{_≡_, refl, sym, ap, subst, _∙_}
+use mathlib.Core.Path.{_≡_, sym, ap, subst, _∙_}
 use mathlib.Core.Logic.{inl, inr, _≢_}
 use mathlib.Core.Bool.{true}
-use mathlib.Core.List.{List, [], _∷_, _++_, append-nil}
+use mathlib.Core.List.{List, [], _∷_, _++_}
 use Prim.Native.Nat.{ℕ, suc, _+_, _*_, _-_, _≤_, _<_}
 use native.Mathlib.Omega.{arith}
 use lib.ListN.{length, getD, take, set, length-set, length-append}
@@ -17,12 +17,12 @@ use Rattle.workspace.specs.Regions.{cell, region, Outside, IsZero}
 use Rattle.workspace.proofs.Regions.{region-ext}
 use Rattle.symbolic.specs.Factor.{FactorColumn, factorOf, columnAt, parentOf}
 use Rattle.pool.specs.declared.Chain.{Chain}
-use Rattle.pool.specs.declared.Walk.the-variants.{Ended, Cut}
+use Rattle.pool.specs.declared.Walk.the-variants.{Ended}
 use Rattle.pool.specs.Chains.{chain}
 use Rattle.pool.specs.Whole.{chains, AllLinked}
 use Rattle.pool.specs.Ends.{lastFrom, lasts}
 use Rattle.pool.proofs.Whole.{chains-append, chains-cons, chains-nil, all-nil, all-cons, all-join}
-use Rattle.pool.proofs.Apart.{last-within, lasts-nil, lasts-cons, lasts-append}
+use Rattle.pool.proofs.Apart.{lasts-nil, lasts-cons, lasts-append}
 use Rattle.ends.specs.Naming.{CanName, namedIn, Named}
 use Rattle.ends.proofs.Naming.{NamedOnly, named-only, named-keep, named-next, named-region}
 use Rattle.book.specs.Book as book
@@ -33,7 +33,7 @@ use Rattle.counting.proofs.Linking.{link-only, link-listed}
 use Rattle.soundness.specs.Checking.{Checked}
 use Rattle.soundness.specs.State.{liveIn, walked, Walked, Stash, State, WithinWork, ColumnsRead}
 use Rattle.soundness.proofs.Column.{Found}
-use Rattle.soundness.proofs.Closing.{chain-read, closing-within, closing-length}
+use Rattle.soundness.proofs.Closing.{chain-read, closing-within, closing-length, closing-facts}
 
 -- ---- lists that a change leaves
 
@@ -98,13 +98,13 @@ module _ {s : Stored} {b : book.Book} {w : List ℕ} {j met : ℕ} (st : State s
     four-far : (x : ℕ) → 3 * m ≤ x → x ≢ 4 * m + j → Outside (rowStash m f) f x → Outside (small m f) 256 x → getD w₄ x 0 ≡ getD w x 0
     four-far x h e q r = four-place x (inr (omega arith)) e ∙ two-place x (omega arith) q r
 
-    -- the last record is of the pool, or 0
-    last-few : last ≤ f
-    last-few = omega (arith, found .last-is, last-within (s .next) (at (s .heads) j) (recordsOf s j) (found .linked))
+    -- any record of the pool can be named, and 0
+    pub closing-name : {e : ℕ} → e ≤ length (s .next) → CanName w₄ (6 * length (s .heads)) (8 * length (s .heads)) j e
+    closing-name h =
+        record { low = st .low; last-in = omega (arith, st .sizes .long, four-length); name-in = λ p. omega (arith, st .sizes .long, four-length) }
 
-    pub closing-name : CanName w₄ (6 * m) (8 * m) j last
-    closing-name =
-        record { low = st .low; last-in = omega (arith, st .sizes .long, four-length); name-in = λ h. omega (arith, st .sizes .long, four-length, last-few) }
+    last-few : last ≤ f
+    last-few = closing-facts st inside found d k .last-in
 
     module _ {w₅ : List ℕ} (name-is : w₅ ≡ namedIn w₄ (6 * m) (8 * m) j last) where
       five-only : NamedOnly (6 * m) (8 * m) j f w₄ w₅
@@ -258,7 +258,7 @@ module _ {s : Stored} {b : book.Book} {w : List ℕ} {j met : ℕ} (st : State s
             named = subst (λ (x : ℕ). Named w₅ (lastsAt m) x (namesAt m) f) (sym q) (new .1);
           }
 
-      pub closing-only : WithinWork s b w w₅
+      closing-only : WithinWork s b w w₅
       closing-only =
           record {
             same-length = five-length;
@@ -268,7 +268,7 @@ module _ {s : Stored} {b : book.Book} {w : List ℕ} {j met : ℕ} (st : State s
             ];
           }
 
-      pub closing-state : State s b w₅ (j + 1) n
+      closing-state : State s b w₅ (j + 1) n
       closing-state =
           record {
             sizes = record {

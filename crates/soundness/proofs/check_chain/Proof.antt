@@ -10,7 +10,6 @@ use Rattle.soundness.proofs.Checking.{
   checking-many,
   checking-start,
   checking-length,
-  checking-within,
   checking-short,
   checking-out,
   checking-on,

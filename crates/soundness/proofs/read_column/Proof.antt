@@ -2,14 +2,15 @@
 -- second row; a test that fails means that the tables are not sound, and after all of them the state is that of one column more (proofs/Ready.antt,
 -- proofs/Column.antt, proofs/Closing.antt, proofs/Storing.antt). Assumes nothing.
 use mathlib.Core.Path.{refl, sym, _∙_}
-use Prim.Native.Nat.{_+_, _-_}
+use Prim.Native.Nat.{_+_, _*_, _-_}
 use native.Mathlib.Omega.{arith}
+use lib.ListN.{length, length-set}
 use Rattle.book.specs.Book.{Book, bookOf}
 use Rattle.tables.specs.Stored.{Stored, storedOf}
 use Rattle.soundness.proofs.Ready.{ready-tally, ready-check}
 use Rattle.soundness.proofs.Column.{Found, column-cut, column-ended}
 use Rattle.soundness.proofs.Closing.{CloseFacts, closing-cut, closing-differs, closing-facts, closing-second, closing-link}
-use Rattle.soundness.proofs.Storing.{closing-name, closing-only, closing-end}
+use Rattle.soundness.proofs.Storing.{closing-name, closing-end}
 use borrow.Author.Needs.{needs}
 use Rattle.soundness.proofs.read_column.Statement.{statement}
 use Rattle.soundness.proofs.read_column.Tie as tie
@@ -49,7 +50,7 @@ found c =
 
 facts : (c : tie.After-known-told) →
     CloseFacts (stored (started (tallied-at (walked-at c)))) (booked (started (tallied-at (walked-at c)))) (walked-at c .check-chain .last .1 .1 .1 .0)
-    (started (tallied-at (walked-at c)) .args .j .0) (started (tallied-at (walked-at c)) .args .met) (c .before .n .given .0 .0)
+    (started (tallied-at (walked-at c)) .args .j .0) (started (tallied-at (walked-at c)) .args .met) (c .before .n .given .0 .0) (c .before .n .given .0 .1 .0 .0)
 facts c =
     let k = walked-at c in
     let t = tallied-at k in
@@ -181,21 +182,18 @@ name-requires c κs =
     let f = found h in
     closing-name (p .state) (p .inside) f (t .tally-all .ensures) (k .check-chain .ensures) (l .before .second .result .0)
     (l .before .second .ensures ∙ closing-second (p .state) (p .inside) f (t .tally-all .ensures) (k .check-chain .ensures) _ _ refl refl)
-    (c .before .before .before .before .before .if1 .left) (c .before .before .before .link .ensures) refl
+    (c .before .before .before .before .before .if1 .left) (c .before .before .before .link .ensures) refl (let z = facts h in omega arith)
 
 same-length-3 : tie.Need-same-length-3
 same-length-3 c =
     let n = c .before .before in
     let q = n .before .before in
-    let l = linking q in
-    let h = compared l in
+    let h = compared (linking q) in
     let k = walked-at h in
     let t = tallied-at k in
-    let p = started t .pre in
-    let f = found h in
-    closing-only (p .state) (p .inside) f (t .tally-all .ensures) (k .check-chain .ensures) (l .before .second .result .0)
-    (l .before .second .ensures ∙ closing-second (p .state) (p .inside) f (t .tally-all .ensures) (k .check-chain .ensures) _ _ refl refl)
-    (q .before .before .before .before .if1 .left) (q .before .before .link .ensures) refl (n .name .ensures) .same-length
+    let l = q .before .before in
+    n .name .kept .0 ∙ length-set (l .link .last .0) (4 * length (started t .args .heads .now) + started t .args .j .0) (h .before .n .given .0 .0) ∙
+    l .link .kept .0 ∙ k .check-chain .kept .1 .1 .1 .0 ∙ t .tally-all .kept .1 .1 .1 .0
 
 returns-3 : tie.Need-returns-3
 returns-3 c =
