@@ -12,6 +12,7 @@ use Rattle.symbolic.specs.Factor.{factorOf, sizeSum}
 use Rattle.symbolic.specs.Grades.{Limits}
 use Rattle.pool.specs.Chains.{chain}
 use Rattle.tables.specs.Tables.{Tables}
+use Rattle.tables.proofs.Tables.{fits-rows}
 use Rattle.calls.specs.Refusals.{Refusal, refusal, accepted, isAccepted, orElse, unless, batchOf, addRefusal}
 use Rattle.calls.specs.Calls.{adding}
 use Rattle.calls.specs.Steps.{bookedIn}
@@ -71,7 +72,7 @@ module _ {t : Tables} {lim : Limits} {f g : ℕ} {w : List ℕ} (can : CanFind (
     add-can =
         let a : AddReady m (bookWhole t g) is ns rs = add-ready m (bookWhole t g) is ns rs found in
         record {
-          can = plan-can can (batchOf is ns rs) (a .batch-fits) (omega (arith, ready-length a, a .some)) (omega (arith, ready-length a, a .few));
+          can = plan-can can (batchOf is ns rs) (fits-rows m (batchOf is ns rs) (a .batch-fits)) (omega (arith, ready-length a, a .some)) (omega (arith, ready-length a, a .few));
           listed = batch-listed is ns rs (a .counted) (omega (arith, a .used));
         }
 

@@ -12,12 +12,14 @@ use Rattle.symbolic.specs.Columns.{Column, fitsRows}
 use Rattle.symbolic.specs.Change.{idsOf}
 use Rattle.symbolic.specs.Grades.{Limits}
 use Rattle.workspace.specs.Regions.{IsZero}
+use Rattle.workspace.specs.Layout.{spare, flagsAt, flagCount}
+use Rattle.workspace.proofs.Regions.{zero-part}
 use Rattle.book.specs.Book as book
 use Rattle.book.proofs.Columns.{columns-count, ids-distinct}
 use Rattle.tables.specs.Stored.{Stored, Sized, isSoundFor}
 use Rattle.tables.specs.Tables.{Tables, bookIn, storedIn}
-use Rattle.tables.proofs.Tables.{sound-book, sound-stored, sound-fits, sound-rows}
-use Rattle.calls.specs.Refusals.{isAccepted, bounds, sizesRefusal}
+use Rattle.tables.proofs.Tables.{sound-book, sound-stored, sound-rows}
+use Rattle.calls.specs.Refusals.{isAccepted, bounds, sizesRefusal, workFor}
 use Rattle.calls.specs.Steps.{bookedIn}
 use Rattle.calls.proofs.Refusals.{InRange, sizes-facts}
 use Rattle.updown.specs.Entries.{planNeed, CanPlan}
@@ -73,9 +75,6 @@ module _ {t : Tables} {lim : Limits} {f g : ℕ} {w : List ℕ} (can : CanFind (
 
   -- ---- the register: its columns fit, have distinct ids, and are at most n
 
-  pub columns-fit : all (book.columnFits (length (t .heads))) (bookedIn (cutWorld t lim f g) .columns) ≡ true
-  columns-fit = sound-fits (cutWorld t lim f g .state) t (can .sound)
-
   pub columns-rise : all (fitsRows (length (t .heads))) (bookedIn (cutWorld t lim f g) .columns) ≡ true
   columns-rise = sound-rows (cutWorld t lim f g .state) t (can .sound)
 
@@ -90,12 +89,15 @@ module _ {t : Tables} {lim : Limits} {f g : ℕ} {w : List ℕ} (can : CanFind (
   pub work-long : planNeed (length (t .heads)) (length (t .next)) ≤ length w
   work-long = omega (arith, can .long)
 
-  pub work-zero : IsZero w 0 (planNeed (length (t .heads)) (length (t .next)))
+  pub work-zero : IsZero w 0 (spare (length (t .heads)) (length (t .next)))
   work-zero i h = can .zero i (omega arith)
 
-  -- ---- a batch of 1 to 64 columns that fit can be planned
+  pub flags-zero : IsZero w (flagsAt (length (t .heads)) (length (t .next))) flagCount
+  flags-zero = zero-part w 0 (workFor (cutWorld t lim f g .state .sizes)) (flagsAt (length (t .heads)) (length (t .next))) flagCount (can .zero) (omega arith) (omega arith)
 
-  pub plan-can : (W : List Column) → all (book.columnFits (length (t .heads))) W ≡ true → 1 ≤ length W → length W ≤ 64 →
+  -- ---- a batch of 1 to 64 columns whose rows fit can be planned
+
+  pub plan-can : (W : List Column) → all (fitsRows (length (t .heads))) W ≡ true → 1 ≤ length W → length W ≤ 64 →
       CanPlan (storedWhole t f) (bookedIn (cutWorld t lim f g) .columns) W w
   plan-can W fits some few =
       record {
@@ -110,4 +112,5 @@ module _ {t : Tables} {lim : Limits} {f g : ℕ} {w : List ℕ} (can : CanFind (
         positions = (some, few);
         long = work-long;
         zero = work-zero;
+        flags-zero = flags-zero;
       }

@@ -1,5 +1,6 @@
--- A batch written: an accepted batch has what the writing of its plan asks (`write-can`), and columns so written with a book changed by it
--- (`BookAfter`) are the change's world and report (`batch-written`). Adding and removing differ only in the book's change: Booking.antt. Assumes nothing.
+-- A batch written: an accepted batch has what the report and the writing of its plan ask (`report-can`, `write-can`), and columns so written with a book
+-- changed by it (`BookAfter`) are the change's world, beside its report (`batch-written`). Adding and removing differ only in the book's change:
+-- Booking.antt. Assumes nothing.
 use mathlib.Core.Path.{_≡_, refl, sym, ap, _∙_, subst}
 use mathlib.Core.Bool.{Bool, true, false, false≢true}
 use mathlib.Core.List.{List, [], _∷_, _++_}
@@ -24,7 +25,8 @@ use Rattle.calls.specs.Changes.{effect, touchedBy, labelled}
 use Rattle.calls.specs.Steps.{bookedIn, Exchanged}
 use Rattle.calls.proofs.Changes.{rows-stay, touched-rise, untouched-same}
 use Rattle.updown.specs.Plans.{PlanIs}
-use Rattle.commit.specs.Writes.{labelsFor, CanWrite, PlanWritten}
+use Rattle.commit.specs.Writes.{CanWrite, PlanWritten}
+use Rattle.commit.specs.Report.{labelsFor, CanReport, Reported}
 use Rattle.batch.specs.Outcome.{cutSizes, cutWorld, CanFind, CanBatch}
 use Rattle.batch.specs.Parts.{storedWhole, bookWhole, numberFor, CanWriteBatch, BatchWritten}
 use Rattle.batch.proofs.Cut as cut
@@ -62,7 +64,7 @@ beyond-at {n} {xs} {ys} p q =
 beyond-cut : {xs ys : List ℕ} → length ys ≡ length xs → Beyond (length xs) xs ys
 beyond-cut q = beyond-at refl q
 
--- ---- the plan's writing
+-- ---- the plan's report and writing
 
 module _ {t : Tables} {lim : Limits} {f g : ℕ} {k : Change} {w w′ a b : List ℕ} {first used : ℕ}
     (c : CanWriteBatch (cutWorld t lim f g) k w w′ a b first used) where
@@ -75,7 +77,7 @@ module _ {t : Tables} {lim : Limits} {f g : ℕ} {k : Change} {w w′ a b : List
   pub write-can :
       CanWrite (storedWhole t f) (bookedIn (cutWorld t lim f g) .columns) (effect (bookedIn (cutWorld t lim f g)) k .register .columns)
       (effect (bookedIn (cutWorld t lim f g)) k .label) (touchedBy (bookedIn (cutWorld t lim f g)) k)
-      w w′ a b first (c .count) (c .entries) used
+      w w′ first (c .count) (c .entries) used
   write-can =
       record {
         sized = cut.stored-sized find;
@@ -87,11 +89,25 @@ module _ {t : Tables} {lim : Limits} {f g : ℕ} {k : Change} {w w′ a b : List
             PlanIs (r .m) (length (t .next)) (c .plan .room) (factorFor r) (factorOf n (effect r k .register .columns)) (effect r k .label) (touchedBy r k) w w′ first (c .count) (c .entries) used)
             (rows-stay r k) (c .plan .plan);
         zero = cut.work-zero find;
+        flags-zero = cut.flags-zero find;
         long = cut.work-long find;
         rising = touched-rise r k;
         off = λ j p q h. sym
             (subst (λ (n : ℕ). columnAt (factorOf n (effect r k .register .columns)) j ≡ columnAt (factorFor r) j) (rows-stay r k)
             (untouched-same (cutSizes t) r (cut.columns-distinct find) j p q k (c .accepted) h));
+      }
+
+  pub report-can :
+      CanReport (length (t .heads)) (factorOf (length (t .heads)) (bookedIn (cutWorld t lim f g) .columns))
+      (factorOf (length (t .heads)) (effect (bookedIn (cutWorld t lim f g)) k .register .columns))
+      (effect (bookedIn (cutWorld t lim f g)) k .label) (touchedBy (bookedIn (cutWorld t lim f g)) k) w′ a b first used
+  report-can =
+      record {
+        m-bound = write-can .m-bound;
+        rising = write-can .rising;
+        first-is = write-can .plan .first-is;
+        plans = write-can .plan .plans;
+        long = omega (arith, write-can .long, write-can .plan .same-length);
         touched-long = c .can .touched-long;
         labels-long = c .can .labels-long;
       }
@@ -99,8 +115,8 @@ module _ {t : Tables} {lim : Limits} {f g : ℕ} {k : Change} {w w′ a b : List
   -- ---- columns written and a book changed
 
   module _ {t′ : Tables} {f′ g′ : ℕ} {w″ a′ b′ : List ℕ} (same-next : length (t′ .next) ≡ length (t .next))
-      (x : PlanWritten (storedWhole t f) (effect (bookedIn (cutWorld t lim f g)) k .register .columns)
-      (effect (bookedIn (cutWorld t lim f g)) k .label) (touchedBy (bookedIn (cutWorld t lim f g)) k) w a b (storedWhole t′ f′) w″ a′ b′)
+      (z : Reported (effect (bookedIn (cutWorld t lim f g)) k .label) (touchedBy (bookedIn (cutWorld t lim f g)) k) a b a′ b′)
+      (x : PlanWritten (storedWhole t f) (effect (bookedIn (cutWorld t lim f g)) k .register .columns) (touchedBy (bookedIn (cutWorld t lim f g)) k) w (storedWhole t′ f′) w″)
       (y : BookAfter (length (t .heads)) (bookWhole t g) (effect (bookedIn (cutWorld t lim f g)) k .register .columns) (effect (bookedIn (cutWorld t lim f g)) k .ids) (bookWhole t′ g′)) where
     abbrev same-heads : length (t′ .heads) ≡ length (t .heads)
     same-heads = ap length (x .heads)
@@ -151,6 +167,6 @@ module _ {t : Tables} {lim : Limits} {f g : ℕ} {k : Change} {w w′ a b : List
         record {
           exchanged = batch-exchanged;
           work-is = x .work-is;
-          touched-is = x .touched-is;
-          labels-is = x .labels-is ∙ ap (λ (ls : List ℕ). over ls b) (labels-same (effect r k .label) (touchedBy r k));
+          touched-is = z .touched-is;
+          labels-is = z .labels-is ∙ ap (λ (ls : List ℕ). over ls b) (labels-same (effect r k .label) (touchedBy r k));
         }

@@ -8,7 +8,7 @@ use Prim.Native.Nat.{ℕ, zero, suc, _≤_, _<_}
 use native.Mathlib.Omega.{arith}
 use lib.ListN.{length, getD}
 use Rattle.lists.specs.Lists.{isIn, among}
-use Rattle.symbolic.specs.Columns.{Column, Register}
+use Rattle.symbolic.specs.Columns.{Column, fitsRows, Register}
 use Rattle.symbolic.specs.Factor.{FactorColumn, factorOf}
 use Rattle.symbolic.specs.Batch.{labelOf, touched}
 use Rattle.symbolic.specs.Change.{without, columnsOf}
@@ -29,7 +29,7 @@ use Rattle.updown.specs.Entries.{Booked, CanRemove, RemovePlanned}
 use Rattle.batch.specs.Outcome.{cutSizes, cutWorld, CanFind}
 use Rattle.batch.specs.Parts.{storedWhole, bookWhole, numberFor, verdictNumber, Judged}
 use Rattle.batch.specs.declared.Verdict.{Verdict}
-use Rattle.batch.proofs.Cut.{columns-cut, columns-fit, columns-distinct, book-sound, plan-can}
+use Rattle.batch.proofs.Cut.{columns-cut, columns-rise, columns-distinct, book-sound, plan-can}
 use Rattle.batch.proofs.Verdicts.{refused-judged, planned-judged}
 
 -- ---- the columns of a batch, as the book has them
@@ -112,7 +112,7 @@ module _ {t : Tables} {lim : Limits} {f g : ℕ} {w : List ℕ} (can : CanFind (
           columns = r .columns;
           free = f;
           book-free = g;
-          can = plan-can can W (removal-fits (book.columnFits m) (cutSizes t) r is (columns-distinct can) facts (columns-fit can) .1)
+          can = plan-can can W (removal-fits (fitsRows m) (cutSizes t) r is (columns-distinct can) facts (columns-rise can) .1)
               (omega (arith, columns-length is (r .columns), x .some)) (omega (arith, columns-length is (r .columns), x .few));
           same = removal-bag (cutSizes t) r is (columns-distinct can) facts;
           booked = booked-free (t .bookHeads) (t .bookRows) (t .bookNext) g i is W

@@ -1,4 +1,4 @@
-// An accepted batch written: the plan to the stored columns, then the batch's columns into the book or out of it.
+// An accepted batch written: the report, the plan to the stored columns, then the batch's columns into the book or out of it.
 ghost use mathlib.Core.List.{List};
 ghost use Prim.Native.Nat.{ℕ};
 ghost use Rattle.tables.specs.Tables.{tablesOf};
@@ -10,7 +10,7 @@ use crate::FreeHeads;
 use book::Row;
 use pool::Rec;
 
-// Writes an accepted addition: the plan, then the batch's columns into the book.
+// Writes an accepted addition: the report, the plan, then the batch's columns into the book.
 pub fn write_add(
     heads: &[u32],
     parents: &mut [u16],
@@ -34,19 +34,8 @@ pub fn write_add(
     requires { ⌜ SomePlan (tablesOf (now heads) (now parents) (now rows) (now counts) (now next) (now «book_heads») (now «book_rows») (now «book_next»)) (free .0) («book_free» .0) (adding (now ids) (now «row_counts») (now «row_list»)) (now work) (now touched) (now labels) (first .0) used ⌝ }
     ensures { λ r. ⌜ ((h : Limits) (w : List ℕ) → CanWriteBatch (cutWorld (tablesOf (now (heads .entry)) (now (parents .entry)) (now (rows .entry)) (now (counts .entry)) (now (next .entry)) (now («book_heads» .entry)) (now («book_rows» .entry)) (now («book_next» .entry))) h (free .0) («book_free» .0)) (adding (now (ids .entry)) (now («row_counts» .entry)) (now («row_list» .entry))) w (now (work .entry)) (now (touched .entry)) (now (labels .entry)) (first .0) used → BatchWritten (cutWorld (tablesOf (now (heads .entry)) (now (parents .entry)) (now (rows .entry)) (now (counts .entry)) (now (next .entry)) (now («book_heads» .entry)) (now («book_rows» .entry)) (now («book_next» .entry))) h (free .0) («book_free» .0)) (adding (now (ids .entry)) (now («row_counts» .entry)) (now («row_list» .entry))) w (now (touched .entry)) (now (labels .entry)) (cutWorld (tablesOf (now (heads .entry)) (now (parents .exit)) (now (rows .exit)) (now (counts .exit)) (now (next .exit)) (now («book_heads» .exit)) (now («book_rows» .exit)) (now («book_next» .exit))) h (r .free .0) (r .«book_free» .0)) (now (work .exit)) (now (touched .exit)) (now (labels .exit))) ⌝ }
 {
-    let z = commit::write_plan(
-        heads,
-        parents,
-        rows,
-        counts,
-        next,
-        work,
-        touched,
-        labels,
-        first,
-        used,
-        free,
-    );
+    commit::report(work, touched, labels, heads.len(), first);
+    let z = commit::write_plan(heads, parents, rows, counts, next, work, first, used, free);
     let y = entering::enter_columns(
         book_heads,
         book_rows,
@@ -62,7 +51,7 @@ pub fn write_add(
     }
 }
 
-// Writes an accepted removal: the plan, then the batch's columns out of the book.
+// Writes an accepted removal: the report, the plan, then the batch's columns out of the book.
 pub fn write_remove(
     heads: &[u32],
     parents: &mut [u16],
@@ -84,19 +73,8 @@ pub fn write_remove(
     requires { ⌜ SomePlan (tablesOf (now heads) (now parents) (now rows) (now counts) (now next) (now «book_heads») (now «book_rows») (now «book_next»)) (free .0) («book_free» .0) (removing (now ids)) (now work) (now touched) (now labels) (first .0) used ⌝ }
     ensures { λ r. ⌜ ((h : Limits) (w : List ℕ) → CanWriteBatch (cutWorld (tablesOf (now (heads .entry)) (now (parents .entry)) (now (rows .entry)) (now (counts .entry)) (now (next .entry)) (now («book_heads» .entry)) (now («book_rows» .entry)) (now («book_next» .entry))) h (free .0) («book_free» .0)) (removing (now (ids .entry))) w (now (work .entry)) (now (touched .entry)) (now (labels .entry)) (first .0) used → BatchWritten (cutWorld (tablesOf (now (heads .entry)) (now (parents .entry)) (now (rows .entry)) (now (counts .entry)) (now (next .entry)) (now («book_heads» .entry)) (now («book_rows» .entry)) (now («book_next» .entry))) h (free .0) («book_free» .0)) (removing (now (ids .entry))) w (now (touched .entry)) (now (labels .entry)) (cutWorld (tablesOf (now (heads .entry)) (now (parents .exit)) (now (rows .exit)) (now (counts .exit)) (now (next .exit)) (now («book_heads» .exit)) (now («book_rows» .exit)) (now («book_next» .exit))) h (r .free .0) (r .«book_free» .0)) (now (work .exit)) (now (touched .exit)) (now (labels .exit))) ⌝ }
 {
-    let z = commit::write_plan(
-        heads,
-        parents,
-        rows,
-        counts,
-        next,
-        work,
-        touched,
-        labels,
-        first,
-        used,
-        free,
-    );
+    commit::report(work, touched, labels, heads.len(), first);
+    let z = commit::write_plan(heads, parents, rows, counts, next, work, first, used, free);
     let y = entering::leave_columns(book_heads, book_rows, book_next, ids, book_free);
     FreeHeads {
         free: z,

@@ -11,7 +11,7 @@ use crate::large_tables::Report;
 use crate::large_tables::Rows;
 use crate::large_tables::Work;
 use crate::lines;
-use factor::Changed;
+use changes::Changed;
 use factor::Factor;
 
 // ---- reports

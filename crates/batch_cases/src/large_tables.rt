@@ -1,6 +1,6 @@
 // The tables of the large case: m 4,096, n 64, F 65,536, C 16,384; and the calls of the factor on them.
 use book::Row;
-use factor::Changed;
+use changes::Changed;
 use factor::Factor;
 use factor::Opening;
 use questions::Found;
@@ -92,7 +92,8 @@ pub fn add(
     row_counts: &Ids,
     row_list: &RowList,
 ) -> Changed {
-    record.add(
+    changes::add(
+        record,
         heads,
         parents,
         rows,
@@ -125,7 +126,8 @@ pub fn remove(
     labels: &mut Report,
     ids: &Ids,
 ) -> Changed {
-    record.remove(
+    changes::remove(
+        record,
         heads,
         parents,
         rows,

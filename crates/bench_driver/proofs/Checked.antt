@@ -21,7 +21,7 @@ use Rattle.calls.proofs.Choices.{or-both, unless-holds}
 use Rattle.calls.proofs.Numbers.{Ready, early-facts}
 use Rattle.calls.proofs.Steps.{Accepted, step-taken}
 use Rattle.factor.specs.Admission.{CanUse}
-use Rattle.factor.specs.Batches.{CanChange}
+use Rattle.changes.specs.Batches.{CanChange}
 
 pub lists-fit : (m : ℕ) (a b : List ℕ) {y : Bool} → y ≡ not (listsLong m a b) → y ≡ false → (m ≤ length a) × (m ≤ length b)
 lists-fit m a b e f =

@@ -5,7 +5,7 @@ use Prim.Native.Nat.{ℕ}
 use Rattle.tables.specs.Tables.{Tables, State}
 use Rattle.factor.specs.Entries.{stateOf}
 use Rattle.factor.specs.Admission.{CanUse}
-use Rattle.factor.specs.Batches.{CanChange}
+use Rattle.changes.specs.Batches.{CanChange}
 use Rattle.bench_driver.specs.declared.Ran.{Ran}
 use Rattle.bench_driver.specs.declared.asking.Asked.{Asked}
 

@@ -3,13 +3,13 @@
 ghost use mathlib.Core.Path.{_≡_};
 ghost use Rattle.tables.specs.Tables.{tablesOf};
 ghost use Rattle.factor.specs.Entries.{stateOf};
-ghost use Rattle.factor.specs.Batches.{CanChange};
+ghost use Rattle.changes.specs.Batches.{CanChange};
 ghost use Rattle.bench_driver.specs.Runs.{Continues};
 
 mod asking;
 mod plan;
 
-use factor::Changed;
+use changes::Changed;
 use factor::Factor;
 
 // How a run ended: the number that refused a batch or 0, the batches done, and the record after them.
@@ -43,7 +43,8 @@ fn change(
     ensures { λ r. ⌜ CanChange (stateOf (r .factor)) (tablesOf (now (heads .entry)) (now (parents .exit)) (now (rows .exit)) (now (counts .exit)) (now (next .exit)) (now («book_heads» .exit)) (now («book_rows» .exit)) (now («book_next» .exit))) (now (work .exit)) (now (touched .exit)) (now (labels .exit)) ⌝ }
 {
     if adds {
-        return factor.add_unchecked(
+        return changes::add_unchecked(
+            factor,
             heads,
             parents,
             rows,
@@ -60,7 +61,8 @@ fn change(
             row_list,
         );
     }
-    factor.remove_unchecked(
+    changes::remove_unchecked(
+        factor,
         heads,
         parents,
         rows,

@@ -4,7 +4,7 @@ pub mod meeting;
 
 ghost use Prim.Native.Nat.{_≤_};
 use book::Row;
-use factor::Changed;
+use changes::Changed;
 use factor::Factor;
 use factor::Opening;
 use questions::Found;
@@ -145,7 +145,8 @@ pub fn add(host: Host, ids: &[u32], row_counts: &[u32], row_list: &[u32]) -> Bat
     let mut touched = [9u16; 64];
     let mut labels = [9u16; 64];
     let record = host.factor;
-    let changed = record.add(
+    let changed = changes::add(
+        record,
         &heads,
         &mut parents,
         &mut rows,
@@ -195,7 +196,8 @@ pub fn remove(host: Host, ids: &[u32]) -> Batched {
     let mut touched = [9u16; 64];
     let mut labels = [9u16; 64];
     let record = host.factor;
-    let changed = record.remove(
+    let changed = changes::remove(
+        record,
         &heads,
         &mut parents,
         &mut rows,

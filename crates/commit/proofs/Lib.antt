@@ -1,5 +1,8 @@
 pub mod Standing
 pub mod Wiped
 pub mod Committing
-pub mod Reporting
+pub mod WritingParents
 pub mod Written
+pub mod Reporting
+pub mod Gathering
+pub mod Beside

@@ -71,7 +71,7 @@ module _ (m : ℕ) (L L′ : List FactorColumn) (label : ℕ → ℕ) (work colu
     pub after : (cell work (nextAt m) (j - 1) ≡ 0) ⊎ ((j < cell work (nextAt m) (j - 1)) × (cell work (nextAt m) (j - 1) ≤ m))
     pub next : Standing (cell work (nextAt m) (j - 1)) (done ++ (j ∷ [])) end
 
-  plans-within : (js : List ℕ) (start : ℕ) → PlansFrom m L L′ label work js start used → start ≤ used
+  pub plans-within : (js : List ℕ) (start : ℕ) → PlansFrom m L L′ label work js start used → start ≤ used
   unfolding PlansFrom
   plans-within [] start h = omega arith
   plans-within (j ∷ js) start h = omega (arith, h .1 .0 .rises, plans-within js (h .0) (h .1 .1))

@@ -1,9 +1,9 @@
--- What the report writes, as functions of the columns: values put at their numbers (`putAll`), their places wiped (`wiped`), their labels. One column
--- more at the end, and what stands where afterwards. Assumes nothing.
+-- What the pass that writes parents leaves, as functions of the columns: values put at their numbers (`putAll`), their places wiped (`wiped`). One
+-- column more at the end, and what stands where afterwards. Assumes nothing.
 use mathlib.Core.Path.{_≡_, refl, ap, _∙_}
 use mathlib.Core.Logic.{_⊎_, inl, inr, _≢_}
 use mathlib.Core.List.{List, [], _∷_, _++_}
-use Prim.Native.Nat.{ℕ, suc, _+_, _-_, _≤_, _<_}
+use Prim.Native.Nat.{ℕ, _+_, _-_, _≤_, _<_}
 use native.Mathlib.Omega.{arith}
 use lib.ListN.{length, getD, set, length-set}
 use lib.Seq.{getD-set-same, getD-set-other}
@@ -13,24 +13,7 @@ use Rattle.lists.proofs.Place.{put-length, at-put-same, at-put-other}
 use Rattle.lists.proofs.Times.{times-nil, times-self, times-other, times-cons, mem-times}
 use Rattle.workspace.specs.Regions.{cell}
 use Rattle.workspace.specs.Layout.{marksAt, startsAt, nextAt, planAt}
-use Rattle.commit.specs.Writes.{labelsFor}
 use Rattle.commit.specs.Passes.{putAll, wiped}
-
--- ---- labels
-
-pub labels-more : (f : ℕ → ℕ) (js : List ℕ) (j : ℕ) → labelsFor f (js ++ (j ∷ [])) ≡ labelsFor f js ++ (f j ∷ [])
-unfolding labelsFor
-labels-more f [] j = refl
-labels-more f (x ∷ js) j = ap (λ (l : List ℕ). f x ∷ l) (labels-more f js j)
-
-pub labels-length : (f : ℕ → ℕ) (js : List ℕ) → length (labelsFor f js) ≡ length js
-unfolding labelsFor
-labels-length f [] = refl
-labels-length f (x ∷ js) = ap suc (labels-length f js)
-
-pub labels-none : (f : ℕ → ℕ) → labelsFor f [] ≡ []
-unfolding labelsFor
-labels-none f = refl
 
 -- ---- values put at numbers
 

@@ -1,4 +1,4 @@
--- From what the two passes and the last clearing leave to `PlanWritten`: what they ask of a plan that can be written (`can-commits`, `can-report`), the work
+-- From what the two passes and the last clearing leave to `PlanWritten`: what they ask of a plan that can be written (`can-commits`, `can-parents`), the work
 -- table as it was before the plan, and each column, planned or not, as the new factor has it (`written`). Assumes nothing.
 use mathlib.Core.Path.{_≡_, refl, sym, ap, _∙_, subst}
 use mathlib.Core.Logic.{_⊎_, inl, inr}
@@ -27,7 +27,7 @@ use Rattle.columns.proofs.Stored.{stays-holds, held-keep}
 use Rattle.updown.specs.Plans.{PlansFrom}
 use Rattle.workspace.specs.Layout.{planAt}
 use Rattle.commit.specs.Writes.{CanWrite, PlanWritten}
-use Rattle.commit.specs.Passes.{putAll, wiped, CanCommitPlans, PlansCommitted, CanReport, Reported}
+use Rattle.commit.specs.Passes.{putAll, wiped, CanCommitPlans, PlansCommitted, CanWriteParents, ParentsWritten}
 use Rattle.commit.proofs.Wiped.{PlaceOf, all-length, all-other, all-at, wiped-length, wiped-cases}
 
 -- sound stored columns are ready for commits
@@ -35,8 +35,8 @@ pub sound-ready : (cs : List Column) (s : Stored) → Sized s → isSoundFor cs 
 sound-ready cs s z h =
     let f : stored.SoundFor cs s = stored.sound-facts cs s h in record { sized = z; pool = f .pool; zero = both-and (f .zero-rows) (f .zero-counts) }
 
-module _ {s : Stored} {cs ds : List Column} {label : ℕ → ℕ} {columns before work touched labels : List ℕ} {first count entries used : ℕ}
-    (can : CanWrite s cs ds label columns before work touched labels first count entries used) where
+module _ {s : Stored} {cs ds : List Column} {label : ℕ → ℕ} {columns before work : List ℕ} {first count entries used : ℕ}
+    (can : CanWrite s cs ds label columns before work first count entries used) where
   abbrev m : ℕ
   m = length (s .heads)
 
@@ -69,8 +69,8 @@ module _ {s : Stored} {cs ds : List Column} {label : ℕ → ℕ} {columns befor
         diagonal = λ j a b. (diagonal-in (laws m cs) j a b, diagonal-in (laws m ds) j a b);
       }
 
-  pub can-report : CanReport L L′ label columns (s .parents) work touched labels first used
-  can-report =
+  pub can-parents : CanWriteParents L L′ label columns (s .parents) work first used
+  can-parents =
       let e : length (s .parents) ≡ m = can .sized .parents-long in
       record {
         m-bound = omega (arith, can .m-bound);
@@ -78,8 +78,6 @@ module _ {s : Stored} {cs ds : List Column} {label : ℕ → ℕ} {columns befor
         first-is = can .plan .first-is;
         plans = subst (λ (n : ℕ). PlansFrom n L L′ label work columns 0 used) (sym e) (can .plan .plans);
         long = omega (arith, can .long, can .plan .same-length);
-        touched-long = omega (arith, can .touched-long);
-        labels-long = omega (arith, can .labels-long);
       }
 
   -- ---- the work table
@@ -104,7 +102,7 @@ module _ {s : Stored} {cs ds : List Column} {label : ℕ → ℕ} {columns befor
       let n : length w ≡ length work = wiped-length m columns work in
       let fits : planAt m + used ≤ length w = omega (arith, clear-fits) in
       let zero : (k : ℕ) → k < planAt m + used → getD before k 0 ≡ 0 =
-      λ k l. zero-at before 0 (8 * m + 4 * length (s .next) + 1024) k (can .zero) (omega arith) (omega (arith, can .plan .room)) in
+      λ k l. zero-at before 0 (8 * m + length (s .next)) k (can .zero) (omega arith) (omega (arith, can .plan .room)) in
       table-ext before (cleared w (planAt m) used) (cleared-length w (planAt m) used fits ∙ n ∙ can .plan .same-length) (λ k.
       elim (place-cases (planAt m) used k) [
         | inr t ↦ subst (λ (p : ℕ). getD (cleared w (planAt m) used) p 0 ≡ getD before p 0) (sym (t .2))
@@ -152,8 +150,8 @@ module _ {s : Stored} {cs ds : List Column} {label : ℕ → ℕ} {columns befor
               (record { rows = h .rows; counts = h .counts; parent = parent-off j a z ∙ held j a b .parent })
         ]
 
-    pub written : {work′ work″ touched′ labels′ : List ℕ} → Reported L′ label columns (s .parents) work touched labels parents work′ touched′ labels′ →
-        work″ ≡ cleared work′ (planAt m) used → PlanWritten s ds label columns before touched labels after work″ touched′ labels′
+    pub written : {work′ work″ : List ℕ} → ParentsWritten L′ columns (s .parents) work parents work′ → work″ ≡ cleared work′ (planAt m) used →
+        PlanWritten s ds columns before after work″
     written {work′} {work″} r e =
         let z : (allZero (valuesAt rows (chain next free)) ≡ true) × (allZero (valuesAt counts (chain next free)) ≡ true) =
         and-both (allZero (valuesAt rows (chain next free))) (allZero (valuesAt counts (chain next free))) (c .ready .zero) in
@@ -175,6 +173,4 @@ module _ {s : Stored} {cs ds : List Column} {label : ℕ → ℕ} {columns befor
           ];
           work-is = e ∙ ap (λ (w : List ℕ). cleared w (planAt m) used)
               (r .work-is ∙ ap (λ (n : ℕ). wiped n columns work) (can .sized .parents-long)) ∙ work-back;
-          touched-is = r .touched-is;
-          labels-is = r .labels-is;
         }

@@ -1,2 +1,4 @@
 pub mod Writes
 pub mod Passes
+pub mod Report
+pub mod Gather

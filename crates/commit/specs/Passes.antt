@@ -1,12 +1,12 @@
--- The two passes over the planned columns: one commits each column's entries to its chain and only reads the work table, one writes parents and report
--- and clears the columns' places. From the factor L to L′. Assumes nothing: these are definitions.
+-- The two passes over the planned columns that write the plan: one commits each column's entries to its chain and only reads the work table, one writes
+-- parents and clears the columns' places. From the factor L to L′. Assumes nothing: these are definitions.
 use mathlib.Core.Path.{_≡_}
 use mathlib.Core.Bool.{true}
 use mathlib.Core.List.{List, [], _∷_}
 use Prim.Native.Nat.{ℕ, _+_, _-_, _≤_, _<_}
 use lib.Dec.{eqb}
 use lib.ListN.{length, set}
-use Rattle.lists.specs.Lists.{pick, at, put, times, rises, over}
+use Rattle.lists.specs.Lists.{pick, at, put, times, rises}
 use Rattle.symbolic.specs.Factor.{FactorColumn, columnAt, parentOf}
 use Rattle.workspace.specs.Planned.{newKind}
 use Rattle.workspace.specs.Regions.{cell, region}
@@ -17,7 +17,6 @@ use Rattle.columns.specs.Plan.{ofKind}
 use Rattle.columns.specs.Commit.{Holds, Ready, ChainStays}
 use Rattle.updown.specs.Plans.{firstOf, PlansFrom}
 use Rattle.workspace.specs.Layout.{marksAt, startsAt, nextAt, planAt}
-use Rattle.commit.specs.Writes.{labelsFor}
 
 -- ---- the commits
 
@@ -61,7 +60,7 @@ pub record PlansCommitted (s : Stored) (L′ : List FactorColumn) (columns : Lis
   pub keep : (j : ℕ) → 1 ≤ times j columns → EntriesKeep s after j
   pub others : (j : ℕ) → 1 ≤ j → j ≤ length (s .heads) → times j columns ≡ 0 → ChainStays s after j
 
--- ---- the report
+-- ---- the parents
 
 -- values of a function put at some numbers
 unfoldable pub putAll : (f : ℕ → ℕ) → (numbers table : List ℕ) → List ℕ
@@ -73,28 +72,24 @@ unfoldable pub wiped : (m : ℕ) → (columns work : List ℕ) → List ℕ
 wiped m [] w = w
 wiped m (j ∷ js) w = wiped m js (set (set (set w (marksAt m + (j - 1)) 0) (startsAt m + (j - 1)) 0) (nextAt m + (j - 1)) 0)
 
--- a plan from L to L′ in the work table, and lists for touched columns and labels with a place for each column
-pub record CanReport (L L′ : List FactorColumn) (label : ℕ → ℕ) (columns parents work touched labels : List ℕ) (first used : ℕ) : Type 0 where
+-- a plan from L to L′ in the work table
+pub record CanWriteParents (L L′ : List FactorColumn) (label : ℕ → ℕ) (columns parents work : List ℕ) (first used : ℕ) : Type 0 where
   pub m-bound : length parents ≤ 4096
   pub rising : rises 1 (length parents) columns ≡ true
   pub first-is : first ≡ firstOf columns
   pub plans : PlansFrom (length parents) L L′ label work columns 0 used
   pub long : planAt (length parents) ≤ length work
-  pub touched-long : length parents ≤ length touched
-  pub labels-long : length parents ≤ length labels
 
 -- what a caller shows: that there is such a plan, from some factor to some other
-pub record SomeReport (parents work touched labels : List ℕ) (first : ℕ) : Type 0 where
+pub record SomeParents (parents work : List ℕ) (first : ℕ) : Type 0 where
   pub L : List FactorColumn
   pub L′ : List FactorColumn
   pub label : ℕ → ℕ
   pub columns : List ℕ
   pub used : ℕ
-  pub can : CanReport L L′ label columns parents work touched labels first used
+  pub can : CanWriteParents L L′ label columns parents work first used
 
--- the planned columns have their parents of L′ and zero places in the work table, and the lists begin with columns and labels
-pub record Reported (L′ : List FactorColumn) (label : ℕ → ℕ) (columns parents work touched labels parents′ work′ touched′ labels′ : List ℕ) : Type 0 where
+-- the planned columns have their parents of L′, and zero places in the work table
+pub record ParentsWritten (L′ : List FactorColumn) (columns parents work parents′ work′ : List ℕ) : Type 0 where
   pub parents-are : parents′ ≡ putAll (parentOf L′) columns parents
   pub work-is : work′ ≡ wiped (length parents) columns work
-  pub touched-is : touched′ ≡ over columns touched
-  pub labels-is : labels′ ≡ over (labelsFor label columns) labels

@@ -4,7 +4,7 @@ ghost use Rattle.reference.specs.Ranges.{Served};
 use crate::same;
 use crate::tally::Tally;
 use case_tables::Host;
-use factor::Changed;
+use changes::Changed;
 use reference::Holds;
 use reference::Limits;
 use reference::Live;

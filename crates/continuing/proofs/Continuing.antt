@@ -32,10 +32,10 @@ use Rattle.batch.specs.Outcome.{BatchOutcome, BatchStep}
 use Rattle.batch.proofs.Whole.{change-whole}
 use Rattle.factor.specs.Entries.{stateOf, openingAnswer, stateAfter, OpenStep}
 use Rattle.factor.specs.Admission.{Usable}
-use Rattle.factor.specs.Batches.{CanChange}
 use Rattle.factor.specs.declared.Factor.{Factor}
 use Rattle.factor.specs.declared.Opening.{Opening}
 use Rattle.factor.specs.declared.Opening.the-variants as answers
+use Rattle.changes.specs.Batches.{CanChange}
 
 -- ---- after an opening
 

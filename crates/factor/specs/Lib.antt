@@ -1,4 +1,3 @@
 pub mod Entries
 pub mod Admission
 pub mod Written
-pub mod Batches

@@ -1,5 +1,6 @@
-// The factor's public entries: opening, the check of all tables, questions, in meeting.rt two more of them, and in batches.rt adding and removing. Each refuses
-// unusable input by number and fixes everything lent. A caller that has proved its tables sound uses the unchecked twins of unchecked.rt.
+// A factor's record, and the public entries that open it, check its tables and answer questions, two of these in meeting.rt; `changes` has those that add and remove.
+// Each refuses unusable input by number and fixes everything lent; an opening writes all tables, the others none but the work table. admission.rt finds numbers 1 to 6
+// and 20, for `changes` too. A caller that has proved its tables sound uses the unchecked twins of unchecked.rt.
 ghost use Rattle.symbolic.specs.Grades.{limitsOf};
 ghost use Rattle.tables.specs.Tables.{sizesOf, tablesOf};
 ghost use Rattle.questions.specs.Asked.{replyOf, foundOf};
@@ -9,8 +10,7 @@ ghost use Rattle.calls.specs.Calls.Question.{askNextRow, askParent, askPath, as
 ghost use Rattle.calls.specs.Steps.{Transition};
 ghost use Rattle.factor.specs.Entries.{worldOf, OpenStep};
 
-mod admission;
-mod batches;
+pub mod admission;
 mod fresh;
 mod meeting;
 mod unchecked;
@@ -37,17 +37,6 @@ pub struct Factor {
 pub enum Opening {
     Opened(Factor),
     Refused(u32),
-}
-
-// What a batch answers, with the record after it. The entries are the sum of the touched columns' sizes, after an addition and before a removal.
-#[repr(C)]
-pub struct Changed {
-    pub number: u32,
-    pub position: u32,
-    pub touched: u32,
-    pub entries: u32,
-    pub grade: u32,
-    pub factor: Factor,
 }
 
 impl Factor {

@@ -10,10 +10,10 @@ use Rattle.tables.specs.Tables.{Tables, Sizes, State, sizesOf}
 use Rattle.calls.specs.Calls.{adding}
 use Rattle.symbolic.specs.Grades.{limitsOf}
 use Rattle.factor.specs.Entries.{stateOf, worldOf, openingAnswer, OpenStep}
-use Rattle.factor.specs.Batches.{CanChange}
 use Rattle.factor.specs.declared.Factor.{Factor}
 use Rattle.factor.specs.declared.Opening.{Opening}
 use Rattle.factor.specs.declared.Opening.the-variants.{Opened, Refused}
+use Rattle.changes.specs.Batches.{CanChange}
 use Rattle.continuing.proofs.Continuing.{opened-can, opened-fits, refused-number, refused-tables, refused-work}
 use Rattle.listing_text.specs.Command.{commandOf, rowsOf}
 use Rattle.listing_text.specs.Text.{noLine, Written}

@@ -16,9 +16,9 @@ use Rattle.calls.specs.Steps.{Answer, refusedBy, World, Transition}
 use Rattle.calls.proofs.Steps.{refused-step}
 use Rattle.batch.specs.Outcome.{BatchStep}
 use Rattle.factor.specs.Entries.{stateOf, worldOf}
-use Rattle.factor.specs.Batches.{CanChange, changedAnswer}
 use Rattle.factor.specs.declared.Factor.{Factor}
-use Rattle.factor.specs.declared.Changed.{Changed}
+use Rattle.changes.specs.Batches.{CanChange, changedAnswer}
+use Rattle.changes.specs.declared.Changed.{Changed}
 use Rattle.continuing.proofs.Continuing.{change-step, change-can}
 use Rattle.listing_text.specs.Text.{okLine, noLine, Written}
 use Rattle.listing_show.specs.Showing.{answerLine, noState}

@@ -10,10 +10,10 @@ use Rattle.symbolic.specs.Grades.{limitsOf}
 use Rattle.calls.specs.Calls.{Change, adding, removing, opening, changing, workOnly, reportLists, callOf}
 use Rattle.calls.specs.Steps.{Answer, World, Transition}
 use Rattle.factor.specs.Entries.{worldOf, OpenStep}
-use Rattle.factor.specs.Batches.{CanChange}
 use Rattle.factor.specs.declared.Factor.{Factor}
 use Rattle.factor.specs.declared.Opening.{Opening}
 use Rattle.factor.specs.declared.Opening.the-variants.{Opened, Refused}
+use Rattle.changes.specs.Batches.{CanChange}
 use Rattle.listing_text.specs.Command.{commandOf, rowsOf}
 use Rattle.listing_text.specs.Text.{okLine, noLine, Written}
 use Rattle.listing_text.specs.declared.command.Command.{Command}

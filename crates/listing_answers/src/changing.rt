@@ -4,12 +4,12 @@ ghost use Prim.Native.Nat.{_≤_};
 ghost use lib.ListN.{length, take};
 ghost use Rattle.calls.specs.Calls.Change.{adding, removing};
 ghost use Rattle.tables.specs.Tables.{sizesOf, tablesOf};
-ghost use Rattle.factor.specs.Batches.{changedAnswer};
+ghost use Rattle.changes.specs.Batches.{changedAnswer};
 ghost use Rattle.listing_text.specs.Text.{Written};
 ghost use Rattle.listing_answers.specs.Listing.{memoryOf, BatchAnswered, IsReady, OpeningPrinted, OpenPrinted, Answers};
 ghost use Rattle.listing_show.specs.Showing.{answerLine};
 use crate::Printed;
-use factor::Changed;
+use changes::Changed;
 use factor::Factor;
 use factor::Opening;
 use listing_text::text;
@@ -115,7 +115,8 @@ pub fn add_line(
     let ids = [id];
     let row_counts = [count];
     let most = count as usize;
-    let x = factor.add_unchecked(
+    let x = changes::add_unchecked(
+        factor,
         heads,
         parents,
         rows,
@@ -162,7 +163,8 @@ pub fn drop_line(
         return Printed { factor, end };
     }
     let ids = [id];
-    let x = factor.remove_unchecked(
+    let x = changes::remove_unchecked(
+        factor,
         heads,
         parents,
         rows,

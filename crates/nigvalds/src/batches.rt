@@ -5,8 +5,8 @@ ghost use Rattle.calls.specs.Calls.Change.{adding, removing};
 ghost use Rattle.calls.specs.Calls.Entry.{changing};
 ghost use Rattle.calls.specs.Steps.{Transition};
 ghost use Rattle.factor.specs.Entries.{worldOf};
-ghost use Rattle.factor.specs.Batches.{changedAnswer};
-use factor::Changed;
+ghost use Rattle.changes.specs.Batches.{changedAnswer};
+use changes::Changed;
 use factor::Factor;
 
 // Adds a batch: each id with as many rows of the list as its count says.
@@ -30,7 +30,8 @@ pub extern "C" fn nigvalds_add(
 ) -> Changed
     ensures { λ r. ⌜ Transition (worldOf factor (tablesOf (now (heads .entry)) (now (parents .entry)) (now (rows .entry)) (now (counts .entry)) (now (next .entry)) (now («book_heads» .entry)) (now («book_rows» .entry)) (now («book_next» .entry)))) (callOf (changing (adding (now (ids .entry)) (now («row_counts» .entry)) (now («row_list» .entry)))) (reportLists (now (work .entry)) (now (touched .entry)) (now (labels .entry)))) (changedAnswer r) (reportLists (now (work .exit)) (now (touched .exit)) (now (labels .exit))) (worldOf (r .factor) (tablesOf (now (heads .entry)) (now (parents .exit)) (now (rows .exit)) (now (counts .exit)) (now (next .exit)) (now («book_heads» .exit)) (now («book_rows» .exit)) (now («book_next» .exit)))) ⌝ }
 {
-    factor.add(
+    changes::add(
+        factor,
         heads,
         parents,
         rows,
@@ -67,7 +68,8 @@ pub extern "C" fn nigvalds_remove(
 ) -> Changed
     ensures { λ r. ⌜ Transition (worldOf factor (tablesOf (now (heads .entry)) (now (parents .entry)) (now (rows .entry)) (now (counts .entry)) (now (next .entry)) (now («book_heads» .entry)) (now («book_rows» .entry)) (now («book_next» .entry)))) (callOf (changing (removing (now (ids .entry)))) (reportLists (now (work .entry)) (now (touched .entry)) (now (labels .entry)))) (changedAnswer r) (reportLists (now (work .exit)) (now (touched .exit)) (now (labels .exit))) (worldOf (r .factor) (tablesOf (now (heads .entry)) (now (parents .exit)) (now (rows .exit)) (now (counts .exit)) (now (next .exit)) (now («book_heads» .exit)) (now («book_rows» .exit)) (now («book_next» .exit)))) ⌝ }
 {
-    factor.remove(
+    changes::remove(
+        factor,
         heads,
         parents,
         rows,

@@ -17,6 +17,7 @@ pub mod Labels
 pub mod Bags
 pub mod Order
 pub mod Sizes
+pub mod Groups
 pub mod Grades
 pub mod Theorems
 pub mod Instances

@@ -1,5 +1,5 @@
 -- A term of every statement of specs/Statements.antt, in its order. The mathematics stands in the other files, over the definition's sentences alone
--- (Laws, Walks, Two, Steps) or over the computed factor (Build, Columns, Patterns, Paths, Passing, Common, Touched, Meeting, NextRow, Locality, Labels, Bags, Order, Sizes); Grades is about numbers alone. Assumes nothing.
+-- (Laws, Walks, Two, Steps) or over the computed factor (Build, Columns, Patterns, Paths, Passing, Common, Touched, Meeting, NextRow, Locality, Labels, Bags, Order, Sizes, Groups); Grades is about numbers alone. Assumes nothing.
 use mathlib.Core.Path.{_≡_, refl, sym, subst}
 use mathlib.Core.Logic.{_⊎_, inl, inr, _≢_}
 use mathlib.Core.Bool.{true}
@@ -13,7 +13,7 @@ use Rattle.lists.proofs.Member.{all-at}
 use Rattle.symbolic.specs.Columns.{Column, smallest, holds, fitsRows}
 use Rattle.symbolic.specs.Factor.{factorOf, multiplicity, parentOf, inPattern, isChild}
 use Rattle.symbolic.specs.Batch.{passes, atPosition, labelOf}
-use Rattle.symbolic.specs.Statements.{Defined, Unique, DiagonalStands, ParentAbove, ParentHolds, Equation31, Growth, Locality, UpdateSteps, DowndateSteps, OrderFree, RemovalSplits, MultiplicityBound, ChainRule, PatternClosed, PatternLeast, PathIs, TouchedIs, TouchedRises, LabelIs, LabelsFollow, SizesGrow, SizesLocal, AdditionEntries, RemovalEntries, GradeFrom, OldGrades, MeetingIs, MeetingRises, MeetingEnds, CommonIs, NextIs, NextIsDiagonal, NextIsParent, WalkIsColumn}
+use Rattle.symbolic.specs.Statements.{Defined, Unique, DiagonalStands, ParentAbove, ParentHolds, Equation31, Growth, Locality, UpdateSteps, DowndateSteps, OrderFree, RemovalSplits, MultiplicityBound, ChainRule, PatternClosed, PatternLeast, PathIs, TouchedIs, TouchedRises, LabelIs, LabelsFollow, SizesGrow, SizesLocal, AdditionEntries, RemovalEntries, GradeFrom, OldGrades, MeetingIs, MeetingRises, MeetingEnds, CommonIs, NextIs, NextIsDiagonal, NextIsParent, WalkIsColumn, EnterSplits, LeaveSplits, FitsAlong}
 use Rattle.symbolic.proofs.Laws.{diagonal-in, start-in, pattern-cases, row-above, parent-contains, pattern-fill}
 use Rattle.symbolic.proofs.Walks.{walk-of, edge-in, walk-in, pattern-within}
 use Rattle.symbolic.proofs.Two.{Agree, factor-agrees}
@@ -27,6 +27,7 @@ use Rattle.symbolic.proofs.Labels.{label-passes, label-largest, touched
 use Rattle.symbolic.proofs.Bags.{bag-splits}
 use Rattle.symbolic.proofs.Order.{factor-bag, count-bound}
 use Rattle.symbolic.proofs.Sizes.{sizes-grow-sum, sizes-local-sum, entries-after, entries-before}
+use Rattle.symbolic.proofs.Groups.{entering-splits, leaving-splits, fitting-along}
 use Rattle.symbolic.proofs.Grades.{grade-begins, old-grade}
 use Rattle.symbolic.proofs.Meeting.{meeting-defined, meeting-rise, meeting-last}
 use Rattle.symbolic.proofs.Common.{common-least}
@@ -211,3 +212,14 @@ next-is-parent m cs j a b = next-parent m cs j a (omega arith)
 
 pub walk-is-column : WalkIsColumn
 walk-is-column = walk-column
+
+-- ---- 12. a batch that goes group by group
+
+pub enter-splits : EnterSplits
+enter-splits = entering-splits
+
+pub leave-splits : LeaveSplits
+leave-splits = leaving-splits
+
+pub fits-along : FitsAlong
+fits-along = fitting-along

@@ -2,6 +2,7 @@ pub mod Columns
 pub mod Factor
 pub mod Definition
 pub mod Batch
+pub mod Groups
 pub mod Meeting
 pub mod NextRow
 pub mod Grades

@@ -5,13 +5,14 @@ use mathlib.Core.Logic.{_⊎_, _≢_, _↔_}
 use mathlib.Core.Bool.{true, false}
 use mathlib.Core.List.{List, [], _∷_, _++_}
 use Prim.Native.Nat.{ℕ, suc, _+_, _≤_, _<_}
-use lib.Dec.{ltb, eqb}
+use lib.Dec.{ltb, leb, eqb}
 use lib.ListN.{length}
 use Rattle.lists.specs.Lists.{pick, isIn, Mem, all, among, noRepeats, rises}
 use Rattle.symbolic.specs.Columns.{Column, smallest, holds, fitsRows, startingWith}
 use Rattle.symbolic.specs.Factor.{factorOf, columnAt, multiplicity, parentOf, inPattern, isChild, patternOf, multiplicitiesOf, pathOf, sizeSum}
 use Rattle.symbolic.specs.Definition.{IsFactor, OnPath}
 use Rattle.symbolic.specs.Batch.{atPosition, passes, isTouched, touched, labelOf, sizeSumOf, entriesOf}
+use Rattle.symbolic.specs.Groups.{joined, enterTouches, leaveTouches, fitsEach}
 use Rattle.symbolic.specs.Meeting.{meeting, commonOf, IsCommon}
 use Rattle.symbolic.specs.NextRow.{ColumnEntry, nextRow, IsNext, columnEntries, IsWalk}
 use Rattle.symbolic.specs.Grades.{Limits, areLimits, oldLimits, gradeOf}
@@ -234,3 +235,23 @@ abbrev pub WalkIsColumn : Type 0
 WalkIsColumn =
     (m : ℕ) (cs : List Column) (j : ℕ) → 1 ≤ j → j ≤ m → (xs : List ColumnEntry) → IsWalk m (λ i. nextRow (factorOf m cs) i j) 1 xs ↔
     (xs ≡ columnEntries (patternOf (columnAt (factorOf m cs) j)) (multiplicitiesOf (columnAt (factorOf m cs) j)))
+
+-- ---- 12. a batch that goes group by group
+
+-- groups that enter one after another touch what the whole batch touches in the tree after it
+abbrev pub EnterSplits : Type 0
+EnterSplits =
+    (m : ℕ) (R : List Column) (groups : List (List Column)) (j : ℕ) → 1 ≤ j → j ≤ m →
+    enterTouches m R groups j ≡ isTouched (factorOf m (R ++ joined groups)) (joined groups) j
+
+-- groups that leave one after another touch what the whole batch touches in the tree before it
+abbrev pub LeaveSplits : Type 0
+LeaveSplits =
+    (m : ℕ) (R : List Column) (groups : List (List Column)) (j : ℕ) → 1 ≤ j → j ≤ m →
+    leaveTouches m R groups j ≡ isTouched (factorOf m (R ++ joined groups)) (joined groups) j
+
+-- all sizes fit after each of one or more groups that enter exactly if they do after the last: 16 at some group exactly if 16 for the whole batch
+abbrev pub FitsAlong : Type 0
+FitsAlong =
+    (m f : ℕ) (R : List Column) (groups : List (List Column)) → 1 ≤ length groups →
+    fitsEach m f R groups ≡ leb (sizeSum (factorOf m (R ++ joined groups))) f

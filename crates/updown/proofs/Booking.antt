@@ -2,7 +2,7 @@
 -- `booked-gathered`), the loops over them. Assumes nothing.
 use mathlib.Core.Path.{_≡_, refl, sym, ap, _∙_, subst}
 use mathlib.Core.Logic.{inl, inr, _≢_}
-use mathlib.Core.Bool.{Bool, true, false, _&&_}
+use mathlib.Core.Bool.{Bool, true, _&&_}
 use mathlib.Core.List.{List, [], _∷_, _++_}
 use Prim.Native.Nat.{ℕ, zero, suc, _+_, _-_, _*_, _≤_, _<_}
 use native.Mathlib.Omega.{arith}
@@ -23,12 +23,11 @@ use Rattle.book.specs.Entries.{CanCopy, HasHead, StartsAt}
 use Rattle.differences.specs.Gather.{Gathered}
 use Rattle.differences.specs.Count.{Counted}
 use Rattle.updown.specs.Entries.{Booked}
-use Rattle.updown.specs.Marks.{Room, marked}
+use Rattle.updown.specs.Marks.{Room, startMarked}
 use Rattle.updown.proofs.Brought.{Steady}
-use Rattle.updown.specs.States.{startOf}
 use Rattle.updown.specs.Starts.{StartsTo, CanStart, BookHolds, CanMarkBooked}
 use Rattle.updown.proofs.Gathering.{bumps}
-use Rattle.updown.proofs.Listing.{none, Fits, fits-at, starts-next, Counting, counting-steady, counting-here, counting-past}
+use Rattle.updown.proofs.Listing.{none, Fits, fits-at, starts-more, Counting, counting-steady, counting-here, counting-past}
 
 booked-length : (b : book.Book) (ids : List ℕ) (W : List Column) → Booked b ids W → length W ≡ length ids
 unfolding Booked
@@ -167,24 +166,14 @@ module _ {heads rows next ids : List ℕ} {m flags : ℕ} {w₀ : List ℕ} {W :
   room-here : Room m flags w
   room-here = record { m-bound = c .room .m-bound; low = c .room .low; long = omega (arith, c .room .long, s .same-length) }
 
-  pub marking-booked : {row : ℕ} → StartsAt heads rows (getD ids k 0) row → Room m flags w × (1 ≤ row) × (row ≤ m) × (k + 1 ≤ 64)
-  marking-booked e =
-      let f : Fits m (getD W k none) = booked-fits (c .holds) k l in
-      let g : _ ≡ smallest (getD W k none) = booked-start (c .holds) k l e in
-      (room-here, omega (arith, g, f .low), omega (arith, g, f .high), omega (arith, c .few, booked-size (c .holds)))
+  pub marking-booked : {row : ℕ} → StartsAt heads rows (getD ids k 0) row → Room m flags w × (row ≤ m) × (k + 1 ≤ 64)
+  marking-booked e = (room-here, omega (arith, booked-start (c .holds) k l e, booked-fits (c .holds) k l .high), omega (arith, c .few, booked-size (c .holds)))
 
-  pub marking-booked-next : {w₁ : List ℕ} {row : ℕ} → StartsAt heads rows (getD ids k 0) row → w₁ ≡ marked m flags w row (4 * (k + 1) + 2) → StartsTo m flags W w₀ w₁ (k + 1)
-  marking-booked-next {w₁} {row} a e =
-      let f : Fits m (getD W k none) = booked-fits (c .holds) k l in
-      let q : k + 1 - 1 ≡ k = omega arith in
-      let g : row ≡ startOf W (k + 1) = booked-start (c .holds) k l a ∙ ap (λ (x : ℕ). smallest (getD W x none)) (sym q) in
-      let h : smallest (getD W k none) ≡ startOf W (k + 1) = ap (λ (x : ℕ). smallest (getD W x none)) (sym q) in
-      subst (λ (x : List ℕ). StartsTo m flags W w₀ x (k + 1)) (sym (e ∙ ap (λ (x : ℕ). marked m flags w x (4 * (k + 1) + 2)) g))
-      (starts-next s room-here (omega (arith, h, f .low)) (omega (arith, h, f .high))
-      (λ p x y. let v : Fits m (getD W (p - 1) none) = booked-fits (c .holds) (p - 1) (omega arith) in (v .low, v .high)))
+  pub marking-booked-next : {w₁ : List ℕ} {row : ℕ} → StartsAt heads rows (getD ids k 0) row → w₁ ≡ startMarked m flags w row (k + 1) → StartsTo m flags W w₀ w₁ (k + 1)
+  marking-booked-next a = starts-more (c .holds .fits) s room-here (omega (arith, booked-size (c .holds))) (booked-start (c .holds) k l a)
 
-module _ {heads rows next ids : List ℕ} {m : ℕ} {R W : List Column} {w₀ w : List ℕ} {n j k : ℕ} (c : CanStart m R W false w₀ j)
-    (h : BookHolds heads rows next ids m W) (t : Counting m R W false w₀ w n j k) (l : k < length ids) where
+module _ {heads rows next ids : List ℕ} {m : ℕ} {R W : List Column} {adding : Bool} {w₀ w : List ℕ} {n j k : ℕ} (c : CanStart m R W adding w₀ j)
+    (h : BookHolds heads rows next ids m W) (t : Counting m R W adding w₀ w n j k) (l : k < length ids) where
   pub booked-steady : Steady m w n
   booked-steady = counting-steady c t (omega (arith, booked-size h))
 
@@ -201,12 +190,12 @@ module _ {heads rows next ids : List ℕ} {m : ℕ} {R W : List Column} {w₀ w 
       (omega (arith, rises-length 1 m (valuesAt rows (chain next (at heads (getD ids k 0)))) (omega arith) r)) o r)
 
   pub booked-here : {w₁ w₂ : List ℕ} {g n′ row : ℕ} → StartsAt heads rows (getD ids k 0) row → row ≡ j →
-      Gathered m w w₁ g (λ i. among i (valuesAt rows (chain next (at heads (getD ids k 0))))) → Counted m w₁ g false w₂ n′ → Counting m R W false w₀ w₂ n′ j (k + 1)
+      Gathered m w w₁ g (λ i. among i (valuesAt rows (chain next (at heads (getD ids k 0))))) → Counted m w₁ g adding w₂ n′ → Counting m R W adding w₀ w₂ n′ j (k + 1)
   booked-here a e x y =
       counting-here c t (omega (arith, booked-size h)) (sym (booked-start h k l a) ∙ e)
-      (bumps x false (holds (getD W k none)) (λ i p q. ap (λ (z : List ℕ). among i z) (sym (booked-rows h k l))) y)
+      (bumps x adding (holds (getD W k none)) (λ i p q. ap (λ (z : List ℕ). among i z) (sym (booked-rows h k l))) y)
 
-  pub booked-past : {row : ℕ} → StartsAt heads rows (getD ids k 0) row → row ≢ j → Counting m R W false w₀ w n j (k + 1)
+  pub booked-past : {row : ℕ} → StartsAt heads rows (getD ids k 0) row → row ≢ j → Counting m R W adding w₀ w n j (k + 1)
   booked-past a e = counting-past c t (omega (arith, booked-size h)) (λ x. e (booked-start h k l a ∙ x))
 
 pub part-length : (m : ℕ) (w : List ℕ) → 3 * m ≤ length w → length (take (3 * m - 2 * m) (drop (2 * m) w)) ≡ m

@@ -84,11 +84,11 @@ module _ {next work₀ w : List ℕ} {m flags : ℕ} {R W : List Column} {adding
   pub lent-again : (i : ℕ) → (InPlan m used (done m R W (suc m)) i → ⊥) → Outside flags 64 i → getD w i 0 ≡ getD work₀ i 0
   lent-again i n o =
       elim (lt-or-le i (3 * m)) [
-        | inl x ↦ tally-none (h .tally) i x ∙ sym (h .zero i (omega (arith, h .room .low)))
+        | inl x ↦ tally-none (h .tally) i x ∙ sym (zero-at work₀ 0 (8 * m) i (h .zero) (omega arith) (omega arith))
         | inr x ↦ elim (lt-or-le i (6 * m)) [
           | inl y ↦ h .rest i (idle i n o x (inl y))
           | inr y ↦ elim (lt-or-le i (8 * m)) [
-            | inl z ↦ queue-cell i y z ∙ sym (h .zero i (omega (arith, h .room .low)))
+            | inl z ↦ queue-cell i y z ∙ sym (zero-at work₀ 0 (8 * m) i (h .zero) (omega arith) (omega arith))
             | inr z ↦ h .rest i (idle i n o x (inr z))
           ]
         ]
@@ -131,7 +131,7 @@ module _ {next work₀ w : List ℕ} {m flags : ℕ} {R W : List Column} {adding
               | inl u ↦ same i (inl u) ∙ lent-again i y (inl u)
               | inr u ↦ elim (lt-or-le i (flags + 64)) [
                 | inr v ↦ same i (inr v) ∙ lent-again i y (inr v)
-                | inl v ↦ zero-at wc flags 64 i (cleared-zero w flags 64 long) u v ∙ sym (h .zero i v)
+                | inl v ↦ zero-at wc flags 64 i (cleared-zero w flags 64 long) u v ∙ sym (zero-at work₀ flags 64 i (h .flags-zero) u v)
               ]
             ];
       }

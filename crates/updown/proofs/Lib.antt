@@ -25,10 +25,10 @@ pub mod Ending
 pub mod Halting
 pub mod Turned
 pub mod Seeking
-pub mod Leaving
 pub mod Exceeding
-pub mod Entering
+pub mod Looping
 pub mod Sound
 pub mod Opening
 pub mod Preparing
 pub mod Adding
+pub mod Removing

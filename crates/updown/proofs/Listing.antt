@@ -1,4 +1,4 @@
--- Batch columns read one after another, listed or booked: the column at a position (`Reading`); their starts marked (`starts-next`), and at row j counted
+-- Batch columns read one after another, listed or booked: the column at a position (`Reading`); their starts marked (`starts-more`), and at row j counted
 -- (`counting-here`, `counting-past`). Assumes nothing.
 use mathlib.Core.Path.{_≡_, refl, sym, ap, _∙_, subst}
 use mathlib.Core.Logic.{inl, inr, _≢_}
@@ -7,18 +7,18 @@ use mathlib.Core.List.{List, [], _∷_}
 use Prim.Native.Nat.{ℕ, zero, suc, _+_, _-_, _*_, _/_, _%_, _≤_, _<_}
 use native.Mathlib.Omega.{arith}
 use native.Mathlib.Numerals.{add-one}
-use lib.ListN.{length, getD, take, drop, set, length-take, length-drop, length-set}
+use lib.ListN.{length, getD, take, drop, set, length-drop, length-set}
 use lib.Seq.{drop-cons, drop-drop, getD-take, getD-drop, getD-set-same, getD-set-other}
-use Rattle.lists.specs.Lists.{isIn, among, rises, all, first}
-use Rattle.lists.proofs.Tests.{eq-or-ne, and-both, in-range, refute}
+use borrow.Author.Tests.{eq-eqb, ne-eqb}
+use Rattle.lists.specs.Lists.{among, rises, all, first}
+use Rattle.lists.proofs.Tests.{eq-or-ne, refute}
 use Rattle.lists.proofs.Member.{all-at, place-mem, among-mem}
 use Rattle.lists.proofs.Rising.{rises-in, rises-first}
-use Rattle.symbolic.specs.Columns.{Column, smallest, holds}
+use Rattle.symbolic.specs.Columns.{Column, smallest, holds, fitsRows}
 use Rattle.workspace.specs.Regions.{IsZero, OnlyIn}
 use Rattle.workspace.proofs.Regions.{only-refl, only-trans}
-use Rattle.book.specs.Book as book
 use Rattle.updown.specs.Entries.{Listed}
-use Rattle.updown.specs.Marks.{Room, markAt, flagAt, marked}
+use Rattle.updown.specs.Marks.{Room, markAt, flagAt, marked, startMarked}
 use Rattle.updown.proofs.Brought.{Steady, Bumps}
 use Rattle.updown.specs.SoFar.{nobody, SoFar}
 use Rattle.updown.specs.States.{startOf}
@@ -35,23 +35,14 @@ none = record { id = 0; rows = [] }
 
 pub record Fits (m : ℕ) (w : Column) : Type 0 where
   pub rising : rises 1 m (w .rows) ≡ true
-  pub some : 1 ≤ length (w .rows)
-  pub low : 1 ≤ smallest w
   pub high : smallest w ≤ m
 
-pub fits-at : (m : ℕ) (W : List Column) → all (book.columnFits m) W ≡ true → (k : ℕ) → k < length W → Fits m (getD W k none)
-fits-at m W h k l = go (getD W k none) (all-at (book.columnFits m) (place-mem W k none l) h)
+pub fits-at : (m : ℕ) (W : List Column) → all (fitsRows m) W ≡ true → (k : ℕ) → k < length W → Fits m (getD W k none)
+fits-at m W h k l = let r : fitsRows m (getD W k none) ≡ true = all-at (fitsRows m) (place-mem W k none l) h in record { rising = r; high = high (getD W k none .rows) r }
   where
-    bounds : (xs : List ℕ) → rises 1 m xs ≡ true → 1 ≤ length xs → (1 ≤ getD xs 0 0) × (getD xs 0 0 ≤ m)
-    bounds [] r s = absurd (omega arith)
-    bounds (x ∷ xs) r s = rises-in {x = x} 1 m (first {xs = xs}) r
-
-    go : (w : Column) → book.columnFits m w ≡ true → Fits m w
-    go w e =
-        let t : (rises 1 m (w .rows) ≡ true) × (isIn 1 256 (length (w .rows)) ≡ true) = and-both (rises 1 m (w .rows)) (isIn 1 256 (length (w .rows))) e in
-        let u : (1 ≤ length (w .rows)) × (length (w .rows) ≤ 256) = in-range 1 256 (length (w .rows)) (t .1) in
-        let v : (1 ≤ smallest w) × (smallest w ≤ m) = bounds (w .rows) (t .0) (u .0) in
-        record { rising = t .0; some = u .0; low = v .0; high = v .1 }
+    high : (xs : List ℕ) → rises 1 m xs ≡ true → getD xs 0 0 ≤ m
+    high [] r = omega arith
+    high (x ∷ xs) r = rises-in {x = x} 1 m (first {xs = xs}) r .1
 
 -- its rows lie at or above its first
 pub rows-above : (m : ℕ) (w : Column) → Fits m w → (i : ℕ) → i < smallest w → holds w i ≡ false
@@ -67,6 +58,12 @@ pub record Reading (counts list : List ℕ) (W : List Column) (k at : ℕ) : Typ
   pub listed : Listed (drop k counts) (drop at list) (drop k W)
   pub size : length W ≡ length counts
   pub within : at ≤ length list
+
+-- the first of n rows from a place on
+pub listed-first : (list : List ℕ) (at n : ℕ) → n ≢ 0 → getD list at 0 ≡ getD (take n (drop at list)) 0 0
+listed-first list at n h =
+    let z : at + 0 ≡ at = omega arith in
+    sym (getD-take n (drop at list) 0 0 (omega arith) ∙ getD-drop at list 0 0 ∙ ap (λ (x : ℕ). getD list x 0) z)
 
 listed-length : (ks xs : List ℕ) (ws : List Column) → Listed ks xs ws → length ws ≡ length ks
 unfolding Listed
@@ -103,12 +100,8 @@ module _ {counts list : List ℕ} {W : List Column} {k at : ℕ} (r : Reading co
         within = reading-end;
       }
 
-  pub reading-first : {m : ℕ} → Fits m (getD W k none) → (at < length list) × (1 ≤ getD counts k 0) × (getD list at 0 ≡ smallest (getD W k none))
-  reading-first f =
-      let n : length (getD W k none .rows) ≡ length (take (getD counts k 0) (drop at list)) = ap length reading-rows in
-      let some : 1 ≤ getD counts k 0 = omega (arith, f .some, length-take (getD counts k 0) (drop at list)) in
-      let z : at + 0 ≡ at = omega arith in
-      (omega (arith, reading-end), some, sym (ap (λ (xs : List ℕ). getD xs 0 0) reading-rows ∙ getD-take (getD counts k 0) (drop at list) 0 0 some ∙ getD-drop at list 0 0 ∙ ap (λ (x : ℕ). getD list x 0) z))
+  pub reading-first : {row : ℕ} → row ≡ getD (take (getD counts k 0) (drop at list)) 0 0 → row ≡ smallest (getD W k none)
+  reading-first e = e ∙ sym (ap (λ (xs : List ℕ). getD xs 0 0) reading-rows)
 
 -- ---- starts marked
 
@@ -116,15 +109,15 @@ pub starts-none : {m flags : ℕ} {W : List Column} {w : List ℕ} → IsZero w 
 starts-none {m} z =
     record {
       same-length = refl;
-      start = λ k a b. absurd (omega arith);
-      bit = λ k a b. absurd (omega arith);
+      start = λ k a b _. absurd (omega arith);
+      bit = λ k a b _. absurd (omega arith);
       cause = λ q a b n. absurd (n (z (q - 1) (omega arith)));
       flagged = λ q a b n. absurd (n (z (q - 1) (omega arith)));
       rest = λ x a b. refl;
     }
 
 module _ {m flags : ℕ} {W : List Column} {w₀ w : List ℕ} {k : ℕ} (s : StartsTo m flags W w₀ w k) (r : Room m flags w) (a : 1 ≤ startOf W (k + 1)) (b : startOf W (k + 1) ≤ m)
-    (within : (p : ℕ) → 1 ≤ p → p ≤ k → (1 ≤ startOf W p) × (startOf W p ≤ m)) where
+    (within : (p : ℕ) → 1 ≤ p → p ≤ k → startOf W p ≤ m) where
   abbrev q₀ : ℕ
   q₀ = startOf W (k + 1)
 
@@ -153,21 +146,21 @@ module _ {m flags : ℕ} {W : List Column} {w₀ w : List ℕ} {k : ℕ} (s : St
       ap (λ (x : ℕ). getD w₁ (flags + x) 0) e ∙
       getD-set-same (set w (3 * m + (q₀ - 1)) x₀) (flags + (q₀ - 1) / 64) 1 0 (simp length-set (omega (arith, r .long, r .m-bound)))
 
-  pub starts-next : StartsTo m flags W w₀ w₁ (k + 1)
+  starts-next : StartsTo m flags W w₀ w₁ (k + 1)
   starts-next =
       record {
         same-length = length-set (set w (3 * m + (q₀ - 1)) x₀) (flags + (q₀ - 1) / 64) 1 ∙ length-set w (3 * m + (q₀ - 1)) x₀ ∙ s .same-length;
-        start = λ p x y. elim (eq-or-ne (startOf W p) q₀) [
+        start = λ p x y o. elim (eq-or-ne (startOf W p) q₀) [
           | inl e ↦ omega (arith, ap (markAt m w₁) e, w₁-own)
           | inr e ↦
               let l : p ≤ k = older p x y e in
-              omega (arith, s .start p x l, ap (λ (v : ℕ). v / 4) (mark-other (startOf W p) (within p x l .0) (within p x l .1) e))
+              omega (arith, s .start p x l o, ap (λ (v : ℕ). v / 4) (mark-other (startOf W p) o (within p x l) e))
         ];
-        bit = λ p x y. elim (eq-or-ne (startOf W p) q₀) [
+        bit = λ p x y o. elim (eq-or-ne (startOf W p) q₀) [
           | inl e ↦ ap (λ (v : ℕ). v % 4) (ap (markAt m w₁) e ∙ w₁-own) ∙ four
           | inr e ↦
               let l : p ≤ k = older p x y e in
-              ap (λ (v : ℕ). v % 4) (mark-other (startOf W p) (within p x l .0) (within p x l .1) e) ∙ s .bit p x l
+              ap (λ (v : ℕ). v % 4) (mark-other (startOf W p) o (within p x l) e) ∙ s .bit p x l o
         ];
         cause = λ q x y n. elim (eq-or-ne q q₀) [
           | inl e ↦ (k + 1, omega arith, omega arith, sym e, ap (markAt m w₁) e ∙ w₁-own)
@@ -187,6 +180,36 @@ module _ {m flags : ℕ} {W : List Column} {w₀ w : List ℕ} {k : ℕ} (s : St
 
       older : (p : ℕ) → 1 ≤ p → p ≤ k + 1 → startOf W p ≢ q₀ → p ≤ k
       older p x y e = elim (eq-or-ne p (k + 1)) [ inl z ↦ absurd (e (ap (startOf W) z)) | inr z ↦ omega arith ]
+
+-- a column with no row has no mark
+starts-skip : {m flags : ℕ} {W : List Column} {w₀ w : List ℕ} {k : ℕ} → StartsTo m flags W w₀ w k → startOf W (k + 1) ≡ 0 → StartsTo m flags W w₀ w (k + 1)
+starts-skip {m} {W = W} {w = w} {k = k} s z =
+    record {
+      same-length = s .same-length;
+      start = λ p x y o. s .start p x (older p y o) o;
+      bit = λ p x y o. s .bit p x (older p y o) o;
+      cause = λ q x y n.
+          let t : (p : ℕ) × (1 ≤ p) × (p ≤ k) × (startOf W p ≡ q) × (markAt m w q ≡ 4 * p + 2) = s .cause q x y n in
+          (t .0, t .1, omega (arith, t .2), t .3, t .4);
+      flagged = s .flagged;
+      rest = s .rest;
+    }
+  where
+    older : (p : ℕ) → p ≤ k + 1 → 1 ≤ startOf W p → p ≤ k
+    older p y o = elim (eq-or-ne p (k + 1)) [ inl e ↦ absurd (omega (arith, ap (startOf W) e)) | inr e ↦ omega arith ]
+
+-- one column more, as mark_start marks it
+pub starts-more : {m flags : ℕ} {W : List Column} {w₀ w w₁ : List ℕ} {k row : ℕ} → all (fitsRows m) W ≡ true → StartsTo m flags W w₀ w k → Room m flags w → k < length W →
+    row ≡ smallest (getD W k none) → w₁ ≡ startMarked m flags w row (k + 1) → StartsTo m flags W w₀ w₁ (k + 1)
+starts-more {m} {flags} {W} {w₀} {w} {w₁} {k} {row} fits s r l a e =
+    let q : k + 1 - 1 ≡ k = omega arith in
+    let g : row ≡ startOf W (k + 1) = a ∙ ap (λ (x : ℕ). smallest (getD W x none)) (sym q) in
+    let within : (p : ℕ) → 1 ≤ p → p ≤ k + 1 → startOf W p ≤ m = λ p x y. fits-at m W fits (p - 1) (omega arith) .high in
+    subst (λ (x : List ℕ). StartsTo m flags W w₀ x (k + 1)) (sym (e ∙ ap (λ (x : ℕ). startMarked m flags w x (k + 1)) g))
+    (elim (eq-or-ne (startOf W (k + 1)) 0) [
+      | inl z ↦ rw (eq-eqb (startOf W (k + 1)) 0 z) (starts-skip s z)
+      | inr z ↦ rw (ne-eqb (startOf W (k + 1)) 0 z) (starts-next s r (omega arith) (within (k + 1) (omega arith) (omega arith)) (λ p x y. within p x (omega arith)))
+    ])
 
 -- ---- A: batch columns handled
 
@@ -234,48 +257,31 @@ started-none {m} {R} {W} {adding} {w} {j} c bits n = counting-end c (go (length 
 
 module _ {counts list : List ℕ} {m flags : ℕ} {w₀ : List ℕ} {W : List Column} (c : CanMark counts list m flags w₀ W) {w : List ℕ} {k at : ℕ} (r : Reading counts list W k at)
     (s : StartsTo m flags W w₀ w k) (l : k < length counts) where
-  fits-here : Fits m (getD W k none)
-  fits-here = fits-at m W (c .fits) k (omega (arith, r .size))
-
   room-here : Room m flags w
   room-here = record { m-bound = c .room .m-bound; low = c .room .low; long = omega (arith, c .room .long, s .same-length) }
 
-  pub marking-row : (at < length list) × Room m flags w × (1 ≤ getD list at 0) × (getD list at 0 ≤ m) × (k + 1 ≤ 64)
-  marking-row =
-      let f : (at < length list) × (1 ≤ getD counts k 0) × (getD list at 0 ≡ smallest (getD W k none)) = reading-first r l fits-here in
-      (f .0, room-here, omega (arith, f .2, fits-here .low), omega (arith, f .2, fits-here .high), omega (arith, c .few, r .size))
+  pub marking-row : {row : ℕ} → row ≡ getD (take (getD counts k 0) (drop at list)) 0 0 → Room m flags w × (row ≤ m) × (k + 1 ≤ 64)
+  marking-row e = (room-here, omega (arith, reading-first r l e, fits-at m W (c .fits) k (omega (arith, r .size)) .high), omega (arith, c .few, r .size))
 
-  pub marking-next : {w₁ : List ℕ} → w₁ ≡ marked m flags w (getD list at 0) (4 * (k + 1) + 2) → StartsTo m flags W w₀ w₁ (k + 1)
-  marking-next {w₁} e =
-      let f : (at < length list) × (1 ≤ getD counts k 0) × (getD list at 0 ≡ smallest (getD W k none)) = reading-first r l fits-here in
-      let q : k + 1 - 1 ≡ k = omega arith in
-      let g : getD list at 0 ≡ startOf W (k + 1) = f .2 ∙ ap (λ (x : ℕ). smallest (getD W x none)) (sym q) in
-      subst (λ (x : List ℕ). StartsTo m flags W w₀ x (k + 1)) (sym (e ∙ ap (λ (x : ℕ). marked m flags w x (4 * (k + 1) + 2)) g))
-      (starts-next s room-here (omega (arith, g, f .2, fits-here .low)) (omega (arith, g, f .2, fits-here .high))
-      (λ p x y. let v : Fits m (getD W (p - 1) none) = fits-at m W (c .fits) (p - 1) (omega (arith, r .size)) in (v .low, v .high)))
+  pub marking-next : {w₁ : List ℕ} {row : ℕ} → row ≡ getD (take (getD counts k 0) (drop at list)) 0 0 → w₁ ≡ startMarked m flags w row (k + 1) → StartsTo m flags W w₀ w₁ (k + 1)
+  marking-next e = starts-more (c .fits) s room-here (omega (arith, r .size)) (reading-first r l e)
 
 module _ {counts list : List ℕ} {m : ℕ} {R W : List Column} {w₀ w : List ℕ} {n j k at : ℕ} (c : CanStart m R W true w₀ j) (r : Reading counts list W k at)
     (t : Counting m R W true w₀ w n j k) (l : k < length counts) where
-  fits-there : Fits m (getD W k none)
-  fits-there = fits-at m W (c .fits) k (omega (arith, r .size))
-
-  pub listed-first : (at < length list) × (getD list at 0 ≡ smallest (getD W k none))
-  listed-first = let f : (at < length list) × (1 ≤ getD counts k 0) × (getD list at 0 ≡ smallest (getD W k none)) = reading-first r l fits-there in (f .0, f .2)
-
   listed-rows : take (at + getD counts k 0 - at) (drop at list) ≡ getD W k none .rows
   listed-rows = let q : at + getD counts k 0 - at ≡ getD counts k 0 = omega arith in ap (λ (x : ℕ). take x (drop at list)) q ∙ sym (reading-rows r l)
 
   pub listed-gather : CanGather m w × (rises 1 m (take (at + getD counts k 0 - at) (drop at list)) ≡ true)
-  listed-gather = (can-gather (counting-steady c t (omega (arith, r .size))), ap (rises 1 m) listed-rows ∙ fits-there .rising)
+  listed-gather = (can-gather (counting-steady c t (omega (arith, r .size))), ap (rises 1 m) listed-rows ∙ fits-at m W (c .fits) k (omega (arith, r .size)) .rising)
 
-  pub listed-here : {w₁ w₂ : List ℕ} {g n′ : ℕ} → getD list at 0 ≡ j → Gathered m w w₁ g (λ i. among i (take (at + getD counts k 0 - at) (drop at list))) → Counted m w₁ g true w₂ n′ →
+  pub listed-here : {w₁ w₂ : List ℕ} {g n′ row : ℕ} → row ≡ getD (take (getD counts k 0) (drop at list)) 0 0 → row ≡ j → Gathered m w w₁ g (λ i. among i (take (at + getD counts k 0 - at) (drop at list))) → Counted m w₁ g true w₂ n′ →
       Counting m R W true w₀ w₂ n′ j (k + 1)
-  listed-here e a b =
-      counting-here c t (omega (arith, r .size)) (sym (listed-first .1) ∙ e)
+  listed-here f e a b =
+      counting-here c t (omega (arith, r .size)) (sym (reading-first r l f) ∙ e)
       (bumps a true (holds (getD W k none)) (λ i x y. ap (λ (z : List ℕ). among i z) listed-rows) b)
 
-  pub listed-past : getD list at 0 ≢ j → Counting m R W true w₀ w n j (k + 1)
-  listed-past e = counting-past c t (omega (arith, r .size)) (λ x. e (listed-first .1 ∙ x))
+  pub listed-past : {row : ℕ} → row ≡ getD (take (getD counts k 0) (drop at list)) 0 0 → row ≢ j → Counting m R W true w₀ w n j (k + 1)
+  listed-past f e = counting-past c t (omega (arith, r .size)) (λ x. e (reading-first r l f ∙ x))
 
 pub marking-end : {counts list : List ℕ} {m flags : ℕ} {W : List Column} {w₀ w : List ℕ} {k at : ℕ} → Reading counts list W k at → StartsTo m flags W w₀ w k → k ≤ length counts → length counts ≤ k →
     StartsTo m flags W w₀ w (length W)

@@ -60,13 +60,13 @@ queues-none m w place p z =
       idle = λ c a b e. z (7 * m + (c - 1)) (omega arith) (omega arith);
     }
 
-module _ {m flags : ℕ} (R : List Column) {W : List Column} (adding : Bool) {w₀ w : List ℕ} (s : StartsTo m flags W w₀ w (length W)) (r : Room m flags w₀) (zero₀ : (k : ℕ) → k < flags + 64 → getD w₀ k 0 ≡ 0)
-    (some : 1 ≤ m) (within : (k : ℕ) → 1 ≤ k → k ≤ length W → (1 ≤ startOf W k) × (startOf W k ≤ m)) where
+module _ {m flags : ℕ} (R : List Column) {W : List Column} (adding : Bool) {w₀ w : List ℕ} (s : StartsTo m flags W w₀ w (length W)) (r : Room m flags w₀) (zero₀ : IsZero w₀ 0 (8 * m)) (flags₀ : IsZero w₀ flags 64)
+    (some : 1 ≤ m) where
   marks-start : MarksHold m R W w 1
   marks-start =
       record {
-        start = λ k x y l. s .start k x y;
-        bit = λ k x y l. s .bit k x y;
+        start = s .start;
+        bit = s .bit;
         child = λ c x y t l. absurd (omega arith);
         bound = λ q x y. elim (eq-or-ne (markAt m w q) 0) [
           | inl e ↦ omega (arith, ap (λ (v : ℕ). v / 4) e)
@@ -82,8 +82,8 @@ module _ {m flags : ℕ} (R : List Column) {W : List Column} (adding : Bool) {w�
             inl (t .0, t .1, t .2, t .3);
       }
 
-  cell-zero : (k : ℕ) → (k < 3 * m) ⊎ (4 * m ≤ k) → k < flags → getD w k 0 ≡ 0
-  cell-zero k x y = s .rest k (elim x [ inl u ↦ inl u | inr u ↦ inr (omega arith) ]) (inl y) ∙ zero₀ k (omega arith)
+  cell-zero : (k : ℕ) → (k < 3 * m) ⊎ (4 * m ≤ k) → k < 8 * m → getD w k 0 ≡ 0
+  cell-zero k x y = s .rest k (elim x [ inl u ↦ inl u | inr u ↦ inr (omega arith) ]) (inl (omega (arith, r .low))) ∙ zero-at w₀ 0 (8 * m) k zero₀ (omega arith) (omega arith)
 
   pub walking-start : Walking m flags R W adding w₀ w 1 0
   unfolding touchedFrom
@@ -95,11 +95,12 @@ module _ {m flags : ℕ} (R : List Column) {W : List Column} (adding : Bool) {w�
         plan-room = omega (arith, r .low);
         same-length = s .same-length;
         zero = zero₀;
+        flags-zero = flags₀;
         plans = plans-none m (before adding m R W) (after adding m R W) (labelAt m R W) w 0;
         marks = marks-start;
         flagged = s .flagged;
-        queues = queues-none m w (standing m R W 1) unplaced (λ k x y. cell-zero k (inr (omega arith)) (omega (arith, r .low)));
-        tally = tally-zero m w (omega (arith, r .low, r .long, s .same-length)) (λ k x. let q : 0 + k ≡ k = omega arith in ap (λ (v : ℕ). getD w v 0) q ∙ cell-zero k (inl x) (omega (arith, r .low)));
+        queues = queues-none m w (standing m R W 1) unplaced (λ k x y. cell-zero k (inr (omega arith)) y);
+        tally = tally-zero m w (omega (arith, r .low, r .long, s .same-length)) (λ k x. let q : 0 + k ≡ k = omega arith in ap (λ (v : ℕ). getD w v 0) q ∙ cell-zero k (inl x) (omega arith));
         rest = λ k n. s .rest k (away (3 * m) m k (λ x y. n (marks (omega arith) (omega arith)))) (away flags 64 k (λ x y. n (flagged x y)));
       }
     where

@@ -8,7 +8,7 @@ use Prim.Native.Nat.{ℕ, zero, suc, _+_, _-_, _*_, _%_, _≤_, _<_}
 use native.Mathlib.Omega.{arith}
 use lib.ListN.{length, getD}
 use Rattle.lists.specs.Lists.{pick, sumOf, all}
-use Rattle.symbolic.specs.Columns.{Column}
+use Rattle.symbolic.specs.Columns.{Column, fitsRows}
 use Rattle.symbolic.specs.Batch.{touchedFrom, sizeSumOf, entriesOf}
 use Rattle.workspace.specs.Regions.{region}
 use Rattle.pool.specs.Chains.{chain, lastOf, Linked}
@@ -18,7 +18,6 @@ use Rattle.updown.specs.Turns.{before, after, done}
 use Rattle.updown.specs.States.{startOf, Numbers, Walking, Setting, Between}
 use Rattle.updown.proofs.Worked.{Begun}
 use Rattle.updown.specs.Starts.{CanStart, Started}
-use Rattle.book.specs.Book as book
 use Rattle.updown.proofs.Plans.{region-same}
 use Rattle.updown.proofs.Marked.{touched-mark}
 use Rattle.updown.proofs.Stepping.{done-skip}
@@ -103,7 +102,7 @@ module _ {heads parents rows counts next : List ℕ} {m flags : ℕ} {R W : List
       (between-to (j - suc l) h (omega (arith, taken-row)) (λ q x y. t .next .passed q (omega arith) (omega (arith, taken-row)) (λ _. omega (arith, taken-row))))
 
   within : (i : ℕ) → 1 ≤ i → i ≤ length W → startOf W i ≤ m
-  within i x y = s .starts i x y .1
+  within = s .starts
 
   pub taken-begun : Begun m flags R W adding work₀ wb j used
   taken-begun =
@@ -120,7 +119,7 @@ module _ {heads parents rows counts next : List ℕ} {m flags : ℕ} {R W : List
   long-b = ap length (t .begins z) ∙ begun-length (here .walking) (taken-row .1) (taken-row .2) within l (here .numbers .last-is)
 
   -- what A asks
-  pub seeking-start : all (book.columnFits m) W ≡ true → CanStart m R W adding wb j × (4 * m ≤ length wb)
+  pub seeking-start : all (fitsRows m) W ≡ true → CanStart m R W adding wb j × (4 * m ≤ length wb)
   seeking-start fits =
       let tally = tally-frame long-b (λ i x. same-past i (inl x)) (here .walking .tally) in (
         record {

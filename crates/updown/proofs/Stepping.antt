@@ -163,6 +163,7 @@ module _ {next : List ℕ} {m flags : ℕ} {R W : List Column} {adding : Bool} {
             plan-room = omega (arith, d .planned .used-high, fit);
             same-length = same ∙ b .same-length;
             zero = b .zero;
+            flags-zero = b .flags-zero;
             plans = subst (λ (x : List ℕ). PlansTo m L L′ (labelAt m R W) w₂ x 0 0 (e .used)) (sym (done-next m R W j (b .low) (b .touched)))
                 (plans-more m L L′ (labelAt m R W) w₂ (done m R W j) 0 j used 0 (e .used) ps own-column);
             marks = ms;

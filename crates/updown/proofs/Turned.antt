@@ -41,7 +41,7 @@ pub record Turning (next work₀ work : List ℕ) (m flags : ℕ) (R W : List Co
 pub record Turned (next work₀ work : List ℕ) (m flags : ℕ) (R W : List Column) (adding : Bool) (free j avail₀ : ℕ) (fits : Bool) (first last count entries used avail : ℕ) : Type 0 where
   pub fits-is : fits ≡ leb (ofKind 1 (planFrom 1 (columnAt (before adding m R W) j .counts) (columnAt (after adding m R W) j .counts))) (length (chain next avail₀))
   pub onward : fits ≡ true → Between next work₀ work m flags R W adding free (suc last) first last count entries used avail
-  pub halted : fits ≡ false → Halted m flags work₀ work used
+  pub halted : fits ≡ false → Halted m (length next) flags work₀ work used
 
 module _ {heads parents rows counts next : List ℕ} {m flags : ℕ} {R W : List Column} {adding : Bool} {free : ℕ} (s : Setting heads parents rows counts next m flags R W adding free)
     {work₀ w : List ℕ} {n j f l c k used avail : ℕ} (t : Turning next work₀ w m flags R W adding free n j f l c k used avail) where
@@ -91,7 +91,7 @@ module _ {heads parents rows counts next : List ℕ} {m flags : ℕ} {R W : List
         go false y = high-of R (e .parent .0) y
 
     within : (i : ℕ) → 1 ≤ i → i ≤ length W → startOf W i ≤ m
-    within i x y = s .starts i x y .1
+    within = s .starts
 
     can-step : CanStep parents w₁ m flags j (e .parent .0) adding c k (e .larger)
     can-step =
@@ -184,6 +184,6 @@ module _ {heads parents rows counts next : List ℕ} {m flags : ℕ} {R W : List
               onward = λ x. let ok : e .fits ≡ true = sym (h .fits-is) ∙ x in
                   stepped-on has-plan ok (h .stored ok) (h .first-is ok) (h .last-is ok) (h .count-is ok) (h .entries-is ok) (h .used-is) (h .avail-is ok);
               halted = λ x.
-                  subst (λ (v : List ℕ). Halted m flags work₀ v used′) (sym (h .stays (sym (h .fits-is) ∙ x)))
-                  (subst (λ (v : ℕ). Halted m flags work₀ wp v) (sym (h .used-is)) (halted (t .begun) has-plan (s .fit)));
+                  subst (λ (v : List ℕ). Halted m (length next) flags work₀ v used′) (sym (h .stays (sym (h .fits-is) ∙ x)))
+                  (subst (λ (v : ℕ). Halted m (length next) flags work₀ wp v) (sym (h .used-is)) (halted (t .begun) has-plan (s .fit)));
             }

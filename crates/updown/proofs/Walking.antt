@@ -15,6 +15,7 @@ use Rattle.lists.proofs.Tests.{eq-or-ne, lt-or-le}
 use Rattle.symbolic.specs.Columns.{Column}
 use Rattle.symbolic.specs.Batch.{isTouched}
 use Rattle.workspace.specs.Regions.{cell, OnlyIn}
+use Rattle.workspace.proofs.Regions.{zero-at}
 use Rattle.pool.specs.Chains.{lastOf}
 use Rattle.updown.specs.Plans.{InPlan}
 use Rattle.updown.specs.Marks.{markAt, begun}
@@ -50,15 +51,16 @@ module _ {m flags : ℕ} {R W : List Column} {adding : Bool} {work₀ w : List �
         plan-room = h .plan-room;
         same-length = h .same-length;
         zero = h .zero;
+        flags-zero = h .flags-zero;
         plans = subst (λ (x : List ℕ). PlansTo m (before adding m R W) (after adding m R W) (labelAt m R W) w x 0 0 used) (sym e) (h .plans);
         marks = marks-skip m R W (h .marks) (h .low) b t;
         flagged = λ q x y n. h .flagged q (omega arith) y n;
         queues = queues-ext l (queues-fewer (h .queues) (omega arith) (λ x _ n. n)) same;
         tally = h .tally;
         rest = λ k n. elim (eq-or-ne k (3 * m + (j - 1))) [
-          | inl q ↦ ap (λ (x : ℕ). getD w x 0) q ∙ z ∙ sym (h .zero k (omega (arith, h .room .low)))
+          | inl q ↦ ap (λ (x : ℕ). getD w x 0) q ∙ z ∙ sym (zero-at work₀ 0 (8 * m) k (h .zero) (omega arith) (omega arith))
           | inr q ↦ elim (eq-or-ne k (5 * m + (j - 1))) [
-            | inl p ↦ ap (λ (x : ℕ). getD w x 0) p ∙ none ∙ sym (h .zero k (omega (arith, h .room .low)))
+            | inl p ↦ ap (λ (x : ℕ). getD w x 0) p ∙ none ∙ sym (zero-at work₀ 0 (8 * m) k (h .zero) (omega arith) (omega arith))
             | inr p ↦ h .rest k (λ u. n (busier k e q p (h .low) u))
           ]
         ];
@@ -119,6 +121,7 @@ module _ {m flags : ℕ} {R W : List Column} {adding : Bool} {work₀ w : List �
           plan-room = h .plan-room;
           same-length = begun-length ∙ h .same-length;
           zero = h .zero;
+          flags-zero = h .flags-zero;
           plans = plans-link m (before adding m R W) (after adding m R W) (labelAt m R W) w wb begun-length (done m R W j) 0 0 0 j used m (omega arith)
               (touched-rising (larger m R W) W 1 (j - 1) m (omega (arith, h .low))) (h .plans)
               (λ k i x. begun-other k (not-start k i) (λ y z. x (z ∙ ap (λ (v : ℕ). 5 * m + (v - 1)) e)))
@@ -167,6 +170,7 @@ module _ {m flags : ℕ} {R W : List Column} {adding : Bool} {work₀ w w′ : L
         plan-room = b .plan-room;
         same-length = o .same-length ∙ b .same-length;
         zero = b .zero;
+        flags-zero = b .flags-zero;
         plans = plans-frame m (before adding m R W) (after adding m R W) (labelAt m R W) w w′ (o .same-length) (done m R W j) 0 j used (b .plans)
             (λ k i. same k (plan-places m R W j used (omega (arith, b .high)) k i .0));
         starts = same (4 * m + (j - 1)) (omega arith) ∙ b .starts;

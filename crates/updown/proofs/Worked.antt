@@ -3,12 +3,12 @@ use mathlib.Core.Path.{_≡_, _∙_}
 use mathlib.Core.Logic.{inl, inr, _≢_}
 use mathlib.Core.Bool.{Bool, true}
 use mathlib.Core.List.{List}
-use Prim.Native.Nat.{ℕ, suc, _+_, _-_, _*_, _≤_, _<_}
+use Prim.Native.Nat.{ℕ, suc, _+_, _-_, _*_, _≤_}
 use native.Mathlib.Omega.{arith}
 use lib.ListN.{length, getD}
 use Rattle.symbolic.specs.Columns.{Column}
 use Rattle.symbolic.specs.Batch.{isTouched}
-use Rattle.workspace.specs.Regions.{cell, Outside}
+use Rattle.workspace.specs.Regions.{cell, Outside, IsZero}
 use Rattle.workspace.specs.Layout.{marksAt, startsAt, childrenAt, lostAt, planAt, flagCount}
 use Rattle.emission.specs.declared.Emission.{Emission}
 use Rattle.updown.specs.Marks.{Room, Flagged}
@@ -29,7 +29,8 @@ pub record Begun (m flags : ℕ) (R W : List Column) (adding : Bool) (work₀ wo
   pub room : Room m flags work
   pub plan-room : planAt m + used ≤ flags
   pub same-length : length work ≡ length work₀
-  pub zero : (k : ℕ) → k < flags + flagCount → getD work₀ k 0 ≡ 0
+  pub zero : IsZero work₀ 0 (planAt m)
+  pub flags-zero : IsZero work₀ flags flagCount
   pub plans : PlansTo m (before adding m R W) (after adding m R W) (labelAt m R W) work (done m R W j) 0 j used
   pub starts : cell work (startsAt m) (j - 1) ≡ used
   pub marks : MarksHold m R W work j

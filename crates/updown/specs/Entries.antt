@@ -12,7 +12,7 @@ use Rattle.symbolic.specs.Factor.{factorOf, sizeSum}
 use Rattle.symbolic.specs.Batch.{touched, labelOf}
 use Rattle.symbolic.specs.Change.{Bag}
 use Rattle.workspace.specs.Regions.{IsZero}
-use Rattle.workspace.specs.Layout.{flagsAt}
+use Rattle.workspace.specs.Layout.{spare, flagsAt, flagCount}
 use Rattle.pool.specs.Chains.{chain}
 use Rattle.book.specs.Book as book
 use Rattle.tables.specs.Stored.{Stored, Sized, storedOf, isSoundFor}
@@ -38,14 +38,14 @@ Booked b [] (w ∷ ws) = ⊥
 Booked b (i ∷ is) [] = ⊥
 Booked b (i ∷ is) (w ∷ ws) = (w .rows ≡ book.columnFor b i .rows) × (1 ≤ i) × (i ≤ length (b .heads)) × Booked b is ws
 
--- ---- what planning asks: stored columns that are sound for columns cs, a batch, and a work table whose places for it are zero
+-- ---- what planning asks: stored columns that are sound for columns cs, a batch, and a work table whose regions for it are zero
 
 -- what planning asks, of an addition and of a removal alike
 pub record CanPlan (s : Stored) (cs batch : List Column) (work : List ℕ) : Type 0 where
   pub sized : Sized s
   pub sound : isSoundFor cs s ≡ true
   pub fits : all (fitsRows (length (s .heads))) cs ≡ true
-  pub batch-fits : all (book.columnFits (length (s .heads))) batch ≡ true
+  pub batch-fits : all (fitsRows (length (s .heads))) batch ≡ true
   pub some : 1 ≤ length (s .heads)
   pub m-bound : length (s .heads) ≤ 4096
   pub f-bound : length (s .next) ≤ 1048576
@@ -53,7 +53,9 @@ pub record CanPlan (s : Stored) (cs batch : List Column) (work : List ℕ) : Typ
   pub few : length cs + length batch ≤ 60000
   pub positions : (1 ≤ length batch) × (length batch ≤ 64)
   pub long : planNeed (length (s .heads)) (length (s .next)) ≤ length work
-  pub zero : IsZero work 0 (planNeed (length (s .heads)) (length (s .next)))
+  -- the regions that planning uses: up to the plan's end, and the flags; what stands between and after them is not read
+  pub zero : IsZero work 0 (spare (length (s .heads)) (length (s .next)))
+  pub flags-zero : IsZero work (flagsAt (length (s .heads)) (length (s .next))) flagCount
 
 -- adding W to the columns R that the tables are sound for
 pub record CanAdd (s : Stored) (counts list work : List ℕ) (R W : List Column) : Type 0 where
@@ -65,6 +67,20 @@ pub record SomeAdd (s : Stored) (counts list work : List ℕ) : Type 0 where
   pub R : List Column
   pub W : List Column
   pub can : CanAdd s counts list work R W
+
+-- adding W, which the book has, to the columns R that the tables are sound for; the free head of b is not read, any that suits will do
+pub record CanAddBooked (s : Stored) (b : book.Book) (ids work : List ℕ) (R W : List Column) : Type 0 where
+  pub can : CanPlan s R W work
+  pub booked : Booked b ids W
+  pub book-sized : book.Sized b
+  pub book-free : ℕ
+  pub book-sound : book.isSound (length (s .heads)) (book.bookOf (b .heads) (b .rows) (b .next) book-free) ≡ true
+
+-- what a caller shows: that W, which the book has, can be added to R, for some R and W
+pub record SomeAddBooked (s : Stored) (b : book.Book) (ids work : List ℕ) : Type 0 where
+  pub R : List Column
+  pub W : List Column
+  pub can : CanAddBooked s b ids work R W
 
 -- removing W, which the book has, from columns that are R and W but for their order; the free heads of s and b are not read, any that suit will do
 pub record CanRemove (s : Stored) (b : book.Book) (ids work : List ℕ) (R W : List Column) : Type 0 where

@@ -10,7 +10,7 @@ use lib.ListN.{length, set}
 use Rattle.lists.specs.Lists.{pick, at}
 use Rattle.workspace.specs.Regions.{cell}
 use Rattle.emission.specs.declared.Emission.{Emission}
-use Rattle.updown.specs.Plans.{labelWeight, parentWeight, parentIn}
+use Rattle.updown.specs.Plans.{startBit, labelWeight, parentWeight, parentIn}
 use Rattle.workspace.specs.Layout.{marksAt, startsAt, childrenAt, nextAt, lostAt, linksAt, planAt, blockRows, flagCount}
 
 -- the work table has the regions of m rows and, past them, 64 flags
@@ -30,6 +30,10 @@ flagAt f w q = cell w f ((q - 1) / blockRows)
 -- a row marked, with its block
 abbrev pub marked : (m flags : ℕ) (work : List ℕ) (row mark : ℕ) → List ℕ
 marked m f w q x = set (set w (marksAt m + (q - 1)) x) (f + (q - 1) / blockRows) 1
+
+-- the row where the batch column of a position starts marked; nothing for row 0, where a column with no row starts
+abbrev pub startMarked : (m flags : ℕ) (work : List ℕ) (row position : ℕ) → List ℕ
+startMarked m f w q k = pick (eqb q 0) w (marked m f w q (labelWeight * k + startBit))
 
 -- a tree parent marked with at least a label
 abbrev pub raised : (m flags : ℕ) (work : List ℕ) (row label : ℕ) → List ℕ

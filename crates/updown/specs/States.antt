@@ -10,9 +10,9 @@ use Rattle.lists.specs.Lists.{at, valuesAt}
 use Rattle.symbolic.specs.Columns.{Column, smallest}
 use Rattle.symbolic.specs.Factor.{columnAt, sizeOf, nonZero}
 use Rattle.symbolic.specs.Batch.{atPosition, isTouched, sizeSumOf, entriesOf}
-use Rattle.workspace.specs.Regions.{region, Outside}
+use Rattle.workspace.specs.Regions.{region, Outside, IsZero}
 use Rattle.workspace.specs.Planned.{newKind}
-use Rattle.workspace.specs.Layout.{marksAt, startsAt, childrenAt, planAt, flagCount}
+use Rattle.workspace.specs.Layout.{marksAt, startsAt, childrenAt, planAt, spare, flagCount}
 use Rattle.pool.specs.Chains.{chain, lastOf, Linked}
 use Rattle.columns.specs.Plan.{ofKind}
 use Rattle.differences.specs.Tally.{base, Tally}
@@ -52,7 +52,7 @@ pub record Numbers (next work : List ℕ) (m : ℕ) (R W : List Column) (adding 
 
 -- ---- marks
 
--- the row where the batch column of a position starts
+-- the row where the batch column of a position starts, 0 for a column with no row
 abbrev pub startOf : (W : List Column) (position : ℕ) → ℕ
 startOf W k = smallest (atPosition W k)
 
@@ -83,7 +83,8 @@ pub record Walking (m flags : ℕ) (R W : List Column) (adding : Bool) (work₀ 
   pub room : Room m flags work
   pub plan-room : planAt m + used ≤ flags
   pub same-length : length work ≡ length work₀
-  pub zero : (k : ℕ) → k < flags + flagCount → getD work₀ k 0 ≡ 0
+  pub zero : IsZero work₀ 0 (planAt m)
+  pub flags-zero : IsZero work₀ flags flagCount
   pub plans : PlansTo m (before adding m R W) (after adding m R W) (labelAt m R W) work (done m R W j) 0 0 used
   pub marks : MarksHold m R W work j
   pub flagged : Flagged m flags work (j - 1)
@@ -93,12 +94,12 @@ pub record Walking (m flags : ℕ) (R W : List Column) (adding : Bool) (work₀ 
 
 -- ---- a walk that stops since no free record is left
 
--- beyond the first 8 m + used places, but for the flags, the work table is as lent, where it was zero
-pub record Halted (m flags : ℕ) (work₀ work : List ℕ) (used : ℕ) : Type 0 where
-  pub plan-room : planAt m + used ≤ flags
+-- beyond the first 8 m + used places, but for the flags, the work table is as lent; f is the number of records
+pub record Halted (m f flags : ℕ) (work₀ work : List ℕ) (used : ℕ) : Type 0 where
+  pub plan-room : used ≤ f
+  pub flags-past : spare m f ≤ flags
   pub long : flags + flagCount ≤ length work
   pub same-length : length work ≡ length work₀
-  pub zero : (k : ℕ) → k < flags + flagCount → getD work₀ k 0 ≡ 0
   pub rest : (k : ℕ) → planAt m + used ≤ k → Outside flags flagCount k → getD work k 0 ≡ getD work₀ k 0
 
 -- ---- column j planned after D
@@ -132,7 +133,7 @@ pub record Setting (heads parents rows counts next : List ℕ) (m flags : ℕ) (
   pub fit : planAt m + length next ≤ flags
   pub records : length next ≤ 1048576
   pub positions : length W ≤ 64
-  pub starts : (k : ℕ) → 1 ≤ k → k ≤ length W → (1 ≤ startOf W k) × (startOf W k ≤ m)
+  pub starts : (k : ℕ) → 1 ≤ k → k ≤ length W → startOf W k ≤ m
 
 -- between two turns, with the numbers
 pub record Between (next work₀ work : List ℕ) (m flags : ℕ) (R W : List Column) (adding : Bool) (free j first last count entries used avail : ℕ) : Type 0 where

@@ -6,7 +6,8 @@ ghost use mathlib.Core.List.{List};
 ghost use Rattle.tables.specs.Stored.{storedOf};
 ghost use Rattle.symbolic.specs.Columns.{Column};
 ghost use Rattle.book.specs.Book.{tablesOf};
-ghost use Rattle.updown.specs.Entries.{CanAdd, SomeAdd, AddPlanned, CanRemove, SomeRemove, RemovePlanned};
+ghost use Rattle.updown.specs.Entries.{CanAdd, SomeAdd, CanAddBooked, SomeAddBooked, AddPlanned, CanRemove, SomeRemove, RemovePlanned};
+ghost use Rattle.updown.specs.Starts.{CanEnd, Ended};
 
 mod children;
 mod marks;
@@ -14,6 +15,7 @@ mod starts;
 mod turns;
 mod walks;
 
+use crate::turns::Walk;
 use book::Row;
 use pool::Rec;
 use workspace::FLAGS;
@@ -34,6 +36,32 @@ pub struct Plan {
     pub count: u32,
     pub entries: u32,
     pub used: u32,
+}
+
+// The plan that a walk leaves: the flags are cleared, and where it stopped all else that it wrote.
+fn plan_of(work: &mut [u32], m: usize, flags: usize, walk: Walk) -> Plan
+    requires { ⌜ CanEnd m flags (now work) (walk .used) ⌝ }
+    ensures { λ p. ⌜ Ended m flags (now (work .entry)) (now (work .exit)) (walk .fits) (walk .first .0) (walk .count) (walk .entries) (walk .used) (p .fits) (p .first .0) (p .count) (p .entries) (p .used) ⌝ }
+{
+    workspace::clear(work, flags, FLAGS);
+    if walk.fits {
+        let first = walk.first;
+        return Plan {
+            fits: true,
+            first: first,
+            count: walk.count,
+            entries: walk.entries,
+            used: walk.used as u32,
+        };
+    }
+    workspace::clear(work, 0, PLAN * m + walk.used);
+    Plan {
+        fits: false,
+        first: Row(0),
+        count: 0,
+        entries: 0,
+        used: 0,
+    }
 }
 
 // Plans an addition: of the columns whose rows stand one after another in row_list, row_counts[k] of them each, beside the tables' columns. Where the
@@ -68,25 +96,47 @@ pub fn plan_add(
         flags,
         free,
     );
-    workspace::clear(work, flags, FLAGS);
-    if walk.fits {
-        let first = walk.first;
-        return Plan {
-            fits: true,
-            first: first,
-            count: walk.count,
-            entries: walk.entries,
-            used: walk.used as u32,
-        };
-    }
-    workspace::clear(work, 0, PLAN * m + walk.used);
-    Plan {
-        fits: false,
-        first: Row(0),
-        count: 0,
-        entries: 0,
-        used: 0,
-    }
+    plan_of(work, m, flags, walk)
+}
+
+// Plans an addition of booked columns: of those that the book has under ids, beside the tables' columns. Where the records are too few the work table is as
+// lent.
+pub fn plan_enter(
+    heads: &[u32],
+    parents: &[u16],
+    rows: &[u16],
+    counts: &[u16],
+    next: &[u32],
+    book_heads: &[u32],
+    book_rows: &[u16],
+    book_next: &[u32],
+    work: &mut [u32],
+    ids: &[u32],
+    free: Rec,
+) -> Plan
+    requires { ⌜ SomeAddBooked (storedOf (now heads) (now parents) (now rows) (now counts) (now next) (free .0)) (tablesOf (now «book_heads») (now «book_rows») (now «book_next»)) (now ids) (now work) ⌝ }
+    ensures { λ p. ⌜ ((R W : List Column) → CanAddBooked (storedOf (now (heads .entry)) (now (parents .entry)) (now (rows .entry)) (now (counts .entry)) (now (next .entry)) (free .0)) (tablesOf (now («book_heads» .entry)) (now («book_rows» .entry)) (now («book_next» .entry))) (now (ids .entry)) (now (work .entry)) R W → AddPlanned (storedOf (now (heads .entry)) (now (parents .entry)) (now (rows .entry)) (now (counts .entry)) (now (next .entry)) (free .0)) R W (now (work .entry)) (now (work .exit)) (p .fits) (p .first .0) (p .count) (p .entries) (p .used)) ⌝ }
+{
+    let m = heads.len();
+    let flags = PLAN * m + RECORD_PLACES * next.len();
+    starts::mark_booked(book_heads, book_rows, work, ids, m, flags);
+    let walk = walks::walk_booked(
+        heads,
+        parents,
+        rows,
+        counts,
+        next,
+        book_heads,
+        book_rows,
+        book_next,
+        work,
+        ids,
+        m,
+        flags,
+        free,
+        true,
+    );
+    plan_of(work, m, flags, walk)
 }
 
 // Plans a removal: of the columns that the book has under ids, from the tables' columns. It always fits.
@@ -108,7 +158,7 @@ pub fn plan_remove(
     let m = heads.len();
     let flags = PLAN * m + RECORD_PLACES * next.len();
     starts::mark_booked(book_heads, book_rows, work, ids, m, flags);
-    let walk = walks::walk_remove(
+    let walk = walks::walk_booked(
         heads,
         parents,
         rows,
@@ -121,14 +171,8 @@ pub fn plan_remove(
         ids,
         m,
         flags,
+        Rec(0),
+        false,
     );
-    workspace::clear(work, flags, FLAGS);
-    let first = walk.first;
-    Plan {
-        fits: true,
-        first: first,
-        count: walk.count,
-        entries: walk.entries,
-        used: walk.used as u32,
-    }
+    plan_of(work, m, flags, walk)
 }

@@ -1,19 +1,21 @@
 // The marks of the rows to visit, and a flag for each block of 64 rows that has one: a mark is set with its flag, and the next marked row is found.
 ghost use mathlib.Core.Path.{_≡_};
-ghost use Prim.Native.Nat.{_+_, _*_, _≤_};
-ghost use Rattle.updown.specs.Marks.{Room, marked, raised, Flagged, Next};
-ghost use Rattle.updown.specs.Plans.{startBit, labelWeight};
+ghost use Prim.Native.Nat.{_≤_};
+ghost use Rattle.updown.specs.Marks.{Room, startMarked, raised, Flagged, Next};
 use crate::LABEL_WEIGHT;
 use crate::START_BIT;
 use book::Row;
 use workspace::BLOCK;
 use workspace::MARKS;
 
-// Marks a row where the batch column at position k starts; positions come rising.
+// Marks a row where the batch column at position k starts, no row where that is row 0; positions come rising.
 pub fn mark_start(work: &mut [u32], m: usize, flags: usize, row: Row, k: u32)
-    requires { ⌜ Room m flags (now work) × (1 ≤ row .0) × (row .0 ≤ m) × (k ≤ 64) ⌝ }
-    ensures { λ r. ⌜ now (work .exit) ≡ marked m flags (now (work .entry)) (row .0) (labelWeight * k + startBit) ⌝ }
+    requires { ⌜ Room m flags (now work) × (row .0 ≤ m) × (k ≤ 64) ⌝ }
+    ensures { λ r. ⌜ now (work .exit) ≡ startMarked m flags (now (work .entry)) (row .0) k ⌝ }
 {
+    if row.0 == 0 {
+        return;
+    }
     let i = (row.0 - 1) as usize;
     work[MARKS * m + i] = LABEL_WEIGHT * k + START_BIT;
     work[flags + i / BLOCK] = 1;

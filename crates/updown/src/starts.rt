@@ -1,9 +1,10 @@
-// Where the columns of a batch start: their starts are marked, and A of Algorithms 3 and 4 counts the batch columns that start at j.
+// Where the columns of a batch start: their starts are marked, and A of Algorithms 3 and 4 counts the batch columns that start at j. A column with no row
+// starts at row 0, that is nowhere.
 ghost use mathlib.Core.Path.{_≡_};
-ghost use mathlib.Core.Bool.{true, false};
+ghost use mathlib.Core.Bool.{true};
 ghost use mathlib.Core.List.{List};
-ghost use Prim.Native.Nat.{ℕ, _%_, _≤_};
-ghost use lib.ListN.{length};
+ghost use Prim.Native.Nat.{ℕ, _+_, _%_, _≤_};
+ghost use lib.ListN.{length, getD, take, drop};
 ghost use Rattle.updown.specs.Marks.{markAt};
 ghost use Rattle.symbolic.specs.Columns.{Column};
 ghost use Rattle.updown.specs.States.{startOf};
@@ -19,6 +20,17 @@ use book::Row;
 use workspace::BUFFER;
 use workspace::MARKS;
 
+// The smallest row of a listed column, n rows from place at on; row 0 where it has none.
+fn first_row(row_list: &[u32], at: usize, n: usize) -> Row
+    requires { ⌜ at + n ≤ length (now «row_list») ⌝ }
+    ensures { λ r. ⌜ r .0 ≡ getD (take n (drop at (now («row_list» .entry)))) 0 0 ⌝ }
+{
+    if n == 0 {
+        return Row(0);
+    }
+    Row(row_list[at])
+}
+
 // Marks where the columns start whose rows stand one after another in a list.
 pub fn mark_listed(work: &mut [u32], row_counts: &[u32], row_list: &[u32], m: usize, flags: usize)
     requires { ⌜ SomeMark (now «row_counts») (now «row_list») m flags (now work) ⌝ }
@@ -27,9 +39,10 @@ pub fn mark_listed(work: &mut [u32], row_counts: &[u32], row_list: &[u32], m: us
     let mut k: usize = 0;
     let mut at: usize = 0;
     while k < row_counts.len() {
-        let row = Row(row_list[at]);
+        let n = row_counts[k] as usize;
+        let row = first_row(row_list, at, n);
         marks::mark_start(work, m, flags, row, (k + 1) as u32);
-        at += row_counts[k] as usize;
+        at += n;
         k += 1;
     }
 }
@@ -63,8 +76,10 @@ fn count_listed(work: &mut [u32], row_counts: &[u32], row_list: &[u32], m: usize
     let mut k: usize = 0;
     let mut at: usize = 0;
     while k < row_counts.len() {
-        let end = at + row_counts[k] as usize;
-        if row_list[at] == j.0 {
+        let size = row_counts[k] as usize;
+        let end = at + size;
+        let row = first_row(row_list, at, size);
+        if row.0 == j.0 {
             let g = differences::gather_rows(work, &row_list[at..end], m);
             n = differences::count_rows(work, m, n, g, true);
             at = end;
@@ -77,7 +92,7 @@ fn count_listed(work: &mut [u32], row_counts: &[u32], row_list: &[u32], m: usize
     n
 }
 
-// Counts down the booked columns that start at j, and gives the number of touched rows.
+// Counts the booked columns that start at j, up when adding and down when removing, and gives the number of touched rows.
 fn count_booked(
     book_heads: &[u32],
     book_rows: &[u16],
@@ -86,9 +101,10 @@ fn count_booked(
     ids: &[u32],
     m: usize,
     j: Row,
+    adding: bool,
 ) -> usize
-    requires { ⌜ SomeStartBooked (now «book_heads») (now «book_rows») (now «book_next») (now ids) m (now work) (j .0) ⌝ }
-    ensures { λ r. ⌜ ((R W : List Column) → BookHolds (now («book_heads» .entry)) (now («book_rows» .entry)) (now («book_next» .entry)) (now (ids .entry)) m W → CanStart m R W false (now (work .entry)) (j .0) → Started m R W false (now (work .entry)) (now (work .exit)) r (j .0)) ⌝ }
+    requires { ⌜ SomeStartBooked (now «book_heads») (now «book_rows») (now «book_next») (now ids) m (now work) (j .0) adding ⌝ }
+    ensures { λ r. ⌜ ((R W : List Column) → BookHolds (now («book_heads» .entry)) (now («book_rows» .entry)) (now («book_next» .entry)) (now (ids .entry)) m W → CanStart m R W adding (now (work .entry)) (j .0) → Started m R W adding (now (work .entry)) (now (work .exit)) r (j .0)) ⌝ }
 {
     let mut n: usize = 0;
     let mut k: usize = 0;
@@ -99,7 +115,7 @@ fn count_booked(
             let a = BUFFER * m;
             let e = MARKS * m;
             let g = book::copy_rows(book_heads, book_rows, book_next, &mut work[a..e], id);
-            n = differences::count_rows(work, m, n, g as usize, false);
+            n = differences::count_rows(work, m, n, g as usize, adding);
             k += 1;
         } else {
             k += 1;
@@ -134,12 +150,13 @@ pub fn case_a_booked(
     ids: &[u32],
     m: usize,
     j: Row,
+    adding: bool,
 ) -> usize
-    requires { ⌜ SomeStartBooked (now «book_heads») (now «book_rows») (now «book_next») (now ids) m (now work) (j .0) × (startsAt m ≤ length (now work)) ⌝ }
-    ensures { λ r. ⌜ ((R W : List Column) → BookHolds (now («book_heads» .entry)) (now («book_rows» .entry)) (now («book_next» .entry)) (now (ids .entry)) m W → CanStart m R W false (now (work .entry)) (j .0) → ((i : ℕ) → 1 ≤ i → i ≤ length W → startOf W i ≡ j .0 → markAt m (now (work .entry)) (j .0) % labelWeight ≡ startBit) → Started m R W false (now (work .entry)) (now (work .exit)) r (j .0)) ⌝ }
+    requires { ⌜ SomeStartBooked (now «book_heads») (now «book_rows») (now «book_next») (now ids) m (now work) (j .0) adding × (startsAt m ≤ length (now work)) ⌝ }
+    ensures { λ r. ⌜ ((R W : List Column) → BookHolds (now («book_heads» .entry)) (now («book_rows» .entry)) (now («book_next» .entry)) (now (ids .entry)) m W → CanStart m R W adding (now (work .entry)) (j .0) → ((i : ℕ) → 1 ≤ i → i ≤ length W → startOf W i ≡ j .0 → markAt m (now (work .entry)) (j .0) % labelWeight ≡ startBit) → Started m R W adding (now (work .entry)) (now (work .exit)) r (j .0)) ⌝ }
 {
     if work[MARKS * m + (j.0 - 1) as usize] % LABEL_WEIGHT == START_BIT {
-        return count_booked(book_heads, book_rows, book_next, work, ids, m, j);
+        return count_booked(book_heads, book_rows, book_next, work, ids, m, j, adding);
     }
     0
 }

@@ -1,6 +1,6 @@
 // The walks along the tree of all columns, from the marked starts up: each touched column has its turn, in rising order. The body of walk_add is document 000's
-// Algorithm 3 at one column, that of walk_remove Algorithm 4, but that all of A comes first, as document 02 asks; n is the number of touched rows so far. What is
-// proved after each of A to D is SoFar (specs/SoFar.antt).
+// Algorithm 3 at one column, that of walk_booked Algorithm 3 when adding and Algorithm 4 when removing, but that all of A comes first, as document 02 asks; n is
+// the number of touched rows so far. What is proved after each of A to D is SoFar (specs/SoFar.antt).
 //
 //   document 000                     here
 //   path-queue of column j           the mark of row j (MARKS), empty where it is 0
@@ -22,14 +22,13 @@
 //   the new parent of j              turns::write_plan
 //   one step up, and i into the
 //     path-queue of the parent       turns::step_up: turns::place_marker
-ghost use mathlib.Core.Bool.{false};
+ghost use mathlib.Core.Bool.{true};
 ghost use mathlib.Core.List.{List};
-ghost use Prim.Native.Nat.{ℕ, suc};
+ghost use Prim.Native.Nat.{ℕ};
 ghost use lib.ListN.{length};
 ghost use Rattle.symbolic.specs.Columns.{Column};
 ghost use Rattle.pool.specs.Chains.{chain};
-ghost use Rattle.updown.specs.States.{Between};
-ghost use Rattle.updown.specs.Starts.{CanLeave, SomeLeave, CanEnter, SomeEnter, Entered};
+ghost use Rattle.updown.specs.Starts.{Walked, CanEnter, SomeEnter, CanWalkBooked, SomeWalkBooked};
 use crate::children;
 use crate::starts;
 use crate::turns;
@@ -51,7 +50,7 @@ pub fn walk_add(
     free: Rec,
 ) -> Walk
     requires { ⌜ SomeEnter (now heads) (now parents) (now rows) (now counts) (now next) (now work) (now «row_counts») (now «row_list») m flags (free .0) ⌝ }
-    ensures { λ r. ⌜ ((R W : List Column) («work₀» : List ℕ) → CanEnter (now (heads .entry)) (now (parents .entry)) (now (rows .entry)) (now (counts .entry)) (now (next .entry)) «work₀» (now (work .entry)) (now («row_counts» .entry)) (now («row_list» .entry)) m flags (free .0) R W → Entered (now (next .entry)) «work₀» (now (work .exit)) m flags (length (chain (now (next .entry)) (free .0))) R W (r .fits) (r .first .0) (r .last .0) (r .count) (r .entries) (r .used) (r .avail .0)) ⌝ }
+    ensures { λ r. ⌜ ((R W : List Column) («work₀» : List ℕ) → CanEnter (now (heads .entry)) (now (parents .entry)) (now (rows .entry)) (now (counts .entry)) (now (next .entry)) «work₀» (now (work .entry)) (now («row_counts» .entry)) (now («row_list» .entry)) m flags (free .0) R W → Walked (now (next .entry)) «work₀» (now (work .exit)) m flags (length (chain (now (next .entry)) (free .0))) R W true (r .fits) (r .first .0) (r .last .0) (r .count) (r .entries) (r .used) (r .avail .0)) ⌝ }
 {
     let mut walk = turns::walk_from(free);
     while walk.fits {
@@ -69,8 +68,8 @@ pub fn walk_add(
     walk
 }
 
-// Walks the tree before the batch from the marked starts on, for booked columns that leave.
-pub fn walk_remove(
+// Walks the tree of all columns from the marked starts on, for booked columns that enter or leave; entering, it stops where no free record is left.
+pub fn walk_booked(
     heads: &[u32],
     parents: &[u16],
     rows: &[u16],
@@ -83,22 +82,24 @@ pub fn walk_remove(
     ids: &[u32],
     m: usize,
     flags: usize,
+    free: Rec,
+    adding: bool,
 ) -> Walk
-    requires { ⌜ SomeLeave (now heads) (now parents) (now rows) (now counts) (now next) (now «book_heads») (now «book_rows») (now «book_next») (now work) (now ids) m flags ⌝ }
-    ensures { λ r. ⌜ ((R W : List Column) («work₀» : List ℕ) → CanLeave (now (heads .entry)) (now (parents .entry)) (now (rows .entry)) (now (counts .entry)) (now (next .entry)) (now («book_heads» .entry)) (now («book_rows» .entry)) (now («book_next» .entry)) «work₀» (now (work .entry)) (now (ids .entry)) m flags R W → Between (now (next .entry)) «work₀» (now (work .exit)) m flags R W false 0 (suc m) (r .first .0) (r .last .0) (r .count) (r .entries) (r .used) (r .avail .0)) ⌝ }
+    requires { ⌜ SomeWalkBooked (now heads) (now parents) (now rows) (now counts) (now next) (now «book_heads») (now «book_rows») (now «book_next») (now work) (now ids) m flags (free .0) adding ⌝ }
+    ensures { λ r. ⌜ ((R W : List Column) («work₀» : List ℕ) → CanWalkBooked (now (heads .entry)) (now (parents .entry)) (now (rows .entry)) (now (counts .entry)) (now (next .entry)) (now («book_heads» .entry)) (now («book_rows» .entry)) (now («book_next» .entry)) «work₀» (now (work .entry)) (now (ids .entry)) m flags (free .0) R W adding → Walked (now (next .entry)) «work₀» (now (work .exit)) m flags (length (chain (now (next .entry)) (free .0))) R W adding (r .fits) (r .first .0) (r .last .0) (r .count) (r .entries) (r .used) (r .avail .0)) ⌝ }
 {
-    let mut walk = turns::walk_from(Rec(0));
+    let mut walk = turns::walk_from(free);
     while walk.fits {
         let j = turns::take_column(work, m, flags, walk.last, walk.used);
         if j.0 == 0 {
             return walk;
         }
-        let n = starts::case_a_booked(book_heads, book_rows, book_next, work, ids, m, j);
-        let n = children::cases_b_and_c(heads, parents, rows, next, work, m, n, j, false);
-        let n = children::case_d(heads, rows, next, work, m, n, j, false);
+        let n = starts::case_a_booked(book_heads, book_rows, book_next, work, ids, m, j, adding);
+        let n = children::cases_b_and_c(heads, parents, rows, next, work, m, n, j, adding);
+        let n = children::case_d(heads, rows, next, work, m, n, j, adding);
         let avail = walk.avail;
         let e = turns::write_plan(heads, rows, counts, next, work, m, n, j, walk.used, avail);
-        walk = turns::step_up(parents, work, m, flags, j, walk, e, false);
+        walk = turns::step_up(parents, work, m, flags, j, walk, e, adding);
     }
     walk
 }

@@ -4,7 +4,7 @@ use Rattle.tables.specs.Tables.{Tables, tablesOf}
 use Rattle.continuing.proofs.Continuing.{change-can}
 use Rattle.calls.specs.Calls.{adding, removing}
 use Rattle.factor.specs.Entries.{worldOf}
-use Rattle.factor.specs.Batches.{changedAnswer}
+use Rattle.changes.specs.Batches.{changedAnswer}
 use Rattle.bench_driver.proofs.change.Statement.{statement}
 use Rattle.bench_driver.proofs.change.Tie as tie
 

@@ -7,8 +7,8 @@ use Prim.Native.Nat.{ℕ, _≤_}
 use lib.ListN.{length}
 use Rattle.tables.specs.Tables.{tablesOf}
 use Rattle.factor.specs.Entries.{stateOf}
-use Rattle.factor.specs.Batches.{CanChange}
 use Rattle.factor.specs.declared.Factor.{Factor}
+use Rattle.changes.specs.Batches.{CanChange}
 use Rattle.bench_driver.proofs.step.Statement.{statement}
 use Rattle.bench_driver.proofs.step.Tie as tie
 

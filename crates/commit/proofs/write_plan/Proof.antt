@@ -4,22 +4,22 @@ use native.Mathlib.Omega.{arith}
 use borrow.Author.Needs.{needs}
 use lib.ListN.{length}
 use Rattle.symbolic.specs.Factor.{factorOf}
-use Rattle.commit.proofs.Written.{can-commits, can-report, clear-fits, written}
+use Rattle.commit.proofs.Written.{can-commits, can-parents, clear-fits, written}
 use Rattle.commit.proofs.write_plan.Statement.{statement}
 use Rattle.commit.proofs.write_plan.Tie as tie
 
 -- ---- the places, named
 
 abbrev entry : tie.After-commit-columns-arg4 → tie.Start
-entry c = c .before .before .before .before .before .before .before .before .before .before .before .before
+entry c = c .before .before .before .before .before .before .before .before .before .before
 
-abbrev committed : tie.After-report-columns-arg4 → tie.After-commit-columns
-committed c = c .before .before .before .before .before .before .before .before .before .before
+abbrev committed : tie.After-write-parents-arg2 → tie.After-commit-columns
+committed c = c .before .before .before .before .before .before .before .before
 
-abbrev reported : tie.After-clear-arg → tie.After-report-columns
-reported c = c .before .before .before .before .before .before .before .before .before
+abbrev wrote : tie.After-clear-arg → tie.After-write-parents
+wrote c = c .before .before .before .before .before
 
-abbrev cleared : tie.After-slice-known15 → tie.After-clear
+abbrev cleared : tie.After-slice-known11 → tie.After-clear
 cleared c = c .before .before
 
 commit-columns-requires : tie.Need-commit-columns-requires
@@ -35,8 +35,8 @@ commit-columns-requires c κs =
       can = can-commits (p .can);
     }
 
-report-columns-requires : tie.Need-report-columns-requires
-report-columns-requires c κs =
+write-parents-requires : tie.Need-write-parents-requires
+write-parents-requires c κs =
     let s = entry (committed c .before) in
     let p = s .pre in
     record {
@@ -45,16 +45,16 @@ report-columns-requires c κs =
       label = p .label;
       columns = p .columns;
       used = s .args .used;
-      can = can-report (p .can);
+      can = can-parents (p .can);
     }
 
 mul-clear : tie.Need-mul-clear
-mul-clear c = let s = entry (committed (reported c .before) .before) in omega (arith, s .pre .can .m-bound)
+mul-clear c = let s = entry (committed (wrote c .before) .before) in omega (arith, s .pre .can .m-bound)
 
 clear-requires : tie.Need-clear-requires
 clear-requires c κs =
-    let s = entry (committed (reported c .before) .before) in
-    omega (arith, clear-fits (s .pre .can), reported c .report-columns .kept .1 .0)
+    let s = entry (committed (wrote c .before) .before) in
+    omega (arith, clear-fits (s .pre .can), wrote c .write-parents .kept .1 .0)
 
 same-length : tie.Need-same-length
 same-length c = search needs
@@ -71,20 +71,14 @@ same-length-4 c = search needs
 same-length-5 : tie.Need-same-length-5
 same-length-5 c = search needs
 
-same-length-6 : tie.Need-same-length-6
-same-length-6 c = search needs
-
-same-length-7 : tie.Need-same-length-7
-same-length-7 c = search needs
-
 returns : tie.Need-returns
 returns c =
-    let x = reported (cleared c .before) in
+    let x = wrote (cleared c .before) in
     let y = committed (x .before) in
     let s = entry (y .before) in
     let m : ℕ = length (s .args .heads .now) in
     λ cs ds label columns before count entries can.
-    let r = x .report-columns .ensures (factorOf m cs) (factorOf m ds) label columns (s .args .used) (can-report can) in
+    let r = x .write-parents .ensures (factorOf m cs) (factorOf m ds) label columns (s .args .used) (can-parents can) in
     written can (y .commit-columns .ensures (s .args .parents .now) (factorOf m cs) (factorOf m ds) label columns (can-commits can)) (r .parents-are) r (cleared c .clear .ensures)
 
 pub write-plan-spec : {M : Type 1} → statement M
@@ -92,7 +86,7 @@ write-plan-spec =
     tie.close
     (tie.spec
     commit-columns-requires
-    report-columns-requires
+    write-parents-requires
     mul-clear
     clear-requires
     same-length
@@ -100,6 +94,4 @@ write-plan-spec =
     same-length-3
     same-length-4
     same-length-5
-    same-length-6
-    same-length-7
     returns)

@@ -1,13 +1,20 @@
--- `updown::plan_remove` meets its contract: the starts are marked, the walk goes, and the flags are cleared. Assumes nothing.
-use Rattle.updown.proofs.Preparing.{remove-mark, remove-leave, remove-planned}
-use lib.ListN.{length}
-use Prim.Native.Nat.{suc}
-use mathlib.Core.Bool.{true}
-use mathlib.Core.Path.{refl}
-use native.Mathlib.Omega.{arith}
+-- `updown::plan_remove` meets its contract: the starts are marked, the walk goes, and it is ended. Assumes nothing.
 use borrow.Author.Needs.{needs}
+use Rattle.updown.proofs.Preparing.{walk-end}
+use Rattle.updown.proofs.Removing.{remove-mark, remove-walk, remove-made}
 use Rattle.updown.proofs.plan_remove.Statement.{statement}
 use Rattle.updown.proofs.plan_remove.Tie as tie
+
+-- ---- places: the start, the starts marked, the walk gone
+
+abbrev start : tie.After-mark-booked-arg → tie.Start
+start c = c .before .before .before .before .before .before .before .before .before .before .before
+
+abbrev marked : tie.After-walk-booked-arg → tie.After-mark-booked
+marked c = c .before .before .before
+
+abbrev walked : tie.After-plan-of-arg → tie.After-walk-booked
+walked c = c .before .before .before
 
 mul-flags : tie.Need-mul-flags
 mul-flags c = search needs
@@ -19,22 +26,37 @@ add-flags : tie.Need-add-flags
 add-flags c = search needs
 
 mark-booked-requires : tie.Need-mark-booked-requires
-mark-booked-requires c κs = let s = c .before .before .before .before .before .before .before .before .before .before .before .pre in record { next = c .before .before .before .before .before .before .before .before .before .before .before .args .book-next .now; W = s .W; can = remove-mark (s .can) }
+mark-booked-requires c κs = let t = start c in record { next = t .args .book-next .now; W = t .pre .W; can = remove-mark (t .pre .can) }
 
-walk-remove-requires : tie.Need-walk-remove-requires
-walk-remove-requires c κs = let s = c .before .before .before .before .before .before .before .before .before .before .before .before .before .before .before .pre in record { R = s .R; W = s .W; work₀ = c .before .before .before .before .before .before .before .before .before .before .before .before .before .before .before .args .work .now; can = remove-leave (s .can) (c .before .before .before .mark-booked .ensures (c .before .before .before .before .before .before .before .before .before .before .before .before .before .before .before .args .book-next .now) (s .W) (remove-mark (s .can))) }
+walk-booked-requires : tie.Need-walk-booked-requires
+walk-booked-requires c κs =
+    let t = start (marked c .before) in
+    record {
+      R = t .pre .R;
+      W = t .pre .W;
+      work₀ = t .args .work .now;
+      can = remove-walk (t .pre .can) (marked c .mark-booked .ensures (t .args .book-next .now) (t .pre .W) (remove-mark (t .pre .can)));
+    }
 
-clear-requires : tie.Need-clear-requires
-clear-requires c κs = let s = c .before .before .before .before .before .before .before .before .before .before .before .before .before .before .before .before .before .before .before .pre in (c .before .before .before .walk-remove .ensures (s .R) (s .W) (c .before .before .before .before .before .before .before .before .before .before .before .before .before .before .before .before .before .before .before .args .work .now) (remove-leave (s .can) (c .before .before .before .before .before .before .before .mark-booked .ensures (c .before .before .before .before .before .before .before .before .before .before .before .before .before .before .before .before .before .before .before .args .book-next .now) (s .W) (remove-mark (s .can))))) .walking .room .long
-
-cast-t25 : tie.Need-cast-t25
-cast-t25 c = let s = c .before .before .before .before .before .before .before .before .before .before .before .before .before .before .before .before .before .before .before .before .before .before .before .before .pre in let b = (c .before .before .before .before .before .before .before .before .walk-remove .ensures (s .R) (s .W) (c .before .before .before .before .before .before .before .before .before .before .before .before .before .before .before .before .before .before .before .before .before .before .before .before .args .work .now) (remove-leave (s .can) (c .before .before .before .before .before .before .before .before .before .before .before .before .mark-booked .ensures (c .before .before .before .before .before .before .before .before .before .before .before .before .before .before .before .before .before .before .before .before .before .before .before .before .args .book-next .now) (s .W) (remove-mark (s .can))))) in let g = remove-leave (s .can) (c .before .before .before .before .before .before .before .before .before .before .before .before .mark-booked .ensures (c .before .before .before .before .before .before .before .before .before .before .before .before .before .before .before .before .before .before .before .before .before .before .before .before .args .book-next .now) (s .W) (remove-mark (s .can))) in omega (arith, b .numbers .room, g .setting .fitting (suc (length (c .before .before .before .before .before .before .before .before .before .before .before .before .before .before .before .before .before .before .before .before .before .before .before .before .args .heads .now))) (omega arith) (omega arith), g .setting .records)
+plan-of-requires : tie.Need-plan-of-requires
+plan-of-requires c κs =
+    let w = walked c in
+    let k = marked (w .before) in
+    let t = start (k .before) in
+    let can = remove-walk (t .pre .can) (k .mark-booked .ensures (t .args .book-next .now) (t .pre .W) (remove-mark (t .pre .can))) in
+    walk-end (can .walk) (w .walk-booked .ensures (t .pre .R) (t .pre .W) (t .args .work .now) can)
 
 same-length : tie.Need-same-length
 same-length c = search needs
 
 returns : tie.Need-returns
-returns c = λ R W can. remove-planned can (c .before .before .before .before .before .before .before .before .before .before .before .before .mark-booked .ensures (c .before .before .before .before .before .before .before .before .before .before .before .before .before .before .before .before .before .before .before .before .before .before .before .before .args .book-next .now) (W) (remove-mark (can))) (c .before .before .before .before .before .before .before .before .walk-remove .ensures (R) (W) (c .before .before .before .before .before .before .before .before .before .before .before .before .before .before .before .before .before .before .before .before .before .before .before .before .args .work .now) (remove-leave (can) (c .before .before .before .before .before .before .before .before .before .before .before .before .mark-booked .ensures (c .before .before .before .before .before .before .before .before .before .before .before .before .before .before .before .before .before .before .before .before .before .before .before .before .args .book-next .now) (W) (remove-mark (can))))) (c .before .before .before .before .clear .ensures) true refl
+returns c = λ R W can.
+    let p = c .before .before in
+    let w = walked (p .before) in
+    let k = marked (w .before) in
+    let t = start (k .before) in
+    remove-made can (w .walk-booked .ensures R W (t .args .work .now) (remove-walk can (k .mark-booked .ensures (t .args .book-next .now) W (remove-mark can))))
+    (p .plan-of .ensures)
 
 pub plan-remove-spec : {M : Type 1} → statement M
 plan-remove-spec =
@@ -44,8 +66,7 @@ plan-remove-spec =
     mul-flags-2
     add-flags
     mark-booked-requires
-    walk-remove-requires
-    clear-requires
-    cast-t25
+    walk-booked-requires
+    plan-of-requires
     same-length
     returns)

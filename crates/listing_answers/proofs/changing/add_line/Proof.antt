@@ -7,7 +7,7 @@ use lib.ListN.{take}
 use lib.Seq.{length-take-le}
 use Rattle.tables.specs.Tables.{Tables, tablesOf}
 use Rattle.factor.specs.Entries.{stateOf}
-use Rattle.factor.specs.Batches.{CanChange}
+use Rattle.changes.specs.Batches.{CanChange}
 use Rattle.listing_text.proofs.Printing.{no-room}
 use Rattle.listing_answers.specs.Listing.{Memory, memoryOf}
 use Rattle.calls.specs.Calls.{Change, adding}

@@ -5,7 +5,7 @@ use borrow.Author.Needs.{needs}
 use lib.ListN.{length, take}
 use Rattle.tables.specs.Tables.{Tables, tablesOf}
 use Rattle.factor.specs.Entries.{stateOf}
-use Rattle.factor.specs.Batches.{CanChange}
+use Rattle.changes.specs.Batches.{CanChange}
 use Rattle.listing_text.proofs.Printing.{no-room}
 use Rattle.listing_answers.specs.Listing.{Memory, memoryOf}
 use Rattle.calls.specs.Calls.{removing}

@@ -1,9 +1,14 @@
--- `updown::marks::mark_start` meets its contract: two stores. Assumes nothing.
+-- `updown::marks::mark_start` meets its contract: two stores, none for row 0. Assumes nothing.
+use mathlib.Core.Path.{refl}
 use lib.ListN.{length-set}
 use native.Mathlib.Omega.{arith}
+use borrow.Author.Tests.{eq-eqb, ne-eqb}
 use borrow.Author.Needs.{needs}
 use Rattle.updown.proofs.marks.mark_start.Statement.{statement}
 use Rattle.updown.proofs.marks.mark_start.Tie as tie
+
+returns : tie.Need-returns
+returns c = rw (eq-eqb (c .before .before .args .row .0) 0 (c .if1 .taken)) refl
 
 sub-i : tie.Need-sub-i
 sub-i c = search needs
@@ -41,13 +46,14 @@ slice-write-work-2 c = simp length-set (omega arith)
 same-length : tie.Need-same-length
 same-length c = search needs
 
-returns : tie.Need-returns
-returns c = search needs
+returns-2 : tie.Need-returns-2
+returns-2 c = rw (ne-eqb (c .before .before .before .args .row .0) 0 (c .before .if1 .left)) refl
 
 pub mark-start-spec : {M : Type 1} → statement M
 mark-start-spec =
     tie.close
     (tie.spec
+    returns
     sub-i
     cast-i
     mul-work
@@ -60,4 +66,4 @@ mark-start-spec =
     mul-work-4
     slice-write-work-2
     same-length
-    returns)
+    returns-2)

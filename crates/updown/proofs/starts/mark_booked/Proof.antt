@@ -41,7 +41,7 @@ add-mark-start : tie.Need-add-mark-start Inv-loop μ-loop
 add-mark-start c = omega arith
 
 cast-mark-start : tie.Need-cast-mark-start Inv-loop μ-loop
-cast-mark-start c = omega (arith, marking-booked (start (c .before .before .before .before) .pre .can) (hand (c .before .before .before .before)) (c .before .before .before .loop-test .taken) (c .before .smallest-row .ensures) .3)
+cast-mark-start c = omega (arith, marking-booked (start (c .before .before .before .before) .pre .can) (hand (c .before .before .before .before)) (c .before .before .before .loop-test .taken) (c .before .smallest-row .ensures) .2)
 
 mark-start-requires : tie.Need-mark-start-requires Inv-loop μ-loop
 mark-start-requires c κs = marking-booked (start (c .before .before .before .before) .pre .can) (hand (c .before .before .before .before)) (c .before .before .before .loop-test .taken) (c .before .smallest-row .ensures)

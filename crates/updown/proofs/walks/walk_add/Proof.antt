@@ -1,6 +1,6 @@
 -- `updown::walks::walk_add` meets its contract: at the loop's test the walk is between two turns or has stopped, for all columns that the tables and the list
 -- suit; the measure is the rows left. Assumes nothing.
-use Rattle.updown.proofs.Entering.{Entering, enter-begin, enter-stops, enter-ends, enter-start, enter-turning, enter-on}
+use Rattle.updown.proofs.Looping.{Looping, loop-begins, loop-stops, loop-ends, loop-on, enter-start, enter-turning}
 use Rattle.updown.proofs.Turned.{Turning, turning-ready, family-ready, plan-ready, step-ready, turned}
 use Rattle.updown.proofs.Seeking.{rowsLeft, rows-fewer, seeking-take}
 use Rattle.updown.specs.Starts.{CanEnter}
@@ -18,7 +18,7 @@ use Rattle.updown.proofs.walks.walk_add.Tie as tie
 abbrev Inv-loop : tie.InvT-loop
 Inv-loop heads parents rows counts next work₀ row-counts row-list m flags walk₀ work walk =
     (R W : List Column) (lent : List ℕ) (free : ℕ) → walk₀ .avail .0 ≡ free → CanEnter heads parents rows counts next lent work₀ row-counts row-list m flags free R W →
-    Entering next lent work m flags (length (chain next free)) R W (walk .fits) (walk .first .0) (walk .last .0) (walk .count) (walk .entries) (walk .used) (walk .avail .0)
+    Looping next lent work m flags (length (chain next free)) R W true (walk .fits) (walk .first .0) (walk .last .0) (walk .count) (walk .entries) (walk .used) (walk .avail .0)
 
 abbrev μ-loop : tie.MeasureT-loop
 μ-loop heads parents rows counts next work₀ row-counts row-list m flags walk₀ work walk = rowsLeft m (walk .fits) (walk .last .0)
@@ -59,12 +59,12 @@ given : (c : tie.At-loop Inv-loop μ-loop) → let s = start c in Enters c (s .p
 given c = (c .before .walk-from .ensures .6, start c .pre .can)
 
 -- the loop's test
-entering : (c : tie.At-loop Inv-loop μ-loop) {R W : List Column} {lent : List ℕ} {free : ℕ} → Enters c R W lent free →
+looping : (c : tie.At-loop Inv-loop μ-loop) {R W : List Column} {lent : List ℕ} {free : ℕ} → Enters c R W lent free →
     let s = start c .args in
     let l = c .loop .walk in
-    Entering (s .next .now) lent (c .loop .work) (s .m) (s .flags) (length (chain (s .next .now) free)) R W
+    Looping (s .next .now) lent (c .loop .work) (s .m) (s .flags) (length (chain (s .next .now) free)) R W true
     (l .fits) (l .first .0) (l .last .0) (l .count) (l .entries) (l .used) (l .avail .0)
-entering c {R} {W} {lent} {free} h = c .loop .inv R W lent free (h .0) (h .1)
+looping c {R} {W} {lent} {free} h = c .loop .inv R W lent free (h .0) (h .1)
 
 -- the turn after A
 turning : (c : tie.After-cases-b-and-c-arg Inv-loop μ-loop) {R W : List Column} {lent : List ℕ} {free : ℕ} → Enters (at-loop (at-a c)) R W lent free →
@@ -74,53 +74,53 @@ turning : (c : tie.After-cases-b-and-c-arg Inv-loop μ-loop) {R W : List Column}
     (at-a c .before .before .before .before .before .take-column .result .0) (l .first .0) (l .last .0) (l .count) (l .entries) (l .used) (l .avail .0)
 turning c h =
     let a = at-a c in
-    enter-turning (h .1) (entering (at-loop a) h) (a .before .before .before .before .before .before .before .loop-test .taken) (a .before .before .before .before .before .take-column .ensures) (a .before .if1 .left) (c .before .before .before .case-a-listed .ensures)
+    enter-turning (h .1) (looping (at-loop a) h) (a .before .before .before .before .before .before .before .loop-test .taken) (a .before .before .before .before .before .take-column .ensures) (a .before .if1 .left) (c .before .before .before .case-a-listed .ensures)
 
 walk-from-requires : tie.Need-walk-from-requires Inv-loop μ-loop
 walk-from-requires c κs = search needs
 
 loop-holds : tie.Need-loop-holds Inv-loop μ-loop
-loop-holds c = λ R W lent free e can. let t = c .walk-from .ensures in enter-begin can (t .0, t .1, t .2, t .3, t .4, t .5, e)
+loop-holds c = λ R W lent free e can. let t = c .walk-from .ensures in loop-begins (can .walk) (t .0, t .1, t .2, t .3, t .4, t .5, e)
 
 take-column-requires : tie.Need-take-column-requires Inv-loop μ-loop
 take-column-requires c κs =
     let h = given (c .before .before) in
-    seeking-take (h .1 .setting) (entering (c .before .before) h .onward (c .before .loop-test .taken))
+    seeking-take (h .1 .walk .setting) (looping (c .before .before) h .onward (c .before .loop-test .taken))
 
 same-length : tie.Need-same-length Inv-loop μ-loop
 same-length c =
     let l = c .before .before .before .before .before .before .before in
     let h = given l in
-    enter-ends (h .1) (entering l h) (c .before .before .before .before .before .before .loop-test .taken) (c .before .before .before .before .take-column .ensures) (c .if1 .taken) .made (c .before .before .before .before .before .before .loop-test .taken) .walking .same-length ∙ sym (h .1 .walking .same-length)
+    loop-ends (h .1 .walk) (looping l h) (c .before .before .before .before .before .before .loop-test .taken) (c .before .before .before .before .take-column .ensures) (c .if1 .taken) .made (c .before .before .before .before .before .before .loop-test .taken) .walking .same-length ∙ sym (h .1 .walk .walking .same-length)
 
 returns : tie.Need-returns Inv-loop μ-loop
-returns c = λ R W lent can. enter-ends can (entering (c .before .before .before .before .before .before .before) (given (c .before .before .before .before .before .before .before) .0, can)) (c .before .before .before .before .before .before .loop-test .taken) (c .before .before .before .before .take-column .ensures) (c .if1 .taken)
+returns c = λ R W lent can. loop-ends (can .walk) (looping (c .before .before .before .before .before .before .before) (given (c .before .before .before .before .before .before .before) .0, can)) (c .before .before .before .before .before .before .loop-test .taken) (c .before .before .before .before .take-column .ensures) (c .if1 .taken)
 
 case-a-listed-requires : tie.Need-case-a-listed-requires Inv-loop μ-loop
 case-a-listed-requires c κs =
     let h = given (at-loop c) in
-    enter-start (h .1) (entering (at-loop c) h) (c .before .before .before .before .before .before .before .loop-test .taken) (c .before .before .before .before .before .take-column .ensures) (c .before .if1 .left)
+    enter-start (h .1) (looping (at-loop c) h) (c .before .before .before .before .before .before .before .loop-test .taken) (c .before .before .before .before .before .take-column .ensures) (c .before .if1 .left)
 
 cases-b-and-c-requires : tie.Need-cases-b-and-c-requires Inv-loop μ-loop
 cases-b-and-c-requires c κs =
     let h = given (at-loop (at-a c)) in
-    turning-ready (h .1 .setting) (turning c h)
+    turning-ready (h .1 .walk .setting) (turning c h)
 
 case-d-requires : tie.Need-case-d-requires Inv-loop μ-loop
 case-d-requires c κs =
     let h = given (at-loop (at-a (at-b c))) in
-    family-ready (h .1 .setting) (turning (at-b c) h) (c .before .before .before .cases-b-and-c .ensures)
+    family-ready (h .1 .walk .setting) (turning (at-b c) h) (c .before .before .before .cases-b-and-c .ensures)
 
 write-plan-requires : tie.Need-write-plan-requires Inv-loop μ-loop
 write-plan-requires c κs =
     let h = given (at-loop (at-a (at-b (at-d c)))) in
-    plan-ready (h .1 .setting) (turning (at-b (at-d c)) h) (at-d c .before .before .before .cases-b-and-c .ensures) (c .before .before .before .before .case-d .ensures)
+    plan-ready (h .1 .walk .setting) (turning (at-b (at-d c)) h) (at-d c .before .before .before .cases-b-and-c .ensures) (c .before .before .before .before .case-d .ensures)
 
 step-up-requires : tie.Need-step-up-requires Inv-loop μ-loop
 step-up-requires c κs =
     let d = at-d (at-plan c) in
     let h = given (at-loop (at-a (at-b d))) in
-    step-ready (h .1 .setting) (turning (at-b d) h) (d .before .before .before .cases-b-and-c .ensures) (at-plan c .before .before .before .before .case-d .ensures) (c .before .before .before .write-plan .ensures)
+    step-ready (h .1 .walk .setting) (turning (at-b d) h) (d .before .before .before .cases-b-and-c .ensures) (at-plan c .before .before .before .before .case-d .ensures) (c .before .before .before .write-plan .ensures)
 
 loop-less : tie.Need-loop-less Inv-loop μ-loop
 loop-less c =
@@ -134,17 +134,17 @@ loop-again c = λ R W lent free e can.
     let b = at-b (at-d p) in
     let l = at-loop (at-a b) in
     let t = turning b (e, can) in
-    enter-on can (entering l (e, can)) (at-a b .before .before .before .before .before .before .before .loop-test .taken) (at-a b .before .before .before .before .before .take-column .ensures) (at-a b .before .if1 .left) t
-    (turned (can .setting) t (at-d p .before .before .before .cases-b-and-c .ensures) (p .before .before .before .before .case-d .ensures) (at-step c .before .before .before .write-plan .ensures)
+    loop-on (can .walk) (looping l (e, can)) (at-a b .before .before .before .before .before .before .before .loop-test .taken) (at-a b .before .before .before .before .before .take-column .ensures) (at-a b .before .if1 .left) t
+    (turned (can .walk .setting) t (at-d p .before .before .before .cases-b-and-c .ensures) (p .before .before .before .before .case-d .ensures) (at-step c .before .before .before .write-plan .ensures)
     (c .before .before .step-up .ensures))
 
 same-length-2 : tie.Need-same-length-2 Inv-loop μ-loop
 same-length-2 c =
     let h = given (c .before) in
-    entering (c .before) h .halted (c .loop-test .left) .0 .same-length ∙ sym (h .1 .walking .same-length)
+    looping (c .before) h .halted (c .loop-test .left) .1 .same-length ∙ sym (h .1 .walk .walking .same-length)
 
 returns-2 : tie.Need-returns-2 Inv-loop μ-loop
-returns-2 c = λ R W lent can. enter-stops (entering (c .before) (given (c .before) .0, can)) (c .loop-test .left)
+returns-2 c = λ R W lent can. loop-stops (looping (c .before) (given (c .before) .0, can)) (c .loop-test .left)
 
 pub walk-add-spec : {M : Type 1} → statement M
 walk-add-spec =

@@ -1,0 +1,44 @@
+// What a batch answers: refused by 1 to 6, or after the unchecked twin has run.
+ghost use mathlib.Core.Path.{_≡_};
+use crate::Changed;
+use batch::Batch;
+use factor::Factor;
+
+// The answer of a call that 1 to 6 refuse.
+pub fn unchanged(factor: Factor, number: u32) -> Changed
+    ensures { λ r. ⌜ r ≡ record { number = number; position = 0; touched = 0; entries = 0; grade = 0; factor = factor } ⌝ }
+{
+    Changed {
+        number,
+        position: 0,
+        touched: 0,
+        entries: 0,
+        grade: 0,
+        factor,
+    }
+}
+
+// The answer of a batch, with the record that has its free heads.
+pub fn changed(factor: Factor, x: Batch) -> Changed
+    ensures { λ r. ⌜ r ≡ record { number = x .number; position = x .position; touched = x .touched; entries = x .entries; grade = x .grade; factor = record { m = factor .m; n = factor .n; f = factor .f; c = factor .c; free = x .free .0; «book_free» = x .«book_free» .0; grade2 = factor .grade2; grade3 = factor .grade3; grade4 = factor .grade4 } } ⌝ }
+{
+    let after = Factor {
+        m: factor.m,
+        n: factor.n,
+        f: factor.f,
+        c: factor.c,
+        free: x.free.0,
+        book_free: x.book_free.0,
+        grade2: factor.grade2,
+        grade3: factor.grade3,
+        grade4: factor.grade4,
+    };
+    Changed {
+        number: x.number,
+        position: x.position,
+        touched: x.touched,
+        entries: x.entries,
+        grade: x.grade,
+        factor: after,
+    }
+}

@@ -1,0 +1,40 @@
+// Records, and parents, brought back from the work table.
+ghost use mathlib.Core.Path.{_≡_};
+ghost use lib.ListN.{length};
+ghost use Rattle.workspace.specs.Regions.{region};
+ghost use Rattle.snapshot.specs.Snapshot.{CanUnpair, Unpaired, CanTake};
+
+// Brings back all records from the 2F places from a on.
+pub fn restore_records(
+    rows: &mut [u16],
+    counts: &mut [u16],
+    next: &mut [u32],
+    work: &[u32],
+    a: usize,
+)
+    requires { ⌜ CanUnpair (now rows) (now counts) (now next) (now work) a ⌝ }
+    ensures { λ _. ⌜ Unpaired (now (rows .exit)) (now (counts .exit)) (now (next .exit)) (now (work .entry)) a ⌝ }
+{
+    let f = next.len();
+    let mut k: usize = 0;
+    while k < f {
+        let x = work[a + k];
+        rows[k] = (x % 8192) as u16;
+        counts[k] = (x / 8192) as u16;
+        next[k] = work[a + f + k];
+        k += 1;
+    }
+}
+
+// Brings back all parents from the m places from a on.
+pub fn restore_parents(parents: &mut [u16], work: &[u32], a: usize)
+    requires { ⌜ CanTake (now parents) (now work) a ⌝ }
+    ensures { λ _. ⌜ now (parents .exit) ≡ region (now (work .entry)) a (length (now (parents .entry))) ⌝ }
+{
+    let m = parents.len();
+    let mut j: usize = 0;
+    while j < m {
+        parents[j] = work[a + j] as u16;
+        j += 1;
+    }
+}
