@@ -24,11 +24,12 @@ static double public_batches(const Way *way, Fac *f, Ans *added)
     return s / 2;
 }
 
-/* tables with one next that leads back to its own record are refused: a record of a free chain, and one amid all records */
+/* tables with one next that leads back to its own record are refused: the first record of a free chain, if there is one, and one amid all records */
 static void refuses(const Way *way, Fac *f)
 {
     uint32_t *next[] = {f->fnext, f->fnext, f->bnext, f->bnext}, at[] = {f->ffree, f->F / 2, f->bfree, f->C / 2};
     for (int k = 0; k < 4; k++) {
+        if (!at[k]) continue;
         uint32_t *x = &next[k][at[k] - 1], was = *x;
         *x = at[k];
         if (way->check(f) != 6) die("damaged tables are not refused");
@@ -102,5 +103,6 @@ void reading(const Way *ways, size_t n, uint64_t seed, size_t passes)
     loaded_tables(&f, BAND, USED_BAND, seed, 0); lines("band, used", &f, ways, n, many, seed);
     fresh_tables(&f, 1); lines("fresh *", &f, ways, n, few, seed);
     loaded_tables(&f, NESTED, 100, seed, 1); lines("nested *", &f, ways, n, few, seed);
+    loaded_tables(&f, NESTED, USED_NESTED, seed, 1); lines("nested *, used", &f, ways, n, few, seed);
     dense_tables(&f, seed); lines("dense *", &f, ways, n, few, seed);
 }

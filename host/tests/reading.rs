@@ -2,66 +2,12 @@
 //! table as lent and the work table zero. Small tables, and large ones with few columns, whose free chains may be read in pieces.
 mod model;
 
+use model::judging::{judged, laid, live_for, LARGE, PARTS, SMALL};
 use model::laid::{Laid, Link, Order, Part};
 use model::random::Random;
-use model::sound::is_sound;
-use model::world::BEYOND;
 use model::{Live, Sizes, OLD_LIMITS};
-use nigvalds::lent::{work_places, Record, Reply};
 
-const PARTS: [Part; 2] = [Part::Factor, Part::Book];
 const ORDERS: [Order; 5] = [Order::Rising, Order::Falling, Order::Strides(7), Order::Strides(1024), Order::Random];
-const SMALL: Sizes = Sizes { m: 14, n: 12, f: 120, c: 90 };
-// Records around a multiple of 1,024; more than 16 times that.
-const LARGE: [Sizes; 4] = [
-    Sizes { m: 30, n: 20, f: 8192, c: 8192 },
-    Sizes { m: 30, n: 20, f: 8193, c: 10241 },
-    Sizes { m: 30, n: 20, f: 9300, c: 9215 },
-    Sizes { m: 30, n: 20, f: 17500, c: 17409 },
-];
-
-// A work table of any contents, also of such as a read-through might have left: numbers of columns, ids or records.
-fn work_for(r: Record, random: &mut Random) -> Vec<u32> {
-    let places = work_places(r.m, r.n, r.f, r.c) + BEYOND;
-    match random.within(1, 6) {
-        1 => random.contents(places),
-        2 => vec![random.within(0, r.m); places],
-        3 => vec![random.within(0, r.f); places],
-        4 => (0..places as u32).collect(),
-        5 => vec![u32::MAX; places],
-        _ => (0..places as u32).map(|k| k % (r.m.max(r.n) + 1)).collect(),
-    }
-}
-
-// Whether the tables are sound: by the definition, and by a check, which writes nothing but zeros to the places of the work table.
-fn judged(laid: &Laid, random: &mut Random) -> bool {
-    let (sound, before, lent) = (is_sound(laid.record, &laid.tables), laid.clone(), work_for(laid.record, random));
-    let (mut work, places) = (lent.clone(), lent.len() - BEYOND);
-    let reply = laid.tables.check(laid.record, &mut work);
-    assert_eq!(reply, Reply { number: if sound { 0 } else { 6 }, value: 0 });
-    assert!(*laid == before);
-    assert!(work[..places].iter().all(|x| *x == 0));
-    assert_eq!(work[places..], lent[places..]);
-    sound
-}
-
-// Live columns: some share rows, so that columns of L have children and several records; some ids are not live.
-fn live_for(s: Sizes, random: &mut Random) -> Live {
-    let ids = random.rising(s.n * 2 / 3, s.n);
-    ids.into_iter()
-        .map(|id| {
-            (id, {
-                let k = random.within(1, 5.min(s.m));
-                random.rising(k, s.m)
-            })
-        })
-        .collect()
-}
-
-fn laid(s: Sizes, order: Order, random: &mut Random) -> Laid {
-    let live = live_for(s, random);
-    Laid::out(s, OLD_LIMITS, &live, order, random)
-}
 
 // The records whose places are multiples of 1,024, and those before and after.
 fn around_cuts(most: u32) -> Vec<u32> {

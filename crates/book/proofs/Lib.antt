@@ -2,6 +2,8 @@ pub mod Columns
 pub mod Sound
 pub mod Writing
 pub mod Copying
+pub mod Tally
+pub mod Counting
 pub mod Staying
 pub mod Adding
 pub mod Removing

@@ -2,3 +2,4 @@ pub mod Book
 pub mod Records
 pub mod Walks
 pub mod Entries
+pub mod Tally

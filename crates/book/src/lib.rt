@@ -3,7 +3,7 @@
 // Other crates know the book by these promises alone.
 ghost use mathlib.Core.Path.{_≡_};
 ghost use mathlib.Core.Logic.{_≢_};
-ghost use Prim.Native.Nat.{_≤_, _<_};
+ghost use Prim.Native.Nat.{_+_, _≤_, _<_};
 ghost use lib.Dec.{leb};
 ghost use lib.ListN.{length, getD, replicate};
 ghost use Rattle.lists.specs.Lists.{over};
@@ -12,6 +12,7 @@ ghost use Rattle.book.specs.Book.{bookOf, tablesOf, isBooked, columnFor,
 ghost use Rattle.book.specs.Records.{HasChain, CanWrite, RowsWritten, Cleared};
 ghost use Rattle.book.specs.Walks.{CanWalk, ColumnWalked, CanReadThrough, ColumnsWalked};
 ghost use Rattle.book.specs.Entries.{opened, CanAdd, Added, CanRemove, Removed, CanCopy, HasHead, StartsAt};
+ghost use Rattle.book.specs.Tally.{tallied, filled, bookRows, CanCount};
 use pool::Chain;
 use pool::Rec;
 use pool::Walk;
@@ -194,6 +195,28 @@ pub fn copy_rows(heads: &[u32], rows: &[u16], next: &[u32], list: &mut [u32], id
         n += 1;
     }
     n
+}
+
+// Counts the rows of an id's column, one more in the counter of each. Gives how many counters left 0.
+pub fn count_rows(heads: &[u32], rows: &[u16], next: &[u32], counters: &mut [u32], id: Id) -> u32
+    requires { ⌜ CanCount (now heads) (now rows) (now next) (now counters) (id .0) ⌝ }
+    ensures counted { λ r. ⌜ now (counters .exit) ≡ tallied (now (counters .entry)) (bookRows (now (heads .entry)) (now (rows .entry)) (now (next .entry)) (id .0)) ⌝ }
+    ensures raised { λ r. ⌜ r + filled (now (counters .entry)) ≡ filled (now (counters .exit)) ⌝ }
+{
+    let k = id.0;
+    let mut size: u32 = 0;
+    let mut r = heads[(k - 1) as usize];
+    while r != 0 {
+        let i = (r - 1) as usize;
+        let c = (rows[i] - 1) as usize;
+        let v = counters[c];
+        counters[c] = v + 1;
+        if v == 0 {
+            size += 1;
+        }
+        r = next[i];
+    }
+    size
 }
 
 // Writes the rows of list along the chain from head, and gives the last record written.

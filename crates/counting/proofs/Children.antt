@@ -12,9 +12,10 @@ use Rattle.lists.proofs.Times.{mem-times}
 use Rattle.workspace.specs.Layout.{childHead, childNext, stashStart, rowStash}
 use Rattle.workspace.specs.Regions.{cell, region}
 use Rattle.workspace.proofs.Regions.{region-length, region-cell, region-ext}
-use Rattle.counting.specs.Counting.{tallied, filled, CanTally}
+use Rattle.book.specs.Tally.{tallied, filled}
+use Rattle.book.proofs.Tally.{Tally, tally-of}
+use Rattle.counting.specs.Counting.{CanTally}
 use Rattle.counting.specs.Given.{stashed, Stashed, CanTallyChildren}
-use Rattle.counting.proofs.Tallies.{Tally, tally-of}
 use Rattle.counting.proofs.Gathering.{CanGather, Gathering, gathering-length, gathering-past, gathering-few, gathering-room, gathering-in, gathering-listed}
 
 pub stashed-length : (w : List ℕ) (m f c : ℕ) → length (stashed w m f c) ≤ cell w (stashStart m) c - cell w (stashStart m) (c - 1) - 1

@@ -12,10 +12,11 @@ use Rattle.workspace.specs.Regions.{region}
 use Rattle.workspace.proofs.Regions.{region-length, region-cell}
 use Rattle.pool.specs.Chains.{chain, Linked}
 use Rattle.pool.proofs.Chains.{Step, linked-step, linked-chain, linked-end, linked-short}
+use Rattle.book.proofs.Tally.{tallied-cell, times-most, Tally, tally-none, tally-length, tally-past, tally-append}
 use Rattle.counting.specs.Counting.{gathered}
 use Rattle.counting.specs.Given.{Counted}
 use Rattle.counting.proofs.Numbers.{gathered-more, gathered-up, gathered-length}
-use Rattle.counting.proofs.Tallies.{tallied-cell, tallied-front, times-most, Tally, tally-none, tally-length, tally-past, tally-front, tally-most, tally-append}
+use Rattle.counting.proofs.Tallies.{tallied-front, tally-front, tally-most}
 
 -- the list from number h on, its nexts n places from b on, after the counters; each number brings at most l rows, all of 1 to m
 pub record CanGather (m b n l h : ℕ) (g : ℕ → List ℕ) (w₀ : List ℕ) : Type 0 where
@@ -110,12 +111,12 @@ module _ {m b n l h : ℕ} {g : ℕ → List ℕ} {w₀ : List ℕ} (pre : CanGa
               ap length (step .parts),
             ))
 
-    pub gathering-end : (f : ℕ) → c ≡ 0 → Counted m f w₀ w (gathered g (chain (region w₀ b n) h)) size
-    gathering-end f z =
+    pub gathering-end : c ≡ 0 → Counted m w₀ w (gathered g (chain (region w₀ b n) h)) size
+    gathering-end z =
         let e : i .done ≡ chain (region w₀ b n) h =
         sym (append-nil (i .done)) ∙ ap (λ (s : List ℕ). i .done ++ s) (sym (linked-end (region w₀ b n) c (i .rest) z (i .linked))) ∙ i .parts in
         rw (← e) (record {
-          only = record { same-length = gathering-length; outside = λ k s t. gathering-past k (elim s [ inl q ↦ absurd (omega arith) | inr q ↦ omega arith ]) };
+          only = record { same-length = gathering-length; outside = λ k s. gathering-past k (elim s [ inl q ↦ absurd (omega arith) | inr q ↦ omega arith ]) };
           counters = ap (take m) (i .counted .is) ∙ tallied-front m w₀ (gathered g (i .done)) done-up;
           size-is = tally-front (i .counted) m done-up;
         })

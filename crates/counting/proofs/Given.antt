@@ -1,5 +1,5 @@
 -- All that a column is given, counted in three steps: the diagonal, the children, the columns that start there. What a step leaves of the table
--- (module over OnlyTwo), that each step can be made, and the three put together (giving-end). Assumes nothing.
+-- (module over OnlyIn), that each step can be made, and the three put together (giving-end). Assumes nothing.
 use mathlib.Core.Path.{_≡_, refl, sym, ap, subst, _∙_}
 use mathlib.Core.Logic.{inl, inr}
 use mathlib.Core.List.{List, [], _∷_, _++_}
@@ -10,43 +10,40 @@ use lib.Seq.{getD-take}
 use Rattle.lists.specs.Lists.{at, put, times}
 use Rattle.lists.proofs.Tests.{eq-or-ne}
 use Rattle.lists.proofs.Times.{times-nil, times-other, UpTo}
-use Rattle.workspace.specs.Layout.{childHead, childNext, columnHead, stashStart, rowStash, small, columnNext}
+use Rattle.workspace.specs.Layout.{childHead, childNext, columnHead, stashStart, rowStash, columnNext}
 use Rattle.workspace.specs.Regions.{cell, region, IsZero, OnlyIn}
-use Rattle.workspace.proofs.Regions.{region-length, region-cell, region-ext, zero-at}
+use Rattle.workspace.proofs.Regions.{region-length, region-cell, region-ext, zero-at, only-trans}
 use Rattle.pool.proofs.Chains.{linked-short, linked-high}
-use Rattle.counting.specs.Counting.{gathered, tallied, filled, OnlyTwo}
-use Rattle.counting.specs.Given.{Counted, Places, childrenIn, stashed, Stashed, CanTallyChildren, bookRows, startingIn, CanTallyColumns, givenIn, CanTallyAll}
+use Rattle.book.specs.Tally.{tallied, filled, bookRows}
+use Rattle.book.proofs.Tally.{tallied-append, tallied-cell, filled-raise, filled-most, filled-zero, times-most}
+use Rattle.counting.specs.Counting.{gathered}
+use Rattle.counting.specs.Given.{Counted, Places, childrenIn, stashed, Stashed, CanTallyChildren, startingIn, CanTallyColumns, givenIn, CanTallyAll}
 use Rattle.counting.proofs.Numbers.{gathered-ext, gathered-up, gathered-length}
-use Rattle.counting.proofs.Tallies.{tallied-append, tallied-cell, tallied-front, tallied-only, filled-raise, filled-most, filled-zero, tallied-raised, times-most}
-use Rattle.counting.proofs.Linking.{two-trans}
+use Rattle.counting.proofs.Tallies.{tallied-front, tallied-only, tallied-raised}
 use Rattle.counting.proofs.Children.{stashed-length}
 
 -- ---- what counting leaves of the table
 
-module _ (m f : ℕ) {w₀ w : List ℕ} (o : OnlyTwo 0 m (small m f) 256 w₀ w) (long : 8 * m + 4 * f + 1024 ≤ length w₀) where
-  pub keep-place : (k : ℕ) → m ≤ k → k < small m f → getD w k 0 ≡ getD w₀ k 0
-  keep-place k p q = o .outside k (inr (omega arith)) (inl q)
+module _ (m f : ℕ) {w₀ w : List ℕ} (o : OnlyIn 0 m w₀ w) (long : 8 * m + 4 * f + 1024 ≤ length w₀) where
+  pub keep-place : (k : ℕ) → m ≤ k → getD w k 0 ≡ getD w₀ k 0
+  keep-place k p = o .outside k (inr (omega arith))
 
-  pub keep-region : (a l : ℕ) → m ≤ a → a + l ≤ small m f → region w a l ≡ region w₀ a l
-  keep-region a l p q = region-ext w₀ w a a l (omega arith) (omega (arith, o .same-length)) (λ i h. keep-place (a + i) (omega arith) (omega arith))
-
-  pub keep-far : (a l : ℕ) → small m f + 256 ≤ a → a + l ≤ length w₀ → region w a l ≡ region w₀ a l
-  keep-far a l p q =
-      region-ext w₀ w a a l q (omega (arith, o .same-length)) (λ i h. o .outside (a + i) (inr (omega arith)) (inr (omega arith)))
+  pub keep-region : (a l : ℕ) → m ≤ a → a + l ≤ length w₀ → region w a l ≡ region w₀ a l
+  keep-region a l p q = region-ext w₀ w a a l q (omega (arith, o .same-length)) (λ i h. keep-place (a + i) (omega arith))
 
   module _ (j : ℕ) (low : 1 ≤ j) (high : j ≤ m) where
     pub keep-children : childrenIn w m j ≡ childrenIn w₀ m j
-    keep-children = rw (keep-region (childNext m) m (omega arith) (omega arith), keep-place (childHead m + (j - 1)) (omega arith) (omega arith)) refl
+    keep-children = rw (keep-region (childNext m) m (omega arith) (omega arith), keep-place (childHead m + (j - 1)) (omega arith)) refl
 
     pub keep-starting : (n c : ℕ) → columnNext m f c + n ≤ length w₀ → startingIn w m f n c j ≡ startingIn w₀ m f n c j
-    keep-starting n c h = rw (keep-far (columnNext m f c) n (omega arith) h, keep-place (columnHead m + (j - 1)) (omega arith) (omega arith)) refl
+    keep-starting n c h = rw (keep-region (columnNext m f c) n (omega arith) h, keep-place (columnHead m + (j - 1)) (omega arith)) refl
 
   module _ (c : ℕ) (in-m : c ≤ m) (s : Stashed w₀ m f c) where
     keep-start : cell w (stashStart m) (c - 1) ≡ cell w₀ (stashStart m) (c - 1)
-    keep-start = keep-place (stashStart m + (c - 1)) (omega arith) (omega (arith, s .some, s .within))
+    keep-start = keep-place (stashStart m + (c - 1)) (omega arith)
 
     keep-end : cell w (stashStart m) c ≡ cell w₀ (stashStart m) c
-    keep-end = keep-place (stashStart m + c) (omega arith) (omega (arith, s .some, s .within))
+    keep-end = keep-place (stashStart m + c) (omega arith)
 
     pub keep-stashed : stashed w m f c ≡ stashed w₀ m f c
     keep-stashed =
@@ -65,12 +62,12 @@ module _ (m f : ℕ) {w₀ w : List ℕ} (o : OnlyTwo 0 m (small m f) 256 w₀ w
 
 -- ---- how many counters are not 0
 
-pub counted-few : {m f : ℕ} {w₀ w rows : List ℕ} {size : ℕ} → Counted m f w₀ w rows size → size ≤ m
-counted-few {m} {f} {w₀} {w} c = omega (arith, c .size-is, filled-most (region w 0 m), length-take m w)
+pub counted-few : {m : ℕ} {w₀ w rows : List ℕ} {size : ℕ} → Counted m w₀ w rows size → size ≤ m
+counted-few {m} {w₀} {w} c = omega (arith, c .size-is, filled-most (region w 0 m), length-take m w)
 
 -- after zero counters
-pub counted-filled : {m f : ℕ} {w₀ w rows : List ℕ} {size : ℕ} → Counted m f w₀ w rows size → IsZero w₀ 0 m → size ≡ filled (region w 0 m)
-counted-filled {m} {f} {w₀} {w} c z =
+pub counted-filled : {m : ℕ} {w₀ w rows : List ℕ} {size : ℕ} → Counted m w₀ w rows size → IsZero w₀ 0 m → size ≡ filled (region w 0 m)
+counted-filled {m} {w₀} {w} c z =
     omega (
       arith,
       c .size-is,
@@ -110,10 +107,8 @@ module _ {hs rs ns w₀ : List ℕ} {m f j : ℕ} (pre : CanTallyAll hs rs ns w�
       let z : getD w₀ (j - 1) 0 ≡ 0 = zero-at w₀ 0 m (j - 1) (pre .zero) (omega arith) (omega (arith, pre .sizes .low, pre .sizes .high)) in
       tallied-raised m 1 w₀ (j ∷ []) one-up one-is (sym (filled-raise w₀ (j - 1) 1 (omega (arith, pre .sizes)) z (omega arith)))
 
-  one-only : OnlyTwo 0 m (small m f) 256 w₀ after-one
-  one-only =
-      let o : OnlyIn 0 m w₀ (tallied w₀ (j ∷ [])) = tallied-only m w₀ (j ∷ []) one-up in
-      rw one-is (record { same-length = o .same-length; outside = λ k s t. o .outside k s })
+  one-only : OnlyIn 0 m w₀ after-one
+  one-only = rw one-is (tallied-only m w₀ (j ∷ []) one-up)
 
   child-in : (c : ℕ) → 1 ≤ times c (childrenIn w₀ m j) → c ≤ m
   child-in c n =
@@ -136,7 +131,7 @@ module _ {hs rs ns w₀ : List ℕ} {m f j : ℕ} (pre : CanTallyAll hs rs ns w�
         pre .sizes .m-bound,
       )
 
-  sizes-at : {w : List ℕ} → OnlyTwo 0 m (small m f) 256 w₀ w → Places m f w j
+  sizes-at : {w : List ℕ} → OnlyIn 0 m w₀ w → Places m f w j
   sizes-at o =
       record {
         low = pre .sizes .low;
@@ -163,7 +158,7 @@ module _ {hs rs ns w₀ : List ℕ} {m f j : ℕ} (pre : CanTallyAll hs rs ns w�
       record {
         sizes = sizes-at one-only;
         linked =
-            rw (k, keep-region m f one-only l (childNext m) m (omega arith) (omega arith), keep-place m f one-only l (childHead m + (j - 1)) (omega arith) (omega arith)) (pre .children);
+            rw (k, keep-region m f one-only l (childNext m) m (omega arith) (omega arith), keep-place m f one-only l (childHead m + (j - 1)) (omega arith)) (pre .children);
         each = λ c n.
             let n₀ : 1 ≤ times c (childrenIn w₀ m j) = subst (λ (x : List ℕ). 1 ≤ times c x) k n in
             keep-piece m f one-only l c (child-in c n₀) (pre .stash c n₀);
@@ -177,9 +172,9 @@ module _ {hs rs ns w₀ : List ℕ} {m f j : ℕ} (pre : CanTallyAll hs rs ns w�
       ap (gathered (stashed after-one m f)) (keep-children m f one-only l j (pre .sizes .low) (pre .sizes .high)) ∙
       gathered-ext (stashed after-one m f) (stashed w₀ m f) (childrenIn w₀ m j) (λ c n. keep-stashed m f one-only l c (child-in c n) (pre .stash c n))
 
-  module _ {w₂ : List ℕ} {r : ℕ} (d : Counted m f after-one w₂ (gathered (stashed after-one m f) (childrenIn after-one m j)) r) where
-    both-only : OnlyTwo 0 m (small m f) 256 w₀ w₂
-    both-only = two-trans one-only (d .only)
+  module _ {w₂ : List ℕ} {r : ℕ} (d : Counted m after-one w₂ (gathered (stashed after-one m f) (childrenIn after-one m j)) r) where
+    both-only : OnlyIn 0 m w₀ w₂
+    both-only = only-trans one-only (d .only)
 
     two-counter : (k : ℕ) → k < m → getD w₂ k 0 ≤ 16777217
     two-counter k h =
@@ -214,15 +209,15 @@ module _ {hs rs ns w₀ : List ℕ} {m f j : ℕ} (pre : CanTallyAll hs rs ns w�
           linked =
               rw (
                 starting-same,
-                keep-far m f both-only l (columnNext m f (length ns)) (length hs) (omega arith) (pre .table-long),
-                keep-place m f both-only l (columnHead m + (j - 1)) (omega arith) (omega arith),
+                keep-region m f both-only l (columnNext m f (length ns)) (length hs) (omega arith) (pre .table-long),
+                keep-place m f both-only l (columnHead m + (j - 1)) (omega arith),
               ) (pre .starting);
           each = λ i n. pre .copied i (subst (λ (x : List ℕ). 1 ≤ times i x) starting-same n);
           rows-in = λ i n. pre .rows-in i (subst (λ (x : List ℕ). 1 ≤ times i x) starting-same n);
           room = λ i h. omega (arith, two-counter i h);
         }
 
-    module _ {w₃ : List ℕ} {q : ℕ} (e : Counted m f w₂ w₃ (gathered (bookRows hs rs ns) (startingIn w₂ m f (length hs) (length ns) j)) q) where
+    module _ {w₃ : List ℕ} {q : ℕ} (e : Counted m w₂ w₃ (gathered (bookRows hs rs ns) (startingIn w₂ m f (length hs) (length ns) j)) q) where
       cols-same : gathered (bookRows hs rs ns) (startingIn w₂ m f (length hs) (length ns) j) ≡ cols
       cols-same = ap (gathered (bookRows hs rs ns)) starting-same
 
@@ -232,11 +227,11 @@ module _ {hs rs ns w₀ : List ℕ} {m f j : ℕ} (pre : CanTallyAll hs rs ns w�
       pub giving-length : length w₃ ≡ length w₀
       giving-length = e .only .same-length ∙ both-only .same-length
 
-      pub giving-end : Counted m f w₀ w₃ (givenIn hs rs ns w₀ m f j) (1 + r + q)
+      pub giving-end : Counted m w₀ w₃ (givenIn hs rs ns w₀ m f j) (1 + r + q)
       unfolding tallied
       giving-end =
           record {
-            only = two-trans both-only (e .only);
+            only = only-trans both-only (e .only);
             counters =
                 e .counters ∙ ap (tallied (region w₂ 0 m)) cols-same ∙ ap (λ (l : List ℕ). tallied l cols) (d .counters ∙ ap (tallied (region after-one 0 m)) kids-same) ∙
                 sym (tallied-append (region after-one 0 m) kids cols) ∙

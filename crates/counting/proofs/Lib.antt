@@ -1,7 +1,6 @@
 pub mod Tallies
 pub mod Numbers
 pub mod Linking
-pub mod Booked
 pub mod Gathering
 pub mod Children
 pub mod Parts

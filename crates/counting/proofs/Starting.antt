@@ -7,7 +7,8 @@ use native.Mathlib.Omega.{arith}
 use lib.ListN.{length}
 use Rattle.workspace.specs.Layout.{columnHead, columnNext}
 use Rattle.workspace.specs.Regions.{cell}
-use Rattle.counting.specs.Given.{bookRows, CanTallyBook, CanTallyColumns}
+use Rattle.book.specs.Tally.{bookRows, CanCount}
+use Rattle.counting.specs.Given.{CanTallyColumns}
 use Rattle.counting.proofs.Gathering.{CanGather, Gathering, gathering-length, gathering-few, gathering-room, gathering-in, gathering-listed}
 
 abbrev pub Starting : (hs rs ns w₀ : List ℕ) → (m f j : ℕ) → (w : List ℕ) → (size i : ℕ) → Type 0
@@ -43,7 +44,7 @@ module _ {hs rs ns w₀ : List ℕ} {m f j : ℕ} (pre : CanTallyColumns hs rs n
           few = omega (arith, gathering-few starting-gathers s, pre .sizes .m-bound);
         }
 
-    pub starting-can : CanTallyBook hs rs ns w i
+    pub starting-can : CanCount hs rs ns w i
     starting-can =
         record {
           m = m;

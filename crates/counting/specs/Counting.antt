@@ -1,11 +1,11 @@
--- What a column of L is given, counted row by row: numbers listed by a value, the rows that they bring, rows counted in a dense table.
+-- What a column of L is given, counted row by row: numbers listed by a value, the rows that they bring, rows that stand in the work table.
 -- Laws: proofs/Numbers.antt, proofs/Tallies.antt. Assumes nothing: these are definitions.
 use mathlib.Core.Path.{_≡_}
 use mathlib.Core.List.{List, [], _∷_, _++_}
 use Prim.Native.Nat.{ℕ, zero, suc, _+_, _-_, _≤_, _<_}
 use lib.Dec.{eqb}
 use lib.ListN.{length, getD, set}
-use Rattle.lists.specs.Lists.{pick, at, put, sumOf}
+use Rattle.lists.specs.Lists.{pick, at, sumOf}
 use Rattle.workspace.specs.Regions.{cell, region, Outside, IsZero}
 use Rattle.pool.specs.Chains.{Linked}
 use Rattle.symbolic.specs.Columns.{smallest}
@@ -23,21 +23,9 @@ unfoldable pub gathered : (ℕ → List ℕ) → (numbers : List ℕ) → List �
 gathered g [] = []
 gathered g (c ∷ cs) = g c ++ gathered g cs
 
--- ---- rows counted
-
--- one more at each row
-unfoldable pub tallied : (counters rows : List ℕ) → List ℕ
-tallied ns [] = ns
-tallied ns (x ∷ xs) = tallied (put ns x (at ns x + 1)) xs
-
 -- the sum of all counters
 abbrev pub total : List ℕ → ℕ
 total ns = sumOf (λ (n : ℕ). n) ns
-
--- how many counters are not 0
-unfoldable pub filled : List ℕ → ℕ
-filled [] = 0
-filled (n ∷ ns) = pick (eqb n 0) 0 1 + filled ns
 
 -- ---- lists in the work table: heads from place a on, nexts from place b on
 

@@ -5,14 +5,13 @@ ghost use mathlib.Core.Path.{_≡_};
 ghost use Prim.Native.Nat.{_+_, _-_, _*_, _<_};
 ghost use lib.ListN.{length};
 ghost use Rattle.workspace.specs.Regions.{region};
-ghost use Rattle.counting.specs.Counting.{linkedIn, CanLink, CanList, Listed, gathered, tallied, filled, CanTally};
+ghost use Rattle.book.specs.Tally.{tallied, filled, bookRows};
+ghost use Rattle.counting.specs.Counting.{linkedIn, CanLink, CanList, Listed, gathered, CanTally};
 ghost use Rattle.counting.specs.Given.{
   Counted,
   childrenIn,
   stashed,
   CanTallyChildren,
-  bookRows,
-  CanTallyBook,
   startingIn,
   CanTallyColumns,
   givenIn,
@@ -80,7 +79,7 @@ fn tally(work: &mut [u32], a: usize, e: usize) -> u32
 // Counts the rows of each child of column j but the child's first, out of the stash. Gives how many counters left 0.
 fn tally_children(work: &mut [u32], m: usize, f: usize, j: Row) -> u32
     requires { ⌜ CanTallyChildren (now work) m f (j .0) ⌝ }
-    ensures { λ r. ⌜ Counted m f (now (work .entry)) (now (work .exit)) (gathered (stashed (now (work .entry)) m f) (childrenIn (now (work .entry)) m (j .0))) r ⌝ }
+    ensures { λ r. ⌜ Counted m (now (work .entry)) (now (work .exit)) (gathered (stashed (now (work .entry)) m f) (childrenIn (now (work .entry)) m (j .0))) r ⌝ }
 {
     let column = j.0;
     let stash = 8 * m + f;
@@ -97,34 +96,6 @@ fn tally_children(work: &mut [u32], m: usize, f: usize, j: Row) -> u32
     size
 }
 
-// Counts the rows of an id's book column, one more in the counter of each. Gives how many counters left 0.
-fn tally_book(
-    book_heads: &[u32],
-    book_rows: &[u16],
-    book_next: &[u32],
-    work: &mut [u32],
-    id: Id,
-) -> u32
-    requires { ⌜ CanTallyBook (now «book_heads») (now «book_rows») (now «book_next») (now work) (id .0) ⌝ }
-    ensures counted { λ r. ⌜ now (work .exit) ≡ tallied (now (work .entry)) (bookRows (now («book_heads» .entry)) (now («book_rows» .entry)) (now («book_next» .entry)) (id .0)) ⌝ }
-    ensures raised { λ r. ⌜ r + filled (now (work .entry)) ≡ filled (now (work .exit)) ⌝ }
-{
-    let k = id.0;
-    let mut size: u32 = 0;
-    let mut r = book_heads[(k - 1) as usize];
-    while r != 0 {
-        let i = (r - 1) as usize;
-        let c = (book_rows[i] - 1) as usize;
-        let v = work[c];
-        work[c] = v + 1;
-        if v == 0 {
-            size += 1;
-        }
-        r = book_next[i];
-    }
-    size
-}
-
 // Counts the rows of each book column whose smallest row is j. Gives how many counters left 0.
 fn tally_columns(
     book_heads: &[u32],
@@ -136,14 +107,14 @@ fn tally_columns(
     j: Row,
 ) -> u32
     requires { ⌜ CanTallyColumns (now «book_heads») (now «book_rows») (now «book_next») (now work) m f (j .0) ⌝ }
-    ensures { λ r. ⌜ Counted m f (now (work .entry)) (now (work .exit)) (gathered (bookRows (now («book_heads» .entry)) (now («book_rows» .entry)) (now («book_next» .entry))) (startingIn (now (work .entry)) m f (length (now («book_heads» .entry))) (length (now («book_next» .entry))) (j .0))) r ⌝ }
+    ensures { λ r. ⌜ Counted m (now (work .entry)) (now (work .exit)) (gathered (bookRows (now («book_heads» .entry)) (now («book_rows» .entry)) (now («book_next» .entry))) (startingIn (now (work .entry)) m f (length (now («book_heads» .entry))) (length (now («book_next» .entry))) (j .0))) r ⌝ }
 {
     let column = j.0;
     let nexts = 8 * m + 4 * f + 1024 + book_next.len();
     let mut size: u32 = 0;
     let mut i = work[3 * m + (column - 1) as usize];
     while i != 0 {
-        let more = tally_book(book_heads, book_rows, book_next, work, Id(i));
+        let more = book::count_rows(book_heads, book_rows, book_next, work, Id(i));
         size += more;
         i = work[nexts + (i - 1) as usize];
     }
@@ -162,7 +133,7 @@ pub fn tally_all(
     j: Row,
 ) -> u32
     requires { ⌜ CanTallyAll (now «book_heads») (now «book_rows») (now «book_next») (now work) m f (j .0) ⌝ }
-    ensures { λ r. ⌜ Counted m f (now (work .entry)) (now (work .exit)) (givenIn (now («book_heads» .entry)) (now («book_rows» .entry)) (now («book_next» .entry)) (now (work .entry)) m f (j .0)) r ⌝ }
+    ensures { λ r. ⌜ Counted m (now (work .entry)) (now (work .exit)) (givenIn (now («book_heads» .entry)) (now («book_rows» .entry)) (now («book_next» .entry)) (now (work .entry)) m f (j .0)) r ⌝ }
 {
     let column = j.0;
     work[(column - 1) as usize] = 1;

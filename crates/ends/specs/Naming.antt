@@ -7,7 +7,7 @@ use Prim.Native.Nat.{ℕ, suc, _+_, _-_, _≤_, _<_}
 use lib.Dec.{eqb}
 use lib.ListN.{length, set}
 use Rattle.lists.specs.Lists.{pick}
-use Rattle.workspace.specs.Regions.{cell, Apart}
+use Rattle.workspace.specs.Regions.{cell}
 
 -- chain k has a place for its last record, and that record one for its name
 pub record CanName (work : List ℕ) (a b k last : ℕ) : Type 0 where

@@ -1,8 +1,6 @@
 // Whether chains that end are apart, by their last records alone: the last record of each chain is kept by the chain's number, and named by it; a chain that
 // does not find its own name at its last record shares it with a later one. No place is cleared: only places that were written are read.
-ghost use Prim.Native.Nat.{_+_, _≤_, _<_};
 ghost use mathlib.Core.Path.{_≡_};
-ghost use lib.ListN.{length};
 ghost use Rattle.workspace.specs.Regions.{region};
 ghost use Rattle.pool.specs.Ends.{Decides, NoneTwice};
 ghost use Rattle.ends.specs.Naming.{CanName, namedIn, CanCompare};

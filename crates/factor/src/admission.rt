@@ -65,7 +65,7 @@ pub fn early(
 }
 
 // Whether the tables are sound and the limits keep the rule. The first W work places are zero afterwards.
-pub fn read_through(
+fn read_through(
     factor: Factor,
     heads: &[u32],
     parents: &[u16],

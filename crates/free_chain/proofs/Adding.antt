@@ -7,7 +7,7 @@ use Prim.Native.Nat.{ℕ, _+_, _-_, _*_, _/_, _%_, _≤_, _<_}
 use native.Mathlib.Omega.{arith}
 use lib.Dec.{eqb}
 use borrow.Author.Tests.{lt-ltb, le-ltb, eqb-true}
-use Rattle.free_chain.specs.Pieces.{Leads, lengthOf, standOf, startOf, Pieces, CanAdd, AddsTo}
+use Rattle.free_chain.specs.Pieces.{Leads, lengthOf, standOf, startOf, Pieces, CanAddUp, AddsTo}
 use Rattle.free_chain.proofs.Leading.{leads-join}
 
 -- ---- where pieces start
@@ -29,7 +29,7 @@ pub record Adding (scratch : List ℕ) (cuts total r left : ℕ) : Type 0 where
   pub within : left ≤ cuts
   pub stand : r ≤ 1024 * cuts
 
-pub adding-start : {w : List ℕ} {c : ℕ} → CanAdd w c → Adding w c (lengthOf w c) (standOf w c) c
+pub adding-start : {w : List ℕ} {c : ℕ} → CanAddUp w c → Adding w c (lengthOf w c) (standOf w c) c
 adding-start {w} {c} p =
     record {
       leads = λ rs ns h ps. subst (λ (x : ℕ). Leads rs ns (lengthOf w c) x (standOf w c)) (start-head c h) (ps c (omega arith) .leads);
@@ -38,7 +38,7 @@ adding-start {w} {c} p =
       stand = omega (arith, p .stand c (omega arith), p .room .above);
     }
 
-module _ {w : List ℕ} {c total r left : ℕ} (p : CanAdd w c) (i : Adding w c total r left) where
+module _ {w : List ℕ} {c total r left : ℕ} (p : CanAddUp w c) (i : Adding w c total r left) where
   -- the piece that starts at r
   pub adding-piece : r ≢ 0 → (r - 1) / 1024 < c
   adding-piece some = omega (arith, i .stand)

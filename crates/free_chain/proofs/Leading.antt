@@ -1,16 +1,20 @@
--- Steps of `next` that lead from record to record: joined, along records that follow one another, and to the chain's end, where they are the chain. Assumes nothing.
+-- Steps of `next` that lead from record to record: joined, along records that follow one another, and to the chain's end, where they are the chain. Assumes
+-- nothing.
 use mathlib.Core.Path.{_≡_, refl, sym, ap, subst, _∙_}
 use mathlib.Core.Logic.{inl, inr}
+use mathlib.Core.Bool.{true, _&&_}
 use mathlib.Core.List.{List, [], _∷_}
 use Prim.Native.Nat.{ℕ, zero, suc, _+_, _-_, _≤_, _<_}
 use native.Mathlib.Omega.{arith}
+use lib.Dec.{eqb}
 use lib.ListN.{length, getD}
+use borrow.Author.Tests.{eqb-true}
 use Rattle.lists.specs.Lists.{at}
-use Rattle.lists.proofs.Tests.{eq-or-ne}
+use Rattle.lists.proofs.Tests.{eq-or-ne, lt-or-le, and-both}
 use Rattle.pool.specs.Chains.{chain, lastOf, Linked}
 use Rattle.pool.specs.Free.{FreeHas}
 use Rattle.pool.proofs.Chains.{linked-chain}
-use Rattle.free_chain.specs.Pieces.{Leads, RunsTo}
+use Rattle.free_chain.specs.Pieces.{Leads, RunsTo, FourFollow}
 
 -- the records that n steps pass
 unfoldable pub passed : ℕ → (next : List ℕ) → (from : ℕ) → List ℕ
@@ -115,6 +119,37 @@ run-more {ns} {i} {e} r h q = record { forward = omega (arith, r .forward); with
   where
     more : (j : ℕ) → i ≤ j → j < e + 1 → getD ns j 0 ≡ j + 2
     more j a b = elim (eq-or-ne j e) [ inl z ↦ rw z q | inr z ↦ r .rising j a (omega arith) ]
+
+-- four tests at once
+pub four-follows : (ns : List ℕ) (e : ℕ) → (eqb (getD ns e 0) (e + 2) && eqb (getD ns (e + 1) 0) (e + 2 + 1) && eqb (getD ns (e + 2) 0) (e + 2 + 2) && eqb (getD ns (e + 3) 0) (e + 2 + 3)) ≡ true → FourFollow ns e
+four-follows ns e h j a b =
+    let t = and-both (eqb (getD ns e 0) (e + 2) && eqb (getD ns (e + 1) 0) (e + 2 + 1) && eqb (getD ns (e + 2) 0) (e + 2 + 2)) (eqb (getD ns (e + 3) 0) (e + 2 + 3)) h in
+    let u = and-both (eqb (getD ns e 0) (e + 2) && eqb (getD ns (e + 1) 0) (e + 2 + 1)) (eqb (getD ns (e + 2) 0) (e + 2 + 2)) (t .0) in
+    let v = and-both (eqb (getD ns e 0) (e + 2)) (eqb (getD ns (e + 1) 0) (e + 2 + 1)) (u .0) in
+    elim (eq-or-ne j e) [
+      | inl z ↦ rw z (eqb-true (getD ns e 0) (e + 2) (v .0))
+      | inr z ↦ elim (eq-or-ne j (e + 1)) [
+        | inl y ↦ rw y (omega (arith, eqb-true (getD ns (e + 1) 0) (e + 2 + 1) (v .1)))
+        | inr y ↦ elim (eq-or-ne j (e + 2)) [
+          | inl x ↦ rw x (omega (arith, eqb-true (getD ns (e + 2) 0) (e + 2 + 2) (u .1)))
+          | inr x ↦ let w : j ≡ e + 3 = omega arith in rw w (omega (arith, eqb-true (getD ns (e + 3) 0) (e + 2 + 3) (t .1)))
+        ]
+      ]
+    ]
+
+-- four more at once
+pub run-four : {ns : List ℕ} {i e : ℕ} → RunsTo ns i e → e + 4 < length ns → FourFollow ns e → RunsTo ns i (e + 4)
+run-four {ns} {i} {e} r h q = record { forward = omega (arith, r .forward); within = h; rising = λ j a b. more j a b }
+  where
+    more : (j : ℕ) → i ≤ j → j < e + 4 → getD ns j 0 ≡ j + 2
+    more j a b = elim (lt-or-le j e) [ inl z ↦ r .rising j a z | inr z ↦ q j z b ]
+
+-- one run after another
+pub run-join : {ns : List ℕ} {i e k : ℕ} → RunsTo ns i e → RunsTo ns e k → RunsTo ns i k
+run-join {ns} {i} {e} {k} r t = record { forward = omega (arith, r .forward, t .forward); within = t .within; rising = λ j a b. more j a b }
+  where
+    more : (j : ℕ) → i ≤ j → j < k → getD ns j 0 ≡ j + 2
+    more j a b = elim (lt-or-le j e) [ inl z ↦ r .rising j a z | inr z ↦ t .rising j z b ]
 
 -- ---- beside a chain that is linked
 

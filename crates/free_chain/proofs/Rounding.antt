@@ -49,25 +49,29 @@ module _ {rs ns w₀ : List ℕ} {c n₀ : ℕ} (p : CanRound rs ns w₀ c n₀)
         record { can = p .can; room = omega (arith, p .room .long, i .same); size = t .size; stand = t .stand }
 
     module _ {w₁ : List ℕ} (t : Stepped rs ns w w₁ (getD w (queueOf c + q) 0)) where
-      after : length w₁ ≡ length w₀
-      after = stepped-length t c rounding-piece ∙ i .same
+      pub rounding-same : length w₁ ≡ length w₀
+      rounding-same = stepped-length t c rounding-piece ∙ i .same
 
-      stood : Kept rs ns c w₀ w₁
-      stood f ps = kept-step t c rounding-piece (omega (arith, p .room .long, i .same)) f (i .kept f ps)
+      pub rounding-kept : Kept rs ns c w₀ w₁
+      rounding-kept f ps = kept-step t c rounding-piece (omega (arith, p .room .long, i .same)) f (i .kept f ps)
 
       -- it stays in the queue
       pub rounding-on : Rounding rs ns c w₀ w₁ n (q + 1)
-      rounding-on = record { kept = stood; queue = queue-step t c rounding-piece (i .queue); within = omega arith; same = after }
+      rounding-on = record { kept = rounding-kept; queue = queue-step t c rounding-piece (i .queue); within = omega arith; same = rounding-same }
 
       -- the last takes its place
       pub rounding-drop : Rounding rs ns c w₀ (set w₁ (queueOf c + q) (getD w₁ (queueOf c + (n - 1)) 0)) (n - 1) q
       rounding-drop =
           record {
-            kept = λ f ps. kept-queue rs ns w₁ c q (getD w₁ (queueOf c + (n - 1)) 0) f (stood f ps);
-            queue = queue-drop q (queue-step t c rounding-piece (i .queue)) more (omega (arith, p .room .long, i .queue .few, after));
+            kept = λ f ps. kept-queue rs ns w₁ c q (getD w₁ (queueOf c + (n - 1)) 0) f (rounding-kept f ps);
+            queue = queue-drop q (queue-step t c rounding-piece (i .queue)) more (omega (arith, p .room .long, i .queue .few, rounding-same));
             within = omega arith;
-            same = length-set w₁ (queueOf c + q) (getD w₁ (queueOf c + (n - 1)) 0) ∙ after;
+            same = length-set w₁ (queueOf c + q) (getD w₁ (queueOf c + (n - 1)) 0) ∙ rounding-same;
           }
+
+-- the budget is spent: none is walked further
+pub queue-none : (w : List ℕ) (c : ℕ) → Queued w c 0
+queue-none w c = record { few = omega arith; pieces = λ q l. absurd (omega arith) }
 
 -- ---- round after round
 
@@ -81,5 +85,5 @@ rounds-can p i =
       queue = i .queue;
     }
 
-pub rounds-next : {rs ns w₀ w w₁ : List ℕ} {c n n₁ q : ℕ} → Rounding rs ns c w₀ w n q → Rounded rs ns c w w₁ n₁ → length w₁ ≡ length w → Rounding rs ns c w₀ w₁ n₁ 0
+pub rounds-next : {rs ns w₀ w w₁ : List ℕ} {c n q left n₁ left₁ : ℕ} → Rounding rs ns c w₀ w n q → Rounded rs ns c w w₁ left n₁ left₁ → length w₁ ≡ length w → Rounding rs ns c w₀ w₁ n₁ 0
 rounds-next i r e = record { kept = λ f ps. r .kept f (i .kept f ps); queue = r .queue; within = omega arith; same = e ∙ i .same }

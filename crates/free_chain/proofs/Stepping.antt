@@ -35,20 +35,17 @@ module _ {rs ns w : List ℕ} {s : ℕ} (p : CanStep rs ns w s) where
 
   -- a run to place e, and on to what follows there
   pub stepped-on : (e a : ℕ) → standOf w s ≢ 0 → RunsTo ns (standOf w s - 1) e → getD ns e 0 ≡ a → (a ≡ 0 → getD rs e 0 ≡ 0) →
-      lengthOf w s + (e - (standOf w s - 1)) + 1 ≤ length ns → a ≤ length ns → Stepped rs ns w (withPiece w s (lengthOf w s + (e - (standOf w s - 1)) + 1) a) s
+      lengthOf w s + (e - (standOf w s - 1) + 1) ≤ length ns → a ≤ length ns → Stepped rs ns w (withPiece w s (lengthOf w s + (e - (standOf w s - 1) + 1)) a) s
   stepped-on e a some run next zero fits high =
       record {
         steps = e - (standOf w s - 1) + 1;
         stop = a;
         leads = leads-join rs ns (e - (standOf w s - 1)) 1 (standOf w s) (e + 1) a along after;
-        size = omega arith;
+        size = fits;
         stand = high;
-        written = ap (λ (n : ℕ). withPiece w s n a) (group (lengthOf w s) (e - (standOf w s - 1)));
+        written = refl;
       }
     where
-      group : (n k : ℕ) → n + k + 1 ≡ n + (k + 1)
-      group n k = omega arith
-
       first : standOf w s - 1 + 1 ≡ standOf w s
       first = omega arith
 

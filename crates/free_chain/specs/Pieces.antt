@@ -9,7 +9,7 @@ use lib.ListN.{length, getD, set}
 use Rattle.lists.specs.Lists.{pick, at}
 
 -- two tables of one pool, small enough that a record and a count of records fit a place of scratch
-pub record CanWalk (rows next : List ℕ) : Type 0 where
+pub record OnePool (rows next : List ℕ) : Type 0 where
   pub same-size : length rows ≡ length next
   pub small : length next ≤ 1073741824
 
@@ -23,6 +23,10 @@ pub record RunsTo (next : List ℕ) (i e : ℕ) : Type 0 where
   pub forward : i ≤ e
   pub within : e < length next
   pub rising : (j : ℕ) → i ≤ j → j < e → getD next j 0 ≡ j + 2
+
+-- the four records from place e on each lead to the one behind it
+abbrev pub FourFollow : (next : List ℕ) → (e : ℕ) → Type 0
+FourFollow ns e = (j : ℕ) → e ≤ j → j < e + 4 → getD ns j 0 ≡ j + 2
 
 -- ---- one piece
 
@@ -46,7 +50,7 @@ pub record Stands (rows next scratch : List ℕ) (start s : ℕ) : Type 0 where
 
 -- what a step of a piece asks
 pub record CanStep (rows next scratch : List ℕ) (s : ℕ) : Type 0 where
-  pub can : CanWalk rows next
+  pub can : OnePool rows next
   pub room : 2 * s + 1 < length scratch
   pub size : lengthOf scratch s ≤ length next
   pub stand : standOf scratch s ≤ length next
@@ -101,19 +105,20 @@ pub record Laid (cuts head : ℕ) (scratch : List ℕ) (n : ℕ) : Type 0 where
 
 -- what a round of steps asks
 pub record CanRound (rows next scratch : List ℕ) (cuts n : ℕ) : Type 0 where
-  pub can : CanWalk rows next
+  pub can : OnePool rows next
   pub room : Room (length next) scratch cuts
   pub starts : ℕ → ℕ
   pub pieces : Pieces rows next cuts starts scratch
   pub queue : Queued scratch cuts n
 
--- after a round of steps n pieces are left in the queue
-pub record Rounded (rows next : List ℕ) (cuts : ℕ) (scratch₀ scratch : List ℕ) (n : ℕ) : Type 0 where
+-- after a round of steps n pieces are left in the queue, and the budget has fallen by one for each of them at least
+pub record Rounded (rows next : List ℕ) (cuts : ℕ) (scratch₀ scratch : List ℕ) (left₀ n left : ℕ) : Type 0 where
   pub kept : Kept rows next cuts scratch₀ scratch
   pub queue : Queued scratch cuts n
+  pub budget : n + left ≤ left₀
 
 -- what adding up asks: the pieces' lengths, and where they stand, are of a pool
-pub record CanAdd (scratch : List ℕ) (cuts : ℕ) : Type 0 where
+pub record CanAddUp (scratch : List ℕ) (cuts : ℕ) : Type 0 where
   pub records : ℕ
   pub room : Room records scratch cuts
   pub size : (s : ℕ) → s ≤ cuts → lengthOf scratch s ≤ records

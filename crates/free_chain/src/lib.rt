@@ -5,7 +5,7 @@ ghost use lib.ListN.{length};
 ghost use Rattle.lists.specs.Lists.{times};
 ghost use Rattle.pool.specs.Ends.{Decides};
 ghost use Rattle.pool.specs.Free.{FreeHas, zeroPairs};
-ghost use Rattle.free_chain.specs.Pieces.{CanWalk};
+ghost use Rattle.free_chain.specs.Pieces.{OnePool};
 use pool::Rec;
 
 mod pieces;
@@ -80,7 +80,7 @@ pub fn zero_pairs(rows: &[u16], counts: &[u16]) -> usize
 
 // Walks the free chain record by record: it must end after k of them, the last with row 0.
 fn walk(rows: &[u16], next: &[u32], free: Rec, k: usize) -> bool
-    requires { ⌜ CanWalk (now rows) (now next) ⌝ }
+    requires { ⌜ OnePool (now rows) (now next) ⌝ }
     ensures { λ a. ⌜ Decides (FreeHas (now (rows .entry)) (now (next .entry)) (free .0) k) a ⌝ }
 {
     let mut r = free.0;
@@ -106,9 +106,10 @@ fn walk(rows: &[u16], next: &[u32], free: Rec, k: usize) -> bool
     rows[(last - 1) as usize] == 0
 }
 
-// Whether the free chain ends after k records, the last with row 0. In pieces, if they show it; otherwise record by record. Scratch may hold anything.
+// Whether the free chain ends after k records, the last with row 0. In pieces, if they show it; otherwise record by record. Scratch may hold anything, before
+// and after.
 pub fn has(rows: &[u16], next: &[u32], scratch: &mut [u32], free: Rec, k: usize) -> bool
-    requires { ⌜ CanWalk (now rows) (now next) ⌝ }
+    requires { ⌜ OnePool (now rows) (now next) ⌝ }
     ensures { λ a. ⌜ Decides (FreeHas (now (rows .entry)) (now (next .entry)) (free .0) k) a ⌝ }
 {
     if pieces::reach(rows, next, scratch, free, k) {

@@ -32,10 +32,6 @@ unfolding lastOf
 last-in [] p = absurd (p refl)
 last-in (r ∷ rs) p = last-there (r ∷ rs) (omega arith)
 
--- it is that of any linked list from the head
-pub last-linked : (ns : List ℕ) (h : ℕ) (rs : List ℕ) → Linked ns h rs → lastFrom ns h ≡ lastOf 0 rs
-last-linked ns h rs l = ap (lastOf 0) (linked-chain ns h rs l)
-
 -- it is of the pool, or 0
 pub last-within : (ns : List ℕ) (h : ℕ) (rs : List ℕ) → Linked ns h rs → lastOf 0 rs ≤ length ns
 last-within ns h rs l =

@@ -1,7 +1,6 @@
 -- A run from a head through records to the next one, as a loop that walks a chain goes: its start, one record more, what is linked from its end on;
--- then how it ends. A walk needs no marks: it counts its records, and keeps `Runs next head records r` with that count. At r = 0 the chain is
--- `records` (runs-end); past the pool (runs-out), or not at 0 after as many records as there are (runs-spent), the chain does not end; a test of its
--- own fails at r: where the chain ends it goes on through r (runs-split), and any chain that long does (runs-here). Assumes nothing.
+-- then how it ends. A walk keeps `Runs next head records r`. At r = 0 the chain is `records` (runs-end); past the pool the chain does not end (runs-out); a
+-- test of its own fails at r: were the chain to end, it would go on through r (runs-split). Assumes nothing.
 use mathlib.Core.Path.{_≡_, refl, sym, ap, subst, _∙_}
 use mathlib.Core.Logic.{_≢_}
 use mathlib.Core.Bool.{false}
@@ -35,19 +34,6 @@ unfolding Runs Linked
 runs-linked ns h [] r rs l k = subst (λ (x : ℕ). Linked ns x rs) (sym l) k
 runs-linked ns h (d ∷ ds) r rs l k = (l .0, l .1, l .2, runs-linked ns (at ns d) ds r rs (l .3) k)
 
-pub runs-rest : (ns : List ℕ) (h : ℕ) (ds : List ℕ) (r : ℕ) (rs : List ℕ) → Runs ns h ds r → Linked ns h (ds ++ rs) → Linked ns r rs
-unfolding Runs Linked
-runs-rest ns h [] r rs l k = subst (λ (x : ℕ). Linked ns x rs) l k
-runs-rest ns h (d ∷ ds) r rs l k = runs-rest ns (at ns d) ds r rs (l .3) (k .3)
-
-pub runs-from : (n : ℕ) (ns : List ℕ) (h : ℕ) (ds : List ℕ) (r : ℕ) → Runs ns h ds r → length ds ≤ n → chainFrom n ns h ≡ ds ++ chainFrom (n - length ds) ns r
-unfolding Runs
-runs-from n ns h [] r l e = let q : n - 0 ≡ n = omega arith in rw (q, l) refl
-runs-from zero ns h (d ∷ ds) r l e = absurd (omega arith)
-runs-from (suc n) ns h (d ∷ ds) r l e =
-    let q : suc n - suc (length ds) ≡ n - length ds = omega arith in
-    rw (l .0, q) (chain-in n ns d (l .1) (l .2) ∙ ap (λ (t : List ℕ). d ∷ t) (runs-from n ns (at ns d) ds r (l .3) (omega arith)))
-
 -- ---- how a run ends
 
 -- a chain that ends goes through the run's records, and on from r
@@ -73,23 +59,6 @@ runs-out ns h ds r l p =
     refute (ends ns h) (λ e.
     (let t : (ts : List ℕ) × (chain ns h ≡ ds ++ ts) × Linked ns r ts = runs-split ns h ds r (chain ns h) l (chain-linked ns h e) in
     omega (arith, linked-head ns r (t .0) (t .2))))
-
--- nor if it goes on after as many records as there are
-pub runs-spent : (ns : List ℕ) (h : ℕ) (ds : List ℕ) (r : ℕ) → Runs ns h ds r → r ≢ 0 → length ns ≤ length ds → ends ns h ≡ false
-runs-spent ns h ds r l p q =
-    refute (ends ns h) (λ e.
-    (let k : Linked ns h (chain ns h) = chain-linked ns h e in
-    let t : (ts : List ℕ) × (chain ns h ≡ ds ++ ts) × Linked ns r ts = runs-split ns h ds r (chain ns h) l k in
-    let s : Step ns r (t .0) = linked-step ns r (t .0) p (t .2) in
-    omega (arith, linked-short ns h (chain ns h) k, ap length (t .1), length-append ds (t .0), ap length (s .parts))))
-
--- a chain, whether it ends or not, goes on at a record of the pool
-pub runs-here : (ns : List ℕ) (h : ℕ) (ds : List ℕ) (r : ℕ) → Runs ns h ds r → 1 ≤ r → r ≤ length ns → length ds < length ns →
-    chain ns h ≡ ds ++ (r ∷ chainFrom (length ns - suc (length ds)) ns (at ns r))
-runs-here ns h ds r l low high room =
-    let q : length ns - length ds ≡ suc (length ns - suc (length ds)) = omega arith in
-    runs-from (length ns) ns h ds r l (omega arith) ∙
-    ap (λ (t : List ℕ). ds ++ t) (ap (λ (m : ℕ). chainFrom m ns r) q ∙ chain-in (length ns - suc (length ds)) ns r low high)
 
 -- the last record met
 pub runs-last : (ds : List ℕ) (r : ℕ) → lastOf 0 (ds ++ (r ∷ [])) ≡ r

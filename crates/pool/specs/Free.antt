@@ -17,7 +17,7 @@ pub record FreeHas (rows next : List ℕ) (free k : ℕ) : Type 0 where
   pub size : length (chain next free) ≡ k
   pub zero : 1 ≤ k → at rows (lastFrom next free) ≡ 0
 
--- the columns' last records are apart, all records that they do not have are of row 0, and the free chain has so many
+-- the columns' last records are apart, as many records have row 0 as the columns do not have, and the free chain has so many
 pub record Closed (rows next heads : List ℕ) (free : ℕ) : Type 0 where
   pub apart : NoneTwice (lasts next heads)
   pub size : times 0 rows + length (chains next heads) ≡ length next

@@ -1,5 +1,5 @@
-// Records linked by one `next` table, with chains from heads and one free chain: a record taken, given back, inserted or unlinked leaves every other chain. What
-// shows, for any contents of the table, that a pool is whole is in proofs/Apart.antt and proofs/Closed.antt.
+// Records linked by one `next` table, with chains from heads and one free chain: a record taken, given back, inserted or unlinked leaves every other
+// chain. What shows, for any contents of the table, that a pool is whole is in proofs/Apart.antt and proofs/Closed.antt.
 ghost use mathlib.Core.Path.{_≡_};
 ghost use Prim.Native.Nat.{_≤_, _<_, min};
 ghost use lib.ListN.{length};

@@ -6,10 +6,10 @@ use Prim.Native.Nat.{ℕ, _+_, _*_, _≤_, _<_}
 use native.Mathlib.Omega.{arith}
 use native.Mathlib.Numerals.{add-one}
 use lib.ListN.{length, getD, take, set, length-set}
-use lib.Seq.{take-suc, take-all}
-use Rattle.workspace.specs.Regions.{region, OnlyIn}
-use Rattle.workspace.proofs.Regions.{store-push, store-only, store-leaves-region, only-refl, only-store, only-trans, only-wider, only-join, only-region}
-use Rattle.snapshot.specs.Snapshot.{paired, allPaired, keptPlaces, CanSaveRecords, RecordsSaved, ParentsSaved, Saved}
+use lib.Seq.{take-suc, take-all, getD-take}
+use Rattle.workspace.specs.Regions.{cell, region, OnlyIn}
+use Rattle.workspace.proofs.Regions.{store-push, store-only, store-leaves-region, region-cell, only-refl, only-store, only-trans, only-wider}
+use Rattle.snapshot.specs.Snapshot.{paired, allPaired, CanSaveRecords, RecordsSaved, CanSaveParents, ParentsSaved}
 use Rattle.snapshot.proofs.Kept.{all-paired-length, all-paired-at}
 
 -- ---- a list copied into the region from a on
@@ -25,33 +25,36 @@ copy-next new work a k v front h l e =
 
 -- the first k parents are kept
 pub record ParentsSaving (parents before : List ℕ) (a : ℕ) (work : List ℕ) (k : ℕ) : Type 0 where
-  pub inside : a + length parents ≤ length before
+  pub can : CanSaveParents parents before a
   pub within : k ≤ length parents
   pub front : region work a k ≡ take k parents
   pub only : OnlyIn a (length parents) before work
 
-pub parents-saving-start : {parents work : List ℕ} {a : ℕ} → a + length parents ≤ length work → ParentsSaving parents work a work 0
-parents-saving-start h = record { inside = h; within = omega arith; front = refl; only = only-refl }
+pub parents-saving-start : {parents work : List ℕ} {a : ℕ} → CanSaveParents parents work a → ParentsSaving parents work a work 0
+parents-saving-start c = record { can = c; within = omega arith; front = refl; only = only-refl }
 
 module _ {parents before : List ℕ} {a : ℕ} {work : List ℕ} {k : ℕ} (s : ParentsSaving parents before a work k) where
   pub parents-saving-next : k < length parents → ParentsSaving parents before a (set work (a + k) (getD parents k 0)) (k + 1)
   parents-saving-next h =
       record {
-        inside = s .inside;
+        can = s .can;
         within = omega arith;
-        front = copy-next parents work a k (getD parents k 0) (s .front) (omega (arith, s .only .same-length, s .inside)) h refl;
+        front = copy-next parents work a k (getD parents k 0) (s .front) (omega (arith, s .only .same-length, s .can .inside)) h refl;
         only = only-store (s .only) k (getD parents k 0) h;
       }
 
+  parents-in : (i : ℕ) → i < k → cell work a i ≡ getD parents i 0
+  parents-in i h = sym (region-cell work a k i h) ∙ ap (λ (xs : List ℕ). getD xs i 0) (s .front) ∙ getD-take k parents i 0 h
+
   pub parents-saving-end : length parents ≤ k → ParentsSaved parents before work a
   parents-saving-end h =
-      let e : k ≡ length parents = omega (arith, s .within) in
       record {
         kept =
             record {
-              inside = omega (arith, s .only .same-length, s .inside);
-              parents-are = ap (λ (n : ℕ). region work a n) (sym e) ∙ s .front ∙ take-all k parents h;
+              inside = omega (arith, s .only .same-length, s .can .inside);
+              parents-are = λ i l. omega (arith, parents-in i (omega arith), s .can .small i);
             };
+        low = λ i l. omega (arith, parents-in i (omega arith), s .can .small i);
         only = s .only;
       }
 
@@ -132,24 +135,3 @@ module _ {rows counts next before : List ℕ} {a : ℕ} {work : List ℕ} {k : �
             };
         only = s .only;
       }
-
--- ---- one after the other
-
-pub all-saved : {parents rows counts next before between after : List ℕ} {a : ℕ} → RecordsSaved rows counts next before between a →
-    ParentsSaved parents between after (a + 2 * length next) → Saved parents rows counts next before after a
-all-saved {parents} {rows} {counts} {next} {before} {between} {after} {a} s p =
-    let f : ℕ = length next in
-    let m : ℕ = length parents in
-    record {
-      kept =
-          record {
-            records =
-                record {
-                  inside = omega (arith, p .only .same-length, s .kept .inside);
-                  pairs = only-region (p .only) a f (inr (omega arith)) ∙ s .kept .pairs;
-                  nexts = only-region (p .only) (a + f) f (inr (omega arith)) ∙ s .kept .nexts;
-                };
-            parents-kept = p .kept;
-          };
-      only = only-join a (keptPlaces f m) (s .only) (p .only) (omega arith) (omega arith) (omega arith) (omega arith);
-    }

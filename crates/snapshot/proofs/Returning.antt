@@ -9,7 +9,7 @@ use Rattle.lists.specs.Lists.{over}
 use Rattle.lists.proofs.Over.{over-none, over-next, over-all, over-whole, over-taken}
 use Rattle.workspace.specs.Regions.{cell, region}
 use Rattle.workspace.proofs.Regions.{region-length, region-cell}
-use Rattle.snapshot.specs.Snapshot.{pairedRow, pairedCount, countBound, CanUnpair, Unpaired, CanTake}
+use Rattle.snapshot.specs.Snapshot.{pairedRow, pairedCount, countBound, CanUnpair, Unpaired, Taken}
 use Rattle.snapshot.proofs.Kept.{map-at}
 
 -- ---- one table
@@ -42,19 +42,29 @@ module _ {new old xs : List ℕ} {k : ℕ} (w : Writing new old xs k) where
 
 -- the first k parents are back
 pub record Taking (parents₀ work : List ℕ) (a : ℕ) (parents : List ℕ) (k : ℕ) : Type 0 where
-  pub can : CanTake parents₀ work a
-  pub back : Writing (region work a (length parents₀)) parents₀ parents k
+  pub inside : a + length parents₀ ≤ length work
+  pub back : Writing (map pairedRow (region work a (length parents₀))) parents₀ parents k
 
-pub taking-start : {parents work : List ℕ} {a : ℕ} → CanTake parents work a → Taking parents work a parents 0
-taking-start {parents} {work} {a} c =
-    record { can = c; back = writing-start (region work a (length parents)) parents (region-length work a (length parents) (c .inside)) }
+pub taking-start : {parents work : List ℕ} {a : ℕ} → a + length parents ≤ length work → Taking parents work a parents 0
+taking-start {parents} {work} {a} h =
+    let m : ℕ = length parents in
+    record { inside = h; back = writing-start (map pairedRow (region work a m)) parents (length-map (region work a m) pairedRow ∙ region-length work a m h) }
 
 module _ {parents₀ work : List ℕ} {a : ℕ} {parents : List ℕ} {k : ℕ} (t : Taking parents₀ work a parents k) where
   pub taking-long : length parents ≡ length parents₀
   taking-long = writing-long (t .back)
 
-  pub taking-next : k < length parents₀ → Taking parents₀ work a (set parents k (cell work a k)) (k + 1)
-  taking-next h = record { can = t .can; back = writing-next (t .back) (cell work a k) h (region-cell work a (length parents₀) k h) }
+  pub taking-next : k < length parents₀ → Taking parents₀ work a (set parents k (pairedRow (cell work a k))) (k + 1)
+  taking-next h =
+      let m : ℕ = length parents₀ in
+      let placed : k < length (region work a m) = omega (arith, region-length work a m (t .inside)) in
+      record {
+        inside = t .inside;
+        back = writing-next (t .back) (pairedRow (cell work a k)) h (map-at pairedRow (region work a m) k placed ∙ ap pairedRow (region-cell work a m k h));
+      }
+
+  pub taking-end : length parents₀ ≤ k → Taken parents work a
+  taking-end h = writing-end (t .back) h ∙ ap (λ (n : ℕ). map pairedRow (region work a n)) (sym taking-long)
 
 -- ---- all records
 

@@ -1,5 +1,6 @@
--- All records of the columns of L and all parents, kept in 2F + m places of the work table: F places for rows with their multiplicities, F for nexts, then m for
--- parents. What was kept comes back exactly, whatever the tables hold by then. Laws: proofs/Kept.antt. Assumes nothing: these are definitions.
+-- All records of the columns of L, and all parents, kept in the work table: 2F places for records, F for rows with their multiplicities and F for nexts; m places
+-- for parents, whose upper parts may come to hold other things. What was kept comes back exactly, whatever the tables hold by then. Laws: proofs/Kept.antt.
+-- Assumes nothing: these are definitions.
 use mathlib.Core.Path.{_≡_}
 use mathlib.Core.List.{List, [], _∷_, map}
 use Prim.Native.Nat.{ℕ, _+_, _*_, _/_, _%_, _≤_, _<_}
@@ -40,16 +41,17 @@ pub record CanPair (bound : ℕ) (rows counts next : List ℕ) : Type 0 where
   pub counts-small : (k : ℕ) → getD counts k 0 < bound
   pub bound-small : bound ≤ 262144
 
--- such records, and parents, which are rows too
-pub record CanKeep (bound : ℕ) (parents rows counts next : List ℕ) : Type 0 where
-  pub records : CanPair bound rows counts next
-  pub parents-small : (k : ℕ) → getD parents k 0 < 8192
+-- parents, which are rows too, and m places for them from a on
+pub record CanSaveParents (parents work : List ℕ) (a : ℕ) : Type 0 where
+  pub small : (k : ℕ) → getD parents k 0 < 8192
+  pub inside : a + length parents ≤ length work
+
+-- records that can be kept, and 2F places for them from a on
+pub record CanSaveRecords (rows counts next work : List ℕ) (a : ℕ) : Type 0 where
+  pub can : CanPair countBound rows counts next
+  pub inside : a + 2 * length next ≤ length work
 
 -- ---- what is kept, and where
-
--- places for f records and m parents
-abbrev pub keptPlaces : (f m : ℕ) → ℕ
-keptPlaces f m = 2 * f + m
 
 -- the 2F places from a on hold all records
 pub record RecordsKept (work : List ℕ) (a : ℕ) (rows counts next : List ℕ) : Type 0 where
@@ -57,42 +59,23 @@ pub record RecordsKept (work : List ℕ) (a : ℕ) (rows counts next : List ℕ)
   pub pairs : region work a (length next) ≡ allPaired rows counts
   pub nexts : region work (a + length next) (length next) ≡ next
 
--- the m places from a on hold all parents
+-- the m places from a on hold all parents in their lower parts
 pub record ParentsKept (work : List ℕ) (a : ℕ) (parents : List ℕ) : Type 0 where
   pub inside : a + length parents ≤ length work
-  pub parents-are : region work a (length parents) ≡ parents
-
--- the 2F + m places from a on hold all records, then all parents
-pub record Kept (work : List ℕ) (a : ℕ) (parents rows counts next : List ℕ) : Type 0 where
-  pub records : RecordsKept work a rows counts next
-  pub parents-kept : ParentsKept work (a + 2 * length next) parents
+  pub parents-are : (k : ℕ) → k < length parents → pairedRow (cell work a k) ≡ getD parents k 0
 
 -- ---- saved
-
--- records that can be kept, and 2F places for them from a on
-pub record CanSaveRecords (rows counts next work : List ℕ) (a : ℕ) : Type 0 where
-  pub can : CanPair countBound rows counts next
-  pub inside : a + 2 * length next ≤ length work
-
--- records and parents that can be kept, and 2F + m places for them from a on
-pub record CanSave (parents rows counts next work : List ℕ) (a : ℕ) : Type 0 where
-  pub can : CanKeep countBound parents rows counts next
-  pub inside : a + keptPlaces (length next) (length parents) ≤ length work
 
 -- after the call the records are kept, and nothing else in the work table changed
 pub record RecordsSaved (rows counts next before after : List ℕ) (a : ℕ) : Type 0 where
   pub kept : RecordsKept after a rows counts next
   pub only : OnlyIn a (2 * length next) before after
 
--- after the call the parents are kept, and nothing else in the work table changed
+-- after the call the parents are kept, with nothing in the upper parts of their places, and nothing else in the work table changed
 pub record ParentsSaved (parents before after : List ℕ) (a : ℕ) : Type 0 where
   pub kept : ParentsKept after a parents
+  pub low : (k : ℕ) → k < length parents → cell after a k < 8192
   pub only : OnlyIn a (length parents) before after
-
--- after the call all is kept, and nothing else in the work table changed
-pub record Saved (parents rows counts next before after : List ℕ) (a : ℕ) : Type 0 where
-  pub kept : Kept after a parents rows counts next
-  pub only : OnlyIn a (keptPlaces (length next) (length parents)) before after
 
 -- ---- brought back
 
@@ -109,31 +92,20 @@ pub record Unpaired (rows counts next work : List ℕ) (a : ℕ) : Type 0 where
   pub counts-are : counts ≡ map pairedCount (region work a (length next))
   pub next-are : next ≡ region work (a + length next) (length next)
 
--- places that hold parents of 16 bits, as many as the table has
-pub record CanTake (parents work : List ℕ) (a : ℕ) : Type 0 where
-  pub inside : a + length parents ≤ length work
-  pub parents-small : (k : ℕ) → k < length parents → cell work a k < 65536
+-- the parents are what the lower parts of the places from a on say
+abbrev pub Taken : (parents work : List ℕ) (a : ℕ) → Type 0
+Taken ps w a = ps ≡ map pairedRow (region w a (length ps))
 
--- four tables can be what they were when those marked ₀ were kept: these are kept, and are as long
-pub record CanRestore (parents rows counts next work : List ℕ) (a : ℕ) (parents₀ rows₀ counts₀ next₀ : List ℕ) : Type 0 where
-  pub can : CanKeep countBound parents₀ rows₀ counts₀ next₀
-  pub kept : Kept work a parents₀ rows₀ counts₀ next₀
-  pub parents-long : length parents ≡ length parents₀
+-- three tables as long as those marked ₀, which are kept
+pub record CanRestore (rows counts next work : List ℕ) (a : ℕ) (rows₀ counts₀ next₀ : List ℕ) : Type 0 where
+  pub can : CanPair countBound rows₀ counts₀ next₀
+  pub kept : RecordsKept work a rows₀ counts₀ next₀
   pub rows-long : length rows ≡ length rows₀
   pub counts-long : length counts ≡ length counts₀
   pub next-long : length next ≡ length next₀
 
--- some tables as long as these four are kept
-pub record SomeKept (parents rows counts next work : List ℕ) (a : ℕ) : Type 0 where
-  pub parents₀ : List ℕ
-  pub rows₀ : List ℕ
-  pub counts₀ : List ℕ
-  pub next₀ : List ℕ
-  pub can : CanRestore parents rows counts next work a parents₀ rows₀ counts₀ next₀
-
--- four tables are those marked ₀
-pub record Restored (parents₀ rows₀ counts₀ next₀ parents rows counts next : List ℕ) : Type 0 where
-  pub parents-are : parents ≡ parents₀
+-- three tables are those marked ₀
+pub record Restored (rows₀ counts₀ next₀ rows counts next : List ℕ) : Type 0 where
   pub rows-are : rows ≡ rows₀
   pub counts-are : counts ≡ counts₀
   pub next-are : next ≡ next₀

@@ -1,8 +1,7 @@
 // Records, and parents, brought back from the work table.
-ghost use mathlib.Core.Path.{_≡_};
+ghost use Prim.Native.Nat.{_+_, _≤_};
 ghost use lib.ListN.{length};
-ghost use Rattle.workspace.specs.Regions.{region};
-ghost use Rattle.snapshot.specs.Snapshot.{CanUnpair, Unpaired, CanTake};
+ghost use Rattle.snapshot.specs.Snapshot.{CanUnpair, Unpaired, Taken};
 
 // Brings back all records from the 2F places from a on.
 pub fn restore_records(
@@ -26,15 +25,15 @@ pub fn restore_records(
     }
 }
 
-// Brings back all parents from the m places from a on.
+// Brings back all parents from the lower parts of the m places from a on.
 pub fn restore_parents(parents: &mut [u16], work: &[u32], a: usize)
-    requires { ⌜ CanTake (now parents) (now work) a ⌝ }
-    ensures { λ _. ⌜ now (parents .exit) ≡ region (now (work .entry)) a (length (now (parents .entry))) ⌝ }
+    requires { ⌜ a + length (now parents) ≤ length (now work) ⌝ }
+    ensures { λ _. ⌜ Taken (now (parents .exit)) (now (work .entry)) a ⌝ }
 {
     let m = parents.len();
     let mut j: usize = 0;
     while j < m {
-        parents[j] = work[a + j] as u16;
+        parents[j] = (work[a + j] % 8192) as u16;
         j += 1;
     }
 }

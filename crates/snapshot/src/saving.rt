@@ -1,7 +1,5 @@
 // Records, and parents, copied into the work table.
-ghost use Prim.Native.Nat.{_+_, _≤_};
-ghost use lib.ListN.{length};
-ghost use Rattle.snapshot.specs.Snapshot.{CanSaveRecords, RecordsSaved, ParentsSaved};
+ghost use Rattle.snapshot.specs.Snapshot.{CanSaveRecords, RecordsSaved, CanSaveParents, ParentsSaved};
 
 // Keeps all records in the 2F places from a on: each row with its multiplicity, and each next F places further.
 pub fn save_records(rows: &[u16], counts: &[u16], next: &[u32], work: &mut [u32], a: usize)
@@ -17,9 +15,9 @@ pub fn save_records(rows: &[u16], counts: &[u16], next: &[u32], work: &mut [u32]
     }
 }
 
-// Keeps all parents in the m places from a on.
+// Keeps all parents in the m places from a on, which hold nothing else then.
 pub fn save_parents(parents: &[u16], work: &mut [u32], a: usize)
-    requires { ⌜ a + length (now parents) ≤ length (now work) ⌝ }
+    requires { ⌜ CanSaveParents (now parents) (now work) a ⌝ }
     ensures { λ _. ⌜ ParentsSaved (now (parents .entry)) (now (work .entry)) (now (work .exit)) a ⌝ }
 {
     let m = parents.len();

@@ -22,7 +22,8 @@ use Rattle.pool.specs.declared.Chain.the-variants.{Ended, Cut}
 use Rattle.pool.specs.Chains.{chain, ends, lastOf, Linked}
 use Rattle.pool.proofs.Chains.{Step, linked-step, linked-ends, chain-linked}
 use Rattle.pool.proofs.Runs.{Runs, runs-start, runs-more, runs-split, runs-end, runs-chain, runs-out, runs-last}
-use Rattle.counting.specs.Counting.{filled, OnlyTwo}
+use Rattle.book.specs.Tally.{filled}
+use Rattle.counting.specs.Counting.{OnlyTwo}
 use Rattle.counting.proofs.Linking.{two-refl}
 use Rattle.soundness.specs.Fitting.{entryFits, passes, struck, fits}
 use Rattle.soundness.specs.Checking.{CanCheckEntry, EntryChecked, CanCheck, chainFits, Checked}

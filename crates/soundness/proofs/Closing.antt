@@ -44,7 +44,7 @@ pub record CloseFacts (s : Stored) (b : book.Book) (w₂ : List ℕ) (j met n la
 -- ---- a column that is not the definition's
 
 module _ {s : Stored} {b : book.Book} {w : List ℕ} {j met : ℕ} (st : State s b w j met)
-    {w₁ : List ℕ} {size : ℕ} (d : Counted (length (s .heads)) (length (s .next)) w w₁ (givenIn (b .heads) (b .rows) (b .next) w (length (s .heads)) (length (s .next)) j) size)
+    {w₁ : List ℕ} {size : ℕ} (d : Counted (length (s .heads)) w w₁ (givenIn (b .heads) (b .rows) (b .next) w (length (s .heads)) (length (s .next)) j) size)
     {w₂ : List ℕ} {a : Chain} (k : Checked (s .rows) (s .counts) (s .next) w₁ w₂ (length (s .heads)) met (at (s .heads) j) a) where
   pub walk-only : WithinWork s b w w₂
   walk-only =
@@ -52,7 +52,7 @@ module _ {s : Stored} {b : book.Book} {w : List ℕ} {j met : ℕ} (st : State s
         same-length = k .only .same-length ∙ d .only .same-length;
         outside = λ x o. elim o [
           | inl h ↦ absurd (omega arith)
-          | inr h ↦ k .only .outside x (inr (omega arith)) (inr (omega arith)) ∙ d .only .outside x (inr (omega arith)) (inr (omega arith))
+          | inr h ↦ k .only .outside x (inr (omega arith)) (inr (omega arith)) ∙ d .only .outside x (inr (omega arith))
         ];
       }
 
@@ -93,7 +93,7 @@ module _ {s : Stored} {b : book.Book} {w : List ℕ} {j met : ℕ} (st : State s
 
   -- ---- the table
 
-  module _ {size : ℕ} (d : Counted (length (s .heads)) (length (s .next)) w w₁ (givenIn (b .heads) (b .rows) (b .next) w (length (s .heads)) (length (s .next)) j) size)
+  module _ {size : ℕ} (d : Counted (length (s .heads)) w w₁ (givenIn (b .heads) (b .rows) (b .next) w (length (s .heads)) (length (s .next)) j) size)
       {w₂ : List ℕ} {a : Chain} (k : Checked (s .rows) (s .counts) (s .next) w₁ w₂ (length (s .heads)) met (at (s .heads) j) a) where
     pub chain-read : ChainRead (s .rows) (s .next) w₁ w₂ m met (at (s .heads) j)
     chain-read = k .read (found .fitted)

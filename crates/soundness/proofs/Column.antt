@@ -87,7 +87,7 @@ pub record Found (s : Stored) (b : book.Book) (w₁ : List ℕ) (j met n last : 
   pub held : entriesHeld s j (columnAt (factorOf (length (s .heads)) (liveIn s b)) j) ≡ true
 
 module _ {s : Stored} {b : book.Book} {w : List ℕ} {j met : ℕ} (st : State s b w j met) (inside : j ≤ length (s .heads))
-    {w₁ : List ℕ} {size : ℕ} (d : Counted (length (s .heads)) (length (s .next)) w w₁ (givenIn (b .heads) (b .rows) (b .next) w (length (s .heads)) (length (s .next)) j) size) where
+    {w₁ : List ℕ} {size : ℕ} (d : Counted (length (s .heads)) w w₁ (givenIn (b .heads) (b .rows) (b .next) w (length (s .heads)) (length (s .next)) j) size) where
   abbrev m : ℕ
   m = length (s .heads)
 

@@ -15,10 +15,12 @@ use Rattle.lists.proofs.Tests.{eq-or-ne, lt-or-le, and-both, both-and, both-way
 use Rattle.lists.proofs.Member.{same-eq, same-self}
 use Rattle.lists.proofs.Place.{put-length, at-put-same, at-put-other}
 use Rattle.symbolic.specs.Factor.{patternFrom, nonZero}
-use Rattle.counting.specs.Counting.{total, filled}
+use Rattle.book.specs.Tally.{filled}
+use Rattle.book.proofs.Tally.{filled-lower, filled-zero, filled-none}
+use Rattle.counting.specs.Counting.{total}
 use Rattle.soundness.specs.Fitting.{entryFits, passes, struck, fits}
 use Rattle.soundness.specs.Checking.{EntryChecked}
-use Rattle.counting.proofs.Tallies.{total-place, filled-lower, filled-zero, filled-none, filled-total}
+use Rattle.counting.proofs.Tallies.{total-place, filled-total}
 
 -- ---- record after record
 

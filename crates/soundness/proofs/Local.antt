@@ -25,11 +25,12 @@ use Rattle.pool.specs.Chains.{chain}
 use Rattle.pool.proofs.Chains.{chain-nil, linked-step}
 use Rattle.pool.proofs.Whole.{pool-linked}
 use Rattle.book.specs.Book.{Book, isBooked, columnFor, columnsFrom, columnsIn, registerIn}
+use Rattle.book.specs.Tally.{tallied}
 use Rattle.book.proofs.Columns.{columns-nil, columns-booked, columns-absent, absent-zero}
 use Rattle.book.proofs.Sound.{Sound, fitting}
-use Rattle.counting.specs.Counting.{numbered, gathered, tallied, startIn}
+use Rattle.book.proofs.Tally.{tallied-length, tallied-cell}
+use Rattle.counting.specs.Counting.{numbered, gathered, startIn}
 use Rattle.counting.proofs.Numbers.{numbered-in, gathered-up, gathered-zero, gathered-count}
-use Rattle.counting.proofs.Tallies.{tallied-length, tallied-cell}
 
 -- ---- rising rows stand once
 

@@ -27,7 +27,7 @@ use Rattle.pool.proofs.Whole.{whole-pool}
 use Rattle.pool.proofs.Apart.{chains-find}
 use Rattle.pool.proofs.Closed.{Rowed, closed-whole, whole-closed, zero-pairs, zero-pairs-back}
 use Rattle.ends.specs.Naming.{Named, CanCompare}
-use Rattle.free_chain.specs.Pieces.{CanWalk}
+use Rattle.free_chain.specs.Pieces.{OnePool}
 use Rattle.free_chain.proofs.Walking.{decides-no}
 use Rattle.book.specs.Book as book
 use Rattle.book.proofs.Sound.{values-mem}
@@ -55,7 +55,7 @@ module _ {rows counts next : List ℕ} {free k : ℕ} where
       }
 
 module _ {rows counts next w : List ℕ} {m : ℕ} (pre : CanReadFree rows counts next w m) where
-  pub free-can : CanWalk rows next
+  pub free-can : OnePool rows next
   free-can = record { same-size = pre .rows-long; small = omega (arith, pre .f-bound) }
 
   pub free-only : (a e : ℕ) → a ≡ 8 * m + 2 * length next → e ≡ a + 2 * length next → (ms : List ℕ) → length ms ≡ length (region w a (e - a)) →

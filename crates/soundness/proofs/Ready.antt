@@ -24,10 +24,11 @@ use Rattle.symbolic.proofs.Patterns.{pattern-parts, pattern-within-rows}
 use Rattle.pool.specs.Chains.{Linked}
 use Rattle.pool.proofs.Chains.{linked-chain, linked-self}
 use Rattle.book.specs.Book as book
+use Rattle.book.specs.Tally.{tallied, bookRows}
 use Rattle.book.proofs.Sound.{Sound, sound-of}
 use Rattle.tables.specs.Stored.{Stored, recordsOf, holdsColumn}
-use Rattle.counting.specs.Counting.{numbered, gathered, tallied, startIn}
-use Rattle.counting.specs.Given.{Counted, childrenIn, stashed, Stashed, bookRows, startingIn, givenIn, CanTallyAll}
+use Rattle.counting.specs.Counting.{numbered, gathered, startIn}
+use Rattle.counting.specs.Given.{Counted, childrenIn, stashed, Stashed, startingIn, givenIn, CanTallyAll}
 use Rattle.soundness.specs.Checking.{CanCheck}
 use Rattle.soundness.specs.State.{liveIn, State}
 use Rattle.counting.proofs.Numbers.{numbered-in, gathered-ext}
@@ -188,7 +189,7 @@ module _ {s : Stored} {b : book.Book} {w : List ℕ} {j met : ℕ} (st : State s
     front-zero : region w 0 m ≡ replicate m 0
     front-zero = zero-region w 0 m (omega (arith, st .sizes .long)) (st .zero)
 
-    module _ {w₁ : List ℕ} {size : ℕ} (d : Counted m f w w₁ (givenIn (b .heads) (b .rows) (b .next) w m f j) size) where
+    module _ {w₁ : List ℕ} {size : ℕ} (d : Counted m w w₁ (givenIn (b .heads) (b .rows) (b .next) w m f j) size) where
       -- the counters are the definition's multiplicities
       pub ready-counters : region w₁ 0 m ≡ columnAt L j .counts
       ready-counters =

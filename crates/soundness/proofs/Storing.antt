@@ -12,7 +12,7 @@ use lib.Seq.{getD-set-same, getD-set-other, take-suc}
 use borrow.Author.Tests.{eq-eqb}
 use Rattle.lists.specs.Lists.{at, valuesAt}
 use Rattle.lists.proofs.Tests.{eq-or-ne, both-and}
-use Rattle.workspace.specs.Layout.{columnHead, stashStart, lastsAt, namesAt, rowStash, small, columnNext}
+use Rattle.workspace.specs.Layout.{columnHead, stashStart, lastsAt, namesAt, rowStash, columnNext}
 use Rattle.workspace.specs.Regions.{cell, region, Outside, IsZero}
 use Rattle.workspace.proofs.Regions.{region-ext}
 use Rattle.symbolic.specs.Factor.{FactorColumn, factorOf, columnAt, parentOf}
@@ -60,7 +60,7 @@ module _ (ns xs : List ℕ) (h : ℕ) where
 -- ---- what the stores leave
 
 module _ {s : Stored} {b : book.Book} {w : List ℕ} {j met : ℕ} (st : State s b w j met) (inside : j ≤ length (s .heads)) {w₁ : List ℕ} {n last : ℕ} (found : Found s b w₁ j met n last)
-    {size : ℕ} (d : Counted (length (s .heads)) (length (s .next)) w w₁ (givenIn (b .heads) (b .rows) (b .next) w (length (s .heads)) (length (s .next)) j) size)
+    {size : ℕ} (d : Counted (length (s .heads)) w w₁ (givenIn (b .heads) (b .rows) (b .next) w (length (s .heads)) (length (s .next)) j) size)
     {w₂ : List ℕ} {a : Chain} (k : Checked (s .rows) (s .counts) (s .next) w₁ w₂ (length (s .heads)) met (at (s .heads) j) a) where
   abbrev m : ℕ
   m = length (s .heads)
@@ -78,8 +78,8 @@ module _ {s : Stored} {b : book.Book} {w : List ℕ} {j met : ℕ} (st : State s
   parent-in = closing-within st inside found
 
   -- a place that neither the counting nor the walk wrote
-  two-place : (x : ℕ) → m ≤ x → Outside (rowStash m f) f x → Outside (small m f) 256 x → getD w₂ x 0 ≡ getD w x 0
-  two-place x p q r = k .only .outside x (inr (omega arith)) q ∙ d .only .outside x (inr (omega arith)) r
+  two-place : (x : ℕ) → m ≤ x → Outside (rowStash m f) f x → getD w₂ x 0 ≡ getD w x 0
+  two-place x p q = k .only .outside x (inr (omega arith)) q ∙ d .only .outside x (inr (omega arith))
 
   module _ (p : ℕ) (p-is : p ≡ parentOf L j) (same-parent : at (s .parents) j ≡ p) {w₃ : List ℕ} (link-is : w₃ ≡ linkedIn w₂ m (2 * m) p j)
       {w₄ : List ℕ} (store-is : w₄ ≡ set w₃ (4 * m + j) n) where
@@ -95,8 +95,8 @@ module _ {s : Stored} {b : book.Book} {w : List ℕ} {j met : ℕ} (st : State s
         ap (λ (z : List ℕ). getD z x 0) store-is ∙ getD-set-other w₃ (4 * m + j) x n 0 e ∙
         linked-only .outside x (elim q [ inl h ↦ inl (omega arith) | inr h ↦ inr (omega arith) ]) (elim q [ inl h ↦ inl (omega arith) | inr h ↦ inr (omega arith) ])
 
-    four-far : (x : ℕ) → 3 * m ≤ x → x ≢ 4 * m + j → Outside (rowStash m f) f x → Outside (small m f) 256 x → getD w₄ x 0 ≡ getD w x 0
-    four-far x h e q r = four-place x (inr (omega arith)) e ∙ two-place x (omega arith) q r
+    four-far : (x : ℕ) → 3 * m ≤ x → x ≢ 4 * m + j → Outside (rowStash m f) f x → getD w₄ x 0 ≡ getD w x 0
+    four-far x h e q = four-place x (inr (omega arith)) e ∙ two-place x (omega arith) q
 
     -- any record of the pool can be named, and 0
     pub closing-name : {e : ℕ} → e ≤ length (s .next) → CanName w₄ (6 * length (s .heads)) (8 * length (s .heads)) j e
@@ -130,15 +130,15 @@ module _ {s : Stored} {b : book.Book} {w : List ℕ} {j met : ℕ} (st : State s
           let c : ℕ = columnNext m f (length (b .next)) in
           listed-keep w w₅ (columnHead m) m c (length (b .heads)) (startIn b) (length (b .heads))
           (region-ext w w₅ c c (length (b .heads)) (omega (arith, st .sizes .long)) (omega (arith, st .sizes .long, five-length))
-          (λ i h. past (c + i) (omega arith) ∙ four-far (c + i) (omega arith) (λ e. omega arith) (inr (omega arith)) (inr (omega arith))))
-          (λ i h. near (columnHead m + i) (omega arith) ∙ four-far (columnHead m + i) (omega arith) (λ e. omega arith) (inl (omega arith)) (inl (omega arith))) (st .columns)
+          (λ i h. past (c + i) (omega arith) ∙ four-far (c + i) (omega arith) (λ e. omega arith) (inr (omega arith))))
+          (λ i h. near (columnHead m + i) (omega arith) ∙ four-far (columnHead m + i) (omega arith) (λ e. omega arith) (inl (omega arith))) (st .columns)
 
       two-children : ListedIn w₂ m m (2 * m) m (at (s .parents)) (j - 1)
       two-children =
           listed-keep w w₂ m m (2 * m) m (at (s .parents)) (j - 1)
           (region-ext w w₂ (2 * m) (2 * m) m (omega (arith, st .sizes .long)) (omega (arith, st .sizes .long, two-length))
-          (λ i h. two-place (2 * m + i) (omega arith) (inl (omega arith)) (inl (omega arith))))
-          (λ i h. two-place (m + i) (omega arith) (inl (omega arith)) (inl (omega arith))) (st .children)
+          (λ i h. two-place (2 * m + i) (omega arith) (inl (omega arith))))
+          (λ i h. two-place (m + i) (omega arith) (inl (omega arith))) (st .children)
 
       next-children : ListedIn w₅ m m (2 * m) m (at (s .parents)) (j + 1 - 1)
       next-children =
@@ -157,7 +157,7 @@ module _ {s : Stored} {b : book.Book} {w : List ℕ} {j met : ℕ} (st : State s
 
       starts-keep : (c : ℕ) → c < j → cell w₅ (stashStart m) c ≡ cell w (stashStart m) c
       starts-keep c h =
-          near (stashStart m + c) (omega arith) ∙ four-far (stashStart m + c) (omega arith) (λ e. omega arith) (inl (omega arith)) (inl (omega arith))
+          near (stashStart m + c) (omega arith) ∙ four-far (stashStart m + c) (omega arith) (λ e. omega arith) (inl (omega arith))
 
       start-new : cell w₅ (stashStart m) j ≡ n
       start-new =
@@ -211,7 +211,7 @@ module _ {s : Stored} {b : book.Book} {w : List ℕ} {j met : ℕ} (st : State s
               (let z : cell w (stashStart m) (c - 1) + i < met = omega arith in
               let u : x + i ≡ rowStash m f + (cell w (stashStart m) (c - 1) + i) = omega arith in
               stashed (x + i) (omega arith) ∙ ap (λ (v : ℕ). getD w₂ v 0) u ∙ chain-read st inside found d k .stash-before (cell w (stashStart m) (c - 1) + i) z ∙
-              ap (λ (v : ℕ). getD w₁ v 0) (sym u) ∙ d .only .outside (x + i) (inr (omega arith)) (inl (omega (arith, found .count, found .within))))) ∙ st .stash .rows-are c g h)
+              ap (λ (v : ℕ). getD w₁ v 0) (sym u) ∙ d .only .outside (x + i) (inr (omega arith)))) ∙ st .stash .rows-are c g h)
 
       -- ---- the chains and their last records
 
@@ -224,13 +224,13 @@ module _ {s : Stored} {b : book.Book} {w : List ℕ} {j met : ℕ} (st : State s
       names-kept : Named w₄ (lastsAt m) (j - 1) (namesAt m) f
       names-kept =
           named-keep (st .chains-walked .named)
-          (λ i h. four-far (lastsAt m + i) (omega arith) (λ e. omega (arith, st .sizes .some)) (inl (omega arith)) (inl (omega arith)))
-          (λ i h. four-far (namesAt m + i) (omega arith) (λ e. omega (arith, st .sizes .some)) (inl (omega arith)) (inl (omega arith)))
+          (λ i h. four-far (lastsAt m + i) (omega arith) (λ e. omega (arith, st .sizes .some)) (inl (omega arith)))
+          (λ i h. four-far (namesAt m + i) (omega arith) (λ e. omega (arith, st .sizes .some)) (inl (omega arith)))
 
       lasts-kept : region w₄ (lastsAt m) (j - 1) ≡ lasts (s .next) (walked s j)
       lasts-kept =
           region-ext w w₄ (lastsAt m) (lastsAt m) (j - 1) (omega (arith, st .sizes .long)) (omega (arith, st .sizes .long, four-length))
-          (λ i h. four-far (lastsAt m + i) (omega arith) (λ e. omega (arith, st .sizes .some)) (inl (omega arith)) (inl (omega arith))) ∙ st .chains-walked .lasts-are
+          (λ i h. four-far (lastsAt m + i) (omega arith) (λ e. omega (arith, st .sizes .some)) (inl (omega arith))) ∙ st .chains-walked .lasts-are
 
       -- with this one's, in the table before the number j is rewritten
       named-new : (i : ℕ) → j ≡ suc i → (region w₅ (lastsAt m) (suc i) ≡ region w₄ (lastsAt m) i ++ (last ∷ [])) × Named w₅ (lastsAt m) (suc i) (namesAt m) f
@@ -264,7 +264,7 @@ module _ {s : Stored} {b : book.Book} {w : List ℕ} {j met : ℕ} (st : State s
             same-length = five-length;
             outside = λ x o. elim o [
               | inl h ↦ absurd (omega arith)
-              | inr h ↦ past x (omega arith) ∙ four-far x (omega arith) (λ e. omega (arith, st .sizes .some)) (inr (omega arith)) (inr (omega arith))
+              | inr h ↦ past x (omega arith) ∙ four-far x (omega arith) (λ e. omega (arith, st .sizes .some)) (inr (omega arith))
             ];
           }
 

@@ -13,7 +13,8 @@ use Rattle.pool.specs.Chains.{chain, ends}
 use Rattle.pool.specs.Ends.{chainAnswer}
 use Rattle.pool.specs.Free.{FreeHas, zeroPairs}
 use Rattle.pool.specs.declared.Chain.{Chain}
-use Rattle.counting.specs.Counting.{filled, OnlyTwo}
+use Rattle.book.specs.Tally.{filled}
+use Rattle.counting.specs.Counting.{OnlyTwo}
 use Rattle.soundness.specs.Fitting.{entryFits, fits}
 
 -- ---- one entry, against the counters that are the first m places

@@ -27,7 +27,6 @@ use Rattle.workspace.specs.Layout.{
   namesAt,
   rowStash,
   piecesAt,
-  small,
   bookNames,
   columnNext,
 }
@@ -74,8 +73,9 @@ pub record ReadRegions (m n f c : ℕ) : Type 0 where
   pub lasts-end : lastsAt m + m ≤ namesAt m
   pub names-end : namesAt m + f ≡ rowStash m f
   pub row-stash-end : rowStash m f + f ≡ piecesAt m f
-  pub pieces-end : piecesAt m f + 2 * f ≡ small m f
-  pub small-end : small m f + 1024 ≡ bookNames m f
+  pub pieces-end : piecesAt m f + 2 * f ≡ flagsAt m f
+  -- the flags of a batch, which the read-through leaves
+  pub flags-left : flagsAt m f + 1024 ≡ bookNames m f
   pub book-names-end : bookNames m f + c ≡ columnNext m f c
   pub column-next-end : columnNext m f c + n ≡ workNeed m n f c
 
@@ -91,7 +91,7 @@ read-regions m n f c h =
       names-end = omega arith;
       row-stash-end = omega arith;
       pieces-end = omega arith;
-      small-end = omega arith;
+      flags-left = omega arith;
       book-names-end = omega arith;
       column-next-end = omega arith;
     }

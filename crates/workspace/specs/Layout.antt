@@ -107,10 +107,6 @@ rowStash m f = 8 * m + f
 abbrev pub piecesAt : (m f : ℕ) → ℕ
 piecesAt m f = 8 * m + 2 * f
 
--- the rows of one book column, copied out, 256 places of 1,024
-abbrev pub small : (m f : ℕ) → ℕ
-small m f = 8 * m + 4 * f
-
 -- per record of the book: the last id read whose column ends there, C places, written before they are read; then pieces of the book's free chain
 abbrev pub bookNames : (m f : ℕ) → ℕ
 bookNames m f = 8 * m + 4 * f + 1024

@@ -3,6 +3,7 @@
 #![allow(dead_code)]
 pub mod calls;
 pub mod early;
+pub mod judging;
 pub mod laid;
 pub mod meeting;
 pub mod random;

@@ -4,7 +4,8 @@ use mathlib.Core.Logic.{inl, inr, ⊎-elim}
 use Prim.Native.Nat.{_+_, _-_, _≤_, _<_}
 use native.Mathlib.Omega.{arith}
 use lib.ListN.{length, getD}
-use Rattle.counting.proofs.Tallies.{tally-length, Tallying, tallying-start, tallying-row, tallying-room, tallying-few, tallying-more, tallying-end}
+use Rattle.book.proofs.Tally.{tally-length}
+use Rattle.counting.proofs.Tallies.{Tallying, tallying-start, tallying-row, tallying-room, tallying-few, tallying-more, tallying-end}
 use Rattle.counting.proofs.tally.Statement.{statement}
 use Rattle.counting.proofs.tally.Tie as tie
 

@@ -143,7 +143,7 @@ same-length : tie.Need-same-length Inv-loop μ-loop
 same-length c = gathering-length (children-gathers (c .before .before .before .before .pre)) (c .before .loop .inv)
 
 returns : tie.Need-returns Inv-loop μ-loop
-returns c = let p = c .before .before .before .before in gathering-end (children-gathers (p .pre)) (c .before .loop .inv) (p .args .f) (c .loop-test .left)
+returns c = let p = c .before .before .before .before in gathering-end (children-gathers (p .pre)) (c .before .loop .inv) (c .loop-test .left)
 
 pub tally-children-spec : {M : Type 1} → statement M
 tally-children-spec =

@@ -5,7 +5,7 @@ use lib.ListN.{length}
 use Rattle.workspace.specs.Layout.{columnNext}
 use Rattle.workspace.specs.Regions.{region}
 use Rattle.pool.specs.Chains.{chain}
-use Rattle.counting.proofs.Tallies.{tally-of}
+use Rattle.book.proofs.Tally.{tally-of}
 use Rattle.counting.proofs.Gathering.{gathering-start, gathering-length, gathering-few, gathering-next, gathering-less, gathering-end}
 use Rattle.counting.proofs.Starting.{Starting, IdFacts, starting-gathers, starting-facts, starting-can}
 use Rattle.counting.proofs.tally_columns.Statement.{statement}
@@ -65,14 +65,14 @@ slice-read-i c = let p = c .before .before .before .before .before .pre in let s
 loop-holds : tie.Need-loop-holds Inv-loop μ-loop
 loop-holds c = gathering-start (starting-gathers (c .before .before .before .before .before .pre))
 
-tally-book-requires : tie.Need-tally-book-requires Inv-loop μ-loop
-tally-book-requires c κs = let d = c .before in starting-can (start d .pre) (d .before .loop .inv) (d .loop-test .taken)
+count-rows-requires : tie.Need-count-rows-requires Inv-loop μ-loop
+count-rows-requires c κs = let d = c .before in starting-can (start d .pre) (d .before .loop .inv) (d .loop-test .taken)
 
 add-size : tie.Need-add-size Inv-loop μ-loop
 add-size c =
     let d = at-count c in
     let f = facts d in
-    let t = c .before .before .tally-book in
+    let t = c .before .before .count-rows in
     omega (arith, gathering-few (starting-gathers (start d .pre)) (gathering-next (starting-gathers (start d .pre)) (d .before .loop .inv) (d .loop-test .taken) (tally-of (t .ensures .0) (t .ensures .1))))
 
 sub-i-2 : tie.Need-sub-i-2 Inv-loop μ-loop
@@ -88,25 +88,25 @@ mul-i-3 : tie.Need-mul-i-3 Inv-loop μ-loop
 mul-i-3 c = let f = facts (at-count c) in omega arith
 
 slice-read-i-2 : tie.Need-slice-read-i-2 Inv-loop μ-loop
-slice-read-i-2 c = let f = facts (at-count (c .before)) in omega (arith, c .before .before .before .tally-book .kept)
+slice-read-i-2 c = let f = facts (at-count (c .before)) in omega (arith, c .before .before .before .count-rows .kept)
 
 loop-less : tie.Need-loop-less Inv-loop μ-loop
 loop-less c =
     let d = at-count (c .before) in
-    let t = c .before .before .before .tally-book in
+    let t = c .before .before .before .count-rows in
     gathering-less (starting-gathers (start d .pre)) (d .before .loop .inv) (d .loop-test .taken) (tally-of (t .ensures .0) (t .ensures .1))
 
 loop-again : tie.Need-loop-again Inv-loop μ-loop
 loop-again c =
     let d = at-count (c .before) in
-    let t = c .before .before .before .tally-book in
+    let t = c .before .before .before .count-rows in
     gathering-next (starting-gathers (start d .pre)) (d .before .loop .inv) (d .loop-test .taken) (tally-of (t .ensures .0) (t .ensures .1))
 
 same-length : tie.Need-same-length Inv-loop μ-loop
 same-length c = gathering-length (starting-gathers (c .before .before .before .before .before .before .before .pre)) (c .before .loop .inv)
 
 returns : tie.Need-returns Inv-loop μ-loop
-returns c = let p = c .before .before .before .before .before .before .before in gathering-end (starting-gathers (p .pre)) (c .before .loop .inv) (p .args .f) (c .loop-test .left)
+returns c = let p = c .before .before .before .before .before .before .before in gathering-end (starting-gathers (p .pre)) (c .before .loop .inv) (c .loop-test .left)
 
 pub tally-columns-spec : {M : Type 1} → statement M
 tally-columns-spec =
@@ -126,7 +126,7 @@ tally-columns-spec =
     mul-i-2
     slice-read-i
     loop-holds
-    tally-book-requires
+    count-rows-requires
     add-size
     sub-i-2
     cast-i-2

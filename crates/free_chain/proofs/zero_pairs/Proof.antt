@@ -1,4 +1,5 @@
--- `free_chain::zero_pairs` meets its contract: n is the number of pairs of zeros before place a, counted block by block. The measure is what is left. Assumes nothing.
+-- `free_chain::zero_pairs` meets its contract: n is the number of pairs of zeros before place a, counted block by block. The measure is what is left. Assumes
+-- nothing.
 use Prim.Native.Nat.{_+_, _-_}
 use native.Mathlib.Omega.{arith}
 use lib.ListN.{length}

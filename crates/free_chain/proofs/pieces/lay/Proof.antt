@@ -60,7 +60,7 @@ cast-if1 c = omega arith
 loop-holds : tie.Need-loop-holds Inv-loop μ-loop
 loop-holds c =
     let a = c .before .args in
-    laying-start (a .scratch .now) (a .cuts) (a .head) (c .if1 .n) (c .before .pre .0 .long) (⊎-elim (λ w. omega arith) (λ w. omega arith) (c .if1 .came))
+    laying-start (a .scratch .now) (a .cuts) (a .free .0) (c .if1 .n) (c .before .pre .0 .long) (⊎-elim (λ w. omega arith) (λ w. omega arith) (c .if1 .came))
 
 mul-i : tie.Need-mul-i Inv-loop μ-loop
 mul-i c = omega arith

@@ -1,16 +1,16 @@
--- `free_chain::pieces::round` meets its contract. The loop's invariant is `Rounding`: the first q of n queued pieces were stepped. The measure is what is left
--- of the queue. Assumes nothing.
-use Prim.Native.Nat.{_-_}
+-- `free_chain::pieces::round` meets its contract. The loop's invariant is `Rounding`: the first q of n queued pieces were stepped; and the budget has fallen by
+-- one for each of them at least. The measure is what is left of the queue. Assumes nothing.
+use Prim.Native.Nat.{_+_, _-_, _≤_}
 use native.Mathlib.Omega.{arith}
-use Rattle.free_chain.proofs.Rounding.{Rounding, rounding-start, rounding-piece, rounding-can, rounding-on, rounding-drop}
+use Rattle.free_chain.proofs.Rounding.{Rounding, rounding-start, rounding-piece, rounding-can, rounding-kept, rounding-same, rounding-on, rounding-drop, queue-none}
 use Rattle.free_chain.proofs.pieces.round.Statement.{statement}
 use Rattle.free_chain.proofs.pieces.round.Tie as tie
 
 abbrev Inv-loop : tie.InvT-loop
-Inv-loop rows next scratch₀ cuts queued queue n₀ q₀ scratch n q = Rounding rows next cuts scratch₀ scratch n q
+Inv-loop rows next scratch₀ cuts queued left queue n₀ rest₀ q₀ scratch n rest q = Rounding rows next cuts scratch₀ scratch n q × (rest + q ≤ left)
 
 abbrev μ-loop : tie.MeasureT-loop
-μ-loop rows next scratch₀ cuts queued queue n₀ q₀ scratch n q = n - q
+μ-loop rows next scratch₀ cuts queued left queue n₀ rest₀ q₀ scratch n rest q = n - q
 
 add-queue : tie.Need-add-queue Inv-loop μ-loop
 add-queue c = omega arith
@@ -25,7 +25,7 @@ abbrev turn : tie.After-slice-known3 Inv-loop μ-loop → tie.In-loop Inv-loop �
 turn c = c .before .before .before .before .before
 
 loop-holds : tie.Need-loop-holds Inv-loop μ-loop
-loop-holds c = rounding-start (c .before .before .before .pre)
+loop-holds c = (rounding-start (c .before .before .before .pre), omega arith)
 
 add-s : tie.Need-add-s Inv-loop μ-loop
 add-s c = omega arith
@@ -37,21 +37,10 @@ slice-read-s : tie.Need-slice-read-s Inv-loop μ-loop
 slice-read-s c = omega arith
 
 cast-s : tie.Need-cast-s Inv-loop μ-loop
-cast-s c = omega (arith, rounding-piece (start (c .before) .pre) (c .before .before .loop .inv) (c .before .loop-test .taken))
+cast-s c = omega (arith, rounding-piece (start (c .before) .pre) (c .before .before .loop .inv .0) (c .before .loop-test .taken))
 
 step-requires : tie.Need-step-requires Inv-loop μ-loop
-step-requires c κs = rounding-can (start (c .before .before) .pre) (c .before .before .before .loop .inv) (c .before .before .loop-test .taken)
-
-add-q : tie.Need-add-q Inv-loop μ-loop
-add-q c = omega arith
-
-loop-less : tie.Need-loop-less Inv-loop μ-loop
-loop-less c = omega arith
-
-loop-again : tie.Need-loop-again Inv-loop μ-loop
-loop-again c =
-    let t = turn (c .before) in
-    rounding-on (start t .pre) (t .before .loop .inv) (t .loop-test .taken) (c .before .before .before .step .ensures)
+step-requires c κs = rounding-can (start (c .before .before) .pre) (c .before .before .before .loop .inv .0) (c .before .before .loop-test .taken)
 
 sub-n : tie.Need-sub-n Inv-loop μ-loop
 sub-n c = omega arith
@@ -74,19 +63,44 @@ mul-scratch-2 c = omega arith
 slice-write-scratch : tie.Need-slice-write-scratch Inv-loop μ-loop
 slice-write-scratch c = omega arith
 
+loop-less : tie.Need-loop-less Inv-loop μ-loop
+loop-less c = omega arith
+
+loop-again : tie.Need-loop-again Inv-loop μ-loop
+loop-again c =
+    let t = turn (c .before .before) in
+    (rounding-drop (start t .pre) (t .before .loop .inv .0) (t .loop-test .taken) (c .before .before .before .before .step .ensures), omega arith)
+
+same-length : tie.Need-same-length Inv-loop μ-loop
+same-length c =
+    let t = turn (c .before .before) in
+    rounding-same (start t .pre) (t .before .loop .inv .0) (t .loop-test .taken) (c .before .before .before .before .step .ensures)
+
+returns : tie.Need-returns Inv-loop μ-loop
+returns c =
+    let t = turn (c .before .before) in
+    record {
+      kept = rounding-kept (start t .pre) (t .before .loop .inv .0) (t .loop-test .taken) (c .before .before .before .before .step .ensures);
+      queue = queue-none _ _;
+      budget = omega arith;
+    }
+
+add-q : tie.Need-add-q Inv-loop μ-loop
+add-q c = omega arith
+
 loop-less-2 : tie.Need-loop-less-2 Inv-loop μ-loop
 loop-less-2 c = omega arith
 
 loop-again-2 : tie.Need-loop-again-2 Inv-loop μ-loop
 loop-again-2 c =
     let t = turn (c .before .before) in
-    rounding-drop (start t .pre) (t .before .loop .inv) (t .loop-test .taken) (c .before .before .before .before .step .ensures)
+    (rounding-on (start t .pre) (t .before .loop .inv .0) (t .loop-test .taken) (c .before .before .before .before .step .ensures), omega arith)
 
-same-length : tie.Need-same-length Inv-loop μ-loop
-same-length c = c .before .loop .inv .same
+same-length-2 : tie.Need-same-length-2 Inv-loop μ-loop
+same-length-2 c = c .before .loop .inv .0 .same
 
-returns : tie.Need-returns Inv-loop μ-loop
-returns c = record { kept = c .before .loop .inv .kept; queue = c .before .loop .inv .queue }
+returns-2 : tie.Need-returns-2 Inv-loop μ-loop
+returns-2 c = record { kept = c .before .loop .inv .0 .kept; queue = c .before .loop .inv .0 .queue; budget = omega (arith, c .before .loop .inv .0 .within) }
 
 pub round-spec : {M : Type 1} → statement M
 round-spec =
@@ -102,9 +116,6 @@ round-spec =
     slice-read-s
     cast-s
     step-requires
-    add-q
-    loop-less
-    loop-again
     sub-n
     add-scratch
     mul-scratch
@@ -112,7 +123,12 @@ round-spec =
     add-scratch-2
     mul-scratch-2
     slice-write-scratch
+    loop-less
+    loop-again
+    same-length
+    returns
+    add-q
     loop-less-2
     loop-again-2
-    same-length
-    returns)
+    same-length-2
+    returns-2)

@@ -1,4 +1,6 @@
--- `free_chain::pieces::rounds` meets its contract: after each round all pieces stand. The measure is what is left of the steps. Assumes nothing.
+-- `free_chain::pieces::rounds` meets its contract: after each round all pieces stand. The measure is what is queued and what is left of
+-- the budget: a round takes one off the budget for each piece that it leaves queued. Assumes nothing.
+use Prim.Native.Nat.{_+_}
 use native.Mathlib.Omega.{arith}
 use Rattle.free_chain.proofs.Rounding.{Rounding, rounding-start, rounds-can, rounds-next}
 use Rattle.free_chain.proofs.pieces.rounds.Statement.{statement}
@@ -8,20 +10,14 @@ abbrev Inv-loop : tie.InvT-loop
 Inv-loop rows next scratch₀ cuts queued k n₀ left₀ scratch n left = Rounding rows next cuts scratch₀ scratch n 0
 
 abbrev μ-loop : tie.MeasureT-loop
-μ-loop rows next scratch₀ cuts queued k n₀ left₀ scratch n left = left
+μ-loop rows next scratch₀ cuts queued k n₀ left₀ scratch n left = n + left
 
 loop-holds : tie.Need-loop-holds Inv-loop μ-loop
 loop-holds c = rounding-start (c .before .before .before .pre)
 
-same-length : tie.Need-same-length Inv-loop μ-loop
-same-length c = c .before .before .loop .inv .same
-
-returns : tie.Need-returns Inv-loop μ-loop
-returns c = c .before .before .loop .inv .kept
-
 round-requires : tie.Need-round-requires Inv-loop μ-loop
 round-requires c κs =
-    let p = c .before .before .before in
+    let p = c .before .before in
     rounds-can (p .before .before .before .before .pre) (p .loop .inv)
 
 loop-less : tie.Need-loop-less Inv-loop μ-loop
@@ -30,13 +26,13 @@ loop-less c = omega arith
 loop-again : tie.Need-loop-again Inv-loop μ-loop
 loop-again c =
     let d = c .before .before in
-    rounds-next (d .before .before .before .before .loop .inv) (d .round .ensures) (d .round .kept .1 .1 .0)
+    rounds-next (d .before .before .before .loop .inv) (d .round .ensures) (d .round .kept .1 .1 .0)
 
-same-length-2 : tie.Need-same-length-2 Inv-loop μ-loop
-same-length-2 c = c .before .loop .inv .same
+same-length : tie.Need-same-length Inv-loop μ-loop
+same-length c = c .before .loop .inv .same
 
-returns-2 : tie.Need-returns-2 Inv-loop μ-loop
-returns-2 c = c .before .loop .inv .kept
+returns : tie.Need-returns Inv-loop μ-loop
+returns c = c .before .loop .inv .kept
 
 pub rounds-spec : {M : Type 1} → statement M
 rounds-spec =
@@ -45,10 +41,8 @@ rounds-spec =
     Inv-loop
     μ-loop
     loop-holds
-    same-length
-    returns
     round-requires
     loop-less
     loop-again
-    same-length-2
-    returns-2)
+    same-length
+    returns)

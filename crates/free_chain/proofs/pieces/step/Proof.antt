@@ -42,6 +42,12 @@ mul-after c = search needs
 shared-slice-read-after : tie.Need-shared-slice-read-after
 shared-slice-read-after c = search needs
 
+sub-walked : tie.Need-sub-walked
+sub-walked c = search needs
+
+add-walked : tie.Need-add-walked
+add-walked c = search needs
+
 mul-size : tie.Need-mul-size
 mul-size c = search needs
 
@@ -54,14 +60,8 @@ slice-read-size c = search needs
 cast-size : tie.Need-cast-size
 cast-size c = search needs
 
-sub-size : tie.Need-sub-size
-sub-size c = search needs
-
 add-size : tie.Need-add-size
 add-size c = search needs
-
-add-size-2 : tie.Need-add-size-2
-add-size-2 c = search needs
 
 returns-2 : tie.Need-returns-2
 returns-2 c = stepped-still (start (c .before .before .before) .pre)
@@ -146,18 +146,19 @@ mul-scratch-8 c = search needs
 slice-write-scratch-4 : tie.Need-slice-write-scratch-4
 slice-write-scratch-4 c = search needs
 
-sub-result : tie.Need-sub-result
-sub-result c = search needs
+sub-if6 : tie.Need-sub-if6
+sub-if6 c = search needs
 
-cast-result : tie.Need-cast-result
-cast-result c = search needs
+cast-if6 : tie.Need-cast-if6
+cast-if6 c = search needs
 
 same-length-2 : tie.Need-same-length-2
 same-length-2 c = search needs
 
 returns-6 : tie.Need-returns-6
 returns-6 c =
-    let d = c .before .before in
+    let f = c .before in
+    let d = f .before .before in
     stepped-on
     (start (ran d) .pre)
     (ran d .run-end .result)
@@ -165,9 +166,27 @@ returns-6 c =
     (ran d .before .if1 .left)
     (ran d .run-end .ensures)
     refl
-    (λ e. absurd (c .if4 .left e))
+    (λ e. absurd (f .if4 .left e))
     (d .if2 .left)
-    (c .before .if3 .left)
+    (f .before .if3 .left)
+
+same-length-3 : tie.Need-same-length-3
+same-length-3 c = search needs
+
+returns-7 : tie.Need-returns-7
+returns-7 c =
+    let f = c .before in
+    let d = f .before .before in
+    stepped-on
+    (start (ran d) .pre)
+    (ran d .run-end .result)
+    _
+    (ran d .before .if1 .left)
+    (ran d .run-end .ensures)
+    refl
+    (λ e. absurd (f .if4 .left e))
+    (d .if2 .left)
+    (f .before .if3 .left)
 
 pub step-spec : {M : Type 1} → statement M
 step-spec =
@@ -183,13 +202,13 @@ step-spec =
     run-end-requires
     mul-after
     shared-slice-read-after
+    sub-walked
+    add-walked
     mul-size
     mul-size-2
     slice-read-size
     cast-size
-    sub-size
     add-size
-    add-size-2
     returns-2
     cast-if3
     returns-3
@@ -214,7 +233,9 @@ step-spec =
     add-scratch-2
     mul-scratch-8
     slice-write-scratch-4
-    sub-result
-    cast-result
+    sub-if6
+    cast-if6
     same-length-2
-    returns-6)
+    returns-6
+    same-length-3
+    returns-7)

@@ -2,7 +2,7 @@
 -- Assumes nothing.
 use Prim.Native.Nat.{_-_}
 use native.Mathlib.Omega.{arith}
-use Rattle.snapshot.proofs.Returning.{Taking, writing-end, taking-start, taking-long, taking-next}
+use Rattle.snapshot.proofs.Returning.{Taking, taking-start, taking-long, taking-next, taking-end}
 use Rattle.snapshot.proofs.restoring.restore_parents.Statement.{statement}
 use Rattle.snapshot.proofs.restoring.restore_parents.Tie as tie
 
@@ -25,7 +25,7 @@ shared-slice-read-parents : tie.Need-shared-slice-read-parents Inv-loop μ-loop
 shared-slice-read-parents c = omega arith
 
 cast-parents : tie.Need-cast-parents Inv-loop μ-loop
-cast-parents c = omega (arith, c .before .before .loop .inv .can .parents-small (c .before .before .loop .j) (c .before .loop-test .taken))
+cast-parents c = omega arith
 
 mul-parents-2 : tie.Need-mul-parents-2 Inv-loop μ-loop
 mul-parents-2 c = omega arith
@@ -46,7 +46,7 @@ same-length : tie.Need-same-length Inv-loop μ-loop
 same-length c = taking-long (c .before .loop .inv)
 
 returns : tie.Need-returns Inv-loop μ-loop
-returns c = writing-end (c .before .loop .inv .back) (c .loop-test .left)
+returns c = taking-end (c .before .loop .inv) (c .loop-test .left)
 
 pub restore-parents-spec : {M : Type 1} → statement M
 restore-parents-spec =

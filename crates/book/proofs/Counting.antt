@@ -1,4 +1,4 @@
--- The loop that counts the rows of a book column along its chain: which records are done, and the table as the lent one with their rows counted.
+-- The loop that counts the rows of a column along its chain: which records are done, and the table as the lent one with their rows counted.
 -- Start, what a turn asks, one record more, the end. The measure is the length of the chain that is left. Assumes nothing.
 use mathlib.Core.Path.{_≡_, refl, sym, ap, subst, _∙_}
 use mathlib.Core.Logic.{_⊎_, _≢_}
@@ -11,12 +11,11 @@ use Rattle.lists.proofs.Times.{times-append, times-self, UpTo}
 use Rattle.lists.proofs.Place.{values-append, values-one}
 use Rattle.pool.specs.Chains.{chain, Linked}
 use Rattle.pool.proofs.Chains.{Step, linked-step, linked-chain, linked-end}
+use Rattle.book.specs.Tally.{tallied, bookRows, CanCount}
 use Rattle.book.proofs.Copying.{id-linked}
-use Rattle.counting.specs.Counting.{tallied}
-use Rattle.counting.specs.Given.{bookRows, CanTallyBook}
-use Rattle.counting.proofs.Tallies.{Tally, tally-none, tally-length, tally-few, tally-room, tally-more}
+use Rattle.book.proofs.Tally.{Tally, tally-none, tally-length, tally-few, tally-room, tally-more}
 
-pub record Booked (rs ns w₀ : List ℕ) (h : ℕ) (w : List ℕ) (size r : ℕ) : Type 0 where
+pub record Counting (rs ns w₀ : List ℕ) (h : ℕ) (w : List ℕ) (size r : ℕ) : Type 0 where
   pub done : List ℕ
   pub rest : List ℕ
   pub parts : done ++ rest ≡ chain ns h
@@ -34,12 +33,12 @@ pub record RecordFacts (rs ns : List ℕ) (m : ℕ) (w : List ℕ) (size r : ℕ
   pub few : size < 256
   pub room : getD w (getD rs (r - 1) 0 - 1) 0 + 1 < 4294967296
 
-module _ {hs rs ns w₀ : List ℕ} {id : ℕ} (pre : CanTallyBook hs rs ns w₀ id) where
-  pub booked-start : Booked rs ns w₀ (at hs id) w₀ 0 (at hs id)
+module _ {hs rs ns w₀ : List ℕ} {id : ℕ} (pre : CanCount hs rs ns w₀ id) where
+  pub counting-start : Counting rs ns w₀ (at hs id) w₀ 0 (at hs id)
   unfolding valuesAt
-  booked-start = record { done = []; rest = chain ns (at hs id); parts = refl; linked = id-linked (pre .column .has); counted = tally-none w₀ }
+  counting-start = record { done = []; rest = chain ns (at hs id); parts = refl; linked = id-linked (pre .column .has); counted = tally-none w₀ }
 
-  module _ {w : List ℕ} {size r : ℕ} (b : Booked rs ns w₀ (at hs id) w size r) where
+  module _ {w : List ℕ} {size r : ℕ} (b : Counting rs ns w₀ (at hs id) w size r) where
     rows-are : valuesAt rs (b .done) ++ valuesAt rs (b .rest) ≡ bookRows hs rs ns id
     rows-are = sym (values-append rs (b .done) (b .rest)) ∙ ap (valuesAt rs) (b .parts)
 
@@ -55,8 +54,8 @@ module _ {hs rs ns w₀ : List ℕ} {id : ℕ} (pre : CanTallyBook hs rs ns w₀
       unfolding valuesAt
       rest-are = ap (valuesAt rs) (step .parts)
 
-      pub booked-facts : RecordFacts rs ns (pre .m) w size r
-      booked-facts =
+      pub counting-facts : RecordFacts rs ns (pre .m) w size r
+      counting-facts =
           let u : (1 ≤ at rs r) × (at rs r ≤ pre .m) =
           pre .rows-in (at rs r)
           (omega (
@@ -79,11 +78,11 @@ module _ {hs rs ns w₀ : List ℕ} {id : ℕ} (pre : CanTallyBook hs rs ns w₀
             room = tally-room (b .counted) (pre .m) 256 (at rs r - 1) done-up (pre .long) k (pre .room (at rs r - 1) (omega arith));
           }
 
-      pub booked-more : (size′ : ℕ) →
+      pub counting-more : (size′ : ℕ) →
           ((getD w (getD rs (r - 1) 0 - 1) 0 ≡ 0) × (size′ ≡ size + 1)) ⊎ ((getD w (getD rs (r - 1) 0 - 1) 0 ≢ 0) × (size′ ≡ size)) →
-          Booked rs ns w₀ (at hs id) (set w (getD rs (r - 1) 0 - 1) (getD w (getD rs (r - 1) 0 - 1) 0 + 1)) size′ (at ns r)
-      booked-more size′ d =
-          let f : RecordFacts rs ns (pre .m) w size r = booked-facts in
+          Counting rs ns w₀ (at hs id) (set w (getD rs (r - 1) 0 - 1) (getD w (getD rs (r - 1) 0 - 1) 0 + 1)) size′ (at ns r)
+      counting-more size′ d =
+          let f : RecordFacts rs ns (pre .m) w size r = counting-facts in
           let e : valuesAt rs (b .done) ++ (at rs r ∷ []) ≡ valuesAt rs (b .done ++ (r ∷ [])) =
           ap (λ (l : List ℕ). valuesAt rs (b .done) ++ l) (sym (values-one rs r)) ∙ sym (values-append rs (b .done) (r ∷ [])) in
           record {
@@ -96,8 +95,8 @@ module _ {hs rs ns w₀ : List ℕ} {id : ℕ} (pre : CanTallyBook hs rs ns w₀
                 (tally-more (b .counted) (at rs r) size′ (omega (arith, pre .long)) d);
           }
 
-      pub booked-less : length (chain ns (at ns r)) < length (chain ns r)
-      booked-less =
+      pub counting-less : length (chain ns (at ns r)) < length (chain ns r)
+      counting-less =
           omega (
             arith,
             ap length (linked-chain ns r (b .rest) (b .linked)),
@@ -105,8 +104,8 @@ module _ {hs rs ns w₀ : List ℕ} {id : ℕ} (pre : CanTallyBook hs rs ns w₀
             ap length (step .parts),
           )
 
-    pub booked-end : r ≡ 0 → w ≡ tallied w₀ (bookRows hs rs ns id)
-    booked-end z =
+    pub counting-end : r ≡ 0 → w ≡ tallied w₀ (bookRows hs rs ns id)
+    counting-end z =
         let e : b .done ≡ chain ns (at hs id) =
         sym (append-nil (b .done)) ∙ ap (λ (l : List ℕ). b .done ++ l) (sym (linked-end ns r (b .rest) z (b .linked))) ∙ b .parts in
         b .counted .is ∙ ap (λ (l : List ℕ). tallied w₀ (valuesAt rs l)) e

@@ -1,0 +1,10 @@
+pub mod Stages
+pub mod Small
+pub mod Parting
+pub mod Going
+pub mod Leaving
+pub mod Entering
+pub mod Swapping
+pub mod Finishing
+pub mod Grouping
+pub mod Grouped

@@ -1,0 +1,95 @@
+-- An exchange of the stored columns: booked columns A leave, booked columns B enter, R stay, as one change that fits or leaves everything as it was. What it asks,
+-- and what it leaves: the factor of R and B; columns off the paths stay, entries that stand before, between and after keep their records; which columns lie on the
+-- paths, each with its size before. Assumes nothing: these are definitions.
+use mathlib.Core.Path.{_≡_}
+use mathlib.Core.Bool.{Bool, true, false}
+use mathlib.Core.List.{List, _++_}
+use Prim.Native.Nat.{ℕ, _+_, _*_, _-_, _/_, _≤_}
+use lib.Dec.{leb}
+use lib.ListN.{length, replicate}
+use Rattle.lists.specs.Lists.{pick, all, over}
+use Rattle.symbolic.specs.Columns.{Column, fitsRows}
+use Rattle.symbolic.specs.Factor.{factorOf, columnAt, sizeOf, sizeSum}
+use Rattle.symbolic.specs.Batch.{isExchanged, exchanged, entriesOf}
+use Rattle.symbolic.specs.Change.{Bag}
+use Rattle.workspace.specs.Regions.{cell, IsZero, OnlyIn}
+use Rattle.workspace.specs.Layout.{spare, flagsAt, flagCount}
+use Rattle.book.specs.Book as book
+use Rattle.tables.specs.Stored.{Stored, Sized, isSoundFor}
+use Rattle.tables.specs.Stays.{ColumnStays, EntriesStay}
+use Rattle.updown.specs.Entries.{Booked, planNeed}
+
+-- where the columns on the paths are gathered: m places behind the saved records, of the 3F that a plan does not use
+abbrev pub gatherAt : (m f : ℕ) → ℕ
+gatherAt m f = spare m f + 2 * f
+
+-- stored columns that are sound for R and A but for their order, a sound book that has A and B under the ids, and a work table whose places for plans are zero
+pub record CanExchange (s : Stored) (b : book.Book) (leave enter work : List ℕ) (R A B : List Column) : Type 0 where
+  pub columns : List Column
+  pub sized : Sized s
+  pub sound : isSoundFor columns s ≡ true
+  pub same : Bag columns (R ++ A)
+  pub fits : all (fitsRows (length (s .heads))) (R ++ (A ++ B)) ≡ true
+  pub leaving : Booked b leave A
+  pub entering : Booked b enter B
+  pub book-sized : book.Sized b
+  pub book-free : ℕ
+  pub book-sound : book.isSound (length (s .heads)) (book.bookOf (b .heads) (b .rows) (b .next) book-free) ≡ true
+  pub some : 1 ≤ length (s .heads)
+  pub m-bound : length (s .heads) ≤ 4096
+  pub f-bound : length (s .next) ≤ 1048576
+  -- a loose bound above document 01's 16,384 ids, which only keeps multiplicities within 16 bits
+  pub few : length R + (length A + length B) ≤ 50000
+  pub long : planNeed (length (s .heads)) (length (s .next)) ≤ length work
+  pub zero : IsZero work 0 (spare (length (s .heads)) (length (s .next)))
+  pub flags-zero : IsZero work (flagsAt (length (s .heads)) (length (s .next))) flagCount
+
+-- what a caller shows: that the columns under the ids can be exchanged, for some R, A and B
+pub record SomeExchange (s : Stored) (b : book.Book) (leave enter work : List ℕ) : Type 0 where
+  pub R : List Column
+  pub A : List Column
+  pub B : List Column
+  pub can : CanExchange s b leave enter work R A B
+
+-- of each column, whether it lies on the path of one that leaves, in the tree before, or of one that enters, in the tree after, and then its size before
+abbrev pub Gathered : (m f : ℕ) (R A B : List Column) (work : List ℕ) → Type 0
+Gathered m f R A B w =
+    (j : ℕ) → 1 ≤ j → j ≤ m → cell w (gatherAt m f) (j - 1) / 8192 ≡ pick (isExchanged (factorOf m (R ++ A)) (factorOf m (R ++ B)) A B j) (1 + sizeOf (columnAt (factorOf m (R ++ A)) j)) 0
+
+-- an exchange that fits: the columns are those of R and B, the others stay, entries that stand for R too keep their records
+pub record Done (s : Stored) (R A B : List Column) (after : Stored) (work : List ℕ) : Type 0 where
+  pub sized : Sized after
+  pub heads : after .heads ≡ s .heads
+  pub sound : isSoundFor (R ++ B) after ≡ true
+  pub others : (j : ℕ) → 1 ≤ j → j ≤ length (s .heads) →
+      isExchanged (factorOf (length (s .heads)) (R ++ A)) (factorOf (length (s .heads)) (R ++ B)) A B j ≡ false → ColumnStays s after j
+  pub entries : (j : ℕ) → 1 ≤ j → j ≤ length (s .heads) → EntriesStay (factorOf (length (s .heads)) R) s after j
+  pub gathered : Gathered (length (s .heads)) (length (s .next)) R A B work
+
+-- THE EXCHANGE: "16" decides by the columns after it; where it does not fit every table, free chains too, is as before; of the work table only places that a plan
+-- does not use have changed
+pub record Exchanged (s : Stored) (R A B : List Column) (before : List ℕ) (after : Stored) (work : List ℕ) (fits : Bool) : Type 0 where
+  pub fits-is : fits ≡ leb (sizeSum (factorOf (length (s .heads)) (R ++ B))) (length (s .next))
+  pub done : fits ≡ true → Done s R A B after work
+  pub undone : fits ≡ false → after ≡ s
+  pub only : OnlyIn (spare (length (s .heads)) (length (s .next))) (3 * length (s .next)) before work
+
+-- ---- its report
+
+-- columns gathered, and lists long enough; the tables hold the factor of R and B
+pub record CanReport (s : Stored) (R A B : List Column) (work touched labels : List ℕ) : Type 0 where
+  pub sized : Sized s
+  pub sound : isSoundFor (R ++ B) s ≡ true
+  pub m-bound : length (s .heads) ≤ 4096
+  pub long : planNeed (length (s .heads)) (length (s .next)) ≤ length work
+  pub room : length (s .heads) ≤ length (s .next)
+  pub gathered : Gathered (length (s .heads)) (length (s .next)) R A B work
+  pub touched-long : length (s .heads) ≤ length touched
+  pub labels-long : length (s .heads) ≤ length labels
+
+-- the columns on the paths, rising, each with label 0; how many, and the sum of the larger of each one's sizes before and after
+pub record Reported (m : ℕ) (R A B : List Column) (touched labels touched′ labels′ : List ℕ) (count entries : ℕ) : Type 0 where
+  pub touched-is : touched′ ≡ over (exchanged (factorOf m (R ++ A)) (factorOf m (R ++ B)) A B) touched
+  pub labels-is : labels′ ≡ over (replicate (length (exchanged (factorOf m (R ++ A)) (factorOf m (R ++ B)) A B)) 0) labels
+  pub count-is : count ≡ length (exchanged (factorOf m (R ++ A)) (factorOf m (R ++ B)) A B)
+  pub entries-is : entries ≡ entriesOf (factorOf m (R ++ A)) (factorOf m (R ++ B)) (exchanged (factorOf m (R ++ A)) (factorOf m (R ++ B)) A B)
