@@ -3,14 +3,13 @@
 use mathlib.Core.Path.{_≡_, refl, sym, ap, _∙_, subst}
 use mathlib.Core.Logic.{inl, inr}
 use mathlib.Core.Bool.{Bool, true, false, true≢false}
-use mathlib.Core.List.{List, [], _++_, append-nil, append-assoc}
+use mathlib.Core.List.{List, _++_, append-nil, append-assoc}
 use Prim.Native.Nat.{ℕ, _+_, _-_, _≤_, _<_}
 use native.Mathlib.Omega.{arith}
-use lib.Dec.{leb}
 use lib.ListN.{length, take, drop, take-append-drop, length-append, length-take, length-drop}
 use lib.Seq.{take-all}
 use borrow.Author.Tests.{leb-false, le-leb, lt-leb}
-use Rattle.lists.specs.Lists.{Mem, any}
+use Rattle.lists.specs.Lists.{any}
 use Rattle.lists.proofs.Member.{mem-left, mem-right, mem-either}
 use Rattle.symbolic.specs.Columns.{Column}
 use Rattle.symbolic.specs.Factor.{factorOf, sizeSum}
@@ -19,7 +18,7 @@ use Rattle.symbolic.proofs.Theorems.{sizes-grow}
 use Rattle.workspace.specs.Regions.{cell, OnlyIn}
 use Rattle.snapshot.specs.Snapshot.{pairedRow}
 use Rattle.book.specs.Book as book
-use Rattle.tables.specs.Stored.{Stored, isSoundFor}
+use Rattle.tables.specs.Stored.{Stored}
 use Rattle.updown.specs.Entries.{CanAddBooked, SomeAddBooked}
 use Rattle.exchange.specs.Exchange.{gatherAt}
 use Rattle.exchange.specs.Stages.{groupTouches, GroupDone, GroupEntered, GroupEnds, CanGo, CanEnterAll, EnteredAll, Moved}

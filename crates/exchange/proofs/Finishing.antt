@@ -1,12 +1,11 @@
 -- The whole exchange: what saving asks and leaves (`can-save`, `can-after`, `some-swap`), and the outcome from the groups' moves (`finished`, `finished-leaving`).
 -- Assumes nothing.
 use mathlib.Core.Path.{_≡_, refl, sym, ap, _∙_, subst}
-use mathlib.Core.Logic.{_⊎_, inl, inr}
-use mathlib.Core.Bool.{Bool, true, false, _||_, false≢true}
+use mathlib.Core.Logic.{inl, inr}
+use mathlib.Core.Bool.{Bool, true, false, false≢true}
 use mathlib.Core.List.{List, [], _∷_, _++_, append-nil}
 use Prim.Native.Nat.{ℕ, _+_, _*_, _-_, _%_, _≤_, _<_}
 use native.Mathlib.Omega.{arith}
-use lib.Dec.{leb, eqb}
 use lib.ListN.{length, getD}
 use borrow.Author.Tests.{eq-eqb, le-leb}
 use Rattle.lists.specs.Lists.{pick, any}
@@ -15,16 +14,16 @@ use Rattle.symbolic.specs.Columns.{Column}
 use Rattle.symbolic.specs.Factor.{FactorColumn, factorOf, columnAt, sizeOf, sizeSum}
 use Rattle.symbolic.specs.Batch.{isTouched, isExchanged}
 use Rattle.symbolic.proofs.Theorems.{order-free}
-use Rattle.workspace.specs.Regions.{cell, IsZero, OnlyIn}
+use Rattle.workspace.specs.Regions.{cell, OnlyIn}
 use Rattle.workspace.specs.Layout.{spare, flagsAt, flagCount}
 use Rattle.workspace.proofs.Regions.{only-cell, only-zero, only-join, only-wider}
-use Rattle.snapshot.specs.Snapshot.{CanSaveParents, ParentsSaved, CanSaveRecords, RecordsSaved, RecordsKept, ParentsKept}
+use Rattle.snapshot.specs.Snapshot.{CanSaveParents, ParentsSaved, CanSaveRecords, RecordsSaved}
 use Rattle.snapshot.proofs.Kept.{parents-stay}
 use Rattle.book.specs.Book as book
 use Rattle.tables.specs.Stored.{Stored, recordsOf}
 use Rattle.tables.proofs.Stored.{sound-facts}
 use Rattle.tables.proofs.Reading.{holds-size}
-use Rattle.exchange.specs.Exchange.{gatherAt, CanExchange, SomeExchange, Gathered, Done, Exchanged}
+use Rattle.exchange.specs.Exchange.{gatherAt, CanExchange, Gathered, Done, Exchanged}
 use Rattle.exchange.specs.Stages.{gatheredIn, Moved, SomeSwap, Swapped}
 use Rattle.exchange.proofs.Stages.{moved-as}
 use Rattle.exchange.proofs.Small.{sizes-fit, parents-small}

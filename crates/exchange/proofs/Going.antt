@@ -1,5 +1,5 @@
 -- What groups ask of tables, book and work table, still there after some of them (`go-on`), and of columns that are some of a list (`some-fit`). Assumes nothing.
-use mathlib.Core.Path.{_≡_, sym, ap, _∙_, subst}
+use mathlib.Core.Path.{_≡_, sym, ap, subst}
 use mathlib.Core.Logic.{inl, inr}
 use mathlib.Core.Bool.{Bool, true}
 use mathlib.Core.List.{List}

@@ -1,6 +1,6 @@
 -- A group that leaves or enters, from what planning, gathering and writing promise: what each of them asks, and that the group has left (`group-left`) or entered
 -- (`group-entered`). Assumes nothing.
-use mathlib.Core.Path.{_≡_, refl, sym, ap, _∙_, subst}
+use mathlib.Core.Path.{_≡_, refl, sym, _∙_}
 use mathlib.Core.Bool.{Bool, true, false, true≢false}
 use mathlib.Core.List.{List, _++_}
 use Prim.Native.Nat.{ℕ, _≤_}

@@ -1,7 +1,7 @@
 -- The loop in which all groups leave: the columns before place a have left (`Leaving`). Start, what a group asks, what it leaves, the end. Assumes nothing.
 use mathlib.Core.Path.{_≡_, refl, sym, ap, _∙_, subst}
 use mathlib.Core.Logic.{inl, inr}
-use mathlib.Core.List.{List, [], _++_, append-nil}
+use mathlib.Core.List.{List, _++_, append-nil}
 use Prim.Native.Nat.{ℕ, _+_, _-_, _≤_}
 use native.Mathlib.Omega.{arith}
 use lib.ListN.{length, take, drop, take-append-drop, length-append, length-take, length-drop, drop-of-length-le}
@@ -11,10 +11,8 @@ use Rattle.lists.proofs.Member.{mem-left, mem-right, mem-either}
 use Rattle.symbolic.specs.Columns.{Column}
 use Rattle.symbolic.specs.Factor.{factorOf}
 use Rattle.symbolic.specs.Batch.{isTouched}
-use Rattle.symbolic.specs.Change.{Bag}
 use Rattle.book.specs.Book as book
 use Rattle.tables.specs.Stored.{Stored}
-use Rattle.tables.proofs.Stored.{sound-bag}
 use Rattle.exchange.specs.Stages.{groupTouches, CanLeave, GroupDone, GroupEnds, CanGo, CanLeaveAll, SomeLeave, Moved}
 use Rattle.exchange.proofs.Stages.{moved-none, moved-as, moved-joins, group-moved}
 use Rattle.exchange.proofs.Small.{rows-room}

@@ -8,3 +8,4 @@ pub mod Swapping
 pub mod Finishing
 pub mod Grouping
 pub mod Grouped
+pub mod Reports

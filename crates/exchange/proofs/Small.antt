@@ -1,13 +1,13 @@
 -- What stored columns that are sound have besides: no more columns than records (`rows-room`), no more rows in all patterns than records (`sizes-fit`), rows and
 -- parents that are at most m (`rows-small`, `parents-small`). Assumes nothing.
-use mathlib.Core.Path.{_≡_, refl, sym, ap, _∙_, subst}
+use mathlib.Core.Path.{_≡_, refl, sym, ap, subst}
 use mathlib.Core.Logic.{_⊎_, inl, inr}
-use mathlib.Core.Bool.{Bool, true}
+use mathlib.Core.Bool.{true}
 use mathlib.Core.List.{List, [], _∷_, _++_}
 use Prim.Native.Nat.{ℕ, zero, suc, _+_, _-_, _≤_, _<_}
 use native.Mathlib.Omega.{arith}
 use lib.ListN.{length, getD, length-append, List·getD-eq-default}
-use Rattle.lists.specs.Lists.{Mem, first, later, at, among, times, valuesAt, upFrom}
+use Rattle.lists.specs.Lists.{Mem, at, among, times, upFrom}
 use Rattle.lists.proofs.Tests.{lt-or-le}
 use Rattle.lists.proofs.Member.{among-mem, mem-either, zero-at}
 use Rattle.lists.proofs.Count.{count-full, count-le}
@@ -23,7 +23,7 @@ use Rattle.pool.specs.Chains.{chain}
 use Rattle.pool.specs.Whole.{chains, Pool}
 use Rattle.pool.proofs.Chains.{linked-in}
 use Rattle.pool.proofs.Whole.{chains-nil, chains-cons, all-in}
-use Rattle.tables.specs.Stored.{Stored, Sized, recordsOf, isSoundFor}
+use Rattle.tables.specs.Stored.{Stored, recordsOf, isSoundFor}
 use Rattle.tables.proofs.Stored.{SoundFor, sound-facts}
 use Rattle.tables.proofs.Reading.{stored-full}
 use Rattle.columns.proofs.Holding.{values-mem}

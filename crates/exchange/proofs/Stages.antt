@@ -1,16 +1,16 @@
 -- Laws of an exchange on its way: nothing has moved at the start (`moved-none`), what one group leaves is moved (`group-moved`), moves follow one another while R
 -- stays (`moved-joins`), and are read with other names for the same touched columns and the same columns (`moved-as`). Assumes nothing.
 use mathlib.Core.Path.{_≡_, refl, sym, ap, _∙_, subst}
-use mathlib.Core.Logic.{_⊎_, inl, inr}
+use mathlib.Core.Logic.{inl, inr}
 use mathlib.Core.Bool.{Bool, true, false, _||_, true≢false}
 use mathlib.Core.List.{List, [], _∷_, _++_}
-use Prim.Native.Nat.{ℕ, _+_, _-_, _≤_, _<_}
+use Prim.Native.Nat.{ℕ, _+_, _-_, _≤_}
 use native.Mathlib.Omega.{arith}
 use lib.Dec.{eqb}
 use lib.ListN.{length}
 use borrow.Author.Tests.{eq-eqb, ne-eqb}
 use Rattle.lists.specs.Lists.{pick, Mem, first, later, at, valuesAt}
-use Rattle.lists.proofs.Tests.{cases, zero-or-pos, or-left, or-right}
+use Rattle.lists.proofs.Tests.{zero-or-pos}
 use Rattle.lists.proofs.Rising.{rises-in}
 use Rattle.symbolic.specs.Columns.{Column}
 use Rattle.symbolic.specs.Factor.{FactorColumn, factorOf, columnAt, inPattern}
@@ -19,7 +19,6 @@ use Rattle.symbolic.proofs.Patterns.{pattern-within-rows}
 use Rattle.symbolic.proofs.Theorems.{growth, order-free}
 use Rattle.workspace.proofs.Regions.{only-refl, only-trans}
 use Rattle.tables.specs.Stored.{Stored, Sized, recordsOf, holdsFrom, isSoundFor}
-use Rattle.tables.specs.Stays.{ColumnStays, EntriesStay}
 use Rattle.tables.proofs.Stored.{sound-bag, sound-holds, stored-column, stands-is}
 use Rattle.tables.proofs.Revised.{stays-self, stays-joins}
 use Rattle.columns.specs.Commit.{Holds}

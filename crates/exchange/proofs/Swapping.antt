@@ -1,13 +1,13 @@
 -- An exchange from its parts: what leaving and entering ask of what an exchange asks (`can-leave-all`, `can-enter-all`), the two together (`swap-done`), what is
 -- brought back where they do not fit (`can-undo`, `undone-same`). Assumes nothing.
 use mathlib.Core.Path.{_≡_, refl, sym, ap, _∙_, subst}
-use mathlib.Core.Logic.{_⊎_, inl, inr}
+use mathlib.Core.Logic.{inl, inr}
 use mathlib.Core.Bool.{Bool, true, false, true≢false}
 use mathlib.Core.List.{List, [], _++_, append-nil}
-use Prim.Native.Nat.{ℕ, _+_, _*_, _≤_, _<_}
+use Prim.Native.Nat.{ℕ, _+_, _≤_, _<_}
 use native.Mathlib.Omega.{arith}
 use lib.ListN.{length, getD}
-use Rattle.lists.specs.Lists.{Mem, sumOf}
+use Rattle.lists.specs.Lists.{sumOf}
 use Rattle.lists.proofs.Member.{mem-left, mem-right, mem-either}
 use Rattle.symbolic.specs.Columns.{Column}
 use Rattle.symbolic.specs.Factor.{factorOf}
@@ -18,9 +18,9 @@ use Rattle.workspace.proofs.Regions.{only-trans}
 use Rattle.snapshot.specs.Snapshot.{pairedRow, countBound, CanPair, RecordsKept, ParentsKept}
 use Rattle.snapshot.proofs.Kept.{records-stay, parents-stay}
 use Rattle.book.specs.Book as book
-use Rattle.tables.specs.Stored.{Stored, Sized, storedOf}
+use Rattle.tables.specs.Stored.{Stored, storedOf}
 use Rattle.exchange.specs.Exchange.{gatherAt, CanExchange}
-use Rattle.exchange.specs.Stages.{CanGo, CanLeaveAll, SomeLeaveAll, Moved, CanEnterAll, SomeEnterAll, EnteredAll, SomeSwap, Swapped, CanUndo, SomeUndo, Undone}
+use Rattle.exchange.specs.Stages.{CanGo, CanLeaveAll, SomeLeaveAll, Moved, CanEnterAll, SomeEnterAll, EnteredAll, Swapped, CanUndo, SomeUndo, Undone}
 use Rattle.exchange.proofs.Stages.{moved-joins}
 use Rattle.exchange.proofs.Small.{rows-room, rows-small}
 use Rattle.exchange.proofs.Going.{go-on, some-fit}

@@ -15,7 +15,7 @@ use Rattle.symbolic.specs.Change.{Bag}
 use Rattle.workspace.specs.Regions.{cell, IsZero, OnlyIn}
 use Rattle.workspace.specs.Layout.{spare, flagsAt, flagCount}
 use Rattle.book.specs.Book as book
-use Rattle.tables.specs.Stored.{Stored, Sized, isSoundFor}
+use Rattle.tables.specs.Stored.{Stored, Sized, storedOf, isSoundFor}
 use Rattle.tables.specs.Stays.{ColumnStays, EntriesStay}
 use Rattle.updown.specs.Entries.{Booked, planNeed}
 
@@ -81,11 +81,23 @@ pub record CanReport (s : Stored) (R A B : List Column) (work touched labels : L
   pub sized : Sized s
   pub sound : isSoundFor (R ++ B) s ≡ true
   pub m-bound : length (s .heads) ≤ 4096
+  pub f-bound : length (s .next) ≤ 1048576
   pub long : planNeed (length (s .heads)) (length (s .next)) ≤ length work
   pub room : length (s .heads) ≤ length (s .next)
   pub gathered : Gathered (length (s .heads)) (length (s .next)) R A B work
   pub touched-long : length (s .heads) ≤ length touched
   pub labels-long : length (s .heads) ≤ length labels
+
+-- what a caller shows: such tables, for some R, A and B; parents, rows, multiplicities and the free head are not read, any that suit will do
+pub record SomeReport (heads next work touched labels : List ℕ) : Type 0 where
+  pub parents : List ℕ
+  pub rows : List ℕ
+  pub counts : List ℕ
+  pub free : ℕ
+  pub R : List Column
+  pub A : List Column
+  pub B : List Column
+  pub can : CanReport (storedOf heads parents rows counts next free) R A B work touched labels
 
 -- the columns on the paths, rising, each with label 0; how many, and the sum of the larger of each one's sizes before and after
 pub record Reported (m : ℕ) (R A B : List Column) (touched labels touched′ labels′ : List ℕ) (count entries : ℕ) : Type 0 where

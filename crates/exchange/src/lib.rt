@@ -10,6 +10,7 @@ ghost use Rattle.exchange.specs.Exchange.{SomeExchange, CanExchange, Exc
 ghost use Rattle.exchange.specs.Stages.{SomeSwap, Swapped, SomeUndo, CanUndo, Undone};
 
 pub mod groups;
+pub mod reporting;
 
 use pool::Rec;
 use workspace::PLAN;

@@ -48,11 +48,15 @@ fn run_near(next: &[u32], i: usize, top: usize) -> usize
     e
 }
 
-// The same from place i on and before the next cut, four records at once as far as they go: its steps need not wait for loads.
+// The same from place i on and before the next cut, four records at once as far as they go: its steps need not wait for loads. Where chains lie scattered most
+// runs are one record, which is seen first.
 fn run_end(next: &[u32], i: usize) -> usize
     requires { ⌜ (i < length (now next)) × (length (now next) ≤ 1073741824) ⌝ }
     ensures { λ e. ⌜ RunsTo (now (next .entry)) i e ⌝ }
 {
+    if next[i] as usize != i + 2 {
+        return i;
+    }
     let last = next.len() - 1;
     let cut = i - i % PIECE + (PIECE - 1);
     let top = if cut < last { cut } else { last };

@@ -1,6 +1,6 @@
 -- `exchange::exchange` meets its contract: parents saved, and all leave where none enters; else records saved too, and a swap; by the laws of Finishing.antt.
 -- Assumes nothing.
-use mathlib.Core.Path.{_≡_, _∙_}
+use mathlib.Core.Path.{_∙_}
 use Prim.Native.Nat.{ℕ, _<_}
 use native.Mathlib.Omega.{arith}
 use lib.ListN.{getD}

@@ -1,5 +1,5 @@
 -- `exchange::swap` meets its contract: leaving, entering, and where that does not fit bringing back, by the laws of Swapping.antt. Assumes nothing.
-use mathlib.Core.Path.{_≡_, _∙_}
+use mathlib.Core.Path.{_∙_}
 use Prim.Native.Nat.{ℕ, _<_}
 use native.Mathlib.Omega.{arith}
 use lib.ListN.{getD}
