@@ -1,4 +1,4 @@
--- The two parts of a batch. First its number is found and, where that is 0, its plan made in the work table: a `Verdict`. Then plan and book are written.
+-- The two parts of a batch. First its number is found and, where that is 0, its plan made in the work table: a `Verdict`. Then the plan is reported, and plan and book are written.
 -- Each part is stated over the change, for adding and removing alike. Assumes nothing: these are definitions.
 use mathlib.Core.Path.{_≡_}
 use mathlib.Core.Bool.{true, false}

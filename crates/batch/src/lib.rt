@@ -1,4 +1,4 @@
-// Adding and removing a batch on sound tables: find the refusal and plan (judging), write the plan and change the book (writing), report. Costs only the
+// Adding and removing a batch on sound tables: find the refusal and plan (judging); report, write the plan and change the book (writing). Costs only the
 // touched paths. Nothing of the tables is written before the last refusal is excluded.
 ghost use mathlib.Core.Path.{_≡_};
 ghost use Rattle.tables.specs.Tables.{tablesOf};

@@ -1,5 +1,5 @@
 -- Where a pass over the planned columns stands: the columns done, and those that come with their plans (`Standing`). At a column that comes, what its
--- plan says and where the pass stands after it (`Ahead`, `standing-next`); at the end all are done (`standing-end`). The measure of both passes: `left`.
+-- plan says and where the pass stands after it (`Ahead`, `standing-next`); at the end all are done (`standing-end`). The measure of the passes: `left`.
 -- Assumes nothing.
 use mathlib.Core.Path.{_≡_, refl, sym, ap, _∙_, subst}
 use mathlib.Core.Logic.{_⊎_, inl, inr, _≢_}
