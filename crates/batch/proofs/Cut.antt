@@ -92,7 +92,7 @@ module _ {t : Tables} {lim : Limits} {f g : ℕ} {w : List ℕ} (can : CanFind (
   pub work-zero : IsZero w 0 (spare (length (t .heads)) (length (t .next)))
   work-zero i h = can .zero i (omega arith)
 
-  pub flags-zero : IsZero w (flagsAt (length (t .heads)) (length (t .next))) flagCount
+  flags-zero : IsZero w (flagsAt (length (t .heads)) (length (t .next))) flagCount
   flags-zero = zero-part w 0 (workFor (cutWorld t lim f g .state .sizes)) (flagsAt (length (t .heads)) (length (t .next))) flagCount (can .zero) (omega arith) (omega arith)
 
   -- ---- a batch of 1 to 64 columns whose rows fit can be planned

@@ -89,7 +89,6 @@ module _ {t : Tables} {lim : Limits} {f g : ℕ} {k : Change} {w w′ a b : List
             PlanIs (r .m) (length (t .next)) (c .plan .room) (factorFor r) (factorOf n (effect r k .register .columns)) (effect r k .label) (touchedBy r k) w w′ first (c .count) (c .entries) used)
             (rows-stay r k) (c .plan .plan);
         zero = cut.work-zero find;
-        flags-zero = cut.flags-zero find;
         long = cut.work-long find;
         rising = touched-rise r k;
         off = λ j p q h. sym

@@ -12,6 +12,7 @@ use Rattle.lists.specs.Lists.{at, put, times, valuesAt}
 use Rattle.lists.proofs.Tests.{eq-or-ne}
 use Rattle.lists.proofs.Times.{times-mid, times-append, UpTo}
 use Rattle.lists.proofs.Place.{put-length}
+use Rattle.lists.proofs.Rising.{rises-high}
 use Rattle.symbolic.specs.Columns.{Column}
 use Rattle.pool.specs.Chains.{chain, Linked}
 use Rattle.pool.specs.Changes.{Has, Changed}
@@ -21,7 +22,7 @@ use Rattle.book.specs.Book.{bookOf, isBooked, columnFor, columnFits, isS
 use Rattle.book.specs.Records.{CanWrite, RowsWritten}
 use Rattle.book.specs.Entries.{CanAdd, Added}
 use Rattle.book.proofs.Columns.{absent-zero, some-booked, booked-within}
-use Rattle.book.proofs.Sound.{Sound, sound-of, of-sound, Fitting, fitting, rows-narrow}
+use Rattle.book.proofs.Sound.{Sound, sound-of, of-sound, Fitting, fitting}
 use Rattle.book.proofs.Writing.{put-all-length, put-all-other, put-all-values}
 use Rattle.book.proofs.Staying.{Cut, cut-at, column-stays, stays-column, stays-booked}
 
@@ -46,7 +47,7 @@ module _ {hs xs ns : List ℕ} {f id : ℕ} {list : List ℕ} (q : CanAdd (bookO
         has = record { sized = q .has .sized; linked = free-linked };
         some = fit .some;
         room = q .room;
-        narrow = λ i. omega (arith, rows-narrow (q .has .m) list (fit .rise) i, q .narrow);
+        narrow = λ i. omega (arith, rises-high 1 (q .has .m) list (fit .rise) i, q .narrow);
       }
 
   module _ {ys : List ℕ} {p : ℕ} (w : RowsWritten xs ys ns list f p) where

@@ -18,6 +18,7 @@ use Rattle.lists.proofs.Rising.{rises-in, rises-weaken}
 use Rattle.lists.proofs.Place.{values-length}
 use Rattle.symbolic.specs.Columns.{Column}
 use Rattle.symbolic.specs.Change.{idsOf, without, columnOf}
+use Rattle.symbolic.proofs.Bags.{id-mem}
 use Rattle.pool.specs.Chains.{chainFrom, chain}
 use Rattle.pool.specs.Whole.{chains}
 use Rattle.pool.proofs.Chains.{chain-in, chain-nil}
@@ -142,11 +143,6 @@ ids-mem (c ∷ cs) l m = go l m (ids-mem cs l)
     go l first f = (c, first, refl)
     go l (later m) f = let t : (d : Column) × Mem d cs × (d .id ≡ l) = f m in (t .0, later (t .1), t .2)
 
-mem-ids : {c : Column} {cs : List Column} → Mem c cs → Mem (c .id) (idsOf cs)
-unfolding idsOf
-mem-ids first = first
-mem-ids (later m) = later (mem-ids m)
-
 from-rise : (b : Book) (n i z : ℕ) → i + n ≤ suc z → rises i z (idsOf (columnsFrom b i n)) ≡ true
 unfolding idsOf rises
 from-rise b zero i z h = rw (columns-nil b i) refl
@@ -175,7 +171,7 @@ ids-distinct b = rises-distinct 1 (length (b .heads)) (idsOf (columnsIn b)) (ids
 pub ids-booked : (b : Book) (l : ℕ) → 1 ≤ l → among l (idsOf (columnsIn b)) ≡ isBooked (b .heads) l
 ids-booked b l p =
     both-ways (among l (idsOf (columnsIn b))) (isBooked (b .heads) l) (λ e. found (among-mem l (idsOf (columnsIn b)) e))
-    (λ e. mem-among (mem-ids (mem-columns b l p e)))
+    (λ e. mem-among (id-mem (mem-columns b l p e)))
   where
     found : Mem l (idsOf (columnsIn b)) → isBooked (b .heads) l ≡ true
     found m =

@@ -1,17 +1,17 @@
 -- The loop that copies a column's rows to the front of a list: its invariant Copying, one turn, its end.
 -- What it starts from: a sound book's column has a chain that ends (id-linked), of at most 256 records (id-few).
 -- Assumes nothing.
-use mathlib.Core.Path.{_≡_, refl, sym, ap, subst, _∙_}
+use mathlib.Core.Path.{_≡_, sym, ap, subst, _∙_}
 use mathlib.Core.Logic.{inl, inr, _≢_}
 use mathlib.Core.List.{List, [], _∷_}
-use Prim.Native.Nat.{ℕ, zero, suc, _+_, _≤_, _<_}
+use Prim.Native.Nat.{ℕ, suc, _+_, _≤_, _<_}
 use native.Mathlib.Omega.{arith}
 use native.Mathlib.Numerals.{add-one}
 use lib.ListN.{length, getD, take, drop, set, length-drop}
 use lib.Seq.{drop-cons}
 use Rattle.lists.specs.Lists.{at, valuesAt, over}
 use Rattle.lists.proofs.Tests.{cases}
-use Rattle.lists.proofs.Place.{values-length}
+use Rattle.lists.proofs.Place.{values-length, values-place}
 use Rattle.lists.proofs.Over.{over-none, over-next, over-all, over-taken}
 use Rattle.pool.specs.Chains.{chain, Linked}
 use Rattle.pool.proofs.Chains.{chain-nil, linked-end, Step, linked-step}
@@ -39,12 +39,6 @@ module _ {b : Book} {l : ℕ} (h : HasId b l) where
 
 -- ---- the loop
 
-values-at : (xs rs : List ℕ) (n : ℕ) → n < length rs → getD (valuesAt xs rs) n 0 ≡ at xs (getD rs n 0)
-unfolding valuesAt
-values-at xs [] n h = absurd (omega arith)
-values-at xs (r ∷ rs) zero h = refl
-values-at xs (r ∷ rs) (suc n) h = values-at xs rs n (omega arith)
-
 pub record Copying (rows next list₀ : List ℕ) (head : ℕ) (list : List ℕ) (r n : ℕ) : Type 0 where
   pub within : n ≤ length (chain next head)
   pub linked : Linked next r (drop n (chain next head))
@@ -71,7 +65,7 @@ module _ {rows next list₀ : List ℕ} {head : ℕ} (room : length (valuesAt ro
       let both : r ∷ s .rest ≡ getD cs n 0 ∷ drop (suc n) cs = sym (s .parts) ∙ drop-cons cs n 0 more in
       let first-is : r ≡ getD cs n 0 = cc in
       let rest-is : s .rest ≡ drop (suc n) cs = cc in
-      let v : getD (valuesAt rows cs) n 0 ≡ at rows r = values-at rows cs n more ∙ ap (at rows) (sym first-is) in
+      let v : getD (valuesAt rows cs) n 0 ≡ at rows r = values-place rows cs n more ∙ ap (at rows) (sym first-is) in
       record {
         low = s .low;
         high = s .high;

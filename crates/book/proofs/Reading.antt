@@ -9,14 +9,15 @@ use Prim.Native.Nat.{ℕ, suc, _-_, _≤_, _<_}
 use native.Mathlib.Omega.{arith}
 use lib.ListN.{length, getD}
 use lib.Seq.{take-all}
-use Rattle.lists.specs.Lists.{at, times, valuesAt}
+use Rattle.lists.specs.Lists.{at, times, valuesAt, Decides}
 use Rattle.lists.proofs.Tests.{both-ways, refute}
 use Rattle.lists.proofs.Times.{times-nil, times-mem}
+use Rattle.lists.proofs.Place.{values-mem, values-zero}
 use Rattle.lists.proofs.Rising.{rises-in}
 use Rattle.workspace.specs.Regions.{region}
 use Rattle.pool.specs.Chains.{chain}
 use Rattle.pool.specs.Whole.{chains, AllLinked}
-use Rattle.pool.specs.Ends.{lasts, NoneTwice, Decides}
+use Rattle.pool.specs.Ends.{lasts, NoneTwice}
 use Rattle.pool.specs.Free.{FreeHas, Closed}
 use Rattle.pool.proofs.Chains.{chain-nil}
 use Rattle.pool.proofs.Whole.{whole-pool, pool-whole}
@@ -26,7 +27,7 @@ use Rattle.ends.specs.Naming.{CanCompare}
 use Rattle.book.specs.Book.{bookOf, tablesOf, columnFor, isSound}
 use Rattle.book.specs.Walks.{CanReadThrough, Walked}
 use Rattle.book.proofs.Columns.{head-at, booked-within, some-booked}
-use Rattle.book.proofs.Sound.{Fitting, fitting, Sound, sound-of, of-sound, values-mem, values-zero}
+use Rattle.book.proofs.Sound.{Fitting, fitting, Sound, sound-of, of-sound}
 
 module _ {hs rs ns w : List ℕ} {m n : ℕ} (t : Walked hs rs ns w m n (length hs)) where
   all-linked : AllLinked ns hs

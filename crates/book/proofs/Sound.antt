@@ -1,20 +1,18 @@
 -- What a sound book has, as facts (Sound) and as the test isSound: they say the same. The rows of a fitting column. For crates above: the free chain
 -- ends, every column fits, and the columns' rows and the free records fill the pool (book-full), so that `fits` says that the book's rows would
 -- not exceed C (rows-room). Assumes nothing.
-use mathlib.Core.Path.{_≡_, refl, sym, subst}
-use mathlib.Core.Logic.{inl, inr}
+use mathlib.Core.Path.{_≡_, sym, subst}
 use mathlib.Core.Bool.{Bool, true, _&&_}
-use mathlib.Core.List.{List, [], _∷_}
-use Prim.Native.Nat.{ℕ, zero, suc, _+_, _≤_, _<_, min}
+use mathlib.Core.List.{List}
+use Prim.Native.Nat.{ℕ, zero, _+_, _≤_, min}
 use native.Mathlib.Omega.{arith}
 use lib.Dec.{leb}
-use lib.ListN.{length, getD, List·getD-eq-default}
-use borrow.Author.Tests.{eq-eqb, leb-true, le-leb}
-use Rattle.lists.specs.Lists.{Mem, first, later, isIn, all, at, times, sumOf, valuesAt, rises, allZero}
-use Rattle.lists.proofs.Tests.{lt-or-le, both-ways, and-both, both-and, in-range}
+use lib.ListN.{length}
+use borrow.Author.Tests.{leb-true, le-leb}
+use Rattle.lists.specs.Lists.{isIn, all, at, times, sumOf, valuesAt, rises, allZero}
+use Rattle.lists.proofs.Tests.{both-ways, and-both, both-and, in-range}
 use Rattle.lists.proofs.Member.{all-at, all-make}
-use Rattle.lists.proofs.Times.{times-self, times-cons}
-use Rattle.lists.proofs.Rising.{rises-in}
+use Rattle.lists.proofs.Place.{values-zero}
 use Rattle.symbolic.specs.Columns.{Column, fitsRows}
 use Rattle.pool.specs.Chains.{chain, Linked}
 use Rattle.pool.specs.Whole.{isWhole, Pool}
@@ -22,18 +20,6 @@ use Rattle.pool.proofs.Whole.{whole-pool, pool-whole}
 use Rattle.pool.proofs.Closed.{zero-value}
 use Rattle.book.specs.Book.{Book, isBooked, columnFor, columnsIn, columnFits, isSound}
 use Rattle.book.proofs.Columns.{Booked, columns-mem, mem-columns, columns-length}
-
--- ---- values at numbers
-
-pub values-mem : (xs : List ℕ) {x : ℕ} {rs : List ℕ} → Mem x rs → Mem (at xs x) (valuesAt xs rs)
-unfolding valuesAt
-values-mem xs first = first
-values-mem xs (later m) = later (values-mem xs m)
-
-pub values-zero : (xs rs : List ℕ) → ((x : ℕ) → 1 ≤ times x rs → at xs x ≡ 0) → allZero (valuesAt xs rs) ≡ true
-unfolding valuesAt allZero
-values-zero xs [] h = refl
-values-zero xs (r ∷ rs) h = both-and (eq-eqb (at xs r) 0 (h r (omega (arith, times-self r rs)))) (values-zero xs rs (λ x n. h x (omega (arith, times-cons x r rs))))
 
 -- ---- a column that fits
 
@@ -47,19 +33,6 @@ fitting m c e =
     let t : (rises 1 m (c .rows) ≡ true) × (isIn 1 256 (length (c .rows)) ≡ true) = and-both (rises 1 m (c .rows)) (isIn 1 256 (length (c .rows))) e in
     let r : (1 ≤ length (c .rows)) × (length (c .rows) ≤ 256) = in-range 1 256 (length (c .rows)) (t .1) in
     record { rise = t .0; some = r .0; few = r .1 }
-
--- each row, by place, is at most m
-pub rows-narrow : (m : ℕ) (xs : List ℕ) → rises 1 m xs ≡ true → (i : ℕ) → getD xs i 0 ≤ m
-rows-narrow m xs e i =
-    elim (lt-or-le i (length xs)) [
-      | inl h ↦ rises-in 1 m (place xs i h) e .1
-      | inr h ↦ omega (arith, List·getD-eq-default xs 0 h)
-    ]
-  where
-    place : (xs : List ℕ) (i : ℕ) → i < length xs → Mem (getD xs i 0) xs
-    place [] i h = absurd (omega arith)
-    place (x ∷ xs) zero h = first
-    place (x ∷ xs) (suc i) h = later (place xs i (omega arith))
 
 -- ---- the test and the facts
 

@@ -6,12 +6,12 @@ use mathlib.Core.List.{List, [], _∷_, _++_}
 use Prim.Native.Nat.{ℕ, zero, suc, _+_, _-_, _≤_, _<_}
 use native.Mathlib.Omega.{arith}
 use lib.Dec.{eqb}
-use lib.ListN.{length, getD, set, replicate, length-replicate, getD-replicate}
+use lib.ListN.{length, getD, set}
 use lib.Seq.{getD-set-other}
 use borrow.Author.Tests.{eq-eqb, ne-eqb}
 use Rattle.lists.specs.Lists.{pick, at, put, times}
-use Rattle.lists.proofs.Tests.{eq-or-ne, one-le}
-use Rattle.lists.proofs.Times.{times-nil, times-self, times-other, times-cons, UpTo}
+use Rattle.lists.proofs.Tests.{eq-or-ne}
+use Rattle.lists.proofs.Times.{times-nil, times-self, times-other, times-cons, UpTo, times-length}
 use Rattle.lists.proofs.Place.{put-length, at-put-same, at-put-other}
 use Rattle.book.specs.Tally.{tallied, filled}
 
@@ -143,11 +143,6 @@ filled-none (n ∷ ns) e (suc k) = filled-none ns (filled-first n ns e .1) k
 
 -- ---- rows counted one by one
 
-pub times-most : (x : ℕ) (xs : List ℕ) → times x xs ≤ length xs
-unfolding times
-times-most x [] = omega arith
-times-most x (y ∷ ys) = omega (arith, times-most x ys, one-le (eqb x y))
-
 -- the rows xs were counted, and size counters left 0
 pub record Tally (w₀ xs w : List ℕ) (size : ℕ) : Type 0 where
   pub is : w ≡ tallied w₀ xs
@@ -172,7 +167,7 @@ module _ {w₀ xs w : List ℕ} {size : ℕ} (t : Tally w₀ xs w size) where
 
   -- 32 bits hold a counter that had room for n rows, after fewer
   pub tally-room : (m n i : ℕ) → UpTo m xs → m ≤ length w₀ → length xs < n → getD w₀ i 0 + n < 4294967296 → getD w i 0 + 1 < 4294967296
-  tally-room m n i up h f r = omega (arith, ap (λ (l : List ℕ). getD l i 0) (t .is), tallied-cell m w₀ xs i up h, times-most (suc i) xs)
+  tally-room m n i up h f r = omega (arith, ap (λ (l : List ℕ). getD l i 0) (t .is), tallied-cell m w₀ xs i up h, times-length (suc i) xs)
 
   -- one row more: its counter leaves 0, or was other than 0
   pub tally-more : (x size′ : ℕ) → x - 1 < length w₀ → ((at w x ≡ 0) × (size′ ≡ size + 1)) ⊎ ((at w x ≢ 0) × (size′ ≡ size)) →

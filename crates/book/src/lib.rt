@@ -5,7 +5,7 @@ ghost use mathlib.Core.Path.{_≡_};
 ghost use mathlib.Core.Logic.{_≢_};
 ghost use Prim.Native.Nat.{_+_, _≤_, _<_};
 ghost use lib.Dec.{leb};
-ghost use lib.ListN.{length, getD, replicate};
+ghost use lib.ListN.{length, replicate};
 ghost use Rattle.lists.specs.Lists.{over};
 ghost use Rattle.pool.specs.Chains.{chain, Linked};
 ghost use Rattle.book.specs.Book.{bookOf, tablesOf, isBooked, columnFor, isSound};

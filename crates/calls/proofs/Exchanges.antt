@@ -7,9 +7,10 @@ use mathlib.Core.Bool.{Bool, true, false, _&&_, _||_, true≢false}
 use mathlib.Core.List.{List}
 use Prim.Native.Nat.{ℕ, _≤_}
 use native.Mathlib.Omega.{arith}
-use Rattle.lists.specs.Lists.{Mem, first, later, all, among, at, valuesAt, sumOf, upFrom}
+use Rattle.lists.specs.Lists.{Mem, all, among, at, valuesAt, sumOf, upFrom}
 use Rattle.lists.proofs.Tests.{and-both, or-either}
 use Rattle.lists.proofs.Member.{all-at}
+use Rattle.lists.proofs.Place.{values-mem}
 use Rattle.lists.proofs.Rising.{up-from, rises-in}
 use Rattle.symbolic.specs.Columns.{Column, live}
 use Rattle.symbolic.specs.Factor.{FactorColumn, factorOf, factorFor, inPattern}
@@ -25,12 +26,6 @@ use Rattle.tables.proofs.Stays.{staysTest, keepsTest, stays-passed, keeps-passe
 use Rattle.calls.specs.Calls.{Change, adding, removing}
 use Rattle.calls.specs.Changes.{effect, touchedBy}
 use Rattle.calls.specs.Steps.{World, bookedIn, Exchanged}
-
--- what a list has for one of some numbers is among what it has for them
-values-mem : (xs : List ℕ) {y : ℕ} {rs : List ℕ} → Mem y rs → Mem (at xs y) (valuesAt xs rs)
-unfolding valuesAt
-values-mem xs first = first
-values-mem xs (later n) = later (values-mem xs n)
 
 -- ---- entries that stand before and after
 

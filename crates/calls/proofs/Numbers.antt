@@ -10,13 +10,13 @@ use native.Mathlib.Omega.{arith}
 use lib.Dec.{ltb, leb, eqb}
 use lib.ListN.{length, take, drop}
 use Rattle.lists.specs.Lists.{isIn, all, among}
-use Rattle.lists.proofs.Tests.{cases}
+use Rattle.lists.proofs.Tests.{cases, or-right}
 use Rattle.symbolic.specs.Columns.{Register}
 use Rattle.symbolic.specs.Factor.{factorFor, sizeSum}
 use Rattle.symbolic.specs.Change.{added}
 use Rattle.tables.specs.Tables.{Tables, Sizes, State, longEnough, registerOf, isSound}
-use Rattle.calls.specs.Refusals.{Refusal, accepted, isAccepted, orElse, unless, bounds, sizesRefusal, workFor, shortRefusal, earlyRefusal, batchOf, inRegister, rowsRefusal, columnsRefusal, rowSum, roomRefusal, idsRefusal, rowRefusal, roomFor}
-use Rattle.calls.specs.Calls.{Change, adding, removing, Question, askNextRow, askParent, askPath, askColumn, askMeets, askCommon, Entry, opening, changing, checking, asking, Call, isOpening, withDefault, sizesAfter, keepsRule}
+use Rattle.calls.specs.Refusals.{Refusal, accepted, isAccepted, orElse, unless, bounds, sizesRefusal, workFor, shortRefusal, batchOf, inRegister, rowsRefusal, columnsRefusal, rowSum, roomRefusal, idsRefusal, rowRefusal, roomFor}
+use Rattle.calls.specs.Calls.{Change, adding, removing, Question, askNextRow, askParent, askPath, askColumn, askMeets, askCommon, Entry, opening, changing, checking, asking, Call, isOpening, sizesAfter, keepsRule}
 use Rattle.calls.specs.Changes.{effect}
 use Rattle.calls.specs.Questions.{response}
 use Rattle.calls.specs.Numbers.{hasLists, callEarly, soundRefusal, ownRefusal, callRefusal, refusalOf}
@@ -189,12 +189,8 @@ call-number l r k = own-number l r (k .entry) (k .lent .list)
 
 -- ---- 6
 
-or-true : (a b : Bool) → b ≡ true → (a || b) ≡ true
-or-true true b h = refl
-or-true false b h = h
-
 pub sound-none : (s : State) (t : Tables) (e : Entry) → isSound s t ≡ true → soundRefusal s t e ≡ accepted
-sound-none s t e h = unless-true (isOpening e || isSound s t) 6 0 (or-true (isOpening e) (isSound s t) h)
+sound-none s t e h = unless-true (isOpening e || isSound s t) 6 0 (or-right (isOpening e) (isSound s t) h)
 
 -- a call that passed 6 found the tables sound
 pub sound-read : (s : State) (t : Tables) (e : Entry) → isOpening e ≡ false → isAccepted (soundRefusal s t e) ≡ true → isSound s t ≡ true

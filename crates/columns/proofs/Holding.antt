@@ -14,7 +14,7 @@ use borrow.Author.Tests.{le-leb, lt-leb, eq-eqb, ne-eqb}
 use Rattle.lists.specs.Lists.{Mem, first, later, at, put, valuesAt, times, rises, pairsOf}
 use Rattle.lists.proofs.Tests.{zero-or-pos, eq-or-ne, and-both}
 use Rattle.lists.proofs.Rising.{rises-in}
-use Rattle.lists.proofs.Place.{values-append, values-frame, values-put}
+use Rattle.lists.proofs.Place.{values-append, values-frame, values-put, values-mem}
 use Rattle.symbolic.specs.Factor.{patternFrom, nonZero}
 use Rattle.symbolic.proofs.Patterns.{pattern-append, counts-append, pattern-rises, pattern-find}
 use Rattle.pool.specs.Chains.{lastOf}
@@ -223,11 +223,6 @@ module _ {xs cs : List ℕ} where
       go (present r ss e x y p j) f = rw (e, ne-eqb (at xs r) (a + suc k) (λ q. omega arith)) (rw (← shift) (f ss j))
 
 -- ---- rows of records
-
-pub values-mem : (xs : List ℕ) {x : ℕ} {rs : List ℕ} → Mem x rs → Mem (at xs x) (valuesAt xs rs)
-unfolding valuesAt
-values-mem xs first = first
-values-mem xs (later m) = later (values-mem xs m)
 
 -- a record's row has a multiplicity
 pub holds-row : {xs cs : List ℕ} {a : ℕ} {ns rs : List ℕ} → HoldsFrom xs cs a ns rs → (x : ℕ) → Mem x rs → (k : ℕ) × (at xs x ≡ a + k) × (k < length ns) × (0 < getD ns k 0)

@@ -7,4 +7,4 @@ pub mod Turns
 pub mod Copying
 pub mod Stored
 pub mod Commits
-pub mod Filling
+pub mod Opened

@@ -4,7 +4,7 @@
 use mathlib.Core.Path.{_≡_, refl, sym, ap, _∙_}
 use mathlib.Core.Logic.{_≢_}
 use mathlib.Core.List.{List, [], _∷_, _++_, append-assoc}
-use Prim.Native.Nat.{ℕ, suc, _-_, _≤_, _<_}
+use Prim.Native.Nat.{ℕ, suc, _+_, _-_, _≤_, _<_}
 use native.Mathlib.Omega.{arith}
 use lib.ListN.{length, getD}
 use lib.Seq.{set-at, getD-at}
@@ -61,6 +61,11 @@ planned-below ns ms a (e ∷ es) i h l k =
 pub kind-none : (k : ℕ) → ofKind k [] ≡ 0
 unfolding ofKind
 kind-none k = refl
+
+pub kind-append : (k : ℕ) (es ds : List ℕ) → ofKind k (es ++ ds) ≡ ofKind k es + ofKind k ds
+unfolding ofKind
+kind-append k [] ds = omega arith
+kind-append k (e ∷ es) ds = omega (arith, kind-append k es ds)
 
 pub kind-here : (k e : ℕ) (es : List ℕ) → kindOf e ≡ k → ofKind k (e ∷ es) ≡ suc (ofKind k es)
 unfolding ofKind

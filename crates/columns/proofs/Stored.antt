@@ -3,16 +3,17 @@
 -- Assumes nothing.
 use mathlib.Core.Path.{_≡_, refl, sym, _∙_, subst}
 use mathlib.Core.Bool.{Bool, true, _&&_}
-use mathlib.Core.List.{List, [], _∷_}
+use mathlib.Core.List.{List}
 use Prim.Native.Nat.{ℕ, _+_, _-_, _≤_}
 use native.Mathlib.Omega.{arith}
 use lib.Dec.{eqb}
 use lib.ListN.{length}
 use borrow.Author.Tests.{eqb-true, eq-eqb}
-use Rattle.lists.specs.Lists.{Mem, at, valuesAt, allZero, same, times}
+use Rattle.lists.specs.Lists.{Mem, at, valuesAt, allZero, same}
 use Rattle.lists.proofs.Tests.{and-both, both-and}
 use Rattle.lists.proofs.Member.{same-eq, same-self, zero-at}
-use Rattle.lists.proofs.Times.{times-self, times-cons, times-mem}
+use Rattle.lists.proofs.Times.{times-mem}
+use Rattle.lists.proofs.Place.{values-mem, values-zero}
 use Rattle.symbolic.specs.Factor.{FactorColumn, patternOf, multiplicitiesOf}
 use Rattle.pool.specs.Chains.{chain}
 use Rattle.pool.proofs.Whole.{pool-linked}
@@ -20,7 +21,7 @@ use Rattle.tables.specs.Stored.{Stored, recordsOf, holdsColumn, freeZero}
 use Rattle.tables.specs.Stays.{ColumnStays, EntriesKeep}
 use Rattle.columns.specs.Search.{countOf, CanSearch, CanRead}
 use Rattle.columns.specs.Commit.{HoldsFrom, Holds, ZeroAt, Ready, ChainStays}
-use Rattle.columns.proofs.Holding.{values-mem, holds-rises, holds-count, holds-frame, rises-once}
+use Rattle.columns.proofs.Holding.{holds-rises, holds-count, holds-frame, rises-once}
 
 -- ---- what a column holds, as a test and as facts
 
@@ -49,11 +50,6 @@ free-zero s h x n =
     let rs : List ℕ = chain (s .next) (s .free) in
     let t : (allZero (valuesAt (s .rows) rs) ≡ true) × (allZero (valuesAt (s .counts) rs) ≡ true) = and-both (allZero (valuesAt (s .rows) rs)) (allZero (valuesAt (s .counts) rs)) h in
     (zero-at (values-mem (s .rows) (times-mem x rs n)) (t .0), zero-at (values-mem (s .counts) (times-mem x rs n)) (t .1))
-
-values-zero : (xs rs : List ℕ) → ((x : ℕ) → 1 ≤ times x rs → at xs x ≡ 0) → allZero (valuesAt xs rs) ≡ true
-unfolding valuesAt allZero
-values-zero xs [] h = refl
-values-zero xs (r ∷ rs) h = both-and (eq-eqb (at xs r) 0 (h r (omega (arith, times-self r rs)))) (values-zero xs rs (λ x n. h x (omega (arith, times-cons x r rs))))
 
 pub zero-free : (s : Stored) → ZeroAt (s .rows) (s .counts) (chain (s .next) (s .free)) → freeZero s ≡ true
 zero-free s h =

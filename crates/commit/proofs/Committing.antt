@@ -13,6 +13,7 @@ use Rattle.workspace.proofs.Regions.{region-join}
 use Rattle.tables.specs.Stored.{Stored}
 use Rattle.columns.specs.Plan.{ofKind}
 use Rattle.columns.specs.Commit.{CanCommitChain, CommitReady, CommittedChain, CanCommit}
+use Rattle.columns.proofs.Plan.{kind-append}
 use Rattle.columns.proofs.Commits.{can-commit-chain, commit-ready, storedWith, committed, Commits, commits-start, commits-holds, commits-next}
 use Rattle.workspace.specs.Layout.{startsAt, nextAt, planAt}
 use Rattle.commit.specs.Passes.{endOf, CanCommitPlans, PlansCommitted}
@@ -20,18 +21,13 @@ use Rattle.commit.proofs.Standing.{Standing, Ahead, standing-start, sta
 
 -- ---- kinds of a plan that is cut in two
 
-kinds-append : (k : ℕ) (xs ys : List ℕ) → ofKind k (xs ++ ys) ≡ ofKind k xs + ofKind k ys
-unfolding ofKind
-kinds-append k [] ys = omega arith
-kinds-append k (x ∷ xs) ys = omega (arith, kinds-append k xs ys)
-
 kinds-cut : (k : ℕ) (w : List ℕ) (p start end used : ℕ) → start ≤ end → end ≤ used →
     ofKind k (region w (p + start) (used - start)) ≡ ofKind k (region w (p + start) (end - start)) + ofKind k (region w (p + end) (used - end))
 kinds-cut k w p start end used a b =
     let e : used - start ≡ end - start + (used - end) = omega arith in
     let f : p + start + (end - start) ≡ p + end = omega arith in
     ap (λ (n : ℕ). ofKind k (region w (p + start) n)) e ∙ ap (λ (l : List ℕ). ofKind k l) (region-join w (p + start) (end - start) (used - end)) ∙
-    kinds-append k (region w (p + start) (end - start)) (region w (p + start + (end - start)) (used - end)) ∙
+    kind-append k (region w (p + start) (end - start)) (region w (p + start + (end - start)) (used - end)) ∙
     ap (λ (n : ℕ). ofKind k (region w (p + start) (end - start)) + ofKind k (region w n (used - end))) f
 
 -- ---- the invariant

@@ -1,4 +1,4 @@
--- Touched columns gathered. A place with a size (`place-gathered`, `place-low`, `place-size`); then the pass: the columns done are gathered (`Gathering`),
+-- Touched columns gathered. A place that is given a size, or has one; then the pass: the columns done are gathered (`Gathering`),
 -- and the plans stand in the work table as it was. Start, what one turn reads and writes, end. Assumes nothing.
 use mathlib.Core.Path.{_≡_, refl, sym, ap, _∙_, subst}
 use mathlib.Core.Logic.{_⊎_, inl, inr, _≢_}
@@ -8,38 +8,24 @@ use native.Mathlib.Omega.{arith}
 use lib.ListN.{length, set}
 use lib.Seq.{getD-set-same, getD-set-other}
 use borrow.Author.Tests.{lt-ltb, le-ltb}
-use Rattle.lists.specs.Lists.{Mem, at, times}
+use Rattle.lists.specs.Lists.{at, times}
 use Rattle.lists.proofs.Tests.{eq-or-ne}
-use Rattle.lists.proofs.Member.{mem-left}
 use Rattle.lists.proofs.Times.{times-nil, times-self, times-other, times-append, times-mem}
-use Rattle.lists.proofs.Rising.{rises-in}
 use Rattle.symbolic.specs.Factor.{FactorColumn}
 use Rattle.workspace.specs.Regions.{cell}
 use Rattle.workspace.specs.Layout.{nextAt, spare}
+use Rattle.workspace.specs.Parts.{upperWeight}
 use Rattle.workspace.proofs.Regions.{only-refl, only-store}
-use Rattle.commit.specs.Gather.{sizeWeight, gatheredAt, IsGathered, lowIn, sizeIn, withSize, storedSize, CanCount, CanGather, Gathered}
-use Rattle.commit.proofs.Standing.{Standing, Ahead, standing-start, standing-next, standing-end}
+use Rattle.commit.specs.Gather.{columnPlace, IsGathered, withSize, storedSize, CanCount, CanGatherColumns, ColumnsGathered}
+use Rattle.commit.proofs.Standing.{Standing, Ahead, standing-start, standing-next, standing-end, standing-within}
 
 -- ---- a place
 
--- a place that is given a size is that of a gathered column
-pub place-gathered : (x n : ℕ) → IsGathered (x + sizeWeight * (1 + n))
-place-gathered x n = omega arith
-
--- its low part stays
-pub place-low : (x n : ℕ) → x < sizeWeight → lowIn (x + sizeWeight * (1 + n)) ≡ x
-place-low x n h = omega arith
-
--- it holds the size
-pub place-size : (x n : ℕ) → x < sizeWeight → sizeIn (x + sizeWeight * (1 + n)) ≡ n
-place-size x n h = omega arith
-
--- with the size that it has none of, or as it is
-pub size-added : (x n : ℕ) → x < sizeWeight → withSize x n ≡ x + sizeWeight * (1 + n)
-size-added x n h = rw (lt-ltb x sizeWeight h) refl
+pub size-added : (x n : ℕ) → x < upperWeight → withSize x n ≡ x + upperWeight * (1 + n)
+size-added x n h = rw (lt-ltb x upperWeight h) refl
 
 pub size-stays : (x n : ℕ) → IsGathered x → withSize x n ≡ x
-size-stays x n h = rw (le-ltb x sizeWeight h) refl
+size-stays x n h = rw (le-ltb x upperWeight h) refl
 
 -- ---- the invariant
 
@@ -47,7 +33,7 @@ pub record Gathering (heads next : List ℕ) (L L′ : List FactorColumn) (label
   pub done : List ℕ
   pub start : ℕ
   pub standing : Standing (length heads) L L′ label work₀ columns used j done start
-  pub gathered : Gathered heads next done a work₀ work
+  pub gathered : ColumnsGathered heads next done a work₀ work
 
 -- what holds at a column: its number, the places of all columns, its chain, the column after it
 pub record AtGather (heads next work : List ℕ) (a j : ℕ) : Type 0 where
@@ -61,7 +47,7 @@ pub record AtGather (heads next work : List ℕ) (a j : ℕ) : Type 0 where
       ((j < cell work (nextAt (length heads)) (j - 1)) × (cell work (nextAt (length heads)) (j - 1) ≤ length heads))
 
 module _ {heads next : List ℕ} {L L′ : List FactorColumn} {label : ℕ → ℕ} {columns work₀ : List ℕ} {a first used : ℕ}
-    (can : CanGather heads next L L′ label columns work₀ a first used) where
+    (can : CanGatherColumns heads next L L′ label columns work₀ a first used) where
   pub gathering-start : Gathering heads next L L′ label columns a used work₀ work₀ first
   gathering-start =
       record {
@@ -81,8 +67,8 @@ module _ {heads next : List ℕ} {L L′ : List FactorColumn} {label : ℕ → �
     gathering-length = i .gathered .only .same-length
 
     -- all are gathered
-    pub gathering-end : j ≡ 0 → Gathered heads next columns a work₀ work
-    gathering-end z = subst (λ (js : List ℕ). Gathered heads next js a work₀ work) (standing-end (can .rising) (i .standing) z) (i .gathered)
+    pub gathering-end : j ≡ 0 → ColumnsGathered heads next columns a work₀ work
+    gathering-end z = subst (λ (js : List ℕ). ColumnsGathered heads next js a work₀ work) (standing-end (can .rising) (i .standing) z) (i .gathered)
 
     -- ---- a turn
 
@@ -106,12 +92,11 @@ module _ {heads next : List ℕ} {L L′ : List FactorColumn} {label : ℕ → �
           }
 
       -- the place of j is as it was
-      place-before : gatheredAt work a j ≡ gatheredAt work₀ a j
+      place-before : columnPlace work a j ≡ columnPlace work₀ a j
       place-before = i .gathered .others j (ahead .low) (ahead .high) (ahead .fresh)
 
       done-low : (l : ℕ) → 1 ≤ times l (i .done) → 1 ≤ l
-      done-low l h =
-          rises-in {x = l} 1 (length heads) (subst (λ (js : List ℕ). Mem l js) (i .standing .parts) (mem-left (i .standing .rest) (times-mem l (i .done) h))) (can .rising) .0
+      done-low l h = standing-within (can .rising) (i .standing) l (times-mem l (i .done) h) .0
 
       abbrev size : ℕ
       size = storedSize heads next j
@@ -119,12 +104,12 @@ module _ {heads next : List ℕ} {L L′ : List FactorColumn} {label : ℕ → �
       abbrev stored : List ℕ
       stored = set work (a + (j - 1)) (withSize (cell work a (j - 1)) size)
 
-      here : gatheredAt stored a j ≡ withSize (gatheredAt work₀ a j) size
+      here : columnPlace stored a j ≡ withSize (columnPlace work₀ a j) size
       here =
           getD-set-same work (a + (j - 1)) (withSize (cell work a (j - 1)) size) 0 (omega (arith, at-gather .long, ahead .low, ahead .high)) ∙
           ap (λ (x : ℕ). withSize x size) place-before
 
-      elsewhere : (l : ℕ) → 1 ≤ l → l ≢ j → gatheredAt stored a l ≡ gatheredAt work a l
+      elsewhere : (l : ℕ) → 1 ≤ l → l ≢ j → columnPlace stored a l ≡ columnPlace work a l
       elsewhere l b d = getD-set-other work (a + (j - 1)) (a + (l - 1)) (withSize (cell work a (j - 1)) size) 0 (λ e. d (omega (arith, ahead .low)))
 
       -- a column of those done and j is j, or one done before
@@ -135,18 +120,18 @@ module _ {heads next : List ℕ} {L L′ : List FactorColumn} {label : ℕ → �
             | inr d ↦ inr (d, omega (arith, times-append l (i .done) (j ∷ []), times-other l j [] d, times-nil l))
           ]
 
-      gathered-more : Gathered heads next (i .done ++ (j ∷ [])) a work₀ stored
+      gathered-more : ColumnsGathered heads next (i .done ++ (j ∷ [])) a work₀ stored
       gathered-more =
           record {
             only = only-store (i .gathered .only) (j - 1) (withSize (cell work a (j - 1)) size) (omega (arith, ahead .low, ahead .high));
             fresh = λ l h b. elim (split l h) [
-              | inl e ↦ subst (λ (x : ℕ). gatheredAt work₀ a x < sizeWeight → gatheredAt stored a x ≡ gatheredAt work₀ a x + sizeWeight * (1 + storedSize heads next x)) (sym e)
-                  (λ q. here ∙ size-added (gatheredAt work₀ a j) size q) b
+              | inl e ↦ subst (λ (x : ℕ). columnPlace work₀ a x < upperWeight → columnPlace stored a x ≡ columnPlace work₀ a x + upperWeight * (1 + storedSize heads next x)) (sym e)
+                  (λ q. here ∙ size-added (columnPlace work₀ a j) size q) b
               | inr t ↦ elsewhere l (done-low l (t .1)) (t .0) ∙ i .gathered .fresh l (t .1) b
             ];
             kept = λ l h b. elim (split l h) [
-              | inl e ↦ subst (λ (x : ℕ). IsGathered (gatheredAt work₀ a x) → gatheredAt stored a x ≡ gatheredAt work₀ a x) (sym e)
-                  (λ q. here ∙ size-stays (gatheredAt work₀ a j) size q) b
+              | inl e ↦ subst (λ (x : ℕ). IsGathered (columnPlace work₀ a x) → columnPlace stored a x ≡ columnPlace work₀ a x) (sym e)
+                  (λ q. here ∙ size-stays (columnPlace work₀ a j) size q) b
               | inr t ↦ elsewhere l (done-low l (t .1)) (t .0) ∙ i .gathered .kept l (t .1) b
             ];
             others = λ l b c z.
@@ -161,5 +146,5 @@ module _ {heads next : List ℕ} {L L′ : List FactorColumn} {label : ℕ → �
             done = i .done ++ (j ∷ []);
             start = ahead .end;
             standing = subst (λ (x : ℕ). Standing (length heads) L L′ label work₀ columns used x (i .done ++ (j ∷ [])) (ahead .end)) (sym next-same) (ahead .next);
-            gathered = subst (λ (x : ℕ). Gathered heads next (i .done ++ (j ∷ [])) a work₀ (set work (a + (j - 1)) x)) (sym e) gathered-more;
+            gathered = subst (λ (x : ℕ). ColumnsGathered heads next (i .done ++ (j ∷ [])) a work₀ (set work (a + (j - 1)) x)) (sym e) gathered-more;
           }

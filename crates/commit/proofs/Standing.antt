@@ -12,7 +12,7 @@ use lib.ListN.{length, length-append}
 use borrow.Author.Tests.{eq-eqb, ne-eqb}
 use Rattle.lists.specs.Lists.{pick, Mem, first, times, rises}
 use Rattle.lists.proofs.Tests.{and-both}
-use Rattle.lists.proofs.Member.{mem-right}
+use Rattle.lists.proofs.Member.{mem-right, mem-left}
 use Rattle.lists.proofs.Times.{times-nil, times-other}
 use Rattle.lists.proofs.Rising.{rises-in, rises-length}
 use Rattle.symbolic.specs.Factor.{FactorColumn}
@@ -127,6 +127,10 @@ module _ {m : ℕ} {L L′ : List FactorColumn} {label : ℕ → ℕ} {work colu
   module _ {done : List ℕ} {start : ℕ} (rising : rises 1 m columns ≡ true) (s : Standing m L L′ label work columns used j done start) where
     pub standing-next : j ≢ 0 → Ahead m L L′ label work columns used j done start
     standing-next n = ahead-of m L L′ label work columns used rising j done (s .rest) start (s .parts) (s .here) n (s .plans)
+
+    -- those done are columns
+    pub standing-within : (l : ℕ) → Mem l done → (1 ≤ l) × (l ≤ m)
+    standing-within l h = rises-in {x = l} 1 m (subst (λ (js : List ℕ). Mem l js) (s .parts) (mem-left (s .rest) h)) rising
 
     pub standing-end : j ≡ 0 → done ≡ columns
     standing-end z = done-all m L L′ label work columns used rising done (s .rest) (s .parts) (sym (s .here) ∙ z)

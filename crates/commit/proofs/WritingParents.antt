@@ -6,15 +6,13 @@ use mathlib.Core.List.{List, [], _∷_, _++_}
 use Prim.Native.Nat.{ℕ, _+_, _-_, _≤_, _<_}
 use native.Mathlib.Omega.{arith}
 use lib.ListN.{length, set}
-use Rattle.lists.specs.Lists.{Mem, put}
-use Rattle.lists.proofs.Member.{mem-left}
-use Rattle.lists.proofs.Rising.{rises-in}
+use Rattle.lists.specs.Lists.{put}
 use Rattle.symbolic.specs.Factor.{FactorColumn, parentOf}
 use Rattle.workspace.specs.Regions.{cell}
 use Rattle.updown.specs.Plans.{parentIn}
 use Rattle.workspace.specs.Layout.{marksAt, startsAt, nextAt, planAt}
 use Rattle.commit.specs.Passes.{putAll, CanWriteParents, ParentsWritten}
-use Rattle.commit.proofs.Standing.{Standing, Ahead, standing-start, standing-next, standing-end}
+use Rattle.commit.proofs.Standing.{Standing, Ahead, standing-start, standing-next, standing-end, standing-within}
 use Rattle.commit.proofs.Wiped.{all-none, all-more, all-length, wiped-none, wiped-more, wiped-length, wiped-mark, wiped-next}
 
 pub record WritingParents (L L′ : List FactorColumn) (label : ℕ → ℕ) (columns : List ℕ) (used : ℕ) (parents₀ work₀ parents work : List ℕ) (j : ℕ) : Type 0 where
@@ -61,18 +59,15 @@ module _ {L L′ : List FactorColumn} {label : ℕ → ℕ} {columns parents₀ 
       ahead : Ahead (length parents₀) L L′ label work₀ columns used j (i .done) (i .start)
       ahead = standing-next (can .rising) (i .standing) n
 
-      done-within : (l : ℕ) → Mem l (i .done) → (1 ≤ l) × (l ≤ length parents₀)
-      done-within l h = rises-in {x = l} 1 (length parents₀) (subst (λ (js : List ℕ). Mem l js) (i .standing .parts) (mem-left (i .standing .rest) h)) (can .rising)
-
       mark-same : cell work (marksAt (length parents₀)) (j - 1) ≡ cell work₀ (marksAt (length parents₀)) (j - 1)
       mark-same =
           ap (λ (w : List ℕ). cell w (marksAt (length parents₀)) (j - 1)) (i .written .work-is) ∙
-          wiped-mark (length parents₀) (i .done) work₀ done-within (can .long) j (ahead .low) (ahead .high) (ahead .fresh)
+          wiped-mark (length parents₀) (i .done) work₀ (standing-within (can .rising) (i .standing)) (can .long) j (ahead .low) (ahead .high) (ahead .fresh)
 
       next-same : cell work (nextAt (length parents₀)) (j - 1) ≡ cell work₀ (nextAt (length parents₀)) (j - 1)
       next-same =
           ap (λ (w : List ℕ). cell w (nextAt (length parents₀)) (j - 1)) (i .written .work-is) ∙
-          wiped-next (length parents₀) (i .done) work₀ done-within (can .long) j (ahead .low) (ahead .high) (ahead .fresh)
+          wiped-next (length parents₀) (i .done) work₀ (standing-within (can .rising) (i .standing)) (can .long) j (ahead .low) (ahead .high) (ahead .fresh)
 
       pub at-parent : AtParent parents₀ parents work j
       at-parent =

@@ -9,7 +9,7 @@ use Rattle.lists.specs.Lists.{among, rises}
 use Rattle.symbolic.specs.Columns.{Column}
 use Rattle.symbolic.specs.Factor.{factorOf, columnAt}
 use Rattle.workspace.specs.Regions.{IsZero}
-use Rattle.workspace.specs.Layout.{spare, flagsAt, flagCount}
+use Rattle.workspace.specs.Layout.{spare}
 use Rattle.pool.specs.Chains.{chain}
 use Rattle.tables.specs.Stored.{Stored, Sized, isSoundFor}
 use Rattle.tables.specs.Stays.{ColumnStays, EntriesKeep}
@@ -27,7 +27,6 @@ pub record CanWrite (s : Stored) (cs ds : List Column) (label : ℕ → ℕ) (co
   pub plan : PlanIs (length (s .heads)) (length (s .next)) free (factorOf (length (s .heads)) cs) (factorOf (length (s .heads)) ds) label columns before work first count entries used
   -- the regions that planning uses, before it
   pub zero : IsZero before 0 (spare (length (s .heads)) (length (s .next)))
-  pub flags-zero : IsZero before (flagsAt (length (s .heads)) (length (s .next))) flagCount
   pub long : planNeed (length (s .heads)) (length (s .next)) ≤ length before
   pub rising : rises 1 (length (s .heads)) columns ≡ true
   pub off : (j : ℕ) → 1 ≤ j → j ≤ length (s .heads) → among j columns ≡ false →

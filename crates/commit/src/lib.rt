@@ -12,7 +12,7 @@ ghost use Rattle.tables.specs.Stored.{storedOf};
 ghost use Rattle.commit.specs.Writes.{SomeWrite, WrittenAll};
 ghost use Rattle.commit.specs.Passes.{endOf, CanEnd, CanCommitPlans, SomeCommits, PlansCommitted, CanWriteParents, SomeParents, ParentsWritten};
 ghost use Rattle.commit.specs.Report.{CanReport, SomeReport, Reported};
-ghost use Rattle.commit.specs.Gather.{withSize, CanCount, CanGather, SomeGather, Gathered};
+ghost use Rattle.commit.specs.Gather.{withSize, CanCount, CanGatherColumns, SomeGatherColumns, ColumnsGathered};
 use book::Row;
 use pool::Rec;
 use updown::LABEL_WEIGHT;
@@ -21,9 +21,7 @@ use workspace::MARKS;
 use workspace::NEXT;
 use workspace::PLAN;
 use workspace::STARTS;
-
-// By which the size of a gathered column counts in its place.
-pub const SIZE_WEIGHT: u32 = 8192;
+use workspace::UPPER_WEIGHT;
 
 // The most entries that a column has.
 const LONGEST: u32 = 4096;
@@ -131,17 +129,17 @@ fn with_size(next: &[u32], head: Rec, place: u32) -> u32
     requires { ⌜ CanCount (now next) (head .0) ⌝ }
     ensures { λ p. ⌜ p ≡ withSize place (length (chain (now (next .entry)) (head .0))) ⌝ }
 {
-    if place >= SIZE_WEIGHT {
+    if place >= UPPER_WEIGHT {
         return place;
     }
     let n = pool::count(next, head, LONGEST);
-    place + SIZE_WEIGHT * (1 + n)
+    place + UPPER_WEIGHT * (1 + n)
 }
 
 // Gathers the planned columns from the first on, in the places of all columns from one on: each that has no size there is given the one that it has now.
 pub fn gather(heads: &[u32], next: &[u32], work: &mut [u32], at: usize, first: Row)
-    requires { ⌜ SomeGather (now heads) (now next) (now work) at (first .0) ⌝ }
-    ensures { λ _. ⌜ ((L L′ : List FactorColumn) (label : ℕ → ℕ) (columns : List ℕ) (used : ℕ) → CanGather (now (heads .entry)) (now (next .entry)) L L′ label columns (now (work .entry)) at (first .0) used → Gathered (now (heads .entry)) (now (next .entry)) columns at (now (work .entry)) (now (work .exit))) ⌝ }
+    requires { ⌜ SomeGatherColumns (now heads) (now next) (now work) at (first .0) ⌝ }
+    ensures { λ _. ⌜ ((L L′ : List FactorColumn) (label : ℕ → ℕ) (columns : List ℕ) (used : ℕ) → CanGatherColumns (now (heads .entry)) (now (next .entry)) L L′ label columns (now (work .entry)) at (first .0) used → ColumnsGathered (now (heads .entry)) (now (next .entry)) columns at (now (work .entry)) (now (work .exit))) ⌝ }
 {
     let m = heads.len();
     let mut j = first;

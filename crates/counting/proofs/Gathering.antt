@@ -7,12 +7,12 @@ use Prim.Native.Nat.{ℕ, suc, _+_, _*_, _-_, _≤_, _<_}
 use native.Mathlib.Omega.{arith}
 use lib.ListN.{length, getD, take, length-append}
 use Rattle.lists.specs.Lists.{at, times}
-use Rattle.lists.proofs.Times.{times-append, times-self, UpTo}
+use Rattle.lists.proofs.Times.{times-append, times-self, UpTo, times-length}
 use Rattle.workspace.specs.Regions.{region}
 use Rattle.workspace.proofs.Regions.{region-length, region-cell}
 use Rattle.pool.specs.Chains.{chain, Linked}
 use Rattle.pool.proofs.Chains.{Step, linked-step, linked-chain, linked-end, linked-short}
-use Rattle.book.proofs.Tally.{tallied-cell, times-most, Tally, tally-none, tally-length, tally-past, tally-append}
+use Rattle.book.proofs.Tally.{tallied-cell, Tally, tally-none, tally-length, tally-past, tally-append}
 use Rattle.counting.specs.Counting.{gathered}
 use Rattle.counting.specs.Given.{Counted}
 use Rattle.counting.proofs.Numbers.{gathered-more, gathered-up, gathered-length}
@@ -61,7 +61,7 @@ module _ {m b n l h : ℕ} {g : ℕ → List ℕ} {w₀ : List ℕ} (pre : CanGa
         arith,
         ap (λ (s : List ℕ). getD s k 0) (i .counted .is),
         tallied-cell m w₀ (gathered g (i .done)) k done-up (omega (arith, pre .before, pre .long)),
-        times-most (suc k) (gathered g (i .done)),
+        times-length (suc k) (gathered g (i .done)),
         gathered-length l g (i .done) (λ x p. pre .short x (is-listed x p)),
       ),
       omega (

@@ -9,13 +9,13 @@ use lib.ListN.{length, getD, take, set, length-take}
 use lib.Seq.{getD-take}
 use Rattle.lists.specs.Lists.{at, put, times}
 use Rattle.lists.proofs.Tests.{eq-or-ne}
-use Rattle.lists.proofs.Times.{times-nil, times-other, UpTo}
+use Rattle.lists.proofs.Times.{times-nil, times-other, UpTo, times-length}
 use Rattle.workspace.specs.Layout.{childHead, childNext, columnHead, stashStart, rowStash, columnNext}
 use Rattle.workspace.specs.Regions.{cell, region, IsZero, OnlyIn}
 use Rattle.workspace.proofs.Regions.{region-length, region-cell, region-ext, zero-at, only-trans}
 use Rattle.pool.proofs.Chains.{linked-short, linked-high}
 use Rattle.book.specs.Tally.{tallied, filled, bookRows}
-use Rattle.book.proofs.Tally.{tallied-append, tallied-cell, filled-raise, filled-most, filled-zero, times-most}
+use Rattle.book.proofs.Tally.{tallied-append, tallied-cell, filled-raise, filled-most, filled-zero}
 use Rattle.counting.specs.Counting.{gathered}
 use Rattle.counting.specs.Given.{Counted, Places, childrenIn, stashed, Stashed, CanTallyChildren, startingIn, CanTallyColumns, givenIn, CanTallyAll}
 use Rattle.counting.proofs.Numbers.{gathered-ext, gathered-up, gathered-length}
@@ -145,7 +145,7 @@ module _ {hs rs ns w₀ : List ℕ} {m f j : ℕ} (pre : CanTallyAll hs rs ns w�
   one-counter k h =
       let z : getD w₀ k 0 ≡ 0 = ap (λ (i : ℕ). getD w₀ i 0) (zero-add k) ∙ pre .zero k h in
       let u : getD (tallied w₀ (j ∷ [])) k 0 ≡ getD w₀ k 0 + times (suc k) (j ∷ []) = tallied-cell m w₀ (j ∷ []) k one-up (omega (arith, pre .sizes .long)) in
-      omega (arith, ap (λ (l : List ℕ). getD l k 0) one-is, times-most (suc k) (j ∷ []))
+      omega (arith, ap (λ (l : List ℕ). getD l k 0) one-is, times-length (suc k) (j ∷ []))
     where
       zero-add : (k : ℕ) → k ≡ 0 + k
       zero-add k = omega arith
@@ -187,7 +187,7 @@ module _ {hs rs ns w₀ : List ℕ} {m f j : ℕ} (pre : CanTallyAll hs rs ns w�
           ap (λ (l : List ℕ). getD (tallied (region after-one 0 m) l) k 0) kids-same,
           getD-take m after-one k 0 h,
           one-counter k h,
-          times-most (suc k) kids,
+          times-length (suc k) kids,
           kids-few,
         )
 

@@ -61,10 +61,10 @@ bumped-pos false d h = omega arith
 shifted-self : (x : ℕ) → 1 ≤ x → shifted x ≡ x
 shifted-self x h = rw (ne-eqb x 0 (λ e. omega arith)) refl
 
-touched-one : (x : ℕ) → x ≢ 0 → one (not (eqb x 0)) ≡ 1
+pub touched-one : (x : ℕ) → x ≢ 0 → one (not (eqb x 0)) ≡ 1
 touched-one x h = rw (ne-eqb x 0 h) refl
 
-touched-none : (x : ℕ) → x ≡ 0 → one (not (eqb x 0)) ≡ 0
+pub touched-none : (x : ℕ) → x ≡ 0 → one (not (eqb x 0)) ≡ 0
 touched-none x h = rw (eq-eqb x 0 h) refl
 
 only-put : {n : ℕ} {w x : List ℕ} → OnlyIn 0 n w x → (p v : ℕ) → p < n → OnlyIn 0 n w (set x p v)

@@ -1,13 +1,12 @@
 -- The two steps of counting together: what the first leaves can be merged, and merged it is the whole count. Assumes nothing.
 use mathlib.Core.Path.{_≡_, refl, sym, ap, _∙_}
-use mathlib.Core.Logic.{inl, inr, _≢_}
+use mathlib.Core.Logic.{inl, inr}
 use mathlib.Core.Bool.{Bool, true, not}
 use mathlib.Core.List.{List, _++_}
 use Prim.Native.Nat.{ℕ, _+_, _-_, _*_, _≤_}
 use native.Mathlib.Omega.{arith}
 use lib.Dec.{eqb}
 use lib.ListN.{length, getD, length-append}
-use borrow.Author.Tests.{eq-eqb, ne-eqb}
 use Rattle.lists.specs.Lists.{one, among, times, at, rises}
 use Rattle.lists.proofs.Tests.{zero-or-pos, one-le}
 use Rattle.lists.proofs.Member.{mem-either, among-mem}
@@ -18,7 +17,7 @@ use Rattle.workspace.proofs.Regions.{region-ext, region-length, only-join}
 use Rattle.differences.specs.Tally.{shifted, differenceAt}
 use Rattle.differences.specs.Count.{CanCount, Counted, Bumped, CanMerge, Merged}
 use Rattle.differences.proofs.Rows.{rises-once}
-use Rattle.differences.proofs.Bumping.{counted-same}
+use Rattle.differences.proofs.Bumping.{counted-same, touched-one, touched-none}
 
 module _ {m : ℕ} {w₀ : List ℕ} {n k : ℕ} {up : Bool} {w : List ℕ} {f : ℕ} (can : CanCount m w₀ n k) (b : Bumped m w₀ n k up w f) where
   long : 3 * m ≤ length w
@@ -87,8 +86,8 @@ module _ {m : ℕ} {w₀ : List ℕ} {n k : ℕ} {up : Bool} {w : List ℕ} {f :
               within = few;
               rising = g .rising;
               listed = λ i p q. (
-                λ t e. omega (arith, mem-times (among-mem i (region x m (n + f)) t), members i p q, none-of (at x i) e),
-                λ d. among-some i (region x m (n + f)) (omega (arith, members i p q, one-of (at x i) d)),
+                λ t e. omega (arith, mem-times (among-mem i (region x m (n + f)) t), members i p q, touched-none (at x i) e),
+                λ d. among-some i (region x m (n + f)) (omega (arith, members i p q, touched-one (at x i) d)),
               );
               rest = g .rest;
             };
@@ -99,9 +98,3 @@ module _ {m : ℕ} {w₀ : List ℕ} {n k : ℕ} {up : Bool} {w : List ℕ} {f :
               (λ i p q. ap shifted (place-same i p q));
           only = only-join 0 (3 * m) (b .only) (g .only) (omega arith) (omega arith) (omega arith) (omega arith);
         }
-      where
-        none-of : (y : ℕ) → y ≡ 0 → one (not (eqb y 0)) ≡ 0
-        none-of y e = rw (eq-eqb y 0 e) refl
-
-        one-of : (y : ℕ) → y ≢ 0 → one (not (eqb y 0)) ≡ 1
-        one-of y d = rw (ne-eqb y 0 d) refl

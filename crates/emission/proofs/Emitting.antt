@@ -15,7 +15,7 @@ use Rattle.lists.proofs.Member.{mem-left}
 use Rattle.lists.proofs.Place.{values-append, values-length}
 use Rattle.lists.proofs.Rising.{rises-in}
 use Rattle.symbolic.specs.Factor.{patternFrom}
-use Rattle.symbolic.proofs.Patterns.{pattern-rises}
+use Rattle.symbolic.proofs.Patterns.{pattern-rises, pattern-short}
 use Rattle.workspace.specs.Regions.{cell, Outside}
 use Rattle.workspace.proofs.Regions.{region-ext}
 use Rattle.pool.specs.Chains.{chain}
@@ -32,7 +32,7 @@ use Rattle.emission.specs.declared.Emission.{Emission}
 use Rattle.emission.proofs.Plans.{plan-suits, plan-becomes, kind-none}
 use Rattle.emission.proofs.Left.{left-start, left-end}
 use Rattle.emission.proofs.Clearing.{Clearing, clearing-start, between, beyond, row-is, row-low, row-high, row-above, place-is, place-some, after-past, clearing-next, clearing-frame, clearing-done}
-use Rattle.emission.proofs.Turning.{pattern-short, Fields, fields, Going, Progress, Turned, going-short, going-pass}
+use Rattle.emission.proofs.Turning.{Fields, fields, Going, Progress, Turned, going-short, going-pass}
 use Rattle.emission.proofs.Planning.{value-is, turn-inside, turn-plan, planned-turned}
 
 pub record Emitting (rows counts next w₀ : List ℕ) (m n j used avail : ℕ) (old new : List ℕ) (w : List ℕ) (walk : Walk) (i : ℕ) : Type 0 where
@@ -105,7 +105,7 @@ module _ {rows counts next w₀ : List ℕ} {m n j head used avail : ℕ} {old n
     emitting-pass = record { linked = g .progress .linked; rows-long = can .rows-long; small = g .progress .small; behind-small = behind-short }
       where
         behind-short : walk .behind + length (chain next (walk .at .0)) < 4294967296
-        behind-short = omega (arith, g .progress .behind, pattern-short 0 old, can .old-long, can .narrow)
+        behind-short = omega (arith, g .progress .behind, pattern-short 1 old, can .old-long, can .narrow)
 
     module _ (h : i < n) where
       abbrev row-here : ℕ
@@ -194,7 +194,7 @@ module _ {rows counts next w₀ : List ℕ} {m n j head used avail : ℕ} {old n
         pub record-inside : getD old s 0 ≢ 0 → (1 ≤ next-walk .at .0) × (next-walk .at .0 ≤ length next) × (next-walk .behind < 4294967295)
         record-inside z =
             let t : (1 ≤ next-walk .at .0) × (next-walk .at .0 ≤ length next) = turn-inside can passed-going in-rows z in
-            (t .0, t .1, omega (arith, passed-going .behind, pattern-short 0 old, can .old-long, can .narrow))
+            (t .0, t .1, omega (arith, passed-going .behind, pattern-short 1 old, can .old-long, can .narrow))
 
         pub advanced-small : (o : ℕ) → advanced next o next-walk .size < 4294967295
         advanced-small o =
@@ -308,7 +308,7 @@ module _ {rows counts next w₀ : List ℕ} {m n j head used avail : ℕ} {old n
                 l .behind,
                 values-length rows (chain next (last .at .0)),
                 ap length (l .left .rows-left),
-                pattern-short m (drop m old),
+                pattern-short (suc m) (drop m old),
                 length-drop m old,
                 can .old-long,
               )

@@ -19,6 +19,7 @@ use Rattle.workspace.proofs.Planned.{packed-kind}
 use Rattle.workspace.proofs.Regions.{store-leaves-region}
 use Rattle.pool.specs.Chains.{chain, Linked}
 use Rattle.columns.specs.Plan.{ofKind}
+use Rattle.columns.proofs.Plan.{kind-append}
 use Rattle.differences.specs.Gather.{planPart}
 use Rattle.differences.proofs.Chain.{Onward, chain-onward, chain-over}
 use Rattle.differences.proofs.Parts.{part-next}
@@ -27,7 +28,7 @@ use Rattle.emission.specs.Plans.{kindFor, planFrom}
 use Rattle.emission.specs.Walks.{firstOver, storedAt, CanPlan, Planned, same, stored, fresh, spent}
 use Rattle.emission.specs.Emit.{CanEmit}
 use Rattle.emission.specs.declared.Walk.{Walk}
-use Rattle.emission.proofs.Plans.{entry-fits, kind-push, kind-append}
+use Rattle.emission.proofs.Plans.{entry-fits, kind-push}
 use Rattle.emission.proofs.Left.{Left, Head, left-with, left-head, none-rows, none-counts, none-above}
 use Rattle.emission.proofs.Turning.{onward-at, Fields, Going, Turned, going-short, kind-new, kind-old}
 

@@ -118,8 +118,3 @@ pub kind-push : (k : ℕ) (es : List ℕ) (e : ℕ) → ofKind k (es ++ (e ∷ [
 unfolding ofKind
 kind-push k [] e = omega arith
 kind-push k (d ∷ es) e = omega (arith, kind-push k es e)
-
-pub kind-append : (k : ℕ) (es ds : List ℕ) → ofKind k (es ++ ds) ≡ ofKind k es + ofKind k ds
-unfolding ofKind
-kind-append k [] ds = omega arith
-kind-append k (e ∷ es) ds = omega (arith, kind-append k es ds)

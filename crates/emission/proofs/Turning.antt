@@ -14,9 +14,9 @@ use Rattle.lists.specs.Lists.{pick, one, Mem, at, valuesAt, rises}
 use Rattle.lists.proofs.Tests.{cases, eq-or-ne}
 use Rattle.lists.proofs.Member.{mem-among}
 use Rattle.lists.proofs.Place.{values-append, values-length}
-use Rattle.lists.proofs.Rising.{rises-first, rises-length}
+use Rattle.lists.proofs.Rising.{rises-first}
 use Rattle.symbolic.specs.Factor.{patternFrom}
-use Rattle.symbolic.proofs.Patterns.{pattern-rises}
+use Rattle.symbolic.proofs.Patterns.{pattern-rises, pattern-short}
 use Rattle.workspace.specs.Regions.{Outside}
 use Rattle.pool.specs.Chains.{chain, Linked}
 use Rattle.columns.specs.Plan.{ofKind}
@@ -31,10 +31,6 @@ use Rattle.emission.specs.declared.Walk.{Walk}
 use Rattle.emission.proofs.Left.{Left, left-as, left-pass}
 
 -- ---- small facts
-
-pub pattern-short : (t : ℕ) (ns : List ℕ) → length (patternFrom (suc t) ns) ≤ length ns
-pattern-short t ns =
-    omega (arith, rises-length (suc t) (t + length ns) (patternFrom (suc t) ns) (omega arith) (pattern-rises (suc t) ns (t + length ns) (omega arith)))
 
 pub kind-new : (n n′ : ℕ) → n ≡ 0 → one (eqb (kindFor n n′) 1) ≡ 1
 kind-new n n′ z = rw (eq-eqb n 0 z) refl
@@ -104,13 +100,13 @@ module _ {rows counts next w₀ : List ℕ} {m n j head used avail : ℕ} {old n
         omega (
           arith,
           g .left .size-left,
-          pattern-short 0 new,
+          pattern-short 1 new,
           can .new-long,
           can .old-long,
           can .narrow,
           values-length rows (chain next (walk .at .0)),
           ap length (g .left .rows-left),
-          pattern-short t (drop t old),
+          pattern-short (suc t) (drop t old),
           length-drop t old,
         )
 

@@ -4,7 +4,7 @@
 -- Assumes nothing.
 use mathlib.Core.Path.{_≡_, refl, sym, ap, subst, _∙_}
 use mathlib.Core.Logic.{_⊎_, inl, inr, _≢_}
-use mathlib.Core.Bool.{true, false, false≢true}
+use mathlib.Core.Bool.{true, false}
 use mathlib.Core.List.{List, [], _∷_, _++_}
 use Prim.Native.Nat.{ℕ, suc, _+_, _-_, _≤_, _<_}
 use native.Mathlib.Omega.{arith}
@@ -12,10 +12,11 @@ use native.Mathlib.Numerals.{add-one}
 use lib.ListN.{length, getD, set, length-set}
 use lib.Seq.{getD-set-same, getD-set-other}
 use borrow.Author.Tests.{eq-eqb, ne-eqb}
-use Rattle.lists.proofs.Tests.{eq-or-ne}
+use Rattle.lists.specs.Lists.{Decides}
+use Rattle.lists.proofs.Tests.{eq-or-ne, decides-no}
 use Rattle.workspace.specs.Regions.{cell, region, Outside, Apart}
 use Rattle.workspace.proofs.Regions.{region-length, region-cell, region-ext, region-next}
-use Rattle.pool.specs.Ends.{Decides, NoneTwice}
+use Rattle.pool.specs.Ends.{NoneTwice}
 use Rattle.ends.specs.Naming.{namedIn, Named, CanCompare}
 
 -- ---- what naming writes and leaves
@@ -189,7 +190,7 @@ module _ {w : List ℕ} {a b n i : ℕ} (d : Found w a b n i) where
 
 -- one does not: a later chain has its last record
 pub found-none : {w : List ℕ} {a b n i : ℕ} → CanCompare w a b n → i < n → cell w a i ≢ 0 → cell w b (cell w a i - 1) ≢ i + 1 → Decides (NoneTwice (region w a n)) false
-found-none {w} {a} {b} {n} {i} c more some other = record { yes = λ t. absurd (false≢true t); no = λ t. absurd (twice t) }
+found-none {w} {a} {b} {n} {i} c more some other = decides-no twice
   where
     twice : NoneTwice (region w a n) → ⊥
     twice t =

@@ -2,7 +2,8 @@
 // does not find its own name at its last record shares it with a later one. No place is cleared: only places that were written are read.
 ghost use mathlib.Core.Path.{_≡_};
 ghost use Rattle.workspace.specs.Regions.{region};
-ghost use Rattle.pool.specs.Ends.{Decides, NoneTwice};
+ghost use Rattle.lists.specs.Lists.{Decides};
+ghost use Rattle.pool.specs.Ends.{NoneTwice};
 ghost use Rattle.ends.specs.Naming.{CanName, namedIn, CanCompare};
 use pool::Rec;
 

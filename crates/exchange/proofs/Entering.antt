@@ -16,15 +16,16 @@ use Rattle.symbolic.specs.Factor.{factorOf, sizeSum}
 use Rattle.symbolic.specs.Batch.{isTouched}
 use Rattle.symbolic.proofs.Theorems.{sizes-grow}
 use Rattle.workspace.specs.Regions.{cell, OnlyIn}
-use Rattle.snapshot.specs.Snapshot.{pairedRow}
+use Rattle.workspace.specs.Layout.{gatherAt}
+use Rattle.workspace.specs.Parts.{lowerPart}
 use Rattle.book.specs.Book as book
 use Rattle.tables.specs.Stored.{Stored}
 use Rattle.updown.specs.Entries.{CanAddBooked, SomeAddBooked}
-use Rattle.exchange.specs.Exchange.{gatherAt}
+use Rattle.updown.proofs.Booking.{booked-length}
 use Rattle.exchange.specs.Stages.{groupTouches, GroupDone, GroupEntered, GroupEnds, CanGo, CanEnterAll, EnteredAll, Moved}
 use Rattle.exchange.proofs.Stages.{moved-none, moved-as, moved-joins, group-moved}
 use Rattle.exchange.proofs.Small.{rows-room, sizes-fit}
-use Rattle.exchange.proofs.Parting.{booked-length, group, booked-part, front-more, entering-more}
+use Rattle.exchange.proofs.Parting.{group, booked-part, front-more, entering-more}
 use Rattle.exchange.proofs.Going.{go-on, some-fit}
 use Rattle.exchange.proofs.Leaving.{mem-rest, mem-front}
 
@@ -107,7 +108,7 @@ module _ {s : Stored} {b : book.Book} {ids work : List ℕ} {R B : List Column} 
               fits-is = h ∙ sym (lt-leb (sizeSum (factorOf m (R ++ B))) f (omega arith));
               done = λ k. absurd (true≢false (sym k ∙ h));
               only = subst (λ (w : List ℕ). OnlyIn (gatherAt m f) m work w) (sym (x .unchanged h)) (v .gathers .only);
-              low = λ i l. ap (λ (w : List ℕ). pairedRow (cell w (gatherAt m f) i)) (x .unchanged h) ∙ v .gathers .low i l;
+              low = λ i l. ap (λ (w : List ℕ). lowerPart (cell w (gatherAt m f) i)) (x .unchanged h) ∙ v .gathers .low i l;
             }
 
       pub entering-some : SomeAddBooked now b (take (e - a) (drop a ids)) work′

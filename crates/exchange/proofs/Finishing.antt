@@ -4,7 +4,7 @@ use mathlib.Core.Path.{_≡_, refl, sym, ap, _∙_, subst}
 use mathlib.Core.Logic.{inl, inr}
 use mathlib.Core.Bool.{Bool, true, false, false≢true}
 use mathlib.Core.List.{List, [], _∷_, _++_, append-nil}
-use Prim.Native.Nat.{ℕ, _+_, _*_, _-_, _%_, _≤_, _<_}
+use Prim.Native.Nat.{ℕ, _+_, _*_, _-_, _≤_, _<_}
 use native.Mathlib.Omega.{arith}
 use lib.ListN.{length, getD}
 use borrow.Author.Tests.{eq-eqb, le-leb}
@@ -15,7 +15,8 @@ use Rattle.symbolic.specs.Factor.{FactorColumn, factorOf, columnAt, sizeOf, siz
 use Rattle.symbolic.specs.Batch.{isTouched, isExchanged}
 use Rattle.symbolic.proofs.Theorems.{order-free}
 use Rattle.workspace.specs.Regions.{cell, OnlyIn}
-use Rattle.workspace.specs.Layout.{spare, flagsAt, flagCount}
+use Rattle.workspace.specs.Layout.{spare, flagsAt, flagCount, gatherAt}
+use Rattle.workspace.specs.Parts.{upperWeight, lowerPart}
 use Rattle.workspace.proofs.Regions.{only-cell, only-zero, only-join, only-wider}
 use Rattle.snapshot.specs.Snapshot.{CanSaveParents, ParentsSaved, CanSaveRecords, RecordsSaved}
 use Rattle.snapshot.proofs.Kept.{parents-stay}
@@ -23,11 +24,11 @@ use Rattle.book.specs.Book as book
 use Rattle.tables.specs.Stored.{Stored, recordsOf}
 use Rattle.tables.proofs.Stored.{sound-facts}
 use Rattle.tables.proofs.Reading.{holds-size}
-use Rattle.exchange.specs.Exchange.{gatherAt, CanExchange, Gathered, Done, Exchanged}
+use Rattle.updown.proofs.Booking.{booked-length}
+use Rattle.exchange.specs.Exchange.{CanExchange, Gathered, Done, Exchanged}
 use Rattle.exchange.specs.Stages.{gatheredIn, Moved, SomeSwap, Swapped}
 use Rattle.exchange.proofs.Stages.{moved-as}
 use Rattle.exchange.proofs.Small.{sizes-fit, parents-small}
-use Rattle.exchange.proofs.Parting.{booked-length}
 use Rattle.exchange.proofs.Swapping.{exchange-room, can-pair}
 
 module _ {s : Stored} {b : book.Book} {leave enter work : List ℕ} {R A B : List Column} (c : CanExchange s b leave enter work R A B) where
@@ -86,10 +87,10 @@ module _ {s : Stored} {b : book.Book} {leave enter work : List ℕ} {R A B : Lis
             some = record { R = R; A = A; B = B; can = can-after both-only };
             records = r .kept;
             parents = parents-stay (p .kept) (r .only .same-length)
-                (λ i h. ap (λ (x : ℕ). x % 8192) (only-cell (r .only) (gatherAt m f) (length (s .parents)) (inl (omega arith)) i h));
+                (λ i h. ap lowerPart (only-cell (r .only) (gatherAt m f) (length (s .parents)) (inl (omega arith)) i h));
           }
 
-      low-after : (i : ℕ) → i < m → cell work₂ (gatherAt m f) i < 8192
+      low-after : (i : ℕ) → i < m → cell work₂ (gatherAt m f) i < upperWeight
       low-after i h =
           omega (arith, only-cell (r .only) (gatherAt m f) m (inl (omega arith)) i h, p .low i (omega (arith, c .sized .parents-long)))
 
@@ -101,7 +102,7 @@ module _ {s : Stored} {b : book.Book} {leave enter work : List ℕ} {R A B : Lis
       holds-size (sound-facts (c .columns) s (c .sound) .column j a e) ∙ ap (λ (fs : List FactorColumn). sizeOf (columnAt fs j)) (order-free m (c .columns) (R ++ A) (c .same))
 
   module _ {after : Stored} {work₁ work₂ : List ℕ} (v : Moved (length (s .heads)) (length (s .next)) R s (isExchanged (factorOf (length (s .heads)) (R ++ A)) (factorOf (length (s .heads)) (R ++ B)) A B) (R ++ B) after work₁ work₂)
-      (low : (i : ℕ) → i < length (s .heads) → cell work₁ (gatherAt (length (s .heads)) (length (s .next))) i < 8192) where
+      (low : (i : ℕ) → i < length (s .heads) → cell work₁ (gatherAt (length (s .heads)) (length (s .next))) i < upperWeight) where
     gathered-all : Gathered m f R A B work₂
     gathered-all j a e =
         let z : gatheredIn m f work₁ j ≡ 0 = omega (arith, low (j - 1) (omega arith)) in

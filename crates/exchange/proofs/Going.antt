@@ -10,11 +10,10 @@ use Rattle.lists.specs.Lists.{Mem, all}
 use Rattle.lists.proofs.Member.{all-at, all-make}
 use Rattle.symbolic.specs.Columns.{Column, fitsRows}
 use Rattle.workspace.specs.Regions.{IsZero, OnlyIn}
-use Rattle.workspace.specs.Layout.{flagsAt, flagCount}
+use Rattle.workspace.specs.Layout.{flagsAt, flagCount, gatherAt}
 use Rattle.workspace.proofs.Regions.{only-zero}
 use Rattle.book.specs.Book as book
 use Rattle.tables.specs.Stored.{Stored}
-use Rattle.exchange.specs.Exchange.{gatherAt}
 use Rattle.exchange.specs.Stages.{CanGo, Moved}
 
 module _ {s : Stored} {b : book.Book} {work : List ℕ} (g : CanGo s b work) (room : length (s .heads) ≤ length (s .next)) where

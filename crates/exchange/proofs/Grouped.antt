@@ -10,6 +10,7 @@ use Rattle.lists.specs.Lists.{among}
 use Rattle.lists.proofs.Tests.{both-ways}
 use Rattle.symbolic.specs.Columns.{Column}
 use Rattle.symbolic.specs.Factor.{FactorColumn, factorOf}
+use Rattle.workspace.specs.Layout.{gatherAt}
 use Rattle.symbolic.specs.Batch.{isTouched, touched, labelOf}
 use Rattle.symbolic.proofs.Theorems.{touched-is, touched-rises, locality}
 use Rattle.pool.specs.Chains.{chain}
@@ -19,7 +20,6 @@ use Rattle.tables.proofs.Stored.{sound-bag}
 use Rattle.updown.specs.Entries.{CanAddBooked, AddPlanned, CanRemove, SomeRemove, RemovePlanned}
 use Rattle.commit.specs.Gather as commit
 use Rattle.commit.specs.Writes.{SomeWrite, WrittenAll}
-use Rattle.exchange.specs.Exchange.{gatherAt}
 use Rattle.exchange.specs.Stages.{groupTouches, CanLeave, GroupDone, GroupEntered}
 use Rattle.exchange.proofs.Grouping.{Planned, can-gather, some-gather, some-write, group-done}
 
@@ -31,8 +31,8 @@ among-touched m cs W j a b =
 -- what gathering promises, for all plans
 abbrev pub GatheredAll : (heads next planned : List ℕ) (start first : ℕ) (gathered : List ℕ) → Type 0
 GatheredAll hs ns w start first w′ =
-    (L L′ : List FactorColumn) (label : ℕ → ℕ) (columns : List ℕ) (used : ℕ) → commit.CanGather hs ns L L′ label columns w start first used →
-    commit.Gathered hs ns columns start w w′
+    (L L′ : List FactorColumn) (label : ℕ → ℕ) (columns : List ℕ) (used : ℕ) → commit.CanGatherColumns hs ns L L′ label columns w start first used →
+    commit.ColumnsGathered hs ns columns start w w′
 
 -- ---- a group that leaves
 
@@ -68,7 +68,6 @@ module _ {s : Stored} {b : book.Book} {ids work : List ℕ} {N W : List Column} 
           m-bound = k .m-bound;
           long = k .long;
           zero = k .zero;
-          flags-zero = k .flags-zero;
           free = 0;
           free-enough = omega arith;
           plan = d N W can-remove .plan;
@@ -77,11 +76,11 @@ module _ {s : Stored} {b : book.Book} {ids work : List ℕ} {N W : List Column} 
           off = λ j p q h. sym (locality m N W j p q h);
         }
 
-    pub leave-gather : commit.SomeGather (s .heads) (s .next) planned (gatherAt (length (s .heads)) (length (s .next))) first
+    pub leave-gather : commit.SomeGatherColumns (s .heads) (s .next) planned (gatherAt (length (s .heads)) (length (s .next))) first
     leave-gather = some-gather leave-planned
 
     module _ {gathered : List ℕ} (e : GatheredAll (s .heads) (s .next) planned (gatherAt (length (s .heads)) (length (s .next))) first gathered) where
-      gathered-is : commit.Gathered (s .heads) (s .next) (touched (factorOf m (N ++ W)) W) (gatherAt (length (s .heads)) (length (s .next))) planned gathered
+      gathered-is : commit.ColumnsGathered (s .heads) (s .next) (touched (factorOf m (N ++ W)) W) (gatherAt (length (s .heads)) (length (s .next))) planned gathered
       gathered-is = e (factorOf m (N ++ W)) (factorOf m N) (labelOf (factorOf m (N ++ W)) W) (touched (factorOf m (N ++ W)) W) used (can-gather leave-planned)
 
       pub leave-write : SomeWrite s gathered first used
@@ -116,7 +115,6 @@ module _ {s : Stored} {b : book.Book} {ids work : List ℕ} {N W : List Column} 
           m-bound = k .m-bound;
           long = k .long;
           zero = k .zero;
-          flags-zero = k .flags-zero;
           free = length (chain (s .next) (s .free));
           free-enough = omega arith;
           plan = d N W c .plan h;
@@ -125,11 +123,11 @@ module _ {s : Stored} {b : book.Book} {ids work : List ℕ} {N W : List Column} 
           off = λ j p q o. locality (length (s .heads)) N W j p q o;
         }
 
-    pub enter-gather : commit.SomeGather (s .heads) (s .next) planned (gatherAt (length (s .heads)) (length (s .next))) first
+    pub enter-gather : commit.SomeGatherColumns (s .heads) (s .next) planned (gatherAt (length (s .heads)) (length (s .next))) first
     enter-gather = some-gather enter-planned
 
     module _ {gathered : List ℕ} (e : GatheredAll (s .heads) (s .next) planned (gatherAt (length (s .heads)) (length (s .next))) first gathered) where
-      entered-is : commit.Gathered (s .heads) (s .next) (touched (factorOf (length (s .heads)) (N ++ W)) W) (gatherAt (length (s .heads)) (length (s .next))) planned gathered
+      entered-is : commit.ColumnsGathered (s .heads) (s .next) (touched (factorOf (length (s .heads)) (N ++ W)) W) (gatherAt (length (s .heads)) (length (s .next))) planned gathered
       entered-is =
           e (factorOf (length (s .heads)) N) (factorOf (length (s .heads)) (N ++ W)) (labelOf (factorOf (length (s .heads)) (N ++ W)) W)
           (touched (factorOf (length (s .heads)) (N ++ W)) W) used (can-gather enter-planned)

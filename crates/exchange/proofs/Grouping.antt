@@ -19,11 +19,11 @@ use Rattle.symbolic.specs.Columns.{Column}
 use Rattle.symbolic.specs.Factor.{factorOf, columnAt, patternOf, sizeOf}
 use Rattle.symbolic.proofs.Patterns.{pattern-within-rows}
 use Rattle.workspace.specs.Regions.{cell, region, IsZero, OnlyIn}
-use Rattle.workspace.specs.Layout.{spare, flagsAt, flagCount}
+use Rattle.workspace.specs.Layout.{spare, gatherAt}
+use Rattle.workspace.specs.Parts.{upperWeight, lowerPart, upperPart}
 use Rattle.workspace.proofs.Regions.{region-length, region-cell, only-zero}
 use Rattle.pool.specs.Chains.{chain}
 use Rattle.pool.proofs.Whole.{all-at}
-use Rattle.snapshot.specs.Snapshot.{pairedRow, pairedCount}
 use Rattle.tables.specs.Stored.{Stored, Sized, recordsOf, isSoundFor}
 use Rattle.tables.proofs.Stored.{sound-facts}
 use Rattle.tables.proofs.Reading.{holds-size}
@@ -32,7 +32,6 @@ use Rattle.updown.specs.Entries.{planNeed}
 use Rattle.commit.specs.Gather as commit
 use Rattle.commit.specs.Writes.{CanWrite, SomeWrite, PlanWritten, WrittenAll}
 use Rattle.commit.proofs.Beside.{plan-beside}
-use Rattle.exchange.specs.Exchange.{gatherAt}
 use Rattle.exchange.specs.Stages.{gatheredIn, Gathers, GroupDone}
 use Rattle.exchange.proofs.Small.{rows-room}
 
@@ -76,24 +75,24 @@ module _ (w x : List ℕ) (a n : ℕ) (same : length x ≡ length w) (fits : a +
 -- ---- a place of gathering, before and after
 
 -- a column that is planned
-gathered-one : (x y n : ℕ) → (x < 8192 → y ≡ x + 8192 * (1 + n)) → (8192 ≤ x → y ≡ x) →
-    (pairedRow y ≡ pairedRow x) × (pairedCount y ≡ pick (eqb (pairedCount x) 0) (1 + n) (pairedCount x))
+gathered-one : (x y n : ℕ) → (x < upperWeight → y ≡ x + upperWeight * (1 + n)) → (upperWeight ≤ x → y ≡ x) →
+    (lowerPart y ≡ lowerPart x) × (upperPart y ≡ pick (eqb (upperPart x) 0) (1 + n) (upperPart x))
 gathered-one x y n g h =
-    elim (lt-or-le x 8192) [
-      | inl l ↦ let e : y ≡ x + 8192 * (1 + n) = g l in
-          let z : pairedCount x ≡ 0 = omega arith in
-          (omega arith, rw (eq-eqb (pairedCount x) 0 z) (omega arith))
+    elim (lt-or-le x upperWeight) [
+      | inl l ↦ let e : y ≡ x + upperWeight * (1 + n) = g l in
+          let z : upperPart x ≡ 0 = omega arith in
+          (omega arith, rw (eq-eqb (upperPart x) 0 z) (omega arith))
       | inr l ↦ let e : y ≡ x = h l in
-          let z : pairedCount x ≡ 0 → ⊥ = λ q. omega arith in
-          (omega arith, rw (ne-eqb (pairedCount x) 0 z) (omega arith))
+          let z : upperPart x ≡ 0 → ⊥ = λ q. omega arith in
+          (omega arith, rw (ne-eqb (upperPart x) 0 z) (omega arith))
     ]
 
 -- one that is not
-gathered-none : (x y n : ℕ) → y ≡ x → (pairedRow y ≡ pairedRow x) × (pairedCount y ≡ pick (eqb (pairedCount x) 0) 0 (pairedCount x))
+gathered-none : (x y n : ℕ) → y ≡ x → (lowerPart y ≡ lowerPart x) × (upperPart y ≡ pick (eqb (upperPart x) 0) 0 (upperPart x))
 gathered-none x y n e =
-    elim (zero-or-pos (pairedCount x)) [
-      | inl z ↦ (omega arith, rw (eq-eqb (pairedCount x) 0 z) (omega arith))
-      | inr l ↦ let z : pairedCount x ≡ 0 → ⊥ = λ q. omega arith in (omega arith, rw (ne-eqb (pairedCount x) 0 z) (omega arith))
+    elim (zero-or-pos (upperPart x)) [
+      | inl z ↦ (omega arith, rw (eq-eqb (upperPart x) 0 z) (omega arith))
+      | inr l ↦ let z : upperPart x ≡ 0 → ⊥ = λ q. omega arith in (omega arith, rw (ne-eqb (upperPart x) 0 z) (omega arith))
     ]
 
 -- ---- one group
@@ -105,7 +104,6 @@ pub record Planned (s : Stored) (cs ds : List Column) (label : ℕ → ℕ) (tou
   pub m-bound : length (s .heads) ≤ 4096
   pub long : planNeed (length (s .heads)) (length (s .next)) ≤ length work
   pub zero : IsZero work 0 (spare (length (s .heads)) (length (s .next)))
-  pub flags-zero : IsZero work (flagsAt (length (s .heads)) (length (s .next))) flagCount
   pub free : ℕ
   pub free-enough : free ≤ length (chain (s .next) (s .free))
   pub plan : PlanIs (length (s .heads)) (length (s .next)) free (factorOf (length (s .heads)) cs) (factorOf (length (s .heads)) ds) label columns work planned first count entries used
@@ -141,7 +139,7 @@ module _ {s : Stored} {cs ds : List Column} {label : ℕ → ℕ} {touches : ℕ
         short = omega (arith, rises-length 1 m (patternOf (columnAt (factorOf m cs) j)) (omega arith) (pattern-within-rows m cs j a b), g .m-bound);
       }
 
-  pub can-gather : commit.CanGather (s .heads) (s .next) (factorOf (length (s .heads)) cs) (factorOf (length (s .heads)) ds) label columns planned (gatherAt (length (s .heads)) (length (s .next))) first used
+  pub can-gather : commit.CanGatherColumns (s .heads) (s .next) (factorOf (length (s .heads)) cs) (factorOf (length (s .heads)) ds) label columns planned (gatherAt (length (s .heads)) (length (s .next))) first used
   can-gather =
       record {
         m-bound = g .m-bound;
@@ -153,7 +151,7 @@ module _ {s : Stored} {cs ds : List Column} {label : ℕ → ℕ} {touches : ℕ
         long = omega (arith, inside, g .plan .same-length);
       }
 
-  pub some-gather : commit.SomeGather (s .heads) (s .next) planned (gatherAt (length (s .heads)) (length (s .next))) first
+  pub some-gather : commit.SomeGatherColumns (s .heads) (s .next) planned (gatherAt (length (s .heads)) (length (s .next))) first
   some-gather = record { L = factorOf m cs; L′ = factorOf m ds; label = label; columns = columns; used = used; can = can-gather }
 
   -- the places of gathering are none of the plan's
@@ -171,7 +169,7 @@ module _ {s : Stored} {cs ds : List Column} {label : ℕ → ℕ} {touches : ℕ
 
   -- ---- writing
 
-  module _ {gathered : List ℕ} (x : commit.Gathered (s .heads) (s .next) columns (gatherAt (length (s .heads)) (length (s .next))) planned gathered) where
+  module _ {gathered : List ℕ} (x : commit.ColumnsGathered (s .heads) (s .next) columns (gatherAt (length (s .heads)) (length (s .next))) planned gathered) where
     abbrev before : List ℕ
     before = spliced work gathered start m
 
@@ -194,7 +192,6 @@ module _ {s : Stored} {cs ds : List Column} {label : ℕ → ℕ} {touches : ℕ
           free-enough = g .free-enough;
           plan = plan-beside (g .plan) (g .rising) (omega (arith, g .plan .room)) (x .only) before-only (λ i h. sym (before-cell i h));
           zero = only-zero before-only 0 (spare m f) (inr (omega arith)) (g .zero);
-          flags-zero = only-zero before-only (flagsAt m f) flagCount (inl (omega (arith, room))) (g .flags-zero);
           long = omega (arith, g .long, before-only .same-length);
           rising = g .rising;
           off = λ j a b h. g .off j a b (sym (g .touched-is j a b) ∙ h);
@@ -205,8 +202,8 @@ module _ {s : Stored} {cs ds : List Column} {label : ℕ → ℕ} {touches : ℕ
 
     -- what was gathered, place by place
     place-after : (j : ℕ) → 1 ≤ j → j ≤ m →
-        (pairedRow (cell gathered start (j - 1)) ≡ pairedRow (cell work start (j - 1))) ×
-        (pairedCount (cell gathered start (j - 1)) ≡ pick (eqb (gatheredIn m f work j) 0) (pick (touches j) (1 + length (recordsOf s j)) 0) (gatheredIn m f work j))
+        (lowerPart (cell gathered start (j - 1)) ≡ lowerPart (cell work start (j - 1))) ×
+        (upperPart (cell gathered start (j - 1)) ≡ pick (eqb (gatheredIn m f work j) 0) (pick (touches j) (1 + length (recordsOf s j)) 0) (gatheredIn m f work j))
     place-after j a b =
         let o : ℕ = cell work start (j - 1) in
         let n : ℕ = cell gathered start (j - 1) in
@@ -215,15 +212,15 @@ module _ {s : Stored} {cs ds : List Column} {label : ℕ → ℕ} {touches : ℕ
           | inl t ↦
               let k : 1 ≤ times j columns = mem-times (among-mem j columns t) in
               let q : touches j ≡ true = sym (g .touched-is j a b) ∙ t in
-              let r : (pairedRow n ≡ pairedRow o) × (pairedCount n ≡ pick (eqb (pairedCount o) 0) (1 + length (recordsOf s j)) (pairedCount o)) =
-              gathered-one o n (length (recordsOf s j)) (λ l. x .fresh j k (omega arith) ∙ ap (λ (z : ℕ). z + 8192 * (1 + length (recordsOf s j))) e)
+              let r : (lowerPart n ≡ lowerPart o) × (upperPart n ≡ pick (eqb (upperPart o) 0) (1 + length (recordsOf s j)) (upperPart o)) =
+              gathered-one o n (length (recordsOf s j)) (λ l. x .fresh j k (omega arith) ∙ ap (λ (z : ℕ). z + upperWeight * (1 + length (recordsOf s j))) e)
               (λ l. x .kept j k (omega arith) ∙ e) in
-              (r .0, r .1 ∙ ap (λ (z : Bool). pick (eqb (pairedCount o) 0) (pick z (1 + length (recordsOf s j)) 0) (pairedCount o)) (sym q))
+              (r .0, r .1 ∙ ap (λ (z : Bool). pick (eqb (upperPart o) 0) (pick z (1 + length (recordsOf s j)) 0) (upperPart o)) (sym q))
           | inr t ↦
               let q : touches j ≡ false = sym (g .touched-is j a b) ∙ t in
-              let r : (pairedRow n ≡ pairedRow o) × (pairedCount n ≡ pick (eqb (pairedCount o) 0) 0 (pairedCount o)) =
+              let r : (lowerPart n ≡ lowerPart o) × (upperPart n ≡ pick (eqb (upperPart o) 0) 0 (upperPart o)) =
               gathered-none o n 0 (x .others j a b (none-among j columns t) ∙ e) in
-              (r .0, r .1 ∙ ap (λ (z : Bool). pick (eqb (pairedCount o) 0) (pick z (1 + length (recordsOf s j)) 0) (pairedCount o)) (sym q))
+              (r .0, r .1 ∙ ap (λ (z : Bool). pick (eqb (upperPart o) 0) (pick z (1 + length (recordsOf s j)) 0) (upperPart o)) (sym q))
         ]
 
     before-gathers : Gathers m f touches (λ j. length (recordsOf s j)) work before
@@ -232,9 +229,9 @@ module _ {s : Stored} {cs ds : List Column} {label : ℕ → ℕ} {touches : ℕ
           only = before-only;
           low = λ i h.
               let q : suc i - 1 ≡ i = omega arith in
-              ap pairedRow (before-cell i h) ∙
-              subst (λ (k : ℕ). pairedRow (cell gathered start k) ≡ pairedRow (cell work start k)) q (place-after (suc i) (omega arith) (omega arith) .0);
-          counts = λ j a b. ap pairedCount (before-cell (j - 1) (omega arith)) ∙ place-after j a b .1;
+              ap lowerPart (before-cell i h) ∙
+              subst (λ (k : ℕ). lowerPart (cell gathered start k) ≡ lowerPart (cell work start k)) q (place-after (suc i) (omega arith) (omega arith) .0);
+          counts = λ j a b. ap upperPart (before-cell (j - 1) (omega arith)) ∙ place-after j a b .1;
         }
 
     pub group-done : {after : Stored} {work′ : List ℕ} → WrittenAll s gathered first used after work′ → length (after .next) ≡ length (s .next) →

@@ -13,10 +13,11 @@ use Rattle.symbolic.specs.Factor.{factorOf}
 use Rattle.symbolic.specs.Batch.{isTouched}
 use Rattle.book.specs.Book as book
 use Rattle.tables.specs.Stored.{Stored}
+use Rattle.updown.proofs.Booking.{booked-length}
 use Rattle.exchange.specs.Stages.{groupTouches, CanLeave, GroupDone, GroupEnds, CanGo, CanLeaveAll, SomeLeave, Moved}
 use Rattle.exchange.proofs.Stages.{moved-none, moved-as, moved-joins, group-moved}
 use Rattle.exchange.proofs.Small.{rows-room}
-use Rattle.exchange.proofs.Parting.{booked-length, group, booked-part, left-parts, leaving-more}
+use Rattle.exchange.proofs.Parting.{group, booked-part, left-parts, leaving-more}
 use Rattle.exchange.proofs.Going.{go-on, some-fit}
 
 -- the columns of A before place a have left R and A

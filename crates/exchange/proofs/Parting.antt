@@ -1,11 +1,11 @@
 -- Groups of a list of columns, from place a to place e: booked as the list is (`booked-part`), and what they touch, one after another, is what the list's front
 -- touches (`leaving-more`, `entering-more`). Assumes nothing.
-use mathlib.Core.Path.{_≡_, refl, sym, ap, _∙_, subst}
+use mathlib.Core.Path.{_≡_, sym, ap, _∙_, subst}
 use mathlib.Core.Bool.{Bool, _||_}
 use mathlib.Core.List.{List, [], _∷_, _++_, append-nil}
 use Prim.Native.Nat.{ℕ, zero, suc, _+_, _-_, _≤_}
 use native.Mathlib.Omega.{arith}
-use lib.ListN.{length, take, drop, take-append-drop}
+use lib.ListN.{take, drop, take-append-drop}
 use lib.Seq.{take-add, drop-drop}
 use Rattle.lists.specs.Lists.{sumOf}
 use Rattle.lists.proofs.Tests.{or-false}
@@ -21,13 +21,6 @@ use Rattle.updown.specs.Entries.{Booked}
 use Rattle.exchange.specs.Stages.{groupTouches}
 
 -- ---- booked
-
-pub booked-length : (b : book.Book) (ids : List ℕ) (W : List Column) → Booked b ids W → length W ≡ length ids
-unfolding Booked
-booked-length b [] [] h = refl
-booked-length b [] (w ∷ ws) h = elim h [ ]
-booked-length b (i ∷ is) [] h = elim h [ ]
-booked-length b (i ∷ is) (w ∷ ws) h = ap suc (booked-length b is ws (h .3))
 
 booked-front : (b : book.Book) (n : ℕ) (ids : List ℕ) (W : List Column) → Booked b ids W → Booked b (take n ids) (take n W)
 unfolding Booked

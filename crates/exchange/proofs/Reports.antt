@@ -4,7 +4,7 @@ use mathlib.Core.Path.{_≡_, refl, sym, ap, _∙_, subst}
 use mathlib.Core.Logic.{inl, inr}
 use mathlib.Core.Bool.{Bool, true, false}
 use mathlib.Core.List.{List, [], _∷_, _++_, append-nil}
-use Prim.Native.Nat.{ℕ, suc, _+_, _*_, _-_, _/_, _≤_, _<_, max}
+use Prim.Native.Nat.{ℕ, suc, _+_, _*_, _-_, _≤_, _<_, max}
 use native.Mathlib.Omega.{arith}
 use lib.ListN.{length, getD, set, replicate, length-append, length-replicate, replicate-append-replicate}
 use Rattle.lists.specs.Lists.{pick, at, sumOf, over}
@@ -19,13 +19,15 @@ use Rattle.symbolic.proofs.Build.{factor-length}
 use Rattle.symbolic.proofs.Passing.{passing-join, passing-short}
 use Rattle.symbolic.proofs.Patterns.{pattern-within-rows}
 use Rattle.workspace.specs.Regions.{cell}
+use Rattle.workspace.specs.Layout.{gatherAt}
+use Rattle.workspace.specs.Parts.{upperPart}
 use Rattle.pool.specs.Chains.{chain}
 use Rattle.pool.proofs.Whole.{all-at}
 use Rattle.tables.specs.Stored.{Stored, recordsOf}
 use Rattle.tables.proofs.Stored.{sound-facts}
 use Rattle.tables.proofs.Reading.{holds-size}
 use Rattle.commit.specs.Gather.{CanCount}
-use Rattle.exchange.specs.Exchange.{gatherAt, CanReport, Reported}
+use Rattle.exchange.specs.Exchange.{CanReport, Reported}
 
 -- ---- the loop, of any test and any numbers
 
@@ -153,10 +155,10 @@ module _ {s : Stored} {R A B : List Column} {work touched labels : List ℕ} (c 
 
   module _ {touched′ labels′ : List ℕ} {j n entries : ℕ} (r : Reports touched′ labels′ j n entries) (h : j < length (s .heads)) where
     -- what the place of the column says
-    says : cell work (gatherAt m (length (s .next))) j / 8192 ≡ pick (isExchanged before after A B (1 + j)) (1 + sizeOf (columnAt before (1 + j))) 0
+    says : upperPart (cell work (gatherAt m (length (s .next))) j) ≡ pick (isExchanged before after A B (1 + j)) (1 + sizeOf (columnAt before (1 + j))) 0
     says =
         let q : 1 + j - 1 ≡ j = omega arith in
-        ap (λ (i : ℕ). cell work (gatherAt m (length (s .next))) i / 8192) (sym q) ∙ c .gathered (1 + j) (omega arith) (omega arith)
+        ap (λ (i : ℕ). upperPart (cell work (gatherAt m (length (s .next))) i)) (sym q) ∙ c .gathered (1 + j) (omega arith) (omega arith)
 
     pub reports-turn : Turn (length (s .heads)) (length (s .next)) work touched′ labels′ j n entries
     reports-turn =
@@ -173,10 +175,10 @@ module _ {s : Stored} {R A B : List Column} {work touched labels : List ℕ} (c 
         }
 
     -- a column on a path, with the larger of its sizes
-    module _ {v : ℕ} (z : cell work (gatherAt (length (s .heads)) (length (s .next))) j / 8192 ≡ 0 → ⊥)
-        (w : v ≡ max (cell work (gatherAt (length (s .heads)) (length (s .next))) j / 8192 - 1) (length (chain (s .next) (getD (s .heads) j 0)))) where
+    module _ {v : ℕ} (z : upperPart (cell work (gatherAt (length (s .heads)) (length (s .next))) j) ≡ 0 → ⊥)
+        (w : v ≡ max (upperPart (cell work (gatherAt (length (s .heads)) (length (s .next))) j) - 1) (length (chain (s .next) (getD (s .heads) j 0)))) where
       abbrev x : ℕ
-      x = cell work (gatherAt m (length (s .next))) j / 8192
+      x = upperPart (cell work (gatherAt m (length (s .next))) j)
 
       hit : isExchanged before after A B (1 + j) ≡ true
       hit =
@@ -201,12 +203,12 @@ module _ {s : Stored} {R A B : List Column} {work touched labels : List ℕ} (c 
       pub reports-hit : Reports (set touched′ n (j + 1)) (set labels′ n 0) (j + 1) (n + 1) (entries + v)
       reports-hit = reporting-hit r v h hit value reports-small
 
-    pub reports-miss : cell work (gatherAt (length (s .heads)) (length (s .next))) j / 8192 ≡ 0 → Reports touched′ labels′ (j + 1) n entries
+    pub reports-miss : upperPart (cell work (gatherAt (length (s .heads)) (length (s .next))) j) ≡ 0 → Reports touched′ labels′ (j + 1) n entries
     reports-miss z =
         elim (cases (isExchanged before after A B (1 + j))) [
           | inr f ↦ reporting-miss r h f
           | inl y ↦
-              let o : cell work (gatherAt m (length (s .next))) j / 8192 ≡ 1 + sizeOf (columnAt before (1 + j)) =
+              let o : upperPart (cell work (gatherAt m (length (s .next))) j) ≡ 1 + sizeOf (columnAt before (1 + j)) =
               says ∙ ap (λ (b : Bool). pick b (1 + sizeOf (columnAt before (1 + j))) 0) y in
               absurd (omega arith)
         ]

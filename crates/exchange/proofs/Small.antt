@@ -14,6 +14,7 @@ use Rattle.lists.proofs.Count.{count-full, count-le}
 use Rattle.lists.proofs.Rising.{rises-in, from-up, up-length}
 use Rattle.lists.proofs.Sum.{sum-le, sum-length}
 use Rattle.lists.proofs.Times.{UpTo, among-count, times-append, times-mem, mem-times}
+use Rattle.lists.proofs.Place.{values-mem}
 use Rattle.symbolic.specs.Columns.{Column}
 use Rattle.symbolic.specs.Factor.{factorOf, columnAt, parentOf, sizeOf, sizeSum}
 use Rattle.symbolic.proofs.Patterns.{pattern-within-rows, pattern-parts}
@@ -26,7 +27,6 @@ use Rattle.pool.proofs.Whole.{chains-nil, chains-cons, all-in}
 use Rattle.tables.specs.Stored.{Stored, recordsOf, isSoundFor}
 use Rattle.tables.proofs.Stored.{SoundFor, sound-facts}
 use Rattle.tables.proofs.Reading.{stored-full}
-use Rattle.columns.proofs.Holding.{values-mem}
 
 -- ---- a record's place
 

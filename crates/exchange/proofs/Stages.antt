@@ -3,15 +3,16 @@
 use mathlib.Core.Path.{_≡_, refl, sym, ap, _∙_, subst}
 use mathlib.Core.Logic.{inl, inr}
 use mathlib.Core.Bool.{Bool, true, false, _||_, true≢false}
-use mathlib.Core.List.{List, [], _∷_, _++_}
+use mathlib.Core.List.{List, _++_}
 use Prim.Native.Nat.{ℕ, _+_, _-_, _≤_}
 use native.Mathlib.Omega.{arith}
 use lib.Dec.{eqb}
 use lib.ListN.{length}
 use borrow.Author.Tests.{eq-eqb, ne-eqb}
-use Rattle.lists.specs.Lists.{pick, Mem, first, later, at, valuesAt}
+use Rattle.lists.specs.Lists.{pick, Mem, at, valuesAt}
 use Rattle.lists.proofs.Tests.{zero-or-pos}
 use Rattle.lists.proofs.Rising.{rises-in}
+use Rattle.lists.proofs.Place.{values-mem, mem-values}
 use Rattle.symbolic.specs.Columns.{Column}
 use Rattle.symbolic.specs.Factor.{FactorColumn, factorOf, columnAt, inPattern}
 use Rattle.symbolic.specs.Change.{Bag}
@@ -22,7 +23,6 @@ use Rattle.tables.specs.Stored.{Stored, Sized, recordsOf, holdsFrom, isSoundFor
 use Rattle.tables.proofs.Stored.{sound-bag, sound-holds, stored-column, stands-is}
 use Rattle.tables.proofs.Revised.{stays-self, stays-joins}
 use Rattle.columns.specs.Commit.{Holds}
-use Rattle.columns.proofs.Holding.{values-mem}
 use Rattle.columns.proofs.Stored as chains
 use Rattle.exchange.specs.Stages.{gatheredIn, Gathers, GroupDone, Moved}
 
@@ -75,12 +75,6 @@ module _ {m f : ℕ} where
 -- ---- moves
 
 -- the record of a row that stands in a chain
-row-record : (xs rs : List ℕ) (i : ℕ) → Mem i (valuesAt xs rs) → (x : ℕ) × Mem x rs × (at xs x ≡ i)
-unfolding valuesAt
-row-record xs [] i h = elim h [ ]
-row-record xs (r ∷ rs) i first = (r, first, refl)
-row-record xs (r ∷ rs) i (later h) = let t : (x : ℕ) × Mem x rs × (at xs x ≡ i) = row-record xs rs i h in (t .0, later (t .1), t .2)
-
 module _ {m f : ℕ} {R : List Column} where
   pub moved-none : {s : Stored} {columns : List Column} {work : List ℕ} → Sized s → isSoundFor columns s ≡ true → length (s .heads) ≡ m →
       Moved m f R s (λ j. false) columns s work work
@@ -166,7 +160,7 @@ module _ {m f : ℕ} {R : List Column} where
               let i : ℕ = at (s .rows) x in
               let d : Mem (at (after .rows) y) (valuesAt (after .rows) (recordsOf after j)) = values-mem (after .rows) k in
               let z : (z : ℕ) × Mem z (recordsOf mid j) × (at (mid .rows) z ≡ i) =
-              row-record (mid .rows) (recordsOf mid j) i
+              mem-values (mid .rows) (recordsOf mid j)
               (stands-between i j a b (subst (λ (l : ℕ). Mem l (valuesAt (after .rows) (recordsOf after j))) (sym e) d) n) in
               v .entries j a b x (z .0) h (z .1) (sym (z .2)) n ∙
               w .entries j a b (z .0) y (z .1) k (z .2 ∙ e) (subst (λ (l : ℕ). inPattern (factorOf m R) l j ≡ true) (sym (z .2)) n);

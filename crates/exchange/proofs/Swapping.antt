@@ -13,13 +13,14 @@ use Rattle.symbolic.specs.Columns.{Column}
 use Rattle.symbolic.specs.Factor.{factorOf}
 use Rattle.symbolic.specs.Batch.{isTouched}
 use Rattle.workspace.specs.Regions.{cell, OnlyIn}
-use Rattle.workspace.specs.Layout.{spare}
+use Rattle.workspace.specs.Layout.{spare, gatherAt}
+use Rattle.workspace.specs.Parts.{lowerPart}
 use Rattle.workspace.proofs.Regions.{only-trans}
-use Rattle.snapshot.specs.Snapshot.{pairedRow, countBound, CanPair, RecordsKept, ParentsKept}
+use Rattle.snapshot.specs.Snapshot.{countBound, CanPair, RecordsKept, ParentsKept}
 use Rattle.snapshot.proofs.Kept.{records-stay, parents-stay}
 use Rattle.book.specs.Book as book
 use Rattle.tables.specs.Stored.{Stored, storedOf}
-use Rattle.exchange.specs.Exchange.{gatherAt, CanExchange}
+use Rattle.exchange.specs.Exchange.{CanExchange}
 use Rattle.exchange.specs.Stages.{CanGo, CanLeaveAll, SomeLeaveAll, Moved, CanEnterAll, SomeEnterAll, EnteredAll, Swapped, CanUndo, SomeUndo, Undone}
 use Rattle.exchange.proofs.Stages.{moved-joins}
 use Rattle.exchange.proofs.Small.{rows-room, rows-small}
@@ -68,14 +69,13 @@ module _ {s : Stored} {b : book.Book} {leave enter work : List ℕ} {R A B : Lis
   some-leave-all = record { R = R; A = A; can = can-leave-all }
 
   -- records that can be kept, if multiplicities have 16 bits
-  pub can-pair : ((k : ℕ) → getD (s .counts) k 0 < 65536) → CanPair countBound (s .rows) (s .counts) (s .next)
+  pub can-pair : ((k : ℕ) → getD (s .counts) k 0 < countBound) → CanPair (s .rows) (s .counts) (s .next)
   can-pair small =
       record {
         rows-long = c .sized .rows-long;
         counts-long = c .sized .counts-long;
         rows-small = λ k. omega (arith, rows-small (c .columns) s (c .sound) (c .sized .rows-long) k, c .m-bound);
         counts-small = small;
-        bound-small = omega arith;
       }
 
   module _ {mid : Stored} {work′ : List ℕ} (v : Moved (length (s .heads)) (length (s .next)) R s (isTouched (factorOf (length (s .heads)) (R ++ A)) A) R mid work work′) where
@@ -103,7 +103,7 @@ module _ {s : Stored} {b : book.Book} {leave enter work : List ℕ} {R A B : Lis
       swap-only = only-trans (v .gathers .only) (entered .only)
 
       pub swap-low : (i : ℕ) → i < length (s .heads) →
-          pairedRow (cell work″ (gatherAt (length (s .heads)) (length (s .next))) i) ≡ pairedRow (cell work (gatherAt (length (s .heads)) (length (s .next))) i)
+          lowerPart (cell work″ (gatherAt (length (s .heads)) (length (s .next))) i) ≡ lowerPart (cell work (gatherAt (length (s .heads)) (length (s .next))) i)
       swap-low i h = entered .low i h ∙ v .gathers .low i h
 
       pub swap-done : fits ≡ true → Swapped (length (s .heads)) (length (s .next)) R A B s after work work″ fits

@@ -4,7 +4,7 @@
 use mathlib.Core.Path.{_≡_}
 use mathlib.Core.Bool.{Bool, true, false}
 use mathlib.Core.List.{List, _++_}
-use Prim.Native.Nat.{ℕ, _+_, _*_, _-_, _/_, _≤_}
+use Prim.Native.Nat.{ℕ, _+_, _*_, _-_, _≤_}
 use lib.Dec.{leb}
 use lib.ListN.{length, replicate}
 use Rattle.lists.specs.Lists.{pick, all, over}
@@ -13,15 +13,12 @@ use Rattle.symbolic.specs.Factor.{factorOf, columnAt, sizeOf, sizeSum}
 use Rattle.symbolic.specs.Batch.{isExchanged, exchanged, entriesOf}
 use Rattle.symbolic.specs.Change.{Bag}
 use Rattle.workspace.specs.Regions.{cell, IsZero, OnlyIn}
-use Rattle.workspace.specs.Layout.{spare, flagsAt, flagCount}
+use Rattle.workspace.specs.Layout.{spare, flagsAt, flagCount, gatherAt}
+use Rattle.workspace.specs.Parts.{upperPart}
 use Rattle.book.specs.Book as book
 use Rattle.tables.specs.Stored.{Stored, Sized, storedOf, isSoundFor}
 use Rattle.tables.specs.Stays.{ColumnStays, EntriesStay}
 use Rattle.updown.specs.Entries.{Booked, planNeed}
-
--- where the columns on the paths are gathered: m places behind the saved records, of the 3F that a plan does not use
-abbrev pub gatherAt : (m f : ℕ) → ℕ
-gatherAt m f = spare m f + 2 * f
 
 -- stored columns that are sound for R and A but for their order, a sound book that has A and B under the ids, and a work table whose places for plans are zero
 pub record CanExchange (s : Stored) (b : book.Book) (leave enter work : List ℕ) (R A B : List Column) : Type 0 where
@@ -54,7 +51,7 @@ pub record SomeExchange (s : Stored) (b : book.Book) (leave enter work : List �
 -- of each column, whether it lies on the path of one that leaves, in the tree before, or of one that enters, in the tree after, and then its size before
 abbrev pub Gathered : (m f : ℕ) (R A B : List Column) (work : List ℕ) → Type 0
 Gathered m f R A B w =
-    (j : ℕ) → 1 ≤ j → j ≤ m → cell w (gatherAt m f) (j - 1) / 8192 ≡ pick (isExchanged (factorOf m (R ++ A)) (factorOf m (R ++ B)) A B j) (1 + sizeOf (columnAt (factorOf m (R ++ A)) j)) 0
+    (j : ℕ) → 1 ≤ j → j ≤ m → upperPart (cell w (gatherAt m f) (j - 1)) ≡ pick (isExchanged (factorOf m (R ++ A)) (factorOf m (R ++ B)) A B j) (1 + sizeOf (columnAt (factorOf m (R ++ A)) j)) 0
 
 -- an exchange that fits: the columns are those of R and B, the others stay, entries that stand for R too keep their records
 pub record Done (s : Stored) (R A B : List Column) (after : Stored) (work : List ℕ) : Type 0 where

@@ -12,24 +12,25 @@ use Rattle.symbolic.specs.Factor.{factorOf, sizeSum}
 use Rattle.symbolic.specs.Batch.{isTouched, isExchanged}
 use Rattle.symbolic.specs.Change.{Bag}
 use Rattle.workspace.specs.Regions.{cell, IsZero, OnlyIn}
-use Rattle.workspace.specs.Layout.{spare, flagsAt, flagCount}
-use Rattle.snapshot.specs.Snapshot.{pairedRow, pairedCount, RecordsKept, ParentsKept, CanRestore, Restored}
+use Rattle.workspace.specs.Layout.{spare, flagsAt, flagCount, gatherAt, savedAt}
+use Rattle.workspace.specs.Parts.{lowerPart, upperPart}
+use Rattle.snapshot.specs.Snapshot.{RecordsKept, ParentsKept, CanRestore, Restored}
 use Rattle.book.specs.Book as book
 use Rattle.tables.specs.Stored.{Stored, Sized, recordsOf, isSoundFor}
 use Rattle.tables.specs.Stays.{ColumnStays, EntriesKeep, EntriesStay}
 use Rattle.updown.specs.Entries.{planNeed, Booked, CanPlan}
-use Rattle.exchange.specs.Exchange.{gatherAt, SomeExchange}
+use Rattle.exchange.specs.Exchange.{SomeExchange}
 
 -- ---- gathering
 
 -- what is gathered for column j: one more than its size, 0 where it is not gathered
 abbrev pub gatheredIn : (m f : ℕ) → (work : List ℕ) → (j : ℕ) → ℕ
-gatheredIn m f w j = pairedCount (cell w (gatherAt m f) (j - 1))
+gatheredIn m f w j = upperPart (cell w (gatherAt m f) (j - 1))
 
 -- a column on a path is gathered with its size, unless it was before; the lower parts of the places stay, and all else in the work table
 pub record Gathers (m f : ℕ) (touches : ℕ → Bool) (size : ℕ → ℕ) (before after : List ℕ) : Type 0 where
   pub only : OnlyIn (gatherAt m f) m before after
-  pub low : (i : ℕ) → i < m → pairedRow (cell after (gatherAt m f) i) ≡ pairedRow (cell before (gatherAt m f) i)
+  pub low : (i : ℕ) → i < m → lowerPart (cell after (gatherAt m f) i) ≡ lowerPart (cell before (gatherAt m f) i)
   pub counts : (j : ℕ) → 1 ≤ j → j ≤ m → gatheredIn m f after j ≡ pick (eqb (gatheredIn m f before j) 0) (pick (touches j) (1 + size j) 0) (gatheredIn m f before j)
 
 -- ---- one group
@@ -140,14 +141,14 @@ pub record EnteredAll (m f : ℕ) (R B : List Column) (s after : Stored) (work w
   pub fits-is : fits ≡ leb (sizeSum (factorOf m (R ++ B))) f
   pub done : fits ≡ true → Moved m f R s (isTouched (factorOf m (R ++ B)) B) (R ++ B) after work work′
   pub only : OnlyIn (gatherAt m f) m work work′
-  pub low : (i : ℕ) → i < m → pairedRow (cell work′ (gatherAt m f) i) ≡ pairedRow (cell work (gatherAt m f) i)
+  pub low : (i : ℕ) → i < m → lowerPart (cell work′ (gatherAt m f) i) ≡ lowerPart (cell work (gatherAt m f) i)
 
 -- ---- both lists, on kept tables
 
 -- columns that can be exchanged, with records and parents kept
 pub record SomeSwap (s : Stored) (b : book.Book) (leave enter work : List ℕ) : Type 0 where
   pub some : SomeExchange s b leave enter work
-  pub records : RecordsKept work (spare (length (s .heads)) (length (s .next))) (s .rows) (s .counts) (s .next)
+  pub records : RecordsKept work (savedAt (length (s .heads)) (length (s .next))) (s .rows) (s .counts) (s .next)
   pub parents : ParentsKept work (gatherAt (length (s .heads)) (length (s .next))) (s .parents)
 
 -- the exchange is done if all sizes fit after it, or the tables are as before
@@ -159,7 +160,7 @@ pub record Swapped (m f : ℕ) (R A B : List Column) (s after : Stored) (work wo
 
 -- four tables as long as those marked ₀, which are kept: records from the places that a plan leaves free on, parents behind them
 pub record CanUndo (m : ℕ) (parents rows counts next work parents₀ rows₀ counts₀ next₀ : List ℕ) : Type 0 where
-  pub records : CanRestore rows counts next work (spare m (length next)) rows₀ counts₀ next₀
+  pub records : CanRestore rows counts next work (savedAt m (length next)) rows₀ counts₀ next₀
   pub parents-kept : ParentsKept work (gatherAt m (length next)) parents₀
   pub parents-long : length parents ≡ length parents₀
 

@@ -10,6 +10,7 @@ ghost use Rattle.commit.specs.Gather.{CanCount};
 ghost use Rattle.exchange.specs.Exchange.{CanReport, SomeReport, Reported};
 use pool::Rec;
 use workspace::PLAN;
+use workspace::UPPER_WEIGHT;
 
 // The longest chain of a column.
 const LONGEST: u32 = 4096;
@@ -51,7 +52,7 @@ pub fn report(
     let mut t: usize = 0;
     let mut entries: u32 = 0;
     while j < m {
-        let x = work[a + j] / 8192;
+        let x = work[a + j] / UPPER_WEIGHT;
         if x != 0 {
             entries = entries + larger(next, Rec(heads[j]), x - 1);
             touched[t] = (j + 1) as u16;

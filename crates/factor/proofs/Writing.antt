@@ -17,7 +17,7 @@ use Rattle.book.specs.Entries.{opened}
 use Rattle.tables.specs.Tables.{Tables, Sizes, tablesOf}
 use Rattle.tables.proofs.Tables.{Long, long-facts}
 use Rattle.columns.specs.Opened.{openedRows, openedCounts, CanOpen, Opened}
-use Rattle.columns.proofs.Filling.{rows-length, counts-length}
+use Rattle.columns.proofs.Opened.{rows-length, counts-length}
 use Rattle.calls.specs.Refusals.{workFor}
 use Rattle.calls.proofs.Refusals.{InRange}
 use Rattle.factor.specs.Admission.{HasPlaces}

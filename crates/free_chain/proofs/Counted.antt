@@ -11,15 +11,10 @@ use lib.ListN.{length, getD, take, drop, length-drop}
 use lib.Seq.{take-suc, take-add, take-all, length-take-le}
 use Rattle.lists.specs.Lists.{one, times}
 use Rattle.lists.proofs.Tests.{one-le}
-use Rattle.lists.proofs.Times.{times-nil, times-self, times-other, times-append}
+use Rattle.lists.proofs.Times.{times-nil, times-self, times-other, times-append, times-length}
 use Rattle.pool.specs.Free.{zeroPairs}
 
 -- ---- zeros of one list
-
-times-le : (x : ℕ) (xs : List ℕ) → times x xs ≤ length xs
-unfolding times
-times-le x [] = omega arith
-times-le x (y ∷ ys) = omega (arith, times-le x ys, one-le (eqb x y))
 
 times-next : (xs : List ℕ) (i : ℕ) → i < length xs → times 0 (take (i + 1) xs) ≡ times 0 (take i xs) + times 0 (getD xs i 0 ∷ [])
 times-next xs i h = rw (add-one i, take-suc xs i 0 h) (times-append 0 (take i xs) (getD xs i 0 ∷ []))
@@ -55,7 +50,7 @@ module _ {xs : List ℕ} {i n : ℕ} (z : ZerosTo xs i n) where
   zeros-next b k h e =
       let part : length (take b (drop i xs)) ≡ b = length-take-le b (drop i xs) (omega (arith, length-drop i xs)) in
       let all : times 0 (take (i + b) xs) ≡ times 0 (take i xs) + times 0 (take b (drop i xs)) = rw (take-add i b xs) (times-append 0 (take i xs) (take b (drop i xs))) in
-      record { within = h; few = omega (arith, z .few, times-le 0 (take b (drop i xs))); count = omega (arith, z .count) }
+      record { within = h; few = omega (arith, z .few, times-length 0 (take b (drop i xs))); count = omega (arith, z .count) }
 
   -- k of the rows from place i to place e are 0
   pub zeros-block : (e k : ℕ) → i ≤ e → e ≤ length xs → k ≡ times 0 (take (e - i) (drop i xs)) → ZerosTo xs e (n + k)

@@ -2,7 +2,7 @@
 -- record, and each of its ends, which decides whether the chain has just k records and the last has row 0. Assumes nothing.
 use mathlib.Core.Path.{_≡_, refl, sym, ap, subst, _∙_}
 use mathlib.Core.Logic.{inl, inr, _≢_}
-use mathlib.Core.Bool.{true, false, false≢true}
+use mathlib.Core.Bool.{true}
 use mathlib.Core.List.{List, [], _∷_}
 use Prim.Native.Nat.{ℕ, _+_, _-_, _≤_, _<_}
 use native.Mathlib.Omega.{arith}
@@ -10,10 +10,10 @@ use native.Mathlib.Numerals.{add-one}
 use lib.Dec.{eqb}
 use lib.ListN.{length, getD}
 use borrow.Author.Tests.{eq-eqb, eqb-true}
-use Rattle.lists.specs.Lists.{at}
+use Rattle.lists.specs.Lists.{at, Decides}
 use Rattle.lists.proofs.Tests.{zero-or-pos}
 use Rattle.pool.specs.Chains.{chain, lastOf, Linked}
-use Rattle.pool.specs.Ends.{lastFrom, Decides}
+use Rattle.pool.specs.Ends.{lastFrom}
 use Rattle.pool.specs.Free.{FreeHas}
 use Rattle.pool.proofs.Chains.{linked-chain, linked-end, linked-head, linked-self}
 use Rattle.free_chain.specs.Pieces.{Leads}
@@ -37,10 +37,6 @@ empty : (ns : List ℕ) (r : ℕ) (ts : List ℕ) → length ts ≡ 0 → Linked
 unfolding Linked
 empty ns r [] e l = l
 empty ns r (t ∷ ts) e l = absurd (omega arith)
-
--- what is wrong is answered so
-pub decides-no : {fact : Type 0} → (fact → ⊥) → Decides fact false
-decides-no f = record { yes = λ e. absurd (false≢true e); no = λ x. absurd (f x) }
 
 module _ {rs ns : List ℕ} {k h r z n : ℕ} (w : Walking rs ns k h r z n) where
   -- one record more

@@ -2,8 +2,7 @@
 ghost use Prim.Native.Nat.{_≤_};
 ghost use mathlib.Core.Path.{_≡_};
 ghost use lib.ListN.{length};
-ghost use Rattle.lists.specs.Lists.{times};
-ghost use Rattle.pool.specs.Ends.{Decides};
+ghost use Rattle.lists.specs.Lists.{Decides, times};
 ghost use Rattle.pool.specs.Free.{FreeHas, zeroPairs};
 ghost use Rattle.free_chain.specs.Pieces.{OnePool};
 use pool::Rec;

@@ -1,21 +1,21 @@
 -- What the two questions about a column answer where they cannot be refused: its parent, its size, and its entries at the front of the list; a column has at
 -- most m entries (`entries-most`). Assumes nothing.
-use mathlib.Core.Path.{_≡_, refl, sym, ap, _∙_}
+use mathlib.Core.Path.{_≡_, refl, ap, _∙_}
 use mathlib.Core.Logic.{inl, inr}
-use mathlib.Core.Bool.{Bool, true, false, _&&_}
+use mathlib.Core.Bool.{Bool, true}
 use mathlib.Core.List.{List, [], _∷_, _++_}
 use Prim.Native.Nat.{ℕ, suc, _+_, _*_, _≤_}
 use native.Mathlib.Omega.{arith}
-use lib.Dec.{leb, eqb}
+use lib.Dec.{eqb}
 use lib.ListN.{length, take, drop}
 use lib.Seq.{take-at}
 use borrow.Author.Tests.{le-leb}
-use Rattle.lists.specs.Lists.{pick, isIn, pairsOf, writtenAt}
+use Rattle.lists.specs.Lists.{pick, pairsOf, writtenAt}
 use Rattle.lists.proofs.Tests.{cases}
 use Rattle.symbolic.specs.Columns.{Register, live}
 use Rattle.symbolic.specs.Factor.{factorFor, columnAt, parentOf, patternFrom, nonZero, sizeOf}
 use Rattle.symbolic.proofs.Build.{counts-length}
-use Rattle.tables.specs.Tables.{Sizes}
+use Rattle.symbolic.proofs.Patterns.{pattern-short}
 use Rattle.calls.specs.Calls.{askParent, askColumn}
 use Rattle.calls.specs.Questions.{columnList}
 use Rattle.calls.specs.Refusals.{accepted, isAccepted, rowRefusal}
@@ -31,12 +31,6 @@ unfolding patternFrom nonZero pairsOf
 entries-two a [] = refl
 entries-two a (n ∷ ns) =
     elim (cases (eqb n 0)) [ inl e ↦ rw e (entries-two (suc a) ns) | inr e ↦ rw e (omega (arith, entries-two (suc a) ns)) ]
-
-pattern-short : (a : ℕ) (ns : List ℕ) → length (patternFrom a ns) ≤ length ns
-unfolding patternFrom
-pattern-short a [] = omega arith
-pattern-short a (n ∷ ns) =
-    elim (cases (eqb n 0)) [ inl e ↦ rw e (omega (arith, pattern-short (suc a) ns)) | inr e ↦ rw e (omega (arith, pattern-short (suc a) ns)) ]
 
 module _ (r : Register) (j : ℕ) (low : 1 ≤ j) (high : j ≤ r .m) where
   pub entries-places : length (columnList r j) ≡ 2 * sizeOf (columnAt (factorFor r) j)

@@ -99,6 +99,9 @@ unfolding same
 same-self [] = refl
 same-self (x ∷ xs) = both-and (eq-eqb x x refl) (same-self xs)
 
+pub eq-same : {xs ys : List ℕ} → xs ≡ ys → same xs ys ≡ true
+eq-same {xs} {ys} e = rw e (same-self ys)
+
 pub zero-at : {x : ℕ} {xs : List ℕ} → Mem x xs → allZero xs ≡ true → x ≡ 0
 unfolding allZero
 zero-at {x} (first {xs}) h = eqb-true x 0 (and-both (eqb x 0) (allZero xs) h .0)

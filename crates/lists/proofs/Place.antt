@@ -1,13 +1,17 @@
--- Numbered places: a value put at a number, the values at a list of numbers, a list written over the front of another. Assumes nothing.
+-- Numbered places: a value put at a number, the values at a list of numbers, a list written over the front of another, a list with zeros behind it. Assumes
+-- nothing.
 use mathlib.Core.Path.{_≡_, refl, sym, ap, subst, _∙_}
 use mathlib.Core.Logic.{_≢_}
+use mathlib.Core.Bool.{true}
 use mathlib.Core.List.{List, [], _∷_, _++_, append-assoc}
-use Prim.Native.Nat.{ℕ, suc, _+_, _-_, _≤_, _<_}
+use Prim.Native.Nat.{ℕ, zero, suc, _+_, _-_, _≤_, _<_}
 use native.Mathlib.Omega.{arith}
 use native.Mathlib.Numerals.{add-one}
-use lib.ListN.{length, getD, take, drop, set, length-append, length-drop, length-set}
-use lib.Seq.{getD-set-same, getD-set-other, set-getD, drop-cons, set-at, take-suc}
-use Rattle.lists.specs.Lists.{at, put, valuesAt, over, times}
+use lib.ListN.{length, getD, take, drop, set, length-append, length-drop, length-set, replicate, length-replicate, getD-replicate}
+use lib.Seq.{getD-set-same, getD-set-other, set-getD, drop-cons, set-at, take-suc, getD-append-add}
+use borrow.Author.Tests.{eq-eqb}
+use Rattle.lists.specs.Lists.{Mem, first, later, allZero, times, at, put, valuesAt, over}
+use Rattle.lists.proofs.Tests.{both-and}
 use Rattle.lists.proofs.Times.{times-self, times-cons, differs}
 
 -- ---- a value put at a number
@@ -40,6 +44,29 @@ unfolding valuesAt
 values-length xs [] = refl
 values-length xs (r ∷ rs) = ap suc (values-length xs rs)
 
+pub values-place : (xs rs : List ℕ) (k : ℕ) → k < length rs → getD (valuesAt xs rs) k 0 ≡ at xs (getD rs k 0)
+unfolding valuesAt
+values-place xs [] k h = absurd (omega arith)
+values-place xs (r ∷ rs) zero h = refl
+values-place xs (r ∷ rs) (suc k) h = values-place xs rs k (omega arith)
+
+-- what a list has for one of some numbers is among what it has for them, and each of that it has for one of them
+pub values-mem : (xs : List ℕ) {x : ℕ} {rs : List ℕ} → Mem x rs → Mem (at xs x) (valuesAt xs rs)
+unfolding valuesAt
+values-mem xs first = first
+values-mem xs (later m) = later (values-mem xs m)
+
+pub mem-values : (xs rs : List ℕ) {i : ℕ} → Mem i (valuesAt xs rs) → (x : ℕ) × Mem x rs × (at xs x ≡ i)
+unfolding valuesAt
+mem-values xs [] h = elim h [ ]
+mem-values xs (r ∷ rs) first = (r, first, refl)
+mem-values xs (r ∷ rs) {i} (later h) = let t : (x : ℕ) × Mem x rs × (at xs x ≡ i) = mem-values xs rs h in (t .0, later (t .1), t .2)
+
+pub values-zero : (xs rs : List ℕ) → ((x : ℕ) → 1 ≤ times x rs → at xs x ≡ 0) → allZero (valuesAt xs rs) ≡ true
+unfolding valuesAt allZero
+values-zero xs [] h = refl
+values-zero xs (r ∷ rs) h = both-and (eq-eqb (at xs r) 0 (h r (omega (arith, times-self r rs)))) (values-zero xs rs (λ x n. h x (omega (arith, times-cons x r rs))))
+
 pub values-frame : (xs ys rs : List ℕ) → ((r : ℕ) → 1 ≤ times r rs → at ys r ≡ at xs r) → valuesAt ys rs ≡ valuesAt xs rs
 unfolding valuesAt
 values-frame xs ys [] same = refl
@@ -65,3 +92,13 @@ over-push xs old n v e h =
 
 pub over-length : {A : Type 0} (xs old : List A) → length xs ≤ length old → length (over xs old) ≡ length old
 over-length xs old h = simp (length-append, length-drop) (omega arith)
+
+-- ---- a list, then zeros
+
+pub padded-length : (xs : List ℕ) (m f : ℕ) → length xs ≡ m → m ≤ f → length (xs ++ replicate (f - m) 0) ≡ f
+padded-length xs m f e h = omega (arith, length-append xs (replicate (f - m) 0), length-replicate {A = ℕ} (f - m) 0)
+
+pub padded-back : (xs : List ℕ) (n i : ℕ) → length xs ≤ i → i < length xs + n → getD (xs ++ replicate n 0) i 0 ≡ 0
+padded-back xs n i a b =
+    let q : i ≡ length xs + (i - length xs) = omega arith in
+    ap (λ (k : ℕ). getD (xs ++ replicate n 0) k 0) q ∙ getD-append-add xs (replicate n 0) (i - length xs) 0 ∙ getD-replicate n (i - length xs) 0 0 (omega arith)

@@ -7,10 +7,11 @@ use mathlib.Core.List.{List, [], _∷_}
 use Prim.Native.Nat.{ℕ, zero, suc, _+_, _≤_, _<_}
 use native.Mathlib.Omega.{arith}
 use lib.Dec.{leb}
-use lib.ListN.{length, getD}
+use lib.ListN.{length, getD, List·getD-eq-default}
 use borrow.Author.Tests.{leb-true, le-leb}
 use Rattle.lists.specs.Lists.{Mem, first, later, rises, upFrom}
-use Rattle.lists.proofs.Tests.{eq-or-ne, and-both, both-and}
+use Rattle.lists.proofs.Tests.{eq-or-ne, lt-or-le, and-both, both-and}
+use Rattle.lists.proofs.Member.{place-mem}
 
 pub rises-in : {x : ℕ} (a b : ℕ) {xs : List ℕ} → Mem x xs → rises a b xs ≡ true → (a ≤ x) × (x ≤ b)
 unfolding rises
@@ -23,6 +24,14 @@ rises-in a b (later {x = y} {xs = xs} m) h =
     let u : (leb a y ≡ true) × (leb y b ≡ true) = and-both (leb a y) (leb y b) (t .0) in
     let v : (suc y ≤ _) × (_ ≤ b) = rises-in (suc y) b m (t .1) in
     (omega (arith, leb-true a y (u .0)), v .1)
+
+-- what stands at a place, 0 past the end, is at most the bound
+pub rises-high : (a b : ℕ) (xs : List ℕ) → rises a b xs ≡ true → (i : ℕ) → getD xs i 0 ≤ b
+rises-high a b xs e i =
+    elim (lt-or-le i (length xs)) [
+      | inl h ↦ rises-in a b (place-mem xs i 0 h) e .1
+      | inr h ↦ omega (arith, List·getD-eq-default xs 0 h)
+    ]
 
 -- no member is below the first
 pub rises-first : {x y : ℕ} (a b : ℕ) {ys : List ℕ} → Mem x (y ∷ ys) → rises a b (y ∷ ys) ≡ true → y ≤ x

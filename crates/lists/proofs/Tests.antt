@@ -1,12 +1,12 @@
 -- Tests and choices: case splits that keep the fact, conjunctions and disjunctions taken apart and put together. Assumes nothing.
 use mathlib.Core.Path.{_≡_, refl, sym}
 use mathlib.Core.Logic.{_⊎_, inl, inr, _≢_}
-use mathlib.Core.Bool.{Bool, true, false, _&&_, _||_, false≢true}
+use mathlib.Core.Bool.{Bool, true, false, _&&_, _||_, false≢true, not}
 use Prim.Native.Nat.{ℕ, _≤_, _<_}
 use native.Mathlib.Omega.{arith}
 use lib.Dec.{ltb, leb, eqb}
 use borrow.Author.Tests.{ltb-true, ltb-false, leb-true, eqb-true, eqb-false, le-leb}
-use Rattle.lists.specs.Lists.{one, isIn}
+use Rattle.lists.specs.Lists.{one, isIn, Decides}
 
 -- ---- case splits that keep the fact
 
@@ -55,9 +55,22 @@ pub and-true : (a : Bool) → (a && true) ≡ a
 and-true true = refl
 and-true false = refl
 
+pub and-swap : (a b : Bool) → (a && b) ≡ (b && a)
+and-swap true b = sym (and-true b)
+and-swap false b = sym (and-false b)
+
+pub and-not : (a b : Bool) → b ≡ false → (a && not b) ≡ a
+and-not a b e = rw e (and-true a)
+
 pub or-false : (a : Bool) → (a || false) ≡ a
 or-false true = refl
 or-false false = refl
+
+pub or-swap : (a b : Bool) → (a || b) ≡ (b || a)
+or-swap true true = refl
+or-swap true false = refl
+or-swap false true = refl
+or-swap false false = refl
 
 -- two tests that imply one another are equal
 pub both-ways : (x y : Bool) → (x ≡ true → y ≡ true) → (y ≡ true → x ≡ true) → x ≡ y
@@ -70,6 +83,10 @@ both-ways false false f g = refl
 pub refute : (b : Bool) → (b ≡ true → ⊥) → b ≡ false
 refute true f = absurd (f refl)
 refute false f = refl
+
+-- a fact that does not hold is answered so
+pub decides-no : {fact : Type 0} → (fact → ⊥) → Decides fact false
+decides-no f = record { yes = λ e. absurd (false≢true e); no = λ x. absurd (f x) }
 
 pub in-range : (a b x : ℕ) → isIn a b x ≡ true → (a ≤ x) × (x ≤ b)
 in-range a b x h = let t : (leb a x ≡ true) × (leb x b ≡ true) = and-both (leb a x) (leb x b) h in (leb-true a x (t .0), leb-true x b (t .1))

@@ -6,9 +6,10 @@ use mathlib.Core.List.{List, [], _∷_, _++_}
 use Prim.Native.Nat.{ℕ, _+_, _≤_}
 use native.Mathlib.Omega.{arith}
 use borrow.Author.Tests.{eq-eqb, ne-eqb, not-true}
+use lib.Dec.{eqb}
 use lib.ListN.{length}
 use Rattle.lists.specs.Lists.{one, Mem, first, later, among, noRepeats, count, times}
-use Rattle.lists.proofs.Tests.{cases, eq-or-ne, zero-or-pos, and-both}
+use Rattle.lists.proofs.Tests.{cases, eq-or-ne, zero-or-pos, and-both, one-le}
 use Rattle.lists.proofs.Member.{among-mem, mem-among}
 use Rattle.lists.proofs.Count.{count-cut, count-le, count-at}
 
@@ -28,6 +29,11 @@ pub times-append : (x : ℕ) (xs ys : List ℕ) → times x (xs ++ ys) ≡ times
 unfolding times
 times-append x [] ys = omega arith
 times-append x (z ∷ zs) ys = let h : times x (zs ++ ys) ≡ times x zs + times x ys = times-append x zs ys in omega arith
+
+pub times-length : (x : ℕ) (xs : List ℕ) → times x xs ≤ length xs
+unfolding times
+times-length x [] = omega arith
+times-length x (y ∷ ys) = omega (arith, times-length x ys, one-le (eqb x y))
 
 -- one at the front counts apart
 pub times-cons : (x y : ℕ) (ys : List ℕ) → times x (y ∷ ys) ≡ times x (y ∷ []) + times x ys

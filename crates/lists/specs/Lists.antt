@@ -1,5 +1,6 @@
--- Lists of naturals, as every crate's definitions read them: choices, members, counts, numbered places, rising lists. Laws: proofs/, by the
+-- Lists of naturals, as every crate's definitions read them: choices, answers, members, counts, numbered places, rising lists. Laws: proofs/, by the
 -- same groups. What the kit's lib.Seq and lib.ListN have (take, drop, set, getD, replicate) is not repeated. Assumes nothing.
+use mathlib.Core.Path.{_≡_}
 use mathlib.Core.Bool.{Bool, true, false, _&&_, _||_, not}
 use mathlib.Core.List.{List, [], _∷_, _++_}
 use Prim.Native.Nat.{ℕ, zero, suc, _+_, _-_}
@@ -20,6 +21,11 @@ one z = pick z 1 0
 -- a number lies within two bounds, both included
 abbrev pub isIn : (low high x : ℕ) → Bool
 isIn a b x = leb a x && leb x b
+
+-- an answer says whether a fact holds
+pub record Decides (fact : Type 0) (answer : Bool) : Type 0 where
+  pub yes : answer ≡ true → fact
+  pub no : fact → answer ≡ true
 
 -- ---- members
 

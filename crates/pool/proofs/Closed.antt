@@ -13,7 +13,7 @@ use borrow.Author.Tests.{eqb-true, eq-eqb, ne-eqb}
 use Rattle.lists.specs.Lists.{one, among, allZero, count, times, sumOf, at, valuesAt}
 use Rattle.lists.proofs.Tests.{cases, eq-or-ne, zero-or-pos, and-both, both-and, both-ways, one-le}
 use Rattle.lists.proofs.Count.{count-ext, count-cut, count-full, count-at, count-shift}
-use Rattle.lists.proofs.Times.{times-nil, times-self, times-other, times-cons, times-append, mem-times, among-none, among-some, UpTo, among-count}
+use Rattle.lists.proofs.Times.{times-nil, times-self, times-other, times-cons, times-append, mem-times, among-none, among-some, UpTo, among-count, times-length}
 use Rattle.lists.proofs.Sum.{sum-append, sum-length, sum-le, sum-ext, sum-zero}
 use Rattle.pool.specs.Chains.{chain, Linked}
 use Rattle.pool.specs.Whole.{chains, isWhole, AllLinked, Pool}
@@ -48,11 +48,6 @@ sum-all t n xs once within size =
   where
     there : (c : ℕ) → 1 ≤ c → c ≤ n → among c xs ≡ true
     there c a b = count-full (λ i. among i xs) (λ i. true) n (λ i p q e. refl) (omega (arith, all-true n, among-count n xs once within)) c a b refl
-
-times-length : (x : ℕ) (xs : List ℕ) → times x xs ≤ length xs
-unfolding times
-times-length x [] = omega arith
-times-length x (y ∷ ys) = omega (arith, times-length x ys, one-le (eqb x y))
 
 -- ---- zeros of a list
 

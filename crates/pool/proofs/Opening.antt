@@ -1,4 +1,4 @@
--- An opened pool: each place of its nexts, and the loop that writes them front to back; its free chain is the numbers after the used ones; it is whole,
+-- An opened pool: each place of its nexts; its free chain is the numbers after the used ones; it is whole,
 -- with the used records as chains of one and any further heads 0 (pool-opened). Assumes nothing.
 use mathlib.Core.Path.{_≡_, refl, sym, ap, subst, _∙_}
 use mathlib.Core.Logic.{inl, inr}
@@ -6,13 +6,12 @@ use mathlib.Core.List.{List, [], _∷_, _++_, append-nil}
 use Prim.Native.Nat.{ℕ, zero, suc, _+_, _-_, _≤_, _<_}
 use native.Mathlib.Omega.{arith}
 use lib.Dec.{ltb}
-use lib.ListN.{length, getD, take, set, replicate, length-append, length-replicate, getD-replicate, List·getD-append}
+use lib.ListN.{length, getD, replicate, length-append, length-replicate, getD-replicate, List·getD-append}
 use lib.Seq.{getD-append-add, getD-at}
 use borrow.Author.Tests.{lt-ltb, le-ltb}
-use Rattle.lists.specs.Lists.{pick, at, times, upFrom, over}
+use Rattle.lists.specs.Lists.{pick, at, times, upFrom}
 use Rattle.lists.proofs.Tests.{eq-or-ne, lt-or-le, zero-or-pos}
 use Rattle.lists.proofs.Times.{times-nil, times-self, times-other, times-append, times-mem}
-use Rattle.lists.proofs.Over.{over-none, over-next, over-all, over-whole, over-taken}
 use Rattle.lists.proofs.Rising.{up-length, up-at, from-up}
 use Rattle.pool.specs.Chains.{chain, Linked}
 use Rattle.pool.specs.Whole.{chains, AllLinked, Pool}
@@ -58,43 +57,6 @@ pub opened-last : (a k i : ℕ) → a ≤ i → i + 1 ≡ k → getD (openedNext
 opened-last a k i h l =
     free-place a k i h ∙ ap (λ (t : List ℕ). getD t (i - a) 0) (free-is a k (omega arith)) ∙
     getD-at (upFrom (a + 2) (k - a - 1)) 0 [] 0 (i - a) (omega (arith, up-length (a + 2) (k - a - 1)))
-
--- ---- the loop that writes them
-
-pub record Linking (used : ℕ) (next₀ next : List ℕ) (i : ℕ) : Type 0 where
-  pub within : i ≤ length next₀
-  pub written : next ≡ over (take i (openedNexts used (length next₀))) next₀
-
-pub linking-start : (used : ℕ) (next₀ : List ℕ) → Linking used next₀ next₀ 0
-linking-start used next₀ = record { within = omega arith; written = over-none (openedNexts used (length next₀)) next₀ }
-
-module _ {used : ℕ} {next₀ next : List ℕ} {i : ℕ} (few : used ≤ length next₀) (w : Linking used next₀ next i) where
-  pub linking-long : length next ≡ length next₀
-  linking-long =
-      let l : length (openedNexts used (length next₀)) ≡ length next₀ = opened-length used (length next₀) few in
-      ap length (w .written) ∙ over-taken (openedNexts used (length next₀)) next₀ i (omega (arith, w .within)) (omega arith)
-
-  linking-more : (v : ℕ) → i < length next₀ → getD (openedNexts used (length next₀)) i 0 ≡ v → Linking used next₀ (set next i v) (i + 1)
-  linking-more v h e =
-      let l : length (openedNexts used (length next₀)) ≡ length next₀ = opened-length used (length next₀) few in
-      record {
-        within = omega arith;
-        written = ap (λ (t : List ℕ). set t i v) (w .written) ∙ over-next (openedNexts used (length next₀)) next₀ i v (omega arith) (omega arith) e;
-      }
-
-  pub linking-used : i < length next₀ → i < used → Linking used next₀ (set next i 0) (i + 1)
-  linking-used h p = linking-more 0 h (opened-used used (length next₀) i p)
-
-  pub linking-free : used ≤ i → i + 1 < length next₀ → Linking used next₀ (set next i (i + 2)) (i + 1)
-  linking-free p q = linking-more (i + 2) (omega arith) (opened-free used (length next₀) i p q)
-
-  pub linking-last : i < length next₀ → used ≤ i → length next₀ ≤ i + 1 → Linking used next₀ (set next i 0) (i + 1)
-  linking-last h p q = linking-more 0 h (opened-last used (length next₀) i p (omega arith))
-
-  pub linking-end : length next₀ ≤ i → next ≡ openedNexts used (length next₀)
-  linking-end h =
-      let l : length (openedNexts used (length next₀)) ≡ length next₀ = opened-length used (length next₀) few in
-      w .written ∙ over-all (openedNexts used (length next₀)) next₀ i (omega arith) ∙ over-whole (openedNexts used (length next₀)) next₀ l
 
 -- ---- the numbers from i on, as records
 

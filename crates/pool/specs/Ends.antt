@@ -23,11 +23,6 @@ lasts ns (h ∷ hs) = lastFrom ns h ∷ lasts ns hs
 abbrev pub NoneTwice : List ℕ → Type 0
 NoneTwice es = (i k : ℕ) → i < length es → k < length es → getD es i 0 ≢ 0 → getD es i 0 ≡ getD es k 0 → i ≡ k
 
--- an answer says whether a fact holds
-pub record Decides (fact : Type 0) (answer : Bool) : Type 0 where
-  pub yes : answer ≡ true → fact
-  pub no : fact → answer ≡ true
-
 -- the answer of the walk of one chain after some records: how many were met by its end, and its last one; or that it was cut short
 abbrev pub chainAnswer : Bool → (met : ℕ) → (next : List ℕ) → (head : ℕ) → Chain
 chainAnswer true n ns h = Ended (n + length (chain ns h)) (record { 0 = lastFrom ns h })

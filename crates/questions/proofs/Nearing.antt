@@ -13,7 +13,7 @@ use lib.ListN.{length, getD, drop}
 use lib.Seq.{drop-cons, drop-length}
 use borrow.Author.Tests.{eqb-true}
 use Rattle.lists.specs.Lists.{at, all, among, isIn}
-use Rattle.lists.proofs.Tests.{and-false, and-true, and-assoc, refute, in-range}
+use Rattle.lists.proofs.Tests.{and-false, and-true, and-assoc, refute, in-range, and-swap}
 use Rattle.lists.proofs.Member.{place-mem, all-at}
 use Rattle.symbolic.specs.Columns.{Register, live}
 use Rattle.symbolic.specs.Factor.{factorFor, multiplicity, parentOf}
@@ -28,10 +28,6 @@ use Rattle.questions.specs.Meeting.{PathsJoin}
 use Rattle.questions.proofs.Following.{step-up, path-none}
 
 -- ---- conjunctions
-
-and-swap : (a b : Bool) → (a && b) ≡ (b && a)
-and-swap true b = sym (and-true b)
-and-swap false b = sym (and-false b)
 
 and-same : (a : Bool) → (a && a) ≡ a
 and-same true = refl

@@ -1,19 +1,17 @@
 -- Stored columns that hold the register's: what may be read of column j, and what is read: a multiplicity, a size, the entries as pairs.
 -- Then the premises of questions from sound tables (`stored-columns`, `stored-parents`). Assumes nothing.
-use mathlib.Core.Path.{_≡_, refl, sym, ap, _∙_, subst}
-use mathlib.Core.Logic.{inl, inr}
+use mathlib.Core.Path.{_≡_, sym, ap, _∙_, subst}
 use mathlib.Core.Bool.{true}
-use mathlib.Core.List.{List, [], _∷_}
-use Prim.Native.Nat.{ℕ, suc, _+_, _*_, _-_, _≤_}
+use mathlib.Core.List.{List}
+use Prim.Native.Nat.{ℕ, _+_, _*_, _-_, _≤_}
 use native.Mathlib.Omega.{arith}
-use lib.Dec.{eqb}
 use lib.ListN.{length}
-use Rattle.lists.specs.Lists.{at, pairsOf}
-use Rattle.lists.proofs.Tests.{cases}
+use Rattle.lists.specs.Lists.{at}
 use Rattle.lists.proofs.Place.{values-length}
 use Rattle.symbolic.specs.Columns.{Register, live}
-use Rattle.symbolic.specs.Factor.{factorOf, factorFor, columnAt, multiplicity, patternFrom, nonZero, sizeOf}
+use Rattle.symbolic.specs.Factor.{factorOf, factorFor, columnAt, multiplicity, sizeOf}
 use Rattle.symbolic.proofs.Build.{counts-length}
+use Rattle.symbolic.proofs.Patterns.{pattern-short}
 use Rattle.pool.specs.Chains.{chain}
 use Rattle.pool.proofs.Whole.{pool-linked}
 use Rattle.tables.specs.Stored.{Stored, Sized, isSoundFor}
@@ -24,12 +22,6 @@ use Rattle.columns.proofs.Copying.{entries-length}
 use Rattle.calls.specs.Questions.{columnList}
 use Rattle.questions.specs.Asked.{ColumnsFor, ParentsFor, CanAsk, CanFollow}
 use Rattle.questions.specs.Meeting.{CanClimb}
-
-pattern-short : (a : ℕ) (ns : List ℕ) → length (patternFrom a ns) ≤ length ns
-unfolding patternFrom
-pattern-short a [] = omega arith
-pattern-short a (n ∷ ns) =
-    elim (cases (eqb n 0)) [ inl e ↦ rw e (omega (arith, pattern-short (suc a) ns)) | inr e ↦ rw e (omega (arith, pattern-short (suc a) ns)) ]
 
 -- ---- what is read of column j
 

@@ -12,7 +12,7 @@ use lib.Seq.{length-take-le, getD-take}
 use Rattle.lists.specs.Lists.{Mem, first, later, at, valuesAt}
 use Rattle.lists.proofs.Member.{zero-at}
 use Rattle.lists.proofs.Times.{mem-times}
-use Rattle.lists.proofs.Place.{values-length}
+use Rattle.lists.proofs.Place.{values-length, values-mem}
 use Rattle.symbolic.specs.Columns.{Column, live}
 use Rattle.symbolic.specs.Factor.{FactorColumn, factorOf, factorFor, columnAt, sizeOf}
 use Rattle.symbolic.specs.NextRow.{columnEntries}
@@ -24,7 +24,6 @@ use Rattle.tables.specs.Stored.{Stored, Sized, recordsOf}
 use Rattle.tables.specs.Tables.{Tables, State, storedIn, registerOf}
 use Rattle.tables.proofs.Stored.{Holds, SoundFor, sound-facts, stored-column}
 use Rattle.tables.proofs.Tables.{Long, long-facts, sound-stored, sound-factor, stored-rows}
-use Rattle.columns.proofs.Holding.{values-mem}
 use Rattle.reader.specs.Reading.{entryAt, readings, allGiven, asRead, entriesIn, end}
 use Rattle.reader.specs.Statements.{ReadsColumn, ReadsTables, NoEntry, none, past-rows, past-counts, past-next, unused, ReadsEnd, ReadsTablesEnd}
 use Rattle.reader.specs.declared.Entry.the-variants.{End}

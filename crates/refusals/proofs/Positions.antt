@@ -5,12 +5,12 @@ use mathlib.Core.Path.{_≡_, refl, sym, ap, _∙_}
 use mathlib.Core.Logic.{inl, inr, _≢_}
 use mathlib.Core.Bool.{Bool, true, false, _&&_, not}
 use mathlib.Core.List.{List, [], _∷_}
-use Prim.Native.Nat.{ℕ, zero, suc, _+_, _≤_, _<_}
+use Prim.Native.Nat.{ℕ, suc, _+_, _≤_, _<_}
 use native.Mathlib.Omega.{arith}
 use native.Mathlib.Numerals.{add-one}
 use lib.Dec.{leb, eqb}
 use lib.ListN.{length, getD, take, drop, length-drop}
-use lib.Seq.{drop-cons, drop-length, drop-nil}
+use lib.Seq.{drop-cons, drop-length, drop-drop}
 use borrow.Author.Tests.{leb-true, eq-eqb, ne-eqb}
 use Rattle.lists.specs.Lists.{isIn, among}
 use Rattle.lists.proofs.Tests.{cases, and-both, in-range}
@@ -25,11 +25,6 @@ use Rattle.refusals.proofs.Tests.{unless-accepted}
 use Rattle.refusals.proofs.Parts.{placed-none}
 
 -- ---- one position
-
-pub drop-more : {A : Type 0} (xs : List A) (a b : ℕ) → drop b (drop a xs) ≡ drop (a + b) xs
-drop-more xs zero b = let e : b ≡ 0 + b = omega arith in ap (λ (k : ℕ). drop k xs) e
-drop-more [] (suc a) b = drop-nil b ∙ sym (drop-nil (suc a + b))
-drop-more (x ∷ xs) (suc a) b = let e : suc (a + b) ≡ suc a + b = omega arith in drop-more xs a b ∙ ap (λ (k : ℕ). drop k (x ∷ xs)) e
 
 regroup : (a b c d e f : Refusal) → orElse (orElse (orElse a b) (orElse c (orElse d e))) f ≡ orElse a (orElse b (orElse c (orElse d (orElse e f))))
 regroup a b c d e f =
@@ -127,7 +122,7 @@ module _ {m : ℕ} {hs is ns rs : List ℕ} {k from : ℕ} (l : ColumnsLeft m hs
           same = λ rows next free.
               let r : Register = registerIn m (bookOf hs rows next free) in
               ap (λ (j : ℕ). columnsRefusal r (length hs) (suc j) (before j is) (drop j is) (drop j ns) (drop (from + getD ns k 0) rs)) (add-one k) ∙
-              ap (columnsRefusal r (length hs) (suc (suc k)) (before (suc k) is) (drop (suc k) is) (drop (suc k) ns)) (sym (drop-more rs from (getD ns k 0))) ∙
+              ap (columnsRefusal r (length hs) (suc (suc k)) (before (suc k) is) (drop (suc k) is) (drop (suc k) ns)) (sym (drop-drop (getD ns k 0) from rs)) ∙
               sym (turn rows next free ∙ rw (eq-eqb a 0 e) refl);
         }
 

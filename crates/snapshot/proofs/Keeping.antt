@@ -8,8 +8,9 @@ use native.Mathlib.Numerals.{add-one}
 use lib.ListN.{length, getD, take, set, length-set}
 use lib.Seq.{take-suc, take-all, getD-take}
 use Rattle.workspace.specs.Regions.{cell, region, OnlyIn}
+use Rattle.workspace.specs.Parts.{upperWeight}
 use Rattle.workspace.proofs.Regions.{store-push, store-only, store-leaves-region, region-cell, only-refl, only-store, only-trans, only-wider}
-use Rattle.snapshot.specs.Snapshot.{paired, allPaired, CanSaveRecords, RecordsSaved, CanSaveParents, ParentsSaved}
+use Rattle.snapshot.specs.Snapshot.{paired, allPaired, countBound, CanSaveRecords, RecordsSaved, CanSaveParents, ParentsSaved}
 use Rattle.snapshot.proofs.Kept.{all-paired-length, all-paired-at}
 
 -- ---- a list copied into the region from a on
@@ -79,8 +80,8 @@ module _ {rows counts next before : List ℕ} {a : ℕ} {work : List ℕ} {k : �
     pub link : k < length next
     pub pair : a + k < length work
     pub further : a + length next + k < length work
-    pub row-small : getD rows k 0 < 8192
-    pub count-small : getD counts k 0 < 262144
+    pub row-small : getD rows k 0 < upperWeight
+    pub count-small : getD counts k 0 < countBound
 
   pub records-saving-turn : k < length next → SavingTurn
   records-saving-turn h =
@@ -92,7 +93,7 @@ module _ {rows counts next before : List ℕ} {a : ℕ} {work : List ℕ} {k : �
         pair = omega (arith, s .only .same-length, s .can .inside);
         further = omega (arith, s .only .same-length, s .can .inside);
         row-small = t .rows-small k;
-        count-small = omega (arith, t .counts-small k, t .bound-small);
+        count-small = t .counts-small k;
       }
 
   pub records-saving-next : k < length next →

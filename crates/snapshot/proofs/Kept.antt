@@ -5,18 +5,19 @@ use mathlib.Core.Logic.{inl, inr}
 use mathlib.Core.List.{List, [], _∷_, map}
 use Prim.Native.Nat.{ℕ, zero, suc, _+_, _*_, _≤_, _<_}
 use native.Mathlib.Omega.{arith}
-use lib.ListN.{length, getD}
+use lib.ListN.{length, getD, List·getD-map}
 use lib.Seq.{ext-getD}
 use Rattle.workspace.specs.Regions.{cell, region, Apart, OnlyIn}
+use Rattle.workspace.specs.Parts.{upperWeight}
 use Rattle.workspace.proofs.Regions.{region-length, region-cell, only-region}
 use Rattle.snapshot.specs.Snapshot.{paired, pairedRow, pairedCount, allPaired, RecordsKept, ParentsKept, CanUnpair, Unpaired, Taken, CanRestore, Restored}
 
 -- ---- row and multiplicity in one place
 
-pub paired-row : (i n : ℕ) → i < 8192 → pairedRow (paired i n) ≡ i
+pub paired-row : (i n : ℕ) → i < upperWeight → pairedRow (paired i n) ≡ i
 paired-row i n h = omega arith
 
-pub paired-count : (i n : ℕ) → i < 8192 → pairedCount (paired i n) ≡ n
+pub paired-count : (i n : ℕ) → i < upperWeight → pairedCount (paired i n) ≡ n
 paired-count i n h = omega arith
 
 pub all-paired-length : (is ns : List ℕ) → length is ≡ length ns → length (allPaired is ns) ≡ length is
@@ -32,19 +33,14 @@ all-paired-at (i ∷ is) [] k p q = absurd (omega arith)
 all-paired-at (i ∷ is) (n ∷ ns) zero p q = refl
 all-paired-at (i ∷ is) (n ∷ ns) (suc k) p q = all-paired-at is ns k (omega arith) (omega arith)
 
-pub map-at : (f : ℕ → ℕ) (xs : List ℕ) (k : ℕ) → k < length xs → getD (map f xs) k 0 ≡ f (getD xs k 0)
-map-at f [] k h = absurd (omega arith)
-map-at f (x ∷ xs) zero h = refl
-map-at f (x ∷ xs) (suc k) h = map-at f xs k (omega arith)
-
 -- what was paired is read back
-pub rows-back : (is ns : List ℕ) → length is ≡ length ns → ((k : ℕ) → getD is k 0 < 8192) → map pairedRow (allPaired is ns) ≡ is
+pub rows-back : (is ns : List ℕ) → length is ≡ length ns → ((k : ℕ) → getD is k 0 < upperWeight) → map pairedRow (allPaired is ns) ≡ is
 unfolding allPaired
 rows-back [] ns e h = refl
 rows-back (i ∷ is) [] e h = absurd (omega arith)
 rows-back (i ∷ is) (n ∷ ns) e h = rw (paired-row i n (h 0), rows-back is ns (omega arith) (λ k. h (suc k))) refl
 
-pub counts-back : (is ns : List ℕ) → length is ≡ length ns → ((k : ℕ) → getD is k 0 < 8192) → map pairedCount (allPaired is ns) ≡ ns
+pub counts-back : (is ns : List ℕ) → length is ≡ length ns → ((k : ℕ) → getD is k 0 < upperWeight) → map pairedCount (allPaired is ns) ≡ ns
 unfolding allPaired
 counts-back [] [] e h = refl
 counts-back [] (n ∷ ns) e h = absurd (omega arith)
@@ -108,5 +104,5 @@ parents-back {parents} {work} {a} {parents₀} k e t =
     let m : ℕ = length parents in
     let n : length (region work a m) ≡ m = region-length work a m (omega (arith, k .inside)) in
     ext-getD 0 parents parents₀ e (λ i h.
-    ap (λ (xs : List ℕ). getD xs i 0) t ∙ map-at pairedRow (region work a m) i (omega arith) ∙ ap pairedRow (region-cell work a m i h) ∙
+    ap (λ (xs : List ℕ). getD xs i 0) t ∙ List·getD-map pairedRow (region work a m) i 0 ∙ ap pairedRow (region-cell work a m i h) ∙
     k .parents-are i (omega arith))

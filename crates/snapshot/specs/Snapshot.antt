@@ -3,23 +3,24 @@
 -- Assumes nothing: these are definitions.
 use mathlib.Core.Path.{_≡_}
 use mathlib.Core.List.{List, [], _∷_, map}
-use Prim.Native.Nat.{ℕ, _+_, _*_, _/_, _%_, _≤_, _<_}
+use Prim.Native.Nat.{ℕ, _+_, _*_, _≤_, _<_}
 use lib.ListN.{length, getD}
 use Rattle.workspace.specs.Regions.{cell, region, OnlyIn}
+use Rattle.workspace.specs.Parts.{upperWeight, lowerPart, upperPart}
 
 -- ---- row and multiplicity in one place
 
--- 13 bits for the row and 18 bits for the multiplicity, from the lowest bit up
+-- the row is the lower part, the multiplicity the upper part
 abbrev pub paired : (row multiplicity : ℕ) → ℕ
-paired i n = i + 8192 * n
+paired i n = i + upperWeight * n
 
 -- the row in such a place
 abbrev pub pairedRow : (place : ℕ) → ℕ
-pairedRow x = x % 8192
+pairedRow x = lowerPart x
 
 -- the multiplicity in such a place
 abbrev pub pairedCount : (place : ℕ) → ℕ
-pairedCount x = x / 8192
+pairedCount x = upperPart x
 
 -- rows with their multiplicities, in their order
 unfoldable pub allPaired : (rows counts : List ℕ) → List ℕ
@@ -27,28 +28,27 @@ allPaired [] ns = []
 allPaired (i ∷ is) [] = []
 allPaired (i ∷ is) (n ∷ ns) = paired i n ∷ allPaired is ns
 
--- the tables' multiplicities, of 16 bits, are below this bound; a place has room for those below 262,144
+-- the tables' multiplicities, of 16 bits, are below this bound; an upper part has room for 19 bits
 abbrev pub countBound : ℕ
 countBound = 65536
 
 -- ---- what can be kept
 
--- records whose rows are below 8,192 and whose multiplicities are below a bound that a place has room for
-pub record CanPair (bound : ℕ) (rows counts next : List ℕ) : Type 0 where
+-- records whose rows fit the lower part of a place, and whose multiplicities are below the bound
+pub record CanPair (rows counts next : List ℕ) : Type 0 where
   pub rows-long : length rows ≡ length next
   pub counts-long : length counts ≡ length next
-  pub rows-small : (k : ℕ) → getD rows k 0 < 8192
-  pub counts-small : (k : ℕ) → getD counts k 0 < bound
-  pub bound-small : bound ≤ 262144
+  pub rows-small : (k : ℕ) → getD rows k 0 < upperWeight
+  pub counts-small : (k : ℕ) → getD counts k 0 < countBound
 
 -- parents, which are rows too, and m places for them from a on
 pub record CanSaveParents (parents work : List ℕ) (a : ℕ) : Type 0 where
-  pub small : (k : ℕ) → getD parents k 0 < 8192
+  pub small : (k : ℕ) → getD parents k 0 < upperWeight
   pub inside : a + length parents ≤ length work
 
 -- records that can be kept, and 2F places for them from a on
 pub record CanSaveRecords (rows counts next work : List ℕ) (a : ℕ) : Type 0 where
-  pub can : CanPair countBound rows counts next
+  pub can : CanPair rows counts next
   pub inside : a + 2 * length next ≤ length work
 
 -- ---- what is kept, and where
@@ -74,7 +74,7 @@ pub record RecordsSaved (rows counts next before after : List ℕ) (a : ℕ) : T
 -- after the call the parents are kept, with nothing in the upper parts of their places, and nothing else in the work table changed
 pub record ParentsSaved (parents before after : List ℕ) (a : ℕ) : Type 0 where
   pub kept : ParentsKept after a parents
-  pub low : (k : ℕ) → k < length parents → cell after a k < 8192
+  pub low : (k : ℕ) → k < length parents → cell after a k < upperWeight
   pub only : OnlyIn a (length parents) before after
 
 -- ---- brought back
@@ -98,7 +98,7 @@ Taken ps w a = ps ≡ map pairedRow (region w a (length ps))
 
 -- three tables as long as those marked ₀, which are kept
 pub record CanRestore (rows counts next work : List ℕ) (a : ℕ) (rows₀ counts₀ next₀ : List ℕ) : Type 0 where
-  pub can : CanPair countBound rows₀ counts₀ next₀
+  pub can : CanPair rows₀ counts₀ next₀
   pub kept : RecordsKept work a rows₀ counts₀ next₀
   pub rows-long : length rows ≡ length rows₀
   pub counts-long : length counts ≡ length counts₀

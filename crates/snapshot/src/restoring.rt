@@ -2,6 +2,7 @@
 ghost use Prim.Native.Nat.{_+_, _≤_};
 ghost use lib.ListN.{length};
 ghost use Rattle.snapshot.specs.Snapshot.{CanUnpair, Unpaired, Taken};
+use workspace::UPPER_WEIGHT;
 
 // Brings back all records from the 2F places from a on.
 pub fn restore_records(
@@ -18,8 +19,8 @@ pub fn restore_records(
     let mut k: usize = 0;
     while k < f {
         let x = work[a + k];
-        rows[k] = (x % 8192) as u16;
-        counts[k] = (x / 8192) as u16;
+        rows[k] = (x % UPPER_WEIGHT) as u16;
+        counts[k] = (x / UPPER_WEIGHT) as u16;
         next[k] = work[a + f + k];
         k += 1;
     }
@@ -33,7 +34,7 @@ pub fn restore_parents(parents: &mut [u16], work: &[u32], a: usize)
     let m = parents.len();
     let mut j: usize = 0;
     while j < m {
-        parents[j] = (work[a + j] % 8192) as u16;
+        parents[j] = (work[a + j] % UPPER_WEIGHT) as u16;
         j += 1;
     }
 }

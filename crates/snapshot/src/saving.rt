@@ -1,5 +1,6 @@
 // Records, and parents, copied into the work table.
 ghost use Rattle.snapshot.specs.Snapshot.{CanSaveRecords, RecordsSaved, CanSaveParents, ParentsSaved};
+use workspace::UPPER_WEIGHT;
 
 // Keeps all records in the 2F places from a on: each row with its multiplicity, and each next F places further.
 pub fn save_records(rows: &[u16], counts: &[u16], next: &[u32], work: &mut [u32], a: usize)
@@ -9,7 +10,7 @@ pub fn save_records(rows: &[u16], counts: &[u16], next: &[u32], work: &mut [u32]
     let f = next.len();
     let mut k: usize = 0;
     while k < f {
-        work[a + k] = rows[k] as u32 + 8192 * (counts[k] as u32);
+        work[a + k] = rows[k] as u32 + UPPER_WEIGHT * (counts[k] as u32);
         work[a + f + k] = next[k];
         k += 1;
     }

@@ -12,7 +12,7 @@ use lib.ListN.{length, getD, set}
 use borrow.Author.Tests.{lt-ltb, ltb-true, le-leb, leb-true, eq-eqb, ne-eqb, eqb-true, eqb-false, not-true}
 use Rattle.lists.specs.Lists.{at, put, valuesAt, same, sumOf}
 use Rattle.lists.proofs.Tests.{eq-or-ne, lt-or-le, and-both, both-and, both-ways, refute}
-use Rattle.lists.proofs.Member.{same-eq, same-self}
+use Rattle.lists.proofs.Member.{same-eq, eq-same}
 use Rattle.lists.proofs.Place.{put-length, at-put-same, at-put-other}
 use Rattle.symbolic.specs.Factor.{patternFrom, nonZero}
 use Rattle.book.specs.Tally.{filled}
@@ -144,9 +144,6 @@ none-total a (n ∷ ns) e =
     ]
 
 -- ---- the test is the pattern
-
-eq-same : {xs ys : List ℕ} → xs ≡ ys → same xs ys ≡ true
-eq-same {xs} {ys} e = rw e (same-self ys)
 
 module _ (rs vs : List ℕ) where
   abbrev Left : List ℕ → List ℕ → ℕ

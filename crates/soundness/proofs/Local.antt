@@ -11,11 +11,11 @@ use lib.Dec.{leb, eqb}
 use lib.ListN.{length, getD, take, replicate, length-replicate, getD-replicate}
 use lib.Seq.{ext-getD}
 use borrow.Author.Tests.{lt-ltb, le-ltb, eq-eqb, ne-eqb}
-use Rattle.lists.specs.Lists.{Mem, first, later, one, among, count, at, times, rises, valuesAt}
+use Rattle.lists.specs.Lists.{Mem, later, one, among, count, at, times, rises, valuesAt}
 use Rattle.lists.proofs.Tests.{cases, eq-or-ne, lt-or-le, zero-or-pos, and-both}
 use Rattle.lists.proofs.Count.{count-ext, count-shift}
 use Rattle.lists.proofs.Times.{times-nil, times-self, times-other, times-cons, times-append, mem-times, times-mem, among-none, among-some, UpTo}
-use Rattle.lists.proofs.Rising.{rises-in, rises-first}
+use Rattle.lists.proofs.Rising.{rises-in, rises-first, rises-high}
 use Rattle.symbolic.specs.Columns.{Column, smallest, holds, startingWith, live}
 use Rattle.symbolic.specs.Factor.{FactorColumn, factorOf, columnAt, multiplicity, parentOf, patternOf, childrenWith, countFor}
 use Rattle.symbolic.specs.Definition.{childWith}
@@ -83,11 +83,7 @@ module _ {m : ℕ} {b : Book} (s : Sound m b) where
       ]
 
   pub start-in : (i : ℕ) → 1 ≤ i → startIn b i ≤ m
-  start-in i p = rows-at (columnFor b i .rows) (rows-rise i p)
-    where
-      rows-at : (xs : List ℕ) → rises 1 m xs ≡ true → getD xs 0 0 ≤ m
-      rows-at [] h = omega arith
-      rows-at (x ∷ xs) h = rises-in {x = x} 1 m (first {xs = xs}) h .1
+  start-in i p = rises-high 1 m (columnFor b i .rows) (rows-rise i p) 0
 
 -- ---- the columns that start at a row, over the ids
 

@@ -10,9 +10,10 @@ use native.Mathlib.Omega.{arith}
 use lib.ListN.{length, getD, take}
 use lib.Seq.{take-all}
 use borrow.Rule.Slice.PartMut.{putMid}
-use Rattle.lists.specs.Lists.{Mem, at, times, valuesAt, allZero}
-use Rattle.lists.proofs.Tests.{and-both, both-and, both-ways, refute}
+use Rattle.lists.specs.Lists.{Mem, at, times, valuesAt, allZero, Decides}
+use Rattle.lists.proofs.Tests.{and-both, both-and, both-ways, refute, decides-no}
 use Rattle.lists.proofs.Times.{times-mem}
+use Rattle.lists.proofs.Place.{values-mem}
 use Rattle.lists.proofs.Rising.{rises-in}
 use Rattle.workspace.specs.Layout.{lastsAt, namesAt, piecesAt}
 use Rattle.workspace.specs.Regions.{region, OnlyIn}
@@ -21,16 +22,14 @@ use Rattle.symbolic.specs.Factor.{FactorColumn, factorOf, columnAt}
 use Rattle.symbolic.proofs.Patterns.{pattern-within-rows}
 use Rattle.pool.specs.Chains.{chain}
 use Rattle.pool.specs.Whole.{chains, isWhole, AllLinked, Pool}
-use Rattle.pool.specs.Ends.{lasts, NoneTwice, Decides}
+use Rattle.pool.specs.Ends.{lasts, NoneTwice}
 use Rattle.pool.specs.Free.{FreeHas, Closed, zeroPairs}
 use Rattle.pool.proofs.Whole.{whole-pool}
 use Rattle.pool.proofs.Apart.{chains-find}
 use Rattle.pool.proofs.Closed.{Rowed, closed-whole, whole-closed, zero-pairs, zero-pairs-back}
 use Rattle.ends.specs.Naming.{Named, CanCompare}
 use Rattle.free_chain.specs.Pieces.{OnePool}
-use Rattle.free_chain.proofs.Walking.{decides-no}
 use Rattle.book.specs.Book as book
-use Rattle.book.proofs.Sound.{values-mem}
 use Rattle.tables.specs.Stored.{Stored, recordsOf, holdsFrom, isSoundFor}
 use Rattle.counting.proofs.Parts.{part-only}
 use Rattle.soundness.specs.Checking.{CanReadFree, FreeRead}

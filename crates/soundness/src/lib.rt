@@ -4,11 +4,11 @@
 ghost use mathlib.Core.Path.{_≡_};
 ghost use Prim.Native.Nat.{_+_, _*_, _-_, _≤_};
 ghost use lib.ListN.{length, getD};
+ghost use Rattle.lists.specs.Lists.{Decides};
 ghost use Rattle.tables.specs.Stored.{storedOf};
 ghost use Rattle.workspace.specs.Layout.{piecesAt};
 ghost use Rattle.workspace.specs.Regions.{region, OnlyIn};
 ghost use Rattle.book.specs.Book.{bookOf};
-ghost use Rattle.pool.specs.Ends.{Decides};
 ghost use Rattle.soundness.specs.Checking.{CanCheckEntry, EntryChecked, CanCheck, Checked, CanReadFree, FreeRead};
 ghost use Rattle.soundness.specs.State.{State, CanReadColumn, ColumnsRead, Prepared, FactorRead, WithinWork};
 ghost use Rattle.soundness.specs.ReadThrough.{CanReadThrough, areSound, madeReady};

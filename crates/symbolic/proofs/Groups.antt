@@ -1,17 +1,16 @@
 -- A batch that goes group by group. Two groups first: in the tree of all columns W, in the tree without W the group U touch just what both touch at once
 -- (`touched-splits`). So groups that enter, or leave, one after another touch what the whole batch touches (`entering-splits`, `leaving-splits`), and all sizes fit
--- after each group exactly if they do at the end (`fitting-along`). Assumes nothing.
+-- before them and after each group exactly if they do at the end (`fitting-along`). Assumes nothing.
 use mathlib.Core.Path.{_≡_, refl, sym, ap, _∙_, subst}
 use mathlib.Core.Logic.{_⊎_, inl, inr, _↔_}
-use mathlib.Core.Bool.{Bool, true, false, _&&_, _||_}
+use mathlib.Core.Bool.{Bool, true, _&&_, _||_}
 use mathlib.Core.List.{List, [], _∷_, _++_, append-assoc, append-nil}
 use Prim.Native.Nat.{ℕ, _≤_}
 use native.Mathlib.Omega.{arith}
 use lib.Dec.{leb}
-use lib.ListN.{length}
 use borrow.Author.Tests.{leb-true, le-leb}
 use Rattle.lists.specs.Lists.{Mem, any}
-use Rattle.lists.proofs.Tests.{cases, both-ways, or-either, or-left, or-right, and-both, both-and, and-true}
+use Rattle.lists.proofs.Tests.{cases, both-ways, or-either, or-left, or-right, and-both, both-and, or-swap}
 use Rattle.lists.proofs.Member.{mem-left, mem-right, mem-either, any-find, any-has}
 use Rattle.lists.proofs.Sum.{sum-append}
 use Rattle.symbolic.specs.Columns.{Column}
@@ -93,12 +92,6 @@ split-test m R U W j a b =
 
 -- ---- groups that enter
 
-or-swap : (x y : Bool) → (x || y) ≡ (y || x)
-or-swap true true = refl
-or-swap true false = refl
-or-swap false true = refl
-or-swap false false = refl
-
 pub entering-splits : (m : ℕ) (R : List Column) (groups : List (List Column)) (j : ℕ) → 1 ≤ j → j ≤ m →
     enterTouches m R groups j ≡ isTouched (factorOf m (R ++ joined groups)) (joined groups) j
 unfolding joined enterTouches any
@@ -145,14 +138,11 @@ fits-first x y f h =
     both-ways (leb x f && leb y f) (leb y f) (λ p. and-both (leb x f) (leb y f) p .1)
     (λ p. let q : y ≤ f = leb-true y f p in both-and (le-leb x f (omega arith)) p)
 
-pub fitting-along : (m f : ℕ) (R : List Column) (groups : List (List Column)) → 1 ≤ length groups →
-    fitsEach m f R groups ≡ leb (sizeSum (factorOf m (R ++ joined groups))) f
+pub fitting-along : (m f : ℕ) (R : List Column) (groups : List (List Column)) → fitsEach m f R groups ≡ leb (sizeSum (factorOf m (R ++ joined groups))) f
 unfolding joined fitsEach
-fitting-along m f R [] h = absurd (omega arith)
-fitting-along m f R (W ∷ []) h =
-    and-true (leb (sizeSum (factorOf m (R ++ W))) f) ∙ ap (λ (cs : List Column). leb (sizeSum (factorOf m (R ++ cs))) f) (sym (append-nil W))
-fitting-along m f R (W ∷ (U ∷ Us)) h =
-    let J : List Column = joined (U ∷ Us) in
-    ap (λ (z : Bool). leb (sizeSum (factorOf m (R ++ W))) f && z) (fitting-along m f (R ++ W) (U ∷ Us) (omega arith)) ∙
-    fits-first (sizeSum (factorOf m (R ++ W))) (sizeSum (factorOf m ((R ++ W) ++ J))) f (sizes-grow-sum m (R ++ W) J) ∙
-    ap (λ (cs : List Column). leb (sizeSum (factorOf m cs)) f) (append-assoc R W J)
+fitting-along m f R [] = ap (λ (cs : List Column). leb (sizeSum (factorOf m cs)) f) (sym (append-nil R))
+fitting-along m f R (W ∷ Ws) =
+    let J : List Column = joined Ws in
+    ap (λ (z : Bool). leb (sizeSum (factorOf m R)) f && z)
+    (fitting-along m f (R ++ W) Ws ∙ ap (λ (cs : List Column). leb (sizeSum (factorOf m cs)) f) (append-assoc R W J)) ∙
+    fits-first (sizeSum (factorOf m R)) (sizeSum (factorOf m (R ++ (W ++ J)))) f (sizes-grow-sum m R (W ++ J))

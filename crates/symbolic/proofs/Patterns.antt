@@ -44,6 +44,12 @@ unfolding nonZero
 counts-append [] ys = refl
 counts-append (x ∷ xs) ys = elim (cases (eqb x 0)) [ inl e ↦ rw (e, counts-append xs ys) | inr e ↦ rw (e, counts-append xs ys) ]
 
+pub pattern-short : (a : ℕ) (ns : List ℕ) → length (patternFrom a ns) ≤ length ns
+unfolding patternFrom
+pattern-short a [] = omega arith
+pattern-short a (n ∷ ns) =
+    elim (cases (eqb n 0)) [ inl e ↦ rw e (omega (arith, pattern-short (suc a) ns)) | inr e ↦ rw e (omega (arith, pattern-short (suc a) ns)) ]
+
 pub pattern-rises : (a : ℕ) (ns : List ℕ) (b : ℕ) → a + length ns ≤ suc b → rises a b (patternFrom a ns) ≡ true
 unfolding patternFrom rises
 pattern-rises a [] b h = refl

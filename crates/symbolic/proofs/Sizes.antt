@@ -12,7 +12,7 @@ use lib.Dec.{eqb}
 use lib.ListN.{length, getD, List·getD-eq-default}
 use borrow.Author.Tests.{eqb-false, eq-eqb, ne-eqb, not-true}
 use Rattle.lists.specs.Lists.{one, count, sumOf, upFrom}
-use Rattle.lists.proofs.Tests.{cases, lt-or-le, and-both}
+use Rattle.lists.proofs.Tests.{cases, lt-or-le, and-both, and-not}
 use Rattle.lists.proofs.Count.{count-ext, count-sub, count-full, count-at, count-shift}
 use Rattle.lists.proofs.Sum.{sum-le, sum-ext, sum-places}
 use Rattle.lists.proofs.Rising.{from-up}
@@ -58,12 +58,8 @@ module _ (m : ℕ) (cs : List Column) (c : ℕ) (a : 1 ≤ c) (b : c ≤ m) (p :
         ap one d,
         ap one e,
         count-at (λ i. inPattern (factorOf m cs) i c && not (eqb i c)) (λ i. inPattern (factorOf m cs) i c) m c a b
-            (λ i x y n. unmark (inPattern (factorOf m cs) i c) (eqb i c) (ne-eqb i c n)),
+            (λ i x y n. and-not (inPattern (factorOf m cs) i c) (eqb i c) (ne-eqb i c n)),
       )
-    where
-      unmark : (x y : Bool) → y ≡ false → (x && not y) ≡ x
-      unmark true y e = rw e
-      unmark false y e = refl
 
   rest-in : (i : ℕ) → 1 ≤ i → i ≤ m → (inPattern (factorOf m cs) i c && not (eqb i c)) ≡ true →
       inPattern (factorOf m cs) i (parentOf (factorOf m cs) c) ≡ true

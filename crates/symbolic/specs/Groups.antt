@@ -1,6 +1,6 @@
--- A batch that goes group by group: what its groups touch, one after another, as they enter or leave, and whether all sizes fit after each of them. Assumes nothing:
+-- A batch that goes group by group: what its groups touch, one after another, as they enter or leave, and whether all sizes fit all the way. Assumes nothing:
 -- these are definitions.
-use mathlib.Core.Bool.{Bool, true, false, _&&_, _||_}
+use mathlib.Core.Bool.{Bool, false, _&&_, _||_}
 use mathlib.Core.List.{List, [], _∷_, _++_}
 use Prim.Native.Nat.{ℕ}
 use lib.Dec.{leb}
@@ -23,7 +23,7 @@ unfoldable pub leaveTouches : (m : ℕ) → (R : List Column) → (groups : List
 leaveTouches m R [] j = false
 leaveTouches m R (W ∷ Ws) j = isTouched (factorOf m (R ++ (W ++ joined Ws))) W j || leaveTouches m R Ws j
 
--- groups enter one after another beside the columns R: after each the sum of all sizes is at most f
+-- groups enter one after another beside the columns R: the sum of all sizes is at most f before the first of them and after each
 unfoldable pub fitsEach : (m f : ℕ) → (R : List Column) → (groups : List (List Column)) → Bool
-fitsEach m f R [] = true
-fitsEach m f R (W ∷ Ws) = leb (sizeSum (factorOf m (R ++ W))) f && fitsEach m f (R ++ W) Ws
+fitsEach m f R [] = leb (sizeSum (factorOf m R)) f
+fitsEach m f R (W ∷ Ws) = leb (sizeSum (factorOf m R)) f && fitsEach m f (R ++ W) Ws

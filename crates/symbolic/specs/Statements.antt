@@ -250,8 +250,8 @@ LeaveSplits =
     (m : ℕ) (R : List Column) (groups : List (List Column)) (j : ℕ) → 1 ≤ j → j ≤ m →
     leaveTouches m R groups j ≡ isTouched (factorOf m (R ++ joined groups)) (joined groups) j
 
--- all sizes fit after each of one or more groups that enter exactly if they do after the last: 16 at some group exactly if 16 for the whole batch
+-- all sizes fit before groups enter and after each of them exactly if they do at the end: 16 at some group exactly if 16 for the whole batch
 abbrev pub FitsAlong : Type 0
 FitsAlong =
-    (m f : ℕ) (R : List Column) (groups : List (List Column)) → 1 ≤ length groups →
+    (m f : ℕ) (R : List Column) (groups : List (List Column)) →
     fitsEach m f R groups ≡ leb (sizeSum (factorOf m (R ++ joined groups))) f

@@ -6,13 +6,13 @@ use mathlib.Core.Bool.{true}
 use mathlib.Core.List.{List, [], _∷_, _++_, append-nil}
 use Prim.Native.Nat.{ℕ, zero, suc, _+_, _-_, _≤_, _<_}
 use native.Mathlib.Omega.{arith}
-use lib.ListN.{length, getD, take, drop, replicate, length-append, length-replicate, getD-replicate, List·getD-append}
-use lib.Seq.{getD-append-add, take-at}
+use lib.ListN.{length, take, drop, replicate, length-replicate, getD-replicate, List·getD-append}
+use lib.Seq.{take-at}
 use borrow.Author.Tests.{eq-eqb}
 use Rattle.lists.specs.Lists.{at, valuesAt, allZero, over, upFrom}
 use Rattle.lists.proofs.Tests.{both-and}
 use Rattle.lists.proofs.Rising.{up-length, up-at}
-use Rattle.lists.proofs.Place.{over-length}
+use Rattle.lists.proofs.Place.{over-length, padded-length, padded-back}
 use Rattle.symbolic.specs.Columns.{Column, live}
 use Rattle.symbolic.specs.Factor.{factorOf, columnAt}
 use Rattle.symbolic.specs.Grades.{Limits, areLimits}
@@ -48,19 +48,15 @@ openedStored l =
       free = freeHead (l .m) (l .f);
     }
 
--- a front and zeros, in all of a given length
-padded : (xs : List ℕ) (m f : ℕ) → length xs ≡ m → m ≤ f → length (xs ++ replicate (f - m) 0) ≡ f
-padded xs m f e h = omega (arith, length-append xs (replicate (f - m) 0), length-replicate {A = ℕ} (f - m) 0)
-
 module _ (l : Sizes) (g : Limits) (t : Tables) (h : l .m ≤ l .f) where
   pub opened-stored : storedIn (openedState l g) (openedTables l t) ≡ openedStored l
   opened-stored =
       let a : take (l .m) (openedTables l t .heads) ≡ upFrom 1 (l .m) = take-over (l .m) (upFrom 1 (l .m)) (t .heads) (up-length 1 (l .m)) in
       let b : take (l .m) (openedTables l t .parents) ≡ replicate (l .m) 0 = take-over (l .m) (replicate (l .m) 0) (t .parents) (length-replicate (l .m) 0) in
       let c : take (l .f) (openedTables l t .rows) ≡ upFrom 1 (l .m) ++ replicate (l .f - l .m) 0 =
-      take-over (l .f) (upFrom 1 (l .m) ++ replicate (l .f - l .m) 0) (t .rows) (padded (upFrom 1 (l .m)) (l .m) (l .f) (up-length 1 (l .m)) h) in
+      take-over (l .f) (upFrom 1 (l .m) ++ replicate (l .f - l .m) 0) (t .rows) (padded-length (upFrom 1 (l .m)) (l .m) (l .f) (up-length 1 (l .m)) h) in
       let d : take (l .f) (openedTables l t .counts) ≡ replicate (l .m) 1 ++ replicate (l .f - l .m) 0 =
-      take-over (l .f) (replicate (l .m) 1 ++ replicate (l .f - l .m) 0) (t .counts) (padded (replicate (l .m) 1) (l .m) (l .f) (length-replicate (l .m) 1) h) in
+      take-over (l .f) (replicate (l .m) 1 ++ replicate (l .f - l .m) 0) (t .counts) (padded-length (replicate (l .m) 1) (l .m) (l .f) (length-replicate (l .m) 1) h) in
       let e : take (l .f) (openedTables l t .next) ≡ openedNexts (l .m) (l .f) =
       take-over (l .f) (openedNexts (l .m) (l .f)) (t .next) (opened-length (l .m) (l .f) h) in
       λ i. record { heads = a i; parents = b i; rows = c i; counts = d i; next = e i; free = freeHead (l .m) (l .f) }
@@ -89,10 +85,7 @@ front-place : (xs : List ℕ) (k r : ℕ) → 1 ≤ r → r ≤ length xs → at
 front-place xs k r a b = List·getD-append xs (replicate k 0) 0 (r - 1) (omega arith)
 
 back-place : (xs : List ℕ) (k r : ℕ) → length xs < r → r ≤ length xs + k → at (xs ++ replicate k 0) r ≡ 0
-back-place xs k r a b =
-    let q : r - 1 ≡ length xs + (r - length xs - 1) = omega arith in
-    ap (λ (x : ℕ). getD (xs ++ replicate k 0) x 0) q ∙ getD-append-add xs (replicate k 0) (r - length xs - 1) 0 ∙
-    getD-replicate k (r - length xs - 1) 0 0 (omega arith)
+back-place xs k r a b = padded-back xs k (r - 1) (omega arith) (omega arith)
 
 zero-values : (xs : List ℕ) (i n : ℕ) → ((r : ℕ) → i ≤ r → r < i + n → at xs r ≡ 0) → allZero (valuesAt xs (upFrom i n)) ≡ true
 unfolding allZero valuesAt upFrom
@@ -167,8 +160,8 @@ module _ (l : Sizes) (t : Tables) (h : l .m ≤ l .f) where
       facts-long l (openedTables l t) (record {
         heads = stay (l .m) (upFrom 1 (l .m)) (t .heads) (up-length 1 (l .m)) (g .heads);
         parents = stay (l .m) (replicate (l .m) 0) (t .parents) (length-replicate (l .m) 0) (g .parents);
-        rows = stay (l .f) (upFrom 1 (l .m) ++ replicate (l .f - l .m) 0) (t .rows) (padded (upFrom 1 (l .m)) (l .m) (l .f) (up-length 1 (l .m)) h) (g .rows);
-        counts = stay (l .f) (replicate (l .m) 1 ++ replicate (l .f - l .m) 0) (t .counts) (padded (replicate (l .m) 1) (l .m) (l .f) (length-replicate (l .m) 1) h) (g .counts);
+        rows = stay (l .f) (upFrom 1 (l .m) ++ replicate (l .f - l .m) 0) (t .rows) (padded-length (upFrom 1 (l .m)) (l .m) (l .f) (up-length 1 (l .m)) h) (g .rows);
+        counts = stay (l .f) (replicate (l .m) 1 ++ replicate (l .f - l .m) 0) (t .counts) (padded-length (replicate (l .m) 1) (l .m) (l .f) (length-replicate (l .m) 1) h) (g .counts);
         next = stay (l .f) (openedNexts (l .m) (l .f)) (t .next) (opened-length (l .m) (l .f) h) (g .next);
         bookHeads = stay (l .n) (replicate (l .n) 0) (t .bookHeads) (length-replicate (l .n) 0) (g .bookHeads);
         bookRows = stay (l .c) (replicate (l .c) 0) (t .bookRows) (length-replicate (l .c) 0) (g .bookRows);

@@ -1,7 +1,7 @@
 -- Reading stored columns that hold the factor: a column's size (`holds-size`), the multiplicity of a row that a record has (`entry-count`);
 -- what questions answer from the chains. And the records are all there are: sizes and free records make up F (`stored-full`),
 -- so 16 is a question of the free chain's length (`sizes-room`). Assumes nothing.
-use mathlib.Core.Path.{_≡_, refl, sym, ap, _∙_}
+use mathlib.Core.Path.{_≡_, sym, ap, _∙_}
 use mathlib.Core.Logic.{inl, inr}
 use mathlib.Core.Bool.{true}
 use mathlib.Core.List.{List, [], _∷_}
@@ -10,10 +10,10 @@ use native.Mathlib.Omega.{arith}
 use lib.Dec.{leb, eqb}
 use lib.ListN.{length, getD}
 use borrow.Author.Tests.{leb-true, le-leb, eq-eqb, ne-eqb}
-use Rattle.lists.specs.Lists.{at, valuesAt, sumOf, upFrom}
+use Rattle.lists.specs.Lists.{at, sumOf, upFrom}
 use Rattle.lists.proofs.Tests.{zero-or-pos, both-ways}
 use Rattle.lists.proofs.Rising.{from-up}
-use Rattle.lists.proofs.Place.{values-length}
+use Rattle.lists.proofs.Place.{values-length, values-place}
 use Rattle.lists.proofs.Sum.{sum-ext, sum-places}
 use Rattle.symbolic.specs.Columns.{Column}
 use Rattle.symbolic.specs.Factor.{FactorColumn, countIn, factorOf, columnAt, patternFrom, nonZero, patternOf, multiplicitiesOf, sizeOf, sizeSum}
@@ -52,12 +52,6 @@ pattern-entry a (n ∷ ns) k h =
         (a ≤ getD (a ∷ patternFrom (suc a) ns) k 0) × (getD (n ∷ nonZero ns) k 0 ≡ getD (n ∷ ns) (getD (a ∷ patternFrom (suc a) ns) k 0 - a) 0)
     go zero h f = let q : a - a ≡ 0 = omega arith in (omega arith, ap (λ (y : ℕ). getD (n ∷ ns) y 0) (sym q))
     go (suc l) h f = behind a n ns (getD (patternFrom (suc a) ns) l 0) (getD (nonZero ns) l 0) (f l (omega arith))
-
-values-place : (xs rs : List ℕ) (k : ℕ) → k < length rs → getD (valuesAt xs rs) k 0 ≡ at xs (getD rs k 0)
-unfolding valuesAt
-values-place xs [] k h = absurd (omega arith)
-values-place xs (r ∷ rs) zero h = refl
-values-place xs (r ∷ rs) (suc k) h = values-place xs rs k (omega arith)
 
 module _ {s : Stored} {j : ℕ} {f : FactorColumn} (h : Holds s j f) where
   pub holds-size : length (recordsOf s j) ≡ sizeOf f

@@ -1,7 +1,7 @@
 -- Stored columns: the tests column by column (`holds-at`, `holds-make`), one column's facts (`Holds`), soundness as facts (`SoundFor`), read up to the
 -- order of the columns (`sound-bag`); which rows stand in a chain (`stands-is`) and that chains of rows lead to just these (`stands-chain`).
 -- Assumes nothing.
-use mathlib.Core.Path.{_≡_, refl, sym, ap, _∙_, subst}
+use mathlib.Core.Path.{_≡_, refl, sym, subst}
 use mathlib.Core.Logic.{inl, inr, _↔_}
 use mathlib.Core.Bool.{Bool, true, _&&_}
 use mathlib.Core.List.{List}
@@ -12,7 +12,7 @@ use lib.ListN.{length}
 use borrow.Author.Tests.{eqb-true, eq-eqb}
 use Rattle.lists.specs.Lists.{Mem, all, at, valuesAt, allZero, same}
 use Rattle.lists.proofs.Tests.{eq-or-ne, and-both, both-and}
-use Rattle.lists.proofs.Member.{same-eq, same-self}
+use Rattle.lists.proofs.Member.{same-eq, eq-same}
 use Rattle.symbolic.specs.Columns.{Column, fitsRows}
 use Rattle.symbolic.specs.Factor.{FactorColumn, factorOf, columnAt, patternOf, multiplicitiesOf, inPattern}
 use Rattle.symbolic.specs.Chains.{ChainTo}
@@ -65,10 +65,7 @@ module _ (s : Stored) (j : ℕ) (f : FactorColumn) where
 
   pub holds-column : Holds s j f → holdsColumn s j f ≡ true
   holds-column h =
-      both-and (both-and (same-of (h .rows)) (same-of (h .counts))) (eq-eqb (at (s .parents) j) (f .parent) (h .parent))
-    where
-      same-of : {xs ys : List ℕ} → xs ≡ ys → same xs ys ≡ true
-      same-of {xs} {ys} e = ap (λ (l : List ℕ). same l ys) e ∙ same-self ys
+      both-and (both-and (eq-same (h .rows)) (eq-same (h .counts))) (eq-eqb (at (s .parents) j) (f .parent) (h .parent))
 
 -- ---- soundness, as facts
 

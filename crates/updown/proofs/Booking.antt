@@ -29,7 +29,7 @@ use Rattle.updown.specs.Starts.{StartsTo, CanStart, BookHolds, CanMarkBo
 use Rattle.updown.proofs.Gathering.{bumps}
 use Rattle.updown.proofs.Listing.{none, Fits, fits-at, starts-more, Counting, counting-steady, counting-here, counting-past}
 
-booked-length : (b : book.Book) (ids : List ℕ) (W : List Column) → Booked b ids W → length W ≡ length ids
+pub booked-length : (b : book.Book) (ids : List ℕ) (W : List Column) → Booked b ids W → length W ≡ length ids
 unfolding Booked
 booked-length b [] [] h = refl
 booked-length b [] (w ∷ ws) h = absurd h

@@ -10,7 +10,7 @@ use lib.Dec.{leb, eqb}
 use lib.ListN.{length, getD}
 use borrow.Author.Tests.{eq-eqb, ne-eqb}
 use Rattle.lists.specs.Lists.{one, at, among, rises, valuesAt, Mem, first}
-use Rattle.lists.proofs.Tests.{eq-or-ne, zero-or-pos, and-both, refute, and-false, and-true, or-false}
+use Rattle.lists.proofs.Tests.{eq-or-ne, zero-or-pos, and-both, refute, and-false, and-true, or-false, and-swap}
 use Rattle.lists.proofs.Member.{among-mem, mem-among}
 use Rattle.lists.proofs.Rising.{rises-in, rises-first, rises-weaken}
 use Rattle.symbolic.specs.Factor.{FactorColumn, patternFrom}
@@ -188,13 +188,7 @@ module _ {work : List ℕ} {m c : ℕ} {more less : List ℕ} where
   gone-test o i p q =
       let k : Counts m c more less = o .column in
       plan-test o 2 i p q ∙ of-kind 2 1 more less (omega arith) (omega (arith, k .more-long, k .narrow)) (k .more-long ∙ sym (k .less-long)) (k .less-small) i p ∙
-      kind-gone (at more i) (at less i) ∙ swap (not (eqb (at more i) 0)) (eqb (at less i) 0)
-    where
-      swap : (x y : Bool) → (x && y) ≡ (y && x)
-      swap true true = refl
-      swap true false = refl
-      swap false true = refl
-      swap false false = refl
+      kind-gone (at more i) (at less i) ∙ and-swap (not (eqb (at more i) 0)) (eqb (at less i) 0)
 
 -- ---- old rows and new ones are the rows with the batch; old rows but the gone are those without it
 

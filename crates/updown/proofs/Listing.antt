@@ -10,10 +10,10 @@ use native.Mathlib.Numerals.{add-one}
 use lib.ListN.{length, getD, take, drop, set, length-drop, length-set}
 use lib.Seq.{drop-cons, drop-drop, getD-take, getD-drop, getD-set-same, getD-set-other}
 use borrow.Author.Tests.{eq-eqb, ne-eqb}
-use Rattle.lists.specs.Lists.{among, rises, all, first}
+use Rattle.lists.specs.Lists.{among, rises, all}
 use Rattle.lists.proofs.Tests.{eq-or-ne, refute}
 use Rattle.lists.proofs.Member.{all-at, place-mem, among-mem}
-use Rattle.lists.proofs.Rising.{rises-in, rises-first}
+use Rattle.lists.proofs.Rising.{rises-first, rises-high}
 use Rattle.symbolic.specs.Columns.{Column, smallest, holds, fitsRows}
 use Rattle.workspace.specs.Regions.{IsZero, OnlyIn}
 use Rattle.workspace.proofs.Regions.{only-refl, only-trans}
@@ -38,11 +38,7 @@ pub record Fits (m : ℕ) (w : Column) : Type 0 where
   pub high : smallest w ≤ m
 
 pub fits-at : (m : ℕ) (W : List Column) → all (fitsRows m) W ≡ true → (k : ℕ) → k < length W → Fits m (getD W k none)
-fits-at m W h k l = let r : fitsRows m (getD W k none) ≡ true = all-at (fitsRows m) (place-mem W k none l) h in record { rising = r; high = high (getD W k none .rows) r }
-  where
-    high : (xs : List ℕ) → rises 1 m xs ≡ true → getD xs 0 0 ≤ m
-    high [] r = omega arith
-    high (x ∷ xs) r = rises-in {x = x} 1 m (first {xs = xs}) r .1
+fits-at m W h k l = let r : fitsRows m (getD W k none) ≡ true = all-at (fitsRows m) (place-mem W k none l) h in record { rising = r; high = rises-high 1 m (getD W k none .rows) r 0 }
 
 -- its rows lie at or above its first
 pub rows-above : (m : ℕ) (w : Column) → Fits m w → (i : ℕ) → i < smallest w → holds w i ≡ false

@@ -21,9 +21,9 @@ use Rattle.workspace.specs.Regions.{region}
 use Rattle.workspace.proofs.Regions.{region-join, region-length}
 use Rattle.pool.specs.Chains.{chain, lastOf}
 use Rattle.columns.specs.Plan.{ofKind}
+use Rattle.columns.proofs.Plan.{kind-append}
 use Rattle.differences.specs.Gather.{planPart}
 use Rattle.emission.specs.Plans.{planFrom}
-use Rattle.emission.proofs.Plans.{kind-append}
 use Rattle.updown.proofs.Brought.{Counts}
 use Rattle.emission.specs.Emit as emit
 use Rattle.emission.specs.declared.Emission.{Emission}

@@ -9,13 +9,13 @@ use lib.Dec.{eqb}
 use lib.ListN.{length, getD}
 use borrow.Author.Tests.{le-ltb, ne-eqb}
 use Rattle.lists.specs.Lists.{one, among, rises}
-use Rattle.lists.proofs.Tests.{eq-or-ne, lt-or-le, and-false}
+use Rattle.lists.proofs.Tests.{eq-or-ne, and-false}
 use Rattle.lists.proofs.Times.{times-nil}
 use Rattle.symbolic.specs.Columns.{Column}
 use Rattle.symbolic.specs.Batch.{isTouched, touchedFrom}
 use Rattle.symbolic.proofs.Labels.{label-start}
-use Rattle.workspace.specs.Regions.{Outside, IsZero}
-use Rattle.workspace.proofs.Regions.{zero-at}
+use Rattle.workspace.specs.Regions.{IsZero}
+use Rattle.workspace.proofs.Regions.{zero-at, not-inside}
 use Rattle.pool.specs.Chains.{Linked}
 use Rattle.pool.proofs.Chains.{linked-nil}
 use Rattle.differences.specs.Tally.{base, Tally}
@@ -101,14 +101,8 @@ module _ {m flags : ℕ} (R : List Column) {W : List Column} (adding : Bool) {w�
         flagged = s .flagged;
         queues = queues-none m w (standing m R W 1) unplaced (λ k x y. cell-zero k (inr (omega arith)) y);
         tally = tally-zero m w (omega (arith, r .low, r .long, s .same-length)) (λ k x. let q : 0 + k ≡ k = omega arith in ap (λ (v : ℕ). getD w v 0) q ∙ cell-zero k (inl x) (omega arith));
-        rest = λ k n. s .rest k (away (3 * m) m k (λ x y. n (marks (omega arith) (omega arith)))) (away flags 64 k (λ x y. n (flagged x y)));
+        rest = λ k n. s .rest k (not-inside (3 * m) m k (λ x y. n (marks (omega arith) (omega arith)))) (not-inside flags 64 k (λ x y. n (flagged x y)));
       }
     where
       unplaced : (c : ℕ) → 1 ≤ c → standing m R W 1 c ≡ 0
       unplaced c a = stands-none m R W 1 c (ap (λ (z : Bool). isTouched (larger m R W) W c && z) (le-ltb c 1 a) ∙ and-false (isTouched (larger m R W) W c))
-
-      away : (a t k : ℕ) → (a ≤ k → k < a + t → ⊥) → Outside a t k
-      away a t k h = elim (lt-or-le k a) [
-        | inl x ↦ inl x
-        | inr x ↦ elim (lt-or-le k (a + t)) [ inl y ↦ absurd (h x y) | inr y ↦ inr y ]
-      ]

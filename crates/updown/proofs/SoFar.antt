@@ -13,7 +13,7 @@ use lib.ListN.{length, getD, take, drop, length-append, length-take, length-drop
 use lib.Seq.{take-all, take-suc, drop-cons}
 use borrow.Author.Tests.{eqb-true, eq-eqb, ne-eqb}
 use Rattle.lists.specs.Lists.{pick, one, count}
-use Rattle.lists.proofs.Tests.{eq-or-ne, lt-or-le, one-le, and-both, both-and, or-left, or-right, refute, and-false, or-false}
+use Rattle.lists.proofs.Tests.{eq-or-ne, lt-or-le, one-le, and-both, both-and, or-left, or-right, refute, and-false, or-false, and-not}
 use Rattle.lists.proofs.Count.{count-ext, count-le, count-sub, count-split}
 use Rattle.symbolic.specs.Columns.{Column, smallest, holds, startingWith}
 use Rattle.symbolic.specs.Factor.{FactorColumn, factorOf, multiplicity, parentOf}
@@ -35,10 +35,6 @@ use Rattle.updown.specs.Turns.{larger, smaller, before, after, treeParen
 use Rattle.updown.specs.SoFar.{nobody, also, children, lost, family, childrenCount, multiplicitySoFar, SoFar, IsDefinition, CountedWithin, CountedAnew, NoneHandled, AllHandled, UntouchedSame, GainedFromNowhere}
 
 -- ---- rows of a column
-
-off-diagonal : (x y : Bool) → y ≡ false → (x && not y) ≡ x
-off-diagonal true y e = rw e refl
-off-diagonal false y e = refl
 
 -- the rows of a column but its own lie at or above its parent
 above-parent : (m : ℕ) (cs : List Column) (c j : ℕ) → 1 ≤ c → c ≤ m → parentOf (factorOf m cs) c ≡ j → (i : ℕ) → 1 ≤ i → i < j →
@@ -323,7 +319,7 @@ module _ (m : ℕ) (R W : List Column) (adding : Bool) (j : ℕ) (a : 1 ≤ j) (
         so-far-with (λ i. not (eqb (B i c) 0) && not (eqb i c)) h (above-parent m (R ++ W) c j p q u)
         (λ i x z.
         let g : (one (childWith A O j i c) ≡ 0) × (one (childWith B U j i c) ≡ one (not (eqb (B i c) 0))) = child-gained A O B U j i c o u in
-        omega (arith, g .0, g .1, ap one (off-diagonal (not (eqb (B i c) 0)) (eqb i c) (ne-eqb i c (omega arith)))))
+        omega (arith, g .0, g .1, ap one (and-not (not (eqb (B i c) 0)) (eqb i c) (ne-eqb i c (omega arith)))))
 
     -- D: lost
     pub so-far-lost : Bumps m work work′ n′ (not adding) (λ i. not (eqb (A i c) 0) && not (eqb i c)) → U c ≢ j → O c ≡ j → SoFar m R W adding work′ n′ j k (also H c)
@@ -332,7 +328,7 @@ module _ (m : ℕ) (R W : List Column) (adding : Bool) (j : ℕ) (a : 1 ≤ j) (
         (λ i x z.
         let g : (one (childWith A O j i c) ≡ one (not (eqb (A i c) 0))) × (one (childWith B U j i c) ≡ 0) = child-lost A O B U j i c o u in
         counted-without adding (mixed k H i) (mixed k (also H c) i) (one (childWith A O j i c)) (one (childWith B U j i c)) (one (not (eqb (A i c) 0) && not (eqb i c)))
-        (omega (arith, g .0, g .1, ap one (off-diagonal (not (eqb (A i c) 0)) (eqb i c) (ne-eqb i c (omega arith))))) (step H c k p q fresh i x z))
+        (omega (arith, g .0, g .1, ap one (and-not (not (eqb (A i c) 0)) (eqb i c) (ne-eqb i c (omega arith))))) (step H c k p q fresh i x z))
 
   -- after D: the definition's
   pub so-far-end : {work : List ℕ} {n : ℕ} → SoFar m R W adding work n j (length W) (family m R W j) → IsDefinition m R W adding work n j

@@ -2,43 +2,28 @@
 -- touched columns fit (`sizes-within`). Assumes nothing.
 use mathlib.Core.Path.{_≡_, refl, sym, ap, _∙_, subst}
 use mathlib.Core.Logic.{inl, inr}
-use mathlib.Core.Bool.{Bool, true, _&&_}
-use mathlib.Core.List.{List, [], _∷_}
-use Prim.Native.Nat.{ℕ, zero, suc, _+_, _-_, _≤_, _<_}
+use mathlib.Core.Bool.{true}
+use mathlib.Core.List.{List}
+use Prim.Native.Nat.{ℕ, zero, suc, _+_, _-_, _≤_}
 use native.Mathlib.Omega.{arith}
-use lib.Dec.{eqb}
-use lib.ListN.{length, getD}
-use borrow.Author.Tests.{eqb-true}
-use Rattle.lists.specs.Lists.{at, valuesAt, sumOf, upFrom, same}
-use Rattle.lists.proofs.Tests.{cases, eq-or-ne, and-both}
-use Rattle.lists.proofs.Member.{same-eq}
-use Rattle.lists.proofs.Sum.{sum-ext, sum-places}
-use Rattle.lists.proofs.Place.{values-length}
-use Rattle.lists.proofs.Rising.{from-up}
+use lib.ListN.{length}
+use Rattle.lists.specs.Lists.{at, valuesAt, sumOf, upFrom}
+use Rattle.lists.proofs.Tests.{cases}
 use Rattle.symbolic.specs.Columns.{Column}
 use Rattle.symbolic.specs.Factor.{FactorColumn, factorOf, columnAt, patternOf, multiplicitiesOf, parentOf, sizeOf, sizeSum}
 use Rattle.symbolic.specs.Batch.{isTouched, touchedFrom, sizeSumOf}
 use Rattle.symbolic.proofs.Build.{factor-length}
 use Rattle.symbolic.proofs.Sizes.{size-sum}
 use Rattle.pool.specs.Chains.{chain}
-use Rattle.pool.specs.Whole.{isWhole, chains, Pool}
-use Rattle.pool.proofs.Whole.{whole-pool, pool-linked, chains-nil, chains-length}
-use Rattle.tables.specs.Stored.{Stored, Sized, recordsOf, holdsColumn, holdsFrom, freeZero, isSoundFor}
+use Rattle.pool.specs.Whole.{Pool}
+use Rattle.pool.proofs.Whole.{pool-linked}
+use Rattle.tables.specs.Stored.{Stored, Sized, recordsOf, isSoundFor}
+use Rattle.tables.proofs.Stored.{sound-facts}
+use Rattle.tables.proofs.Reading.{stored-full}
 use Rattle.updown.specs.Walks.{ChainOf}
 use Rattle.updown.specs.Turns.{larger, done}
 
--- ---- the tests taken apart
-
-module _ (s : Stored) (fs : List FactorColumn) where
-  holds-at : (j n i : ℕ) → holdsFrom s fs j n ≡ true → j ≤ i → i < j + n → holdsColumn s i (columnAt fs i) ≡ true
-  unfolding holdsFrom
-  holds-at j zero i h a b = absurd (omega arith)
-  holds-at j (suc n) i h a b =
-      let t : (holdsColumn s j (columnAt fs j) ≡ true) × (holdsFrom s fs (suc j) n ≡ true) = and-both (holdsColumn s j (columnAt fs j)) (holdsFrom s fs (suc j) n) h in
-      elim (eq-or-ne i j) [
-        | inl e ↦ subst (λ (x : ℕ). holdsColumn s x (columnAt fs x) ≡ true) (sym e) (t .0)
-        | inr e ↦ holds-at (suc j) n i (t .1) (omega arith) (omega arith)
-      ]
+-- ---- what is stored
 
 module _ (s : Stored) (cs : List Column) (z : Sized s) (sound : isSoundFor cs s ≡ true) where
   abbrev m : ℕ
@@ -47,49 +32,18 @@ module _ (s : Stored) (cs : List Column) (z : Sized s) (sound : isSoundFor cs s 
   abbrev L : List FactorColumn
   L = factorOf m cs
 
-  parts : (isWhole (s .next) (s .heads) (s .free) ≡ true) × (holdsFrom s L 1 m ≡ true)
-  parts =
-      let w : Bool = isWhole (s .next) (s .heads) (s .free) in
-      let t : ((w && freeZero s) ≡ true) × (holdsFrom s L 1 m ≡ true) = and-both (w && freeZero s) (holdsFrom s L 1 m) sound in
-      (and-both w (freeZero s) (t .0) .0, t .1)
-
   pub sound-pool : Pool (s .next) (s .heads) (s .free)
-  sound-pool = whole-pool (s .next) (s .heads) (s .free) (parts .0)
+  sound-pool = sound-facts cs s sound .pool
 
   pub sound-column : (j : ℕ) → 1 ≤ j → j ≤ m → (valuesAt (s .rows) (recordsOf s j) ≡ patternOf (columnAt L j)) × (valuesAt (s .counts) (recordsOf s j) ≡ multiplicitiesOf (columnAt L j)) × (at (s .parents) j ≡ parentOf L j)
-  sound-column j a b =
-      let h : holdsColumn s j (columnAt L j) ≡ true = holds-at s L 1 m j (parts .1) a (omega arith) in
-      let x : Bool = same (valuesAt (s .rows) (recordsOf s j)) (patternOf (columnAt L j)) in
-      let y : Bool = same (valuesAt (s .counts) (recordsOf s j)) (multiplicitiesOf (columnAt L j)) in
-      let p : Bool = eqb (at (s .parents) j) (columnAt L j .parent) in
-      let t : ((x && y) ≡ true) × (p ≡ true) = and-both (x && y) p h in
-      let u : (x ≡ true) × (y ≡ true) = and-both x y (t .0) in (
-        same-eq (valuesAt (s .rows) (recordsOf s j)) (patternOf (columnAt L j)) (u .0),
-        same-eq (valuesAt (s .counts) (recordsOf s j)) (multiplicitiesOf (columnAt L j)) (u .1),
-        eqb-true (at (s .parents) j) (columnAt L j .parent) (t .1),
-      )
+  sound-column j a b = let h = sound-facts cs s sound .column j a b in (h .rows, h .counts, h .parent)
 
   pub sound-chain : (j : ℕ) → 1 ≤ j → j ≤ m → ChainOf (s .heads) (s .rows) (s .next) m j (columnAt L j .counts)
   sound-chain j a b =
       record { heads-long = refl; rows-long = z .rows-long; linked = pool-linked sound-pool j a b; rows-are = sound-column j a b .0 }
 
-  -- ---- sizes
-
-  chains-sum : (ns hs : List ℕ) → length (chains ns hs) ≡ sumOf (λ h. length (chain ns h)) hs
-  unfolding sumOf
-  chains-sum ns [] = ap length (chains-nil ns)
-  chains-sum ns (h ∷ hs) = chains-length ns h hs ∙ ap (λ (x : ℕ). length (chain ns h) + x) (chains-sum ns hs)
-
   pub sound-size : sizeSum L + length (chain (s .next) (s .free)) ≡ length (s .next)
-  sound-size =
-      let e : sizeSum L ≡ sumOf (λ j. sizeOf (columnAt L j)) (upFrom 1 m) = size-sum L ∙ ap (λ (x : ℕ). sumOf (λ j. sizeOf (columnAt L j)) (upFrom 1 x)) (factor-length m cs) in
-      let d : length (chains (s .next) (s .heads)) ≡ sumOf (λ j. length (chain (s .next) (getD (s .heads) (j - 1) 0))) (upFrom 1 m) =
-      chains-sum (s .next) (s .heads) ∙ sum-places (λ h. length (chain (s .next) h)) (s .heads) 0 1 in
-      let q : sumOf (λ j. sizeOf (columnAt L j)) (upFrom 1 m) ≡ sumOf (λ j. length (chain (s .next) (getD (s .heads) (j - 1) 0))) (upFrom 1 m) =
-      sum-ext (λ j. sizeOf (columnAt L j)) (λ j. length (chain (s .next) (getD (s .heads) (j - 1) 0))) (upFrom 1 m) (λ j n.
-      let v : (1 ≤ j) × (j < 1 + m) = from-up 1 m n in
-      sym (ap length (sound-column j (v .0) (omega arith) .0)) ∙ values-length (s .rows) (recordsOf s j)) in
-      omega (arith, e, q, d, sound-pool .size)
+  sound-size = stored-full cs s sound
 
 -- ---- touched columns fit
 

@@ -20,6 +20,7 @@ use Rattle.emission.specs.declared.Emission.{Emission}
 use Rattle.columns.specs.Plan.{planned, Suits}
 use Rattle.updown.specs.Plans.{labelIn, parentIn, InPlan}
 use Rattle.workspace.specs.Layout.{planAt}
+use Rattle.workspace.proofs.Regions.{not-inside}
 use Rattle.updown.specs.Marks.{markAt, Flagged}
 use Rattle.updown.specs.Queues.{Queues}
 use Rattle.updown.specs.Turns.{larger, before, after, labelAt, done, standing, waiting, DoneColumn, PlansTo}
@@ -130,18 +131,12 @@ module _ {next : List ℕ} {m flags : ℕ} {R W : List Column} {adding : Bool} {
           let at-mark : k ≢ 3 * m + (j - 1) = λ x. n (plans (inl (j, (own-in m R W j (b .low) (b .touched), inl x)))) in
           let at-next : k ≢ 5 * m + (j - 1) = λ x. n (plans (inl (j, (own-in m R W j (b .low) (b .touched), inr (inr x))))) in
           let past : 3 * m ≤ k = elim (lt-or-le k (3 * m)) [ inl x ↦ absurd (n (differs x)) | inr x ↦ x ] in
-          other k at-mark (away (3 * m + j) (m - j) k (λ x y. n (marks (omega arith) (omega (arith, b .high)))))
-          (away (5 * m + j) (3 * m - j) k (λ x y. n (queues (omega arith) (omega (arith, b .high))))) (away flags 64 k (λ x y. n (flagged x y))) ∙
-          d .still k past (away (6 * m) (2 * m) k (λ x y. n (queues (omega (arith, b .high)) (omega arith)))) at-next
-          (away (8 * m + used) (e .used - used) k (λ x y. n (plans (inr (omega arith, omega (arith, d .planned .used-low)))))) ∙
+          other k at-mark (not-inside (3 * m + j) (m - j) k (λ x y. n (marks (omega arith) (omega (arith, b .high)))))
+          (not-inside (5 * m + j) (3 * m - j) k (λ x y. n (queues (omega arith) (omega (arith, b .high))))) (not-inside flags 64 k (λ x y. n (flagged x y))) ∙
+          d .still k past (not-inside (6 * m) (2 * m) k (λ x y. n (queues (omega (arith, b .high)) (omega arith)))) at-next
+          (not-inside (8 * m + used) (e .used - used) k (λ x y. n (plans (inr (omega arith, omega (arith, d .planned .used-low)))))) ∙
           b .rest k (λ x. n (busier at-mark at-next x))
         where
-          away : (s t k : ℕ) → (s ≤ k → k < s + t → ⊥) → Outside s t k
-          away s t k h = elim (lt-or-le k s) [
-            | inl x ↦ inl x
-            | inr x ↦ elim (lt-or-le k (s + t)) [ inl y ↦ absurd (h x y) | inr y ↦ inr y ]
-          ]
-
           busier : k ≢ 3 * m + (j - 1) → k ≢ 5 * m + (j - 1) → Busy m flags used (done m R W (suc j)) j k → Busy m flags (e .used) (done m R W (suc j)) (suc j) k
           busier x y (differs z) = differs z
           busier x y (plans (inl z)) = plans (inl z)

@@ -4,10 +4,10 @@
 use mathlib.Core.Path.{_≡_, refl, sym, ap, _∙_, subst}
 use mathlib.Core.Logic.{_⊎_, inl, inr}
 use mathlib.Core.Bool.{Bool, true, false}
-use mathlib.Core.List.{List, [], _∷_, _++_}
-use Prim.Native.Nat.{ℕ, zero, suc, _+_, _-_, _*_, _≤_, _<_}
+use mathlib.Core.List.{List, _++_}
+use Prim.Native.Nat.{ℕ, suc, _+_, _-_, _*_, _≤_, _<_}
 use native.Mathlib.Omega.{arith}
-use lib.ListN.{length, getD, length-append}
+use lib.ListN.{length, getD, length-append, List·getD-eq-default}
 use Rattle.lists.specs.Lists.{at, among, rises}
 use Rattle.lists.proofs.Tests.{lt-or-le}
 use Rattle.symbolic.specs.Columns.{Column}
@@ -32,11 +32,6 @@ use Rattle.updown.proofs.Plans.{touched-in, in-touched, region-same, Fo
 
 -- ---- multiplicities
 
-beyond : (xs : List ℕ) (k : ℕ) → length xs ≤ k → getD xs k 0 ≡ 0
-beyond [] k h = refl
-beyond (x ∷ xs) zero h = absurd (omega arith)
-beyond (x ∷ xs) (suc k) h = beyond xs k (omega arith)
-
 counts-small : (m : ℕ) (cs : List Column) (c : ℕ) → 1 ≤ c → c ≤ m → m ≤ 4096 → length cs ≤ 60000 → (k : ℕ) → getD (columnAt (factorOf m cs) c .counts) k 0 < 65536
 counts-small m cs c a b n f k =
     elim (lt-or-le k m) [
@@ -44,7 +39,7 @@ counts-small m cs c a b n f k =
           let q : suc k - 1 ≡ k = omega arith in
           let e : multiplicity (factorOf m cs) (suc k) c ≡ getD (columnAt (factorOf m cs) c .counts) k 0 = ap (λ (x : ℕ). getD (columnAt (factorOf m cs) c .counts) x 0) q in
           omega (arith, count-bound m cs (suc k) c (omega arith) (omega arith) a b)
-      | inr l ↦ omega (arith, beyond (columnAt (factorOf m cs) c .counts) k (omega (arith, counts-length m cs c a b)))
+      | inr l ↦ omega (arith, List·getD-eq-default (columnAt (factorOf m cs) c .counts) 0 {n = k} (omega (arith, counts-length m cs c a b)))
     ]
 
 pub column-counts : (m : ℕ) (R W : List Column) (c : ℕ) → 1 ≤ c → c ≤ m → m ≤ 4096 → length R + length W ≤ 60000 →
@@ -69,7 +64,7 @@ grows-at {m} {c} {more} {less} k i p =
     let q : suc i - 1 ≡ i = omega arith in
     elim (lt-or-le i m) [
       | inl l ↦ omega (arith, k .grows (suc i) (omega arith) (omega arith) (omega (arith, ap (λ (x : ℕ). getD less x 0) q)), ap (λ (x : ℕ). getD more x 0) q)
-      | inr l ↦ absurd (omega (arith, beyond less i (omega (arith, k .less-long))))
+      | inr l ↦ absurd (omega (arith, List·getD-eq-default less 0 {n = i} (omega (arith, k .less-long))))
     ]
 
 -- ---- what stays

@@ -27,6 +27,10 @@ place-cases a n k =
       | inr h ↦ elim (lt-or-le k (a + n)) [ inl p ↦ inr (k - a, omega arith, omega arith) | inr p ↦ inl (inr p) ]
     ]
 
+-- a place that is none of a region's
+pub not-inside : (a n k : ℕ) → (a ≤ k → k < a + n → ⊥) → Outside a n k
+not-inside a n k h = elim (place-cases a n k) [ inl s ↦ s | inr t ↦ absurd (h (omega arith) (omega arith)) ]
+
 -- a place of a region lies outside one that is apart from it
 pub apart-outside : (a n b l : ℕ) → Apart a n b l → (i : ℕ) → i < l → Outside a n (b + i)
 apart-outside a n b l s i h = elim s [ inl p ↦ inr (omega arith) | inr p ↦ inl (omega arith) ]

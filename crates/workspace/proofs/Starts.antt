@@ -17,6 +17,8 @@ use Rattle.workspace.specs.Layout.{
   planAt,
   spare,
   flagsAt,
+  savedAt,
+  gatherAt,
   readThrough,
   counters,
   childHead,
@@ -62,6 +64,15 @@ batch-regions m n f c =
       flags-end = omega arith;
       read-through-end = omega arith;
     }
+
+-- an exchange: likewise, in the places that its plans leave free, before the flags
+pub record ExchangeRegions (m f : ℕ) : Type 0 where
+  pub plan-end : planAt m + f ≡ savedAt m f
+  pub saved-end : savedAt m f + 2 * f ≡ gatherAt m f
+  pub gather-end : gatherAt m f + m ≤ flagsAt m f
+
+pub exchange-regions : (m f : ℕ) → m ≤ f → ExchangeRegions m f
+exchange-regions m f h = record { plan-end = omega arith; saved-end = omega arith; gather-end = omega arith }
 
 -- the read-through: likewise; two regions leave places free behind them
 pub record ReadRegions (m n f c : ℕ) : Type 0 where

@@ -1,6 +1,7 @@
 -- Where each region of the work table starts, by the sizes m, n, F and C; W is document 01's. A region has m places where nothing else is said.
--- A batch and the read-through use the same table at different times, so each has its own regions. That they follow one another and fill no more
--- than W places: proofs/Starts.antt. A question that marks columns uses the first m places. Assumes nothing: these are definitions.
+-- A batch and the read-through use the same table at different times, so each has its own regions; an exchange has some in places that its batches leave
+-- free. That they follow one another and fill no more than W places: proofs/Starts.antt. A question that marks columns uses the first m places.
+-- Assumes nothing: these are definitions.
 use Prim.Native.Nat.{ℕ, _+_, _*_}
 
 -- "W = 8 × m + 4 × F + C + n + 1,024"
@@ -68,6 +69,16 @@ flagCount = 64
 -- left to the read-through, C + n places
 abbrev pub readThrough : (m f : ℕ) → ℕ
 readThrough m f = 8 * m + 4 * f + 1024
+
+-- ---- an exchange: in the 3F places that its plans leave free
+
+-- all records as they were before it, 2F places
+abbrev pub savedAt : (m f : ℕ) → ℕ
+savedAt m f = spare m f
+
+-- per column: its parent before the exchange in the lower part, and in the upper part, once it is gathered, one more than its size before
+abbrev pub gatherAt : (m f : ℕ) → ℕ
+gatherAt m f = savedAt m f + 2 * f
 
 -- ---- the read-through
 

@@ -34,6 +34,9 @@ pub const BLOCK: usize = 64;
 
 pub const FLAGS: usize = 64;
 
+// By which the upper part of a place counts that holds two numbers.
+pub const UPPER_WEIGHT: u32 = 8192;
+
 // Kinds of a planned entry.
 pub const CHANGED: u32 = 0;
 

@@ -6,7 +6,7 @@ use native.Mathlib.Omega.{arith}
 use lib.ListN.{length}
 use Rattle.lists.specs.Lists.{upFrom}
 use Rattle.lists.proofs.Rising.{up-length, up-at}
-use Rattle.columns.proofs.Filling.{Filling, filling-start, filling-long, filling-next, filling-end}
+use Rattle.lists.proofs.Over.{Filling, filling-start, filling-long, filling-next, filling-end}
 use Rattle.columns.proofs.number_heads.Statement.{statement}
 use Rattle.columns.proofs.number_heads.Tie as tie
 
@@ -40,14 +40,14 @@ loop-less c = omega (arith, filling-long (c .before .loop .inv))
 loop-again : tie.Need-loop-again Inv-loop μ-loop
 loop-again c =
     let w = c .before .loop .inv in
-    filling-next w (c .loop-test .taken)
+    filling-next w (omega (arith, filling-long w, c .loop-test .taken))
     (up-at 1 (length (c .before .before .args .heads .now)) (c .before .loop .i) (omega (arith, filling-long w, c .loop-test .taken)) ∙ omega arith)
 
 same-length : tie.Need-same-length Inv-loop μ-loop
 same-length c = filling-long (c .before .loop .inv)
 
 returns : tie.Need-returns Inv-loop μ-loop
-returns c = filling-end (c .before .loop .inv) (c .loop-test .left)
+returns c = filling-end (c .before .loop .inv) (omega (arith, filling-long (c .before .loop .inv), c .loop-test .left))
 
 pub number-heads-spec : {M : Type 1} → statement M
 number-heads-spec =

@@ -3,8 +3,9 @@
 use Prim.Native.Nat.{_-_}
 use native.Mathlib.Omega.{arith}
 use lib.ListN.{length}
+use Rattle.lists.proofs.Over.{Filling, filling-start, filling-long, filling-next, filling-end}
 use Rattle.columns.specs.Opened.{openedRows}
-use Rattle.columns.proofs.Filling.{Filling, filling-start, filling-long, filling-next, filling-end, rows-length, rows-front, rows-back}
+use Rattle.columns.proofs.Opened.{rows-length, rows-front, rows-back}
 use Rattle.columns.proofs.number_rows.Statement.{statement}
 use Rattle.columns.proofs.number_rows.Tie as tie
 
@@ -38,7 +39,7 @@ loop-less c = omega (arith, filling-long (c .before .before .loop .inv))
 loop-again : tie.Need-loop-again Inv-loop μ-loop
 loop-again c =
     let s = c .before .before .before .args in
-    filling-next (c .before .before .loop .inv) (c .before .loop-test .taken) (rows-front (s .m) (length (s .rows .now)) (c .before .before .loop .i) (c .if1 .taken))
+    filling-next (c .before .before .loop .inv) (omega (arith, filling-long (c .before .before .loop .inv), c .before .loop-test .taken)) (rows-front (s .m) (length (s .rows .now)) (c .before .before .loop .i) (c .if1 .taken))
 
 mul-rows-2 : tie.Need-mul-rows-2 Inv-loop μ-loop
 mul-rows-2 c = omega (arith, filling-long (c .before .before .loop .inv))
@@ -56,14 +57,14 @@ loop-again-2 : tie.Need-loop-again-2 Inv-loop μ-loop
 loop-again-2 c =
     let s = c .before .before .before .args in
     let w = c .before .before .loop .inv in
-    filling-next w (c .before .loop-test .taken)
+    filling-next w (omega (arith, filling-long w, c .before .loop-test .taken))
     (rows-back (s .m) (length (s .rows .now)) (c .before .before .loop .i) (c .if1 .left) (omega (arith, filling-long w, c .before .loop-test .taken)))
 
 same-length : tie.Need-same-length Inv-loop μ-loop
 same-length c = filling-long (c .before .loop .inv)
 
 returns : tie.Need-returns Inv-loop μ-loop
-returns c = filling-end (c .before .loop .inv) (c .loop-test .left)
+returns c = filling-end (c .before .loop .inv) (omega (arith, filling-long (c .before .loop .inv), c .loop-test .left))
 
 pub number-rows-spec : {M : Type 1} → statement M
 number-rows-spec =

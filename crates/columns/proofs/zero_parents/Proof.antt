@@ -3,7 +3,7 @@
 use Prim.Native.Nat.{ℕ, _-_}
 use native.Mathlib.Omega.{arith}
 use lib.ListN.{length, replicate, length-replicate, getD-replicate}
-use Rattle.columns.proofs.Filling.{Filling, filling-start, filling-long, filling-next, filling-end}
+use Rattle.lists.proofs.Over.{Filling, filling-start, filling-long, filling-next, filling-end}
 use Rattle.columns.proofs.zero_parents.Statement.{statement}
 use Rattle.columns.proofs.zero_parents.Tie as tie
 
@@ -31,14 +31,14 @@ loop-less c = omega (arith, filling-long (c .before .loop .inv))
 loop-again : tie.Need-loop-again Inv-loop μ-loop
 loop-again c =
     let w = c .before .loop .inv in
-    filling-next w (c .loop-test .taken)
+    filling-next w (omega (arith, filling-long w, c .loop-test .taken))
     (getD-replicate {A = ℕ} (length (c .before .before .args .parents .now)) (c .before .loop .i) 0 0 (omega (arith, filling-long w, c .loop-test .taken)))
 
 same-length : tie.Need-same-length Inv-loop μ-loop
 same-length c = filling-long (c .before .loop .inv)
 
 returns : tie.Need-returns Inv-loop μ-loop
-returns c = filling-end (c .before .loop .inv) (c .loop-test .left)
+returns c = filling-end (c .before .loop .inv) (omega (arith, filling-long (c .before .loop .inv), c .loop-test .left))
 
 pub zero-parents-spec : {M : Type 1} → statement M
 zero-parents-spec =

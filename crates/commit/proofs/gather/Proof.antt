@@ -5,7 +5,7 @@ use Prim.Native.Nat.{ℕ}
 use native.Mathlib.Omega.{arith}
 use lib.ListN.{length}
 use Rattle.symbolic.specs.Factor.{FactorColumn}
-use Rattle.commit.specs.Gather.{CanGather}
+use Rattle.commit.specs.Gather.{CanGatherColumns}
 use Rattle.commit.proofs.Standing.{left, left-less}
 use Rattle.commit.proofs.Gathering.{Gathering, AtGather, gathering-start, gathering-length, gathering-end, at-gather, gathering-turn}
 use Rattle.commit.proofs.gather.Statement.{statement}
@@ -13,7 +13,7 @@ use Rattle.commit.proofs.gather.Tie as tie
 
 abbrev Inv-loop : tie.InvT-loop
 Inv-loop heads next work₀ start m j₀ work j =
-    (L L′ : List FactorColumn) (label : ℕ → ℕ) (columns : List ℕ) (used : ℕ) → CanGather heads next L L′ label columns work₀ start (j₀ .0) used →
+    (L L′ : List FactorColumn) (label : ℕ → ℕ) (columns : List ℕ) (used : ℕ) → CanGatherColumns heads next L L′ label columns work₀ start (j₀ .0) used →
     Gathering heads next L L′ label columns start used work₀ work (j .0)
 
 abbrev μ-loop : tie.MeasureT-loop

@@ -1,7 +1,8 @@
 -- `free_chain::walk` meets its contract. The loop's invariant is `Walking`: n steps lead from the head to r. The measure is what is left of k. Assumes nothing.
 use Prim.Native.Nat.{_-_}
 use native.Mathlib.Omega.{arith}
-use Rattle.free_chain.proofs.Walking.{Walking, walking-start, walking-next, decides-no, walking-short, walking-out, walking-long, walking-empty, walking-ended}
+use Rattle.lists.proofs.Tests.{decides-no}
+use Rattle.free_chain.proofs.Walking.{Walking, walking-start, walking-next, walking-short, walking-out, walking-long, walking-empty, walking-ended}
 use Rattle.free_chain.proofs.walk.Statement.{statement}
 use Rattle.free_chain.proofs.walk.Tie as tie
 

@@ -2,7 +2,8 @@
 -- Assumes nothing.
 use Prim.Native.Nat.{_-_}
 use native.Mathlib.Omega.{arith}
-use Rattle.snapshot.proofs.Returning.{Unpairing, writing-long, unpairing-start, UnpairingTurn, unpairing-turn, unpairing-next, unpairing-end}
+use Rattle.lists.proofs.Over.{filling-long}
+use Rattle.snapshot.proofs.Returning.{Unpairing, unpairing-start, UnpairingTurn, unpairing-turn, unpairing-next, unpairing-end}
 use Rattle.snapshot.proofs.restoring.restore_records.Statement.{statement}
 use Rattle.snapshot.proofs.restoring.restore_records.Tie as tie
 
@@ -74,13 +75,13 @@ loop-again : tie.Need-loop-again Inv-loop μ-loop
 loop-again c = unpairing-next (c .before .before .before .loop .inv) (c .before .before .loop-test .taken)
 
 same-length : tie.Need-same-length Inv-loop μ-loop
-same-length c = writing-long (c .before .loop .inv .rows-back)
+same-length c = filling-long (c .before .loop .inv .rows-back)
 
 same-length-2 : tie.Need-same-length-2 Inv-loop μ-loop
-same-length-2 c = writing-long (c .before .loop .inv .counts-back)
+same-length-2 c = filling-long (c .before .loop .inv .counts-back)
 
 same-length-3 : tie.Need-same-length-3 Inv-loop μ-loop
-same-length-3 c = writing-long (c .before .loop .inv .next-back)
+same-length-3 c = filling-long (c .before .loop .inv .next-back)
 
 returns : tie.Need-returns Inv-loop μ-loop
 returns c = unpairing-end (c .before .loop .inv) (c .loop-test .left)
