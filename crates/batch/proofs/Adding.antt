@@ -1,13 +1,15 @@
 -- An addition found and planned: the batch's columns stand in the lists as they are lent (`batch-listed`), an addition that 7 to 15 do not refuse can be
 -- planned (`add-can`), and search and plan together are the call's verdict (`add-refused`, `add-planned`, `add-full`). Assumes nothing.
-use mathlib.Core.Path.{_≡_, refl, sym, ap, _∙_}
+use mathlib.Core.Path.{_≡_, refl, sym, ap, _∙_, subst}
 use mathlib.Core.Bool.{Bool, true, false}
 use mathlib.Core.List.{List, [], _∷_, _++_}
-use Prim.Native.Nat.{ℕ, _≤_}
+use Prim.Native.Nat.{ℕ, _+_, _≤_}
 use native.Mathlib.Omega.{arith}
 use lib.Dec.{leb}
-use lib.ListN.{length, drop, length-drop}
-use Rattle.symbolic.specs.Columns.{Column, Register}
+use lib.ListN.{length, take, drop, length-drop}
+use Rattle.lists.specs.Lists.{rises, all, sumOf}
+use Rattle.lists.proofs.Tests.{and-both}
+use Rattle.symbolic.specs.Columns.{Column, fitsRows, Register}
 use Rattle.symbolic.specs.Factor.{factorOf, sizeSum}
 use Rattle.symbolic.specs.Grades.{Limits}
 use Rattle.pool.specs.Chains.{chain}
@@ -21,7 +23,8 @@ use Rattle.calls.proofs.Choices.{or-first, or-second, unless-true, unless-false
 use Rattle.refusals.specs.Offsets.{offsetOf}
 use Rattle.refusals.specs.Found.{addFound}
 use Rattle.refusals.proofs.Accepted.{AddReady, add-ready, add-refusal, ready-length}
-use Rattle.updown.specs.Entries.{Listed, CanAdd, AddPlanned}
+use Rattle.updown.specs.Entries.{Listed, listedStarts, CanAdd, AddPlanned}
+use Rattle.updown.proofs.Filled.{whole-rows}
 use Rattle.batch.specs.Outcome.{cutSizes, cutWorld, CanFind}
 use Rattle.batch.specs.Parts.{storedWhole, bookWhole, numberFor, verdictNumber, Judged}
 use Rattle.batch.specs.declared.Verdict.{Verdict}
@@ -30,13 +33,22 @@ use Rattle.batch.proofs.Verdicts.{refused-judged, planned-judged}
 
 -- ---- the columns of a batch, as they are lent
 
-pub batch-listed : (is ns rs : List ℕ) → length ns ≡ length is → offsetOf ns (length is) ≤ length rs → Listed ns rs (batchOf is ns rs)
-unfolding Listed batchOf offsetOf
-batch-listed [] [] rs e h = tt
-batch-listed [] (n ∷ ns) rs e h = absurd (omega arith)
-batch-listed (i ∷ is) [] rs e h = absurd (omega arith)
-batch-listed (i ∷ is) (n ∷ ns) rs e h =
-    (refl, omega arith, batch-listed is ns (drop n rs) (omega arith) (omega (arith, length-drop n rs)))
+batch-listed : (m : ℕ) (is ns rs : List ℕ) → length ns ≡ length is → offsetOf ns (length is) ≤ length rs → all (fitsRows m) (batchOf is ns rs) ≡ true →
+    Listed (listedStarts ns rs) ns rs (batchOf is ns rs)
+unfolding Listed listedStarts batchOf offsetOf all
+batch-listed m [] [] rs e h f = tt
+batch-listed m [] (n ∷ ns) rs e h f = absurd (omega arith)
+batch-listed m (i ∷ is) [] rs e h f = absurd (omega arith)
+batch-listed m (i ∷ is) (n ∷ ns) rs e h f =
+    let g : (rises 1 m (take n rs) ≡ true) × (all (fitsRows m) (batchOf is ns (drop n rs)) ≡ true) =
+    and-both (rises 1 m (take n rs)) (all (fitsRows m) (batchOf is ns (drop n rs))) f in
+    (whole-rows m (take n rs) (g .0), refl, omega arith, batch-listed m is ns (drop n rs) (omega arith) (omega (arith, length-drop n rs)) (g .1))
+
+-- the counts together are the rows before the end
+pub counts-sum : (ns : List ℕ) → sumOf (λ n. n) ns ≡ offsetOf ns (length ns)
+unfolding sumOf offsetOf
+counts-sum [] = refl
+counts-sum (n ∷ ns) = ap (λ (k : ℕ). n + k) (counts-sum ns)
 
 -- ---- the verdict
 
@@ -68,12 +80,20 @@ module _ {t : Tables} {lim : Limits} {f g : ℕ} {w : List ℕ} (can : CanFind (
   -- ---- not refused by 7 to 15
 
   module _ (found : isAccepted (addFound (length (t .heads)) (bookWhole t g) is ns rs) ≡ true) where
-    pub add-can : CanAdd (storedWhole t f) ns rs w (bookedIn (cutWorld t lim f g) .columns) (batchOf is ns rs)
-    add-can =
-        let a : AddReady m (bookWhole t g) is ns rs = add-ready m (bookWhole t g) is ns rs found in
+    ready : AddReady (length (t .heads)) (bookWhole t g) is ns rs
+    ready = add-ready m (bookWhole t g) is ns rs found
+
+    -- its positions are few, and their rows lie within the list
+    pub add-few : (length ns ≤ 64) × (sumOf (λ n. n) ns ≤ length rs)
+    add-few = omega (arith, ready .few, ready .counted, counts-sum ns, ap (λ (n : ℕ). offsetOf ns n) (ready .counted), ready .used)
+
+    pub add-can : {starts : List ℕ} → starts ≡ listedStarts ns rs → CanAdd (storedWhole t f) starts ns rs w (bookedIn (cutWorld t lim f g) .columns) (batchOf is ns rs)
+    add-can e =
+        let a = ready in
+        let fits : all (fitsRows m) (batchOf is ns rs) ≡ true = fits-rows m (batchOf is ns rs) (a .batch-fits) in
         record {
-          can = plan-can can (batchOf is ns rs) (fits-rows m (batchOf is ns rs) (a .batch-fits)) (omega (arith, ready-length a, a .some)) (omega (arith, ready-length a, a .few));
-          listed = batch-listed is ns rs (a .counted) (omega (arith, a .used));
+          can = plan-can can (batchOf is ns rs) fits (omega (arith, ready-length a, a .some)) (omega (arith, ready-length a, a .few));
+          listed = subst (λ (xs : List ℕ). Listed xs ns rs (batchOf is ns rs)) (sym e) (batch-listed m is ns rs (a .counted) (omega (arith, a .used)) fits);
         }
 
     number-full : numberFor (cutWorld t lim f g) (adding is ns rs) ≡ add-rest

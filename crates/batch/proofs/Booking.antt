@@ -1,39 +1,32 @@
 -- The book's change in an accepted batch: what entering or leaving asks (`enter-can`, `leave-can`), and that it is the call's (`entered-after`,
 -- `left-after`). Assumes nothing.
-use mathlib.Core.Path.{_≡_, refl, sym, ap, _∙_, subst}
+use mathlib.Core.Path.{_≡_, sym, ap, _∙_, subst}
 use mathlib.Core.Bool.{true}
-use mathlib.Core.List.{List, [], _∷_, _++_}
-use Prim.Native.Nat.{ℕ, zero, suc, _+_, _≤_, _<_}
+use mathlib.Core.List.{List, _++_}
+use Prim.Native.Nat.{ℕ}
 use native.Mathlib.Omega.{arith}
 use lib.ListN.{length}
 use Rattle.lists.specs.Lists.{sumOf}
 use Rattle.symbolic.specs.Columns.{Column}
 use Rattle.symbolic.specs.Change.{Bag, without}
 use Rattle.symbolic.specs.Grades.{Limits}
-use Rattle.pool.specs.Chains.{chain}
 use Rattle.book.specs.Book as book
 use Rattle.tables.specs.Tables.{Tables}
-use Rattle.calls.specs.Refusals.{Refusal, isAccepted, orElse, unless, batchOf}
+use Rattle.calls.specs.Refusals.{isAccepted, batchOf}
 use Rattle.calls.specs.Calls.{adding, removing}
 use Rattle.calls.specs.Changes.{effect}
 use Rattle.calls.specs.Steps.{bookedIn}
 use Rattle.calls.proofs.Choices.{or-both}
 use Rattle.refusals.specs.Offsets.{offsetOf}
-use Rattle.refusals.specs.Found.{addFound, removeFound}
+use Rattle.refusals.specs.Found.{addFound}
 use Rattle.refusals.proofs.Accepted.{AddReady, add-ready, ready-room, RemoveReady, remove-ready}
 use Rattle.entering.specs.Entering.{total, CanEnter, Entered, CanLeave, Left}
 use Rattle.batch.specs.Outcome.{cutWorld, CanFind}
 use Rattle.batch.specs.Parts.{bookWhole, numberFor}
 use Rattle.batch.proofs.Cut.{sizes-are, columns-cut, book-sound}
-use Rattle.batch.proofs.Adding.{add-number, add-rest}
+use Rattle.batch.proofs.Adding.{counts-sum, add-number, add-rest}
 use Rattle.batch.proofs.Removing.{remove-number}
 use Rattle.batch.proofs.Exchanging.{BookAfter}
-
--- the counts together are the rows before the end
-total-is : (ns : List ℕ) → total ns ≡ offsetOf ns (length ns)
-unfolding sumOf offsetOf
-total-is [] = refl
-total-is (n ∷ ns) = ap (λ (k : ℕ). n + k) (total-is ns)
 
 -- ---- an addition
 
@@ -45,7 +38,7 @@ module _ {t : Tables} {lim : Limits} {f g : ℕ} {w : List ℕ} (can : CanFind (
       let d : book.Book = bookWhole t g in
       let x : AddReady m d is ns rs =
       add-ready m d is ns rs (or-both (addFound m d is ns rs) (add-rest can is ns rs) (ap isAccepted (sym (add-number can is ns rs)) ∙ taken) .0) in
-      let e : total ns ≡ length rs = total-is ns ∙ ap (λ (n : ℕ). offsetOf ns n) (x .counted) ∙ x .used in
+      let e : total ns ≡ length rs = counts-sum ns ∙ ap (λ (n : ℕ). offsetOf ns n) (x .counted) ∙ x .used in
       record {
         sized = can .book-rows;
         sound = book-sound can;

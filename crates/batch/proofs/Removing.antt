@@ -3,17 +3,18 @@
 -- order, those that stay and the batch's, so its factor is theirs. Assumes nothing.
 use mathlib.Core.Path.{_≡_, refl, sym, ap, _∙_, subst}
 use mathlib.Core.Bool.{Bool, true, false, not}
-use mathlib.Core.List.{List, [], _∷_, _++_}
-use Prim.Native.Nat.{ℕ, zero, suc, _≤_, _<_}
+use mathlib.Core.List.{List, [], _∷_}
+use Prim.Native.Nat.{ℕ, suc, _≤_, _<_}
 use native.Mathlib.Omega.{arith}
 use lib.ListN.{length, getD}
-use Rattle.lists.specs.Lists.{isIn, among}
+use Rattle.lists.specs.Lists.{isIn, all, among}
 use Rattle.symbolic.specs.Columns.{Column, fitsRows, Register}
 use Rattle.symbolic.specs.Factor.{FactorColumn, factorOf}
 use Rattle.symbolic.specs.Batch.{labelOf, touched}
 use Rattle.symbolic.specs.Change.{without, columnsOf}
 use Rattle.symbolic.specs.Grades.{Limits}
 use Rattle.book.specs.Book as book
+use Rattle.book.specs.Entries.{HasHead}
 use Rattle.book.proofs.Columns.{column-found}
 use Rattle.tables.specs.Tables.{Tables}
 use Rattle.calls.specs.Refusals.{Refusal, accepted, isAccepted, orElse, unless, inRegister, idsRefusal, removeRefusal}
@@ -25,7 +26,8 @@ use Rattle.calls.proofs.Changes.{touched-removing, removal-bag, removal-fits, r
 use Rattle.refusals.specs.Found.{removeFound}
 use Rattle.refusals.proofs.Accepted.{RemoveReady, remove-ready, remove-refusal}
 use Rattle.updown.specs.Plans.{PlanIs}
-use Rattle.updown.specs.Entries.{Booked, CanRemove, RemovePlanned}
+use Rattle.updown.specs.Entries.{Booked, BookedFrom, bookedStarts, CanRemove, RemovePlanned}
+use Rattle.updown.proofs.Filled.{whole-booked, whole-heads}
 use Rattle.batch.specs.Outcome.{cutSizes, cutWorld, CanFind}
 use Rattle.batch.specs.Parts.{storedWhole, bookWhole, numberFor, verdictNumber, Judged}
 use Rattle.batch.specs.declared.Verdict.{Verdict}
@@ -105,18 +107,31 @@ module _ {t : Tables} {lim : Limits} {f g : ℕ} {w : List ℕ} (can : CanFind (
         let y : Refusal = idsRefusal (book.registerIn m (bookWhole t g)) (length (t .bookHeads)) 1 [] is in
         or-whole (unless (isIn 1 64 (length is)) 7 0) y (ids-whole (book.registerIn m (bookWhole t g)) (length (t .bookHeads)) 1 [] is) found
 
-    pub remove-can : (h i : ℕ) → CanRemove (storedWhole t h) (bookWhole t i) is w (without is (bookedIn (cutWorld t lim f g) .columns)) (columnsOf is (bookedIn (cutWorld t lim f g) .columns))
-    remove-can h i =
-        let x : RemoveReady (bookWhole t g) is = remove-ready m (bookWhole t g) is found in
+    ready : RemoveReady (bookWhole t g) is
+    ready = remove-ready m (bookWhole t g) is found
+
+    batch-booked : Booked (bookWhole t g) is (columnsOf is (bookedIn (cutWorld t lim f g) .columns))
+    batch-booked =
+        subst (λ (cs : List Column). Booked (bookWhole t g) is (columnsOf is cs)) (sym (columns-cut can)) (columns-booked (bookWhole t g) is (ready .named) (ready .booked))
+
+    batch-fits : all (fitsRows (length (t .heads))) (columnsOf is (bookedIn (cutWorld t lim f g) .columns)) ≡ true
+    batch-fits = removal-fits (fitsRows m) (cutSizes t) r is (columns-distinct can) facts (columns-rise can) .1
+
+    -- its positions are few, and their columns stand in the book
+    pub remove-few : (length is ≤ 64) × ((k : ℕ) → k < length is → HasHead (t .bookHeads) (t .bookRows) (getD is k 0))
+    remove-few = (ready .few, whole-heads m (bookWhole t g) g is W batch-booked (can .book-rows) (book-sound can))
+
+    pub remove-can : (h i : ℕ) {starts : List ℕ} → starts ≡ bookedStarts (bookWhole t i) is →
+        CanRemove (storedWhole t h) (bookWhole t i) starts is w (without is (bookedIn (cutWorld t lim f g) .columns)) (columnsOf is (bookedIn (cutWorld t lim f g) .columns))
+    remove-can h i e =
         record {
           columns = r .columns;
           free = f;
           book-free = g;
-          can = plan-can can W (removal-fits (fitsRows m) (cutSizes t) r is (columns-distinct can) facts (columns-rise can) .1)
-              (omega (arith, columns-length is (r .columns), x .some)) (omega (arith, columns-length is (r .columns), x .few));
+          can = plan-can can W batch-fits (omega (arith, columns-length is (r .columns), ready .some)) (omega (arith, columns-length is (r .columns), ready .few));
           same = removal-bag (cutSizes t) r is (columns-distinct can) facts;
-          booked = booked-free (t .bookHeads) (t .bookRows) (t .bookNext) g i is W
-              (subst (λ (cs : List Column). Booked (bookWhole t g) is (columnsOf is cs)) (sym (columns-cut can)) (columns-booked (bookWhole t g) is (x .named) (x .booked)));
+          booked = subst (λ (xs : List ℕ). BookedFrom (bookWhole t i) xs is W) (sym e)
+              (whole-booked m (bookWhole t i) is W batch-fits (booked-free (t .bookHeads) (t .bookRows) (t .bookNext) g i is W batch-booked));
           book-sized = can .book-rows;
           book-sound = book-sound can;
         }

@@ -13,6 +13,7 @@ use book::Row;
 use pool::Rec;
 use refusals::Refusal;
 use updown::Plan;
+use updown::filling;
 
 // A verdict that refuses: no plan.
 fn refused(refusal: Refusal) -> Verdict
@@ -70,6 +71,9 @@ pub fn judge_add(
     if found.number != 0 {
         return refused(found);
     }
+    let k = row_counts.len();
+    let mut starts = [0u32; 64];
+    filling::listed_starts(row_counts, row_list, &mut starts[..k]);
     let plan = updown::plan_add(
         heads,
         parents,
@@ -79,6 +83,7 @@ pub fn judge_add(
         work,
         row_counts,
         row_list,
+        &starts[..k],
         free,
     );
     if plan.fits {
@@ -110,6 +115,9 @@ pub fn judge_remove(
     if found.number != 0 {
         return refused(found);
     }
+    let k = ids.len();
+    let mut starts = [0u32; 64];
+    filling::booked_starts(book_heads, book_rows, ids, &mut starts[..k]);
     planned(updown::plan_remove(
         heads,
         parents,
@@ -121,5 +129,6 @@ pub fn judge_remove(
         book_next,
         work,
         ids,
+        &starts[..k],
     ))
 }

@@ -22,10 +22,10 @@ use Rattle.book.specs.Book as book
 use Rattle.tables.specs.Stored.{Stored}
 use Rattle.updown.specs.Entries.{CanAddBooked, SomeAddBooked}
 use Rattle.updown.proofs.Booking.{booked-length}
-use Rattle.exchange.specs.Stages.{groupTouches, GroupDone, GroupEntered, GroupEnds, CanGo, CanEnterAll, EnteredAll, Moved}
+use Rattle.exchange.specs.Stages.{groupTouches, GroupDone, GroupEntered, CanGo, CanEnterAll, EnteredAll, Moved}
 use Rattle.exchange.proofs.Stages.{moved-none, moved-as, moved-joins, group-moved}
 use Rattle.exchange.proofs.Small.{rows-room, sizes-fit}
-use Rattle.exchange.proofs.Parting.{group, booked-part, front-more, entering-more}
+use Rattle.exchange.proofs.Parting.{GroupEnds, group, booked-part, front-more, entering-more}
 use Rattle.exchange.proofs.Going.{go-on, some-fit}
 use Rattle.exchange.proofs.Leaving.{mem-rest, mem-front}
 
@@ -38,10 +38,13 @@ module _ {s : Stored} {b : book.Book} {ids work : List ℕ} {R B : List Column} 
   abbrev m : ℕ
   m = length (s .heads)
 
-  pub entering-start : Entering R B s s work work 0
+  entering-first : Entering R B s s work work 0
   unfolding any
-  entering-start =
+  entering-first =
       subst (λ (l : List Column). Moved (length (s .heads)) (length (s .next)) R s (λ j. false) l s work work) (sym (append-nil R)) (moved-none (c .go .sized) (c .sound) refl)
+
+  pub entering-start : {a : ℕ} → a ≡ 0 → Entering R B s s work work a
+  entering-start e = subst (λ (a : ℕ). Entering R B s s work work a) (sym e) entering-first
 
   length-is : length B ≡ length ids
   length-is = booked-length b ids B (c .booked)
@@ -51,7 +54,7 @@ module _ {s : Stored} {b : book.Book} {ids work : List ℕ} {R B : List Column} 
       group-length : length (group B a e) ≡ e - a
       group-length = omega (arith, length-take (e - a) (drop a B), length-drop a B, length-is, g .low, g .high)
 
-      pub entering-can : CanAddBooked now b (take (e - a) (drop a ids)) work′ (R ++ take a B) (group B a e)
+      entering-can : CanAddBooked now b (take (e - a) (drop a ids)) work′ (R ++ take a B) (group B a e)
       entering-can =
           let o : CanGo now b work′ = go-on (c .go) (rows-room R s (c .sound)) v in
           let wide : length (now .heads) ≡ length (s .heads) = ap length (v .heads) in
@@ -83,7 +86,7 @@ module _ {s : Stored} {b : book.Book} {ids work : List ℕ} {R B : List Column} 
 
       module _ {after : Stored} {work″ : List ℕ} {fits : Bool}
           (x : GroupEntered (length (s .heads)) (length (now .next)) now (R ++ take a B) (group B a e) after work′ work″ fits) where
-        pub entering-next : fits ≡ true → Entering R B s after work work″ e
+        entering-next : fits ≡ true → Entering R B s after work work″ e
         entering-next h =
             let d : GroupDone m (length (s .next)) now (groupTouches m (R ++ take a B) (group B a e)) ((R ++ take a B) ++ group B a e) after work′ work″ =
             subst (λ (f : ℕ). GroupDone m f now (groupTouches m (R ++ take a B) (group B a e)) ((R ++ take a B) ++ group B a e) after work′ work″) (v .long) (x .done h) in
@@ -91,7 +94,7 @@ module _ {s : Stored} {b : book.Book} {ids work : List ℕ} {R B : List Column} 
             (moved-as (entering-more m R B a e (omega (arith, g .low))) (λ f. refl) (moved-joins refl v (take a B) (λ f. refl) (group-moved d)))
 
         -- where a group does not fit, all of B do not
-        pub entering-halt : fits ≡ false → EnteredAll (length (s .heads)) (length (s .next)) R B s after work work″ fits
+        entering-halt : fits ≡ false → EnteredAll (length (s .heads)) (length (s .next)) R B s after work work″ fits
         entering-halt h =
             let f : ℕ = length (s .next) in
             let over : f < sizeSum (factorOf m (R ++ take e B)) =
@@ -111,16 +114,21 @@ module _ {s : Stored} {b : book.Book} {ids work : List ℕ} {R B : List Column} 
               low = λ i l. ap (λ (w : List ℕ). lowerPart (cell w (gatherAt m f) i)) (x .unchanged h) ∙ v .gathers .low i l;
             }
 
-      pub entering-some : SomeAddBooked now b (take (e - a) (drop a ids)) work′
-      entering-some = record { R = R ++ take a B; W = group B a e; can = entering-can }
+      -- the ids of the group, as they are lent
+      module _ {part : List ℕ} (q : part ≡ take (e - a) (drop a ids)) where
+        part-can : CanAddBooked now b part work′ (R ++ take a B) (group B a e)
+        part-can = subst (λ (l : List ℕ). CanAddBooked now b l work′ (R ++ take a B) (group B a e)) (sym q) entering-can
 
-      module _ {after : Stored} {work″ : List ℕ} {fits : Bool} (d : (N W : List Column) → CanAddBooked now b (take (e - a) (drop a ids)) work′ N W →
-          GroupEntered (length (s .heads)) (length (now .next)) now N W after work′ work″ fits) where
-        pub entering-turn : fits ≡ true → Entering R B s after work work″ e
-        entering-turn = entering-next (d (R ++ take a B) (group B a e) entering-can)
+        pub entering-some : SomeAddBooked now b part work′
+        entering-some = record { R = R ++ take a B; W = group B a e; can = part-can }
 
-        pub entering-stop : fits ≡ false → EnteredAll (length (s .heads)) (length (s .next)) R B s after work work″ fits
-        entering-stop = entering-halt (d (R ++ take a B) (group B a e) entering-can)
+        module _ {after : Stored} {work″ : List ℕ} {fits : Bool} (d : (N W : List Column) → CanAddBooked now b part work′ N W →
+            GroupEntered (length (s .heads)) (length (now .next)) now N W after work′ work″ fits) where
+          pub entering-turn : fits ≡ true → Entering R B s after work work″ e
+          entering-turn = entering-next (d (R ++ take a B) (group B a e) part-can)
+
+          pub entering-stop : fits ≡ false → EnteredAll (length (s .heads)) (length (s .next)) R B s after work work″ fits
+          entering-stop = entering-halt (d (R ++ take a B) (group B a e) part-can)
 
     pub entering-end : length ids ≤ a → EnteredAll (length (s .heads)) (length (s .next)) R B s now work work′ true
     entering-end h =

@@ -18,20 +18,21 @@ use Rattle.workspace.specs.Regions.{cell, OnlyIn}
 use Rattle.workspace.specs.Layout.{spare, flagsAt, flagCount, gatherAt}
 use Rattle.workspace.specs.Parts.{upperWeight, lowerPart}
 use Rattle.workspace.proofs.Regions.{only-cell, only-zero, only-join, only-wider}
-use Rattle.snapshot.specs.Snapshot.{CanSaveParents, ParentsSaved, CanSaveRecords, RecordsSaved}
+use Rattle.snapshot.specs.Snapshot.{ParentsKept, CanSaveParents, ParentsSaved, CanSaveRecords, RecordsSaved}
 use Rattle.snapshot.proofs.Kept.{parents-stay}
 use Rattle.book.specs.Book as book
 use Rattle.tables.specs.Stored.{Stored, recordsOf}
 use Rattle.tables.proofs.Stored.{sound-facts}
 use Rattle.tables.proofs.Reading.{holds-size}
 use Rattle.updown.proofs.Booking.{booked-length}
-use Rattle.exchange.specs.Exchange.{CanExchange, Gathered, Done, Exchanged}
-use Rattle.exchange.specs.Stages.{gatheredIn, Moved, SomeSwap, Swapped}
+use Rattle.windows.specs.Chosen.{CanCollect}
+use Rattle.exchange.specs.Exchange.{Gathered, Done, Exchanged}
+use Rattle.exchange.specs.Stages.{gatheredIn, movingIds, Moved, CanSwap, SomeSwap, Swapped}
 use Rattle.exchange.proofs.Stages.{moved-as}
 use Rattle.exchange.proofs.Small.{sizes-fit, parents-small}
 use Rattle.exchange.proofs.Swapping.{exchange-room, can-pair}
 
-module _ {s : Stored} {b : book.Book} {leave enter work : List ℕ} {R A B : List Column} (c : CanExchange s b leave enter work R A B) where
+module _ {s : Stored} {b : book.Book} {leave enter work : List ℕ} {R A B : List Column} (c : CanSwap s b leave enter work R A B) where
   abbrev m : ℕ
   m = length (s .heads)
 
@@ -51,7 +52,7 @@ module _ {s : Stored} {b : book.Book} {leave enter work : List ℕ} {R A B : Lis
   can-save-records small = record { can = can-pair c small; inside = omega (arith, c .long) }
 
   -- an exchange that was possible still is, where only places that a plan does not use have changed
-  pub can-after : {work′ : List ℕ} → OnlyIn (spare (length (s .heads)) (length (s .next))) (3 * length (s .next)) work work′ → CanExchange s b leave enter work′ R A B
+  pub can-after : {work′ : List ℕ} → OnlyIn (spare (length (s .heads)) (length (s .next))) (3 * length (s .next)) work work′ → CanSwap s b leave enter work′ R A B
   can-after {work′} o =
       record {
         columns = c .columns;
@@ -59,8 +60,8 @@ module _ {s : Stored} {b : book.Book} {leave enter work : List ℕ} {R A B : Lis
         sound = c .sound;
         same = c .same;
         fits = c .fits;
-        leaving = c .leaving;
-        entering = c .entering;
+        leave-booked = c .leave-booked;
+        enter-booked = c .enter-booked;
         book-sized = c .book-sized;
         book-free = c .book-free;
         book-sound = c .book-sound;
@@ -81,14 +82,13 @@ module _ {s : Stored} {b : book.Book} {leave enter work : List ℕ} {R A B : Lis
       both-only : OnlyIn (spare m f) (3 * f) work work₂
       both-only = only-join (spare m f) (3 * f) parents-only (r .only) (omega arith) (omega arith) (omega arith) (omega arith)
 
-      pub some-swap : SomeSwap s b leave enter work₂
-      some-swap =
-          record {
-            some = record { R = R; A = A; B = B; can = can-after both-only };
-            records = r .kept;
-            parents = parents-stay (p .kept) (r .only .same-length)
-                (λ i h. ap lowerPart (only-cell (r .only) (gatherAt m f) (length (s .parents)) (inl (omega arith)) i h));
-          }
+      pub can-after-both : CanSwap s b leave enter work₂ R A B
+      can-after-both = can-after both-only
+
+      pub parents-kept : ParentsKept work₂ (gatherAt (length (s .heads)) (length (s .next))) (s .parents)
+      parents-kept =
+          parents-stay (p .kept) (r .only .same-length)
+          (λ i h. ap lowerPart (only-cell (r .only) (gatherAt m f) (length (s .parents)) (inl (omega arith)) i h))
 
       low-after : (i : ℕ) → i < m → cell work₂ (gatherAt m f) i < upperWeight
       low-after i h =
@@ -118,7 +118,7 @@ module _ {s : Stored} {b : book.Book} {leave enter work : List ℕ} {R A B : Lis
   module _ {work₁ : List ℕ} (p : ParentsSaved (s .parents) work work₁ (gatherAt (length (s .heads)) (length (s .next)))) {after : Stored} {work₂ : List ℕ}
       (none : length enter ≡ 0) (v : Moved (length (s .heads)) (length (s .next)) R s (isTouched (factorOf (length (s .heads)) (R ++ A)) A) R after work₁ work₂) where
     empty : B ≡ []
-    empty = nothing B (booked-length b enter B (c .entering) ∙ none)
+    empty = nothing B (booked-length b enter B (c .enter-booked) ∙ none)
       where
         nothing : (cs : List Column) → length cs ≡ 0 → cs ≡ []
         nothing [] e = refl
@@ -147,13 +147,21 @@ module _ {s : Stored} {b : book.Book} {leave enter work : List ℕ} {R A B : Lis
   -- some enter
   module _ {work₁ : List ℕ} (p : ParentsSaved (s .parents) work work₁ (gatherAt (length (s .heads)) (length (s .next)))) {work₂ : List ℕ}
       (r : RecordsSaved (s .rows) (s .counts) (s .next) work₁ work₂ (spare (length (s .heads)) (length (s .next)))) {after : Stored} {work₃ : List ℕ} {fits : Bool} where
-    pub finished-both : ((R A B : List Column) → CanExchange s b leave enter work₂ R A B → Swapped (length (s .heads)) (length (s .next)) R A B s after work₂ work₃ fits) →
+    pub finished-both : ((R A B : List Column) → CanSwap s b leave enter work₂ R A B → Swapped (length (s .heads)) (length (s .next)) R A B s after work₂ work₃ fits) →
         Exchanged s R A B work after work₃ fits
     finished-both d =
-        let x : Swapped m f R A B s after work₂ work₃ fits = d R A B (can-after (both-only p r)) in
+        let x : Swapped m f R A B s after work₂ work₃ fits = d R A B (can-after-both p r) in
         record {
           fits-is = x .fits-is;
           done = λ k. finished (x .done k) (low-after p r);
           undone = x .undone;
           only = only-join (spare m f) (3 * f) (both-only p r) (x .only) (omega arith) (omega arith) (omega arith) (omega (arith, exchange-room c));
         }
+
+-- what a caller of `swap` shows
+pub some-swap : {s : Stored} {b : book.Book} {windows : List ℕ} {before after : ℕ} {work work₁ work₂ : List ℕ} {R A B : List Column} →
+    CanSwap s b (movingIds (b .heads) windows before after) (movingIds (b .heads) windows after before) work R A B → CanCollect (b .heads) windows 1 →
+    ParentsSaved (s .parents) work work₁ (gatherAt (length (s .heads)) (length (s .next))) →
+    RecordsSaved (s .rows) (s .counts) (s .next) work₁ work₂ (spare (length (s .heads)) (length (s .next))) → SomeSwap s b windows before after work₂
+some-swap {R = R} {A} {B} c k p r =
+    record { R = R; A = A; B = B; can = can-after-both c p r; scan = k; records = r .kept; parents = parents-kept c p r }

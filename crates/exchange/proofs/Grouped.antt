@@ -1,11 +1,11 @@
 -- A group that leaves or enters, from what planning, gathering and writing promise: what each of them asks, and that the group has left (`group-left`) or entered
 -- (`group-entered`). Assumes nothing.
-use mathlib.Core.Path.{_≡_, refl, sym, _∙_}
+use mathlib.Core.Path.{_≡_, refl, sym, _∙_, subst}
 use mathlib.Core.Bool.{Bool, true, false, true≢false}
 use mathlib.Core.List.{List, _++_}
-use Prim.Native.Nat.{ℕ, _≤_}
+use Prim.Native.Nat.{ℕ, _≤_, _<_}
 use native.Mathlib.Omega.{arith}
-use lib.ListN.{length}
+use lib.ListN.{length, getD}
 use Rattle.lists.specs.Lists.{among}
 use Rattle.lists.proofs.Tests.{both-ways}
 use Rattle.symbolic.specs.Columns.{Column}
@@ -15,12 +15,15 @@ use Rattle.symbolic.specs.Batch.{isTouched, touched, labelOf}
 use Rattle.symbolic.proofs.Theorems.{touched-is, touched-rises, locality}
 use Rattle.pool.specs.Chains.{chain}
 use Rattle.book.specs.Book as book
+use Rattle.book.specs.Entries.{HasHead}
 use Rattle.tables.specs.Stored.{Stored, storedOf}
 use Rattle.tables.proofs.Stored.{sound-bag}
-use Rattle.updown.specs.Entries.{CanAddBooked, AddPlanned, CanRemove, SomeRemove, RemovePlanned}
+use Rattle.updown.specs.Entries.{Booked, BookedFrom, bookedStarts, CanPlan, CanAddBooked, CanEnter, AddPlanned, CanRemove, SomeRemove, RemovePlanned}
+use Rattle.updown.proofs.Filled.{whole-booked, whole-heads, whole-enter}
 use Rattle.commit.specs.Gather as commit
 use Rattle.commit.specs.Writes.{SomeWrite, WrittenAll}
 use Rattle.exchange.specs.Stages.{groupTouches, CanLeave, GroupDone, GroupEntered}
+use Rattle.updown.proofs.Booking.{booked-length}
 use Rattle.exchange.proofs.Grouping.{Planned, can-gather, some-gather, some-write, group-done}
 
 -- the columns that a group touches are those of the list
@@ -34,27 +37,36 @@ GatheredAll hs ns w start first w′ =
     (L L′ : List FactorColumn) (label : ℕ → ℕ) (columns : List ℕ) (used : ℕ) → commit.CanGatherColumns hs ns L L′ label columns w start first used →
     commit.ColumnsGathered hs ns columns start w w′
 
+-- what filling in the starts asks: its positions are few, and their columns stand in the book
+group-few : {s : Stored} {work : List ℕ} {cs W : List Column} (b : book.Book) (ids : List ℕ) → CanPlan s cs W work → Booked b ids W → book.Sized b → (free : ℕ) →
+    book.isSound (length (s .heads)) (book.bookOf (b .heads) (b .rows) (b .next) free) ≡ true →
+    (length ids ≤ 64) × ((k : ℕ) → k < length ids → HasHead (b .heads) (b .rows) (getD ids k 0))
+group-few {s} {W = W} b ids p h z free sound = (omega (arith, booked-length b ids W h, p .positions .1), whole-heads (length (s .heads)) b free ids W h z sound)
+
 -- ---- a group that leaves
 
 module _ {s : Stored} {b : book.Book} {ids work : List ℕ} {N W : List Column} (c : CanLeave s b ids work N W) where
-  can-remove : CanRemove (storedOf (s .heads) (s .parents) (s .rows) (s .counts) (s .next) 0) b ids work N W
-  can-remove =
+  pub leave-few : (length ids ≤ 64) × ((k : ℕ) → k < length ids → HasHead (b .heads) (b .rows) (getD ids k 0))
+  leave-few = group-few b ids (c .can) (c .booked) (c .book-sized) (c .book-free) (c .book-sound)
+
+  can-remove : {starts : List ℕ} → starts ≡ bookedStarts b ids → CanRemove (storedOf (s .heads) (s .parents) (s .rows) (s .counts) (s .next) 0) b starts ids work N W
+  can-remove e =
       record {
         columns = c .columns;
         free = s .free;
         book-free = c .book-free;
         can = c .can;
         same = c .same;
-        booked = c .booked;
+        booked = subst (λ (xs : List ℕ). BookedFrom b xs ids W) (sym e) (whole-booked (length (s .heads)) b ids W (c .can .batch-fits) (c .booked));
         book-sized = c .book-sized;
         book-sound = c .book-sound;
       }
 
-  pub some-remove : SomeRemove (storedOf (s .heads) (s .parents) (s .rows) (s .counts) (s .next) 0) b ids work
-  some-remove = record { R = N; W = W; can = can-remove }
+  pub some-remove : {starts : List ℕ} → starts ≡ bookedStarts b ids → SomeRemove (storedOf (s .heads) (s .parents) (s .rows) (s .counts) (s .next) 0) b starts ids work
+  some-remove e = record { R = N; W = W; can = can-remove e }
 
-  module _ {planned : List ℕ} {fits : Bool} {first count entries used : ℕ}
-      (d : (R W : List Column) → CanRemove (storedOf (s .heads) (s .parents) (s .rows) (s .counts) (s .next) 0) b ids work R W →
+  module _ {starts : List ℕ} (q : starts ≡ bookedStarts b ids) {planned : List ℕ} {fits : Bool} {first count entries used : ℕ}
+      (d : (R W : List Column) → CanRemove (storedOf (s .heads) (s .parents) (s .rows) (s .counts) (s .next) 0) b starts ids work R W →
       RemovePlanned (storedOf (s .heads) (s .parents) (s .rows) (s .counts) (s .next) 0) R W work planned fits first count entries used) where
     abbrev m : ℕ
     m = length (s .heads)
@@ -70,7 +82,7 @@ module _ {s : Stored} {b : book.Book} {ids work : List ℕ} {N W : List Column} 
           zero = k .zero;
           free = 0;
           free-enough = omega arith;
-          plan = d N W can-remove .plan;
+          plan = d N W (can-remove q) .plan;
           rising = touched-rises m (N ++ W) W;
           touched-is = among-touched m (N ++ W) W;
           off = λ j p q h. sym (locality m N W j p q h);
@@ -92,16 +104,21 @@ module _ {s : Stored} {b : book.Book} {ids work : List ℕ} {N W : List Column} 
 
 -- ---- a group that enters
 
-module _ {s : Stored} {b : book.Book} {ids work : List ℕ} {N W : List Column} (c : CanAddBooked s b ids work N W) {planned : List ℕ} {fits : Bool}
-    {first count entries used : ℕ} (d : (R W : List Column) → CanAddBooked s b ids work R W → AddPlanned s R W work planned fits first count entries used) where
+pub enter-few : {s : Stored} {b : book.Book} {ids work : List ℕ} {N W : List Column} → CanAddBooked s b ids work N W →
+    (length ids ≤ 64) × ((k : ℕ) → k < length ids → HasHead (b .heads) (b .rows) (getD ids k 0))
+enter-few {b = b} {ids = ids} c = group-few b ids (c .can) (c .booked) (c .book-sized) (c .book-free) (c .book-sound)
+
+module _ {s : Stored} {b : book.Book} {ids work : List ℕ} {N W : List Column} (c : CanAddBooked s b ids work N W) {starts : List ℕ} (q : starts ≡ bookedStarts b ids)
+    {planned : List ℕ} {fits : Bool} {first count entries used : ℕ}
+    (d : (R W : List Column) → CanEnter s b starts ids work R W → AddPlanned s R W work planned fits first count entries used) where
   -- where it does not fit
   pub group-halted : fits ≡ false → GroupEntered (length (s .heads)) (length (s .next)) s N W s work planned false
   group-halted h =
       record {
-        fits-is = sym h ∙ d N W c .fits-is;
+        fits-is = sym h ∙ d N W (whole-enter q c) .fits-is;
         done = λ k. absurd (true≢false (sym k));
         undone = λ k. refl;
-        unchanged = λ k. d N W c .unchanged h;
+        unchanged = λ k. d N W (whole-enter q c) .unchanged h;
       }
 
   module _ (h : fits ≡ true) where
@@ -117,7 +134,7 @@ module _ {s : Stored} {b : book.Book} {ids work : List ℕ} {N W : List Column} 
           zero = k .zero;
           free = length (chain (s .next) (s .free));
           free-enough = omega arith;
-          plan = d N W c .plan h;
+          plan = d N W (whole-enter q c) .plan h;
           rising = touched-rises (length (s .heads)) (N ++ W) W;
           touched-is = among-touched (length (s .heads)) (N ++ W) W;
           off = λ j p q o. locality (length (s .heads)) N W j p q o;
@@ -139,7 +156,7 @@ module _ {s : Stored} {b : book.Book} {ids work : List ℕ} {N W : List Column} 
           GroupEntered (length (s .heads)) (length (s .next)) s N W after work work′ true
       group-entered y l =
           record {
-            fits-is = sym h ∙ d N W c .fits-is;
+            fits-is = sym h ∙ d N W (whole-enter q c) .fits-is;
             done = λ k. group-done enter-planned entered-is y l;
             undone = λ k. absurd (true≢false k);
             unchanged = λ k. absurd (true≢false k);

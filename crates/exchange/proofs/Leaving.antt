@@ -14,10 +14,10 @@ use Rattle.symbolic.specs.Batch.{isTouched}
 use Rattle.book.specs.Book as book
 use Rattle.tables.specs.Stored.{Stored}
 use Rattle.updown.proofs.Booking.{booked-length}
-use Rattle.exchange.specs.Stages.{groupTouches, CanLeave, GroupDone, GroupEnds, CanGo, CanLeaveAll, SomeLeave, Moved}
+use Rattle.exchange.specs.Stages.{groupTouches, CanLeave, GroupDone, CanGo, CanLeaveAll, SomeLeave, Moved}
 use Rattle.exchange.proofs.Stages.{moved-none, moved-as, moved-joins, group-moved}
 use Rattle.exchange.proofs.Small.{rows-room}
-use Rattle.exchange.proofs.Parting.{group, booked-part, left-parts, leaving-more}
+use Rattle.exchange.proofs.Parting.{GroupEnds, group, booked-part, left-parts, leaving-more}
 use Rattle.exchange.proofs.Going.{go-on, some-fit}
 
 -- the columns of A before place a have left R and A
@@ -33,9 +33,12 @@ pub mem-front : {c : Column} (a : ℕ) (cs : List Column) → Mem c (take a cs) 
 mem-front {c} a cs h = subst (λ (l : List Column). Mem c l) (take-append-drop a cs) (mem-left (drop a cs) h)
 
 module _ {s : Stored} {b : book.Book} {ids work : List ℕ} {R A : List Column} (c : CanLeaveAll s b ids work R A) where
-  pub leaving-start : Leaving R A s s work work 0
+  leaving-first : Leaving R A s s work work 0
   unfolding any
-  leaving-start = moved-as (λ j p q. refl) (λ f. sym (c .same f)) (moved-none (c .go .sized) (c .sound) refl)
+  leaving-first = moved-as (λ j p q. refl) (λ f. sym (c .same f)) (moved-none (c .go .sized) (c .sound) refl)
+
+  pub leaving-start : {a : ℕ} → a ≡ 0 → Leaving R A s s work work a
+  leaving-start e = subst (λ (a : ℕ). Leaving R A s s work work a) (sym e) leaving-first
 
   length-is : length A ≡ length ids
   length-is = booked-length b ids A (c .booked)
@@ -48,7 +51,7 @@ module _ {s : Stored} {b : book.Book} {ids work : List ℕ} {R A : List Column} 
       group-length : length (group A a e) ≡ e - a
       group-length = omega (arith, length-take (e - a) (drop a A), length-drop a A, length-is, g .low, g .high)
 
-      pub leaving-can : CanLeave now b (take (e - a) (drop a ids)) work′ (R ++ drop e A) (group A a e)
+      leaving-can : CanLeave now b (take (e - a) (drop a ids)) work′ (R ++ drop e A) (group A a e)
       leaving-can =
           let o : CanGo now b work′ = go-on (c .go) leave-room v in
           let wide : length (now .heads) ≡ length (s .heads) = ap length (v .heads) in
@@ -76,7 +79,7 @@ module _ {s : Stored} {b : book.Book} {ids work : List ℕ} {R A : List Column} 
             book-sound = o .book-sound;
           }
 
-      pub leaving-next : {after : Stored} {work″ : List ℕ} →
+      leaving-next : {after : Stored} {work″ : List ℕ} →
           GroupDone (length (s .heads)) (length (now .next)) now (groupTouches (length (s .heads)) (R ++ drop e A) (group A a e)) (R ++ drop e A) after work′ work″ →
           Leaving R A s after work work″ e
       leaving-next {after} {work″} d =
@@ -85,12 +88,17 @@ module _ {s : Stored} {b : book.Book} {ids work : List ℕ} {R A : List Column} 
           subst (λ (f : ℕ). GroupDone m f now (groupTouches m (R ++ drop e A) (group A a e)) (R ++ drop e A) after work′ work″) (v .long) d in
           moved-as (leaving-more m R A a e (omega (arith, g .low))) (λ f. refl) (moved-joins refl v (drop a A) (λ f. refl) (group-moved done))
 
-      pub leaving-some : SomeLeave now b (take (e - a) (drop a ids)) work′
-      leaving-some = record { N = R ++ drop e A; W = group A a e; can = leaving-can }
+      -- the ids of the group, as they are lent
+      module _ {part : List ℕ} (q : part ≡ take (e - a) (drop a ids)) where
+        part-can : CanLeave now b part work′ (R ++ drop e A) (group A a e)
+        part-can = subst (λ (l : List ℕ). CanLeave now b l work′ (R ++ drop e A) (group A a e)) (sym q) leaving-can
 
-      pub leaving-turn : {after : Stored} {work″ : List ℕ} → ((N W : List Column) → CanLeave now b (take (e - a) (drop a ids)) work′ N W →
-          GroupDone (length (s .heads)) (length (now .next)) now (groupTouches (length (s .heads)) N W) N after work′ work″) → Leaving R A s after work work″ e
-      leaving-turn d = leaving-next (d (R ++ drop e A) (group A a e) leaving-can)
+        pub leaving-some : SomeLeave now b part work′
+        leaving-some = record { N = R ++ drop e A; W = group A a e; can = part-can }
+
+        pub leaving-turn : {after : Stored} {work″ : List ℕ} → ((N W : List Column) → CanLeave now b part work′ N W →
+            GroupDone (length (s .heads)) (length (now .next)) now (groupTouches (length (s .heads)) N W) N after work′ work″) → Leaving R A s after work work″ e
+        leaving-turn d = leaving-next (d (R ++ drop e A) (group A a e) part-can)
 
     pub leaving-end : length ids ≤ a → Moved (length (s .heads)) (length (s .next)) R s (isTouched (factorOf (length (s .heads)) (R ++ A)) A) R now work work′
     leaving-end h =

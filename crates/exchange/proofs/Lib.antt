@@ -2,10 +2,12 @@ pub mod Stages
 pub mod Small
 pub mod Parting
 pub mod Going
+pub mod Scanning
 pub mod Leaving
 pub mod Entering
 pub mod Swapping
 pub mod Finishing
+pub mod Choosing
 pub mod Grouping
 pub mod Grouped
 pub mod Reports

@@ -3,7 +3,7 @@
 use mathlib.Core.Path.{_≡_, sym, ap, _∙_, subst}
 use mathlib.Core.Bool.{Bool, _||_}
 use mathlib.Core.List.{List, [], _∷_, _++_, append-nil}
-use Prim.Native.Nat.{ℕ, zero, suc, _+_, _-_, _≤_}
+use Prim.Native.Nat.{ℕ, zero, suc, _+_, _-_, _≤_, _<_}
 use native.Mathlib.Omega.{arith}
 use lib.ListN.{take, drop, take-append-drop}
 use lib.Seq.{take-add, drop-drop}
@@ -19,6 +19,12 @@ use Rattle.symbolic.proofs.Theorems.{order-free, leave-splits, enter-splits}
 use Rattle.book.specs.Book as book
 use Rattle.updown.specs.Entries.{Booked}
 use Rattle.exchange.specs.Stages.{groupTouches}
+
+-- the group from place a on ends at place e, of n in all
+pub record GroupEnds (a n e : ℕ) : Type 0 where
+  pub low : a < e
+  pub high : e ≤ n
+  pub few : e ≤ a + 64
 
 -- ---- booked
 

@@ -20,13 +20,13 @@ use Rattle.snapshot.specs.Snapshot.{countBound, CanPair, RecordsKept, ParentsKe
 use Rattle.snapshot.proofs.Kept.{records-stay, parents-stay}
 use Rattle.book.specs.Book as book
 use Rattle.tables.specs.Stored.{Stored, storedOf}
-use Rattle.exchange.specs.Exchange.{CanExchange}
-use Rattle.exchange.specs.Stages.{CanGo, CanLeaveAll, SomeLeaveAll, Moved, CanEnterAll, SomeEnterAll, EnteredAll, Swapped, CanUndo, SomeUndo, Undone}
+use Rattle.windows.specs.Chosen.{CanCollect}
+use Rattle.exchange.specs.Stages.{movingIds, CanGo, CanLeaveAll, SomeLeaveAll, Moved, CanEnterAll, SomeEnterAll, EnteredAll, CanSwap, Swapped, CanUndo, SomeUndo, Undone}
 use Rattle.exchange.proofs.Stages.{moved-joins}
 use Rattle.exchange.proofs.Small.{rows-room, rows-small}
 use Rattle.exchange.proofs.Going.{go-on, some-fit}
 
-module _ {s : Stored} {b : book.Book} {leave enter work : List ℕ} {R A B : List Column} (c : CanExchange s b leave enter work R A B) where
+module _ {s : Stored} {b : book.Book} {leave enter work : List ℕ} {R A B : List Column} (c : CanSwap s b leave enter work R A B) where
   abbrev m : ℕ
   m = length (s .heads)
 
@@ -61,12 +61,9 @@ module _ {s : Stored} {b : book.Book} {leave enter work : List ℕ} {R A B : Lis
         sound = c .sound;
         same = c .same;
         fits = some-fit (R ++ (A ++ B)) (R ++ A) (λ x h. elim (mem-either R h) [ inl k ↦ mem-left (A ++ B) k | inr k ↦ mem-right R (mem-left B k) ]) refl (c .fits);
-        booked = c .leaving;
+        booked = c .leave-booked;
         few = omega (arith, c .few);
       }
-
-  pub some-leave-all : SomeLeaveAll s b leave work
-  some-leave-all = record { R = R; A = A; can = can-leave-all }
 
   -- records that can be kept, if multiplicities have 16 bits
   pub can-pair : ((k : ℕ) → getD (s .counts) k 0 < countBound) → CanPair (s .rows) (s .counts) (s .next)
@@ -86,12 +83,9 @@ module _ {s : Stored} {b : book.Book} {leave enter work : List ℕ} {R A B : Lis
           sound = v .sound;
           fits = some-fit (R ++ (A ++ B)) (R ++ B)
               (λ x h. elim (mem-either R h) [ inl k ↦ mem-left (A ++ B) k | inr k ↦ mem-right R (mem-right A k) ]) (ap length (v .heads)) (c .fits);
-          booked = c .entering;
+          booked = c .enter-booked;
           few = omega (arith, c .few);
         }
-
-    pub some-enter-all : SomeEnterAll mid b enter work′
-    some-enter-all = record { R = R; B = B; can = can-enter-all }
 
     -- ---- both together
 
@@ -152,7 +146,15 @@ module _ {s : Stored} {b : book.Book} {leave enter work : List ℕ} {R A B : Lis
             only = swap-only;
           }
 
--- what a caller of `undo` shows
+-- what callers show
+pub some-leave-all : {s : Stored} {b : book.Book} {windows : List ℕ} {minute other : ℕ} {work : List ℕ} {R A : List Column} →
+    CanLeaveAll s b (movingIds (b .heads) windows minute other) work R A → CanCollect (b .heads) windows 1 → SomeLeaveAll s b windows minute other work
+some-leave-all {R = R} {A} c k = record { R = R; A = A; can = c; scan = k }
+
+pub some-enter-all : {s : Stored} {b : book.Book} {windows : List ℕ} {minute other : ℕ} {work : List ℕ} {R B : List Column} →
+    CanEnterAll s b (movingIds (b .heads) windows minute other) work R B → CanCollect (b .heads) windows 1 → SomeEnterAll s b windows minute other work
+some-enter-all {R = R} {B} c k = record { R = R; B = B; can = c; scan = k }
+
 pub some-undo : {m : ℕ} {parents rows counts next work parents₀ rows₀ counts₀ next₀ : List ℕ} → CanUndo m parents rows counts next work parents₀ rows₀ counts₀ next₀ →
     SomeUndo m parents rows counts next work
 some-undo {parents₀ = ps} {rows₀ = xs} {counts₀ = ns} {next₀ = ls} c = record { parents₀ = ps; rows₀ = xs; counts₀ = ns; next₀ = ls; can = c }

@@ -1,52 +1,53 @@
--- An exchange of the stored columns: booked columns A leave, booked columns B enter, R stay, as one change that fits or leaves everything as it was. What it asks,
--- and what it leaves: the factor of R and B; columns off the paths stay, entries that stand before, between and after keep their records; which columns lie on the
--- paths, each with its size before. Assumes nothing: these are definitions.
+-- An exchange of the stored columns as the clock goes from one minute to another: booked columns A leave, booked columns B enter, R stay, as one change that fits or
+-- leaves everything as it was. What it asks, and what it leaves: the factor of R and B; columns off the paths stay, entries that stand before, between and after keep
+-- their records; which columns lie on the paths, each with its size before. Assumes nothing: these are definitions.
 use mathlib.Core.Path.{_≡_}
 use mathlib.Core.Bool.{Bool, true, false}
 use mathlib.Core.List.{List, _++_}
 use Prim.Native.Nat.{ℕ, _+_, _*_, _-_, _≤_}
 use lib.Dec.{leb}
 use lib.ListN.{length, replicate}
-use Rattle.lists.specs.Lists.{pick, all, over}
-use Rattle.symbolic.specs.Columns.{Column, fitsRows}
+use Rattle.lists.specs.Lists.{pick, over}
+use Rattle.symbolic.specs.Columns.{Column}
 use Rattle.symbolic.specs.Factor.{factorOf, columnAt, sizeOf, sizeSum}
 use Rattle.symbolic.specs.Batch.{isExchanged, exchanged, entriesOf}
-use Rattle.symbolic.specs.Change.{Bag}
 use Rattle.workspace.specs.Regions.{cell, IsZero, OnlyIn}
 use Rattle.workspace.specs.Layout.{spare, flagsAt, flagCount, gatherAt}
 use Rattle.workspace.specs.Parts.{upperPart}
 use Rattle.book.specs.Book as book
 use Rattle.tables.specs.Stored.{Stored, Sized, storedOf, isSoundFor}
 use Rattle.tables.specs.Stays.{ColumnStays, EntriesStay}
-use Rattle.updown.specs.Entries.{Booked, planNeed}
+use Rattle.updown.specs.Entries.{planNeed}
+use Rattle.windows.specs.Windows.{countsAt, movesFrom, staysBetween}
+use Rattle.windows.specs.Chosen.{chosen}
 
--- stored columns that are sound for R and A but for their order, a sound book that has A and B under the ids, and a work table whose places for plans are zero
-pub record CanExchange (s : Stored) (b : book.Book) (leave enter work : List ℕ) (R A B : List Column) : Type 0 where
-  pub columns : List Column
+-- the columns that stay as the clock goes from one minute to another: they count at both
+abbrev pub staying : book.Book → (windows : List ℕ) → (before after : ℕ) → List Column
+staying b w t u = chosen b (staysBetween w (length (b .heads)) t u)
+
+-- those that leave: they count at the minute before and not at the one after
+abbrev pub leaving : book.Book → (windows : List ℕ) → (before after : ℕ) → List Column
+leaving b w t u = chosen b (movesFrom w (length (b .heads)) t u)
+
+-- those that enter: they count at the minute after and not at the one before
+abbrev pub entering : book.Book → (windows : List ℕ) → (before after : ℕ) → List Column
+entering b w t u = chosen b (movesFrom w (length (b .heads)) u t)
+
+-- stored columns that are sound for the columns that count at minute t, a sound book with two minutes for each id, and a work table whose places for plans are zero
+pub record CanExchange (s : Stored) (b : book.Book) (windows : List ℕ) (t : ℕ) (work : List ℕ) : Type 0 where
   pub sized : Sized s
-  pub sound : isSoundFor columns s ≡ true
-  pub same : Bag columns (R ++ A)
-  pub fits : all (fitsRows (length (s .heads))) (R ++ (A ++ B)) ≡ true
-  pub leaving : Booked b leave A
-  pub entering : Booked b enter B
+  pub sound : isSoundFor (chosen b (countsAt windows (length (b .heads)) t)) s ≡ true
   pub book-sized : book.Sized b
   pub book-free : ℕ
   pub book-sound : book.isSound (length (s .heads)) (book.bookOf (b .heads) (b .rows) (b .next) book-free) ≡ true
   pub some : 1 ≤ length (s .heads)
   pub m-bound : length (s .heads) ≤ 4096
   pub f-bound : length (s .next) ≤ 1048576
-  -- a loose bound above document 01's 16,384 ids, which only keeps multiplicities within 16 bits
-  pub few : length R + (length A + length B) ≤ 50000
+  pub few : length (b .heads) ≤ 16384
+  pub windows-long : 2 * length (b .heads) ≤ length windows
   pub long : planNeed (length (s .heads)) (length (s .next)) ≤ length work
   pub zero : IsZero work 0 (spare (length (s .heads)) (length (s .next)))
   pub flags-zero : IsZero work (flagsAt (length (s .heads)) (length (s .next))) flagCount
-
--- what a caller shows: that the columns under the ids can be exchanged, for some R, A and B
-pub record SomeExchange (s : Stored) (b : book.Book) (leave enter work : List ℕ) : Type 0 where
-  pub R : List Column
-  pub A : List Column
-  pub B : List Column
-  pub can : CanExchange s b leave enter work R A B
 
 -- of each column, whether it lies on the path of one that leaves, in the tree before, or of one that enters, in the tree after, and then its size before
 abbrev pub Gathered : (m f : ℕ) (R A B : List Column) (work : List ℕ) → Type 0

@@ -19,7 +19,8 @@ use Rattle.book.specs.Book as book
 use Rattle.tables.specs.Stored.{Stored, Sized, recordsOf, isSoundFor}
 use Rattle.tables.specs.Stays.{ColumnStays, EntriesKeep, EntriesStay}
 use Rattle.updown.specs.Entries.{planNeed, Booked, CanPlan}
-use Rattle.exchange.specs.Exchange.{SomeExchange}
+use Rattle.windows.specs.Windows.{movesFrom}
+use Rattle.windows.specs.Chosen.{chosenIds, CanCollect}
 
 -- ---- gathering
 
@@ -85,13 +86,11 @@ pub record Moved (m f : ℕ) (R : List Column) (s : Stored) (touches : ℕ → B
   pub entries : (j : ℕ) → 1 ≤ j → j ≤ m → EntriesStay (factorOf m R) s after j
   pub gathers : Gathers m f touches (λ j. length (recordsOf s j)) work work′
 
--- ---- all groups of a list of ids
+-- ---- all groups of the ids that move
 
--- the group from place a on ends at place e, of n in all
-pub record GroupEnds (a n e : ℕ) : Type 0 where
-  pub low : a < e
-  pub high : e ≤ n
-  pub few : e ≤ a + 64
+-- the booked ids that count at one minute and not at another
+abbrev pub movingIds : (heads windows : List ℕ) → (minute other : ℕ) → List ℕ
+movingIds hs w t u = chosenIds hs (movesFrom w (length hs) t u)
 
 -- stored columns, a book and a work table for groups to go through, one after another
 pub record CanGo (s : Stored) (b : book.Book) (work : List ℕ) : Type 0 where
@@ -116,11 +115,12 @@ pub record CanLeaveAll (s : Stored) (b : book.Book) (ids work : List ℕ) (R A :
   pub booked : Booked b ids A
   pub few : length R + length A ≤ 50000
 
--- what a caller shows: that some A can leave some R
-pub record SomeLeaveAll (s : Stored) (b : book.Book) (ids work : List ℕ) : Type 0 where
+-- what a caller shows: that those that count at one minute and not at another are some A that can leave some R
+pub record SomeLeaveAll (s : Stored) (b : book.Book) (windows : List ℕ) (minute other : ℕ) (work : List ℕ) : Type 0 where
   pub R : List Column
   pub A : List Column
-  pub can : CanLeaveAll s b ids work R A
+  pub can : CanLeaveAll s b (movingIds (b .heads) windows minute other) work R A
+  pub scan : CanCollect (b .heads) windows 1
 
 -- all columns B can enter beside R, so far as sizes go
 pub record CanEnterAll (s : Stored) (b : book.Book) (ids work : List ℕ) (R B : List Column) : Type 0 where
@@ -130,11 +130,12 @@ pub record CanEnterAll (s : Stored) (b : book.Book) (ids work : List ℕ) (R B :
   pub booked : Booked b ids B
   pub few : length R + length B ≤ 50000
 
--- what a caller shows: that some B can enter beside some R
-pub record SomeEnterAll (s : Stored) (b : book.Book) (ids work : List ℕ) : Type 0 where
+-- what a caller shows: that those that count at one minute and not at another are some B that can enter beside some R
+pub record SomeEnterAll (s : Stored) (b : book.Book) (windows : List ℕ) (minute other : ℕ) (work : List ℕ) : Type 0 where
   pub R : List Column
   pub B : List Column
-  pub can : CanEnterAll s b ids work R B
+  pub can : CanEnterAll s b (movingIds (b .heads) windows minute other) work R B
+  pub scan : CanCollect (b .heads) windows 1
 
 -- all of B have entered beside R if all sizes fit then; else some of B have; either way only upper parts of the places of gathering changed in the work table
 pub record EnteredAll (m f : ℕ) (R B : List Column) (s after : Stored) (work work′ : List ℕ) (fits : Bool) : Type 0 where
@@ -143,11 +144,36 @@ pub record EnteredAll (m f : ℕ) (R B : List Column) (s after : Stored) (work w
   pub only : OnlyIn (gatherAt m f) m work work′
   pub low : (i : ℕ) → i < m → lowerPart (cell work′ (gatherAt m f) i) ≡ lowerPart (cell work (gatherAt m f) i)
 
--- ---- both lists, on kept tables
+-- ---- both ways, on kept tables
 
--- columns that can be exchanged, with records and parents kept
-pub record SomeSwap (s : Stored) (b : book.Book) (leave enter work : List ℕ) : Type 0 where
-  pub some : SomeExchange s b leave enter work
+-- stored columns that are sound for R and A but for their order, a sound book that has A and B under the ids, and a work table whose places for plans are zero
+pub record CanSwap (s : Stored) (b : book.Book) (leave enter work : List ℕ) (R A B : List Column) : Type 0 where
+  pub columns : List Column
+  pub sized : Sized s
+  pub sound : isSoundFor columns s ≡ true
+  pub same : Bag columns (R ++ A)
+  pub fits : all (fitsRows (length (s .heads))) (R ++ (A ++ B)) ≡ true
+  pub leave-booked : Booked b leave A
+  pub enter-booked : Booked b enter B
+  pub book-sized : book.Sized b
+  pub book-free : ℕ
+  pub book-sound : book.isSound (length (s .heads)) (book.bookOf (b .heads) (b .rows) (b .next) book-free) ≡ true
+  pub some : 1 ≤ length (s .heads)
+  pub m-bound : length (s .heads) ≤ 4096
+  pub f-bound : length (s .next) ≤ 1048576
+  -- a loose bound above three times document 01's 16,384 ids, which only keeps multiplicities within 16 bits
+  pub few : length R + (length A + length B) ≤ 50000
+  pub long : planNeed (length (s .heads)) (length (s .next)) ≤ length work
+  pub zero : IsZero work 0 (spare (length (s .heads)) (length (s .next)))
+  pub flags-zero : IsZero work (flagsAt (length (s .heads)) (length (s .next))) flagCount
+
+-- what a caller shows: that those that move between two minutes are some A and B that can be exchanged, some R staying, with records and parents kept
+pub record SomeSwap (s : Stored) (b : book.Book) (windows : List ℕ) (before after : ℕ) (work : List ℕ) : Type 0 where
+  pub R : List Column
+  pub A : List Column
+  pub B : List Column
+  pub can : CanSwap s b (movingIds (b .heads) windows before after) (movingIds (b .heads) windows after before) work R A B
+  pub scan : CanCollect (b .heads) windows 1
   pub records : RecordsKept work (savedAt (length (s .heads)) (length (s .next))) (s .rows) (s .counts) (s .next)
   pub parents : ParentsKept work (gatherAt (length (s .heads)) (length (s .next))) (s .parents)
 

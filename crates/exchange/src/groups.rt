@@ -1,7 +1,8 @@
-// A group of at most 64 booked columns leaves the stored columns of L or enters them; all columns under a list of ids do, group by group. The columns on the
-// paths are gathered with their sizes before they change.
+// A group of at most 64 booked columns leaves the stored columns of L or enters them; all columns that count at one minute and not at another do, group by group.
+// The columns on the paths are gathered with their sizes before they change.
+ghost use mathlib.Core.Path.{_≡_};
 ghost use mathlib.Core.List.{List, _++_};
-ghost use Prim.Native.Nat.{_<_};
+ghost use lib.Dec.{eqb};
 ghost use lib.ListN.{length};
 ghost use Rattle.symbolic.specs.Columns.{Column};
 ghost use Rattle.symbolic.specs.Factor.{factorOf};
@@ -9,21 +10,13 @@ ghost use Rattle.symbolic.specs.Batch.{isTouched};
 ghost use Rattle.tables.specs.Stored.{storedOf};
 ghost use Rattle.book.specs.Book.{tablesOf};
 ghost use Rattle.updown.specs.Entries.{CanAddBooked, SomeAddBooked};
-ghost use Rattle.exchange.specs.Stages.{groupTouches, CanLeave, SomeLeave, GroupDone, GroupEntered, GroupEnds, CanLeaveAll, SomeLeaveAll, Moved, CanEnterAll, SomeEnterAll, EnteredAll};
+ghost use Rattle.windows.specs.Chosen.{CanCollect};
+ghost use Rattle.exchange.specs.Stages.{groupTouches, CanLeave, SomeLeave, GroupDone, GroupEntered, movingIds, CanLeaveAll, SomeLeaveAll, Moved, CanEnterAll, SomeEnterAll, EnteredAll};
 use crate::Outcome;
+use book::Id;
 use pool::Rec;
+use updown::filling;
 use workspace::PLAN;
-
-// Where the group from place a on ends, of n ids in all.
-fn group_end(a: usize, n: usize) -> usize
-    requires { ⌜ a < n ⌝ }
-    ensures { λ e. ⌜ GroupEnds a n e ⌝ }
-{
-    if n - a <= 64 {
-        return n;
-    }
-    a + 64
-}
 
 // Plans that the columns under some ids leave, gathers the touched columns, and writes the plan. Gives the free head.
 pub fn leave_group(
@@ -42,6 +35,9 @@ pub fn leave_group(
     requires { ⌜ SomeLeave (storedOf (now heads) (now parents) (now rows) (now counts) (now next) (free .0)) (tablesOf (now «book_heads») (now «book_rows») (now «book_next»)) (now ids) (now work) ⌝ }
     ensures { λ z. ⌜ ((N W : List Column) → CanLeave (storedOf (now (heads .entry)) (now (parents .entry)) (now (rows .entry)) (now (counts .entry)) (now (next .entry)) (free .0)) (tablesOf (now («book_heads» .entry)) (now («book_rows» .entry)) (now («book_next» .entry))) (now (ids .entry)) (now (work .entry)) N W → GroupDone (length (now (heads .entry))) (length (now (next .entry))) (storedOf (now (heads .entry)) (now (parents .entry)) (now (rows .entry)) (now (counts .entry)) (now (next .entry)) (free .0)) (groupTouches (length (now (heads .entry))) N W) N (storedOf (now (heads .entry)) (now (parents .exit)) (now (rows .exit)) (now (counts .exit)) (now (next .exit)) (z .0)) (now (work .entry)) (now (work .exit))) ⌝ }
 {
+    let k = ids.len();
+    let mut starts = [0u32; 64];
+    filling::booked_starts(book_heads, book_rows, ids, &mut starts[..k]);
     let plan = updown::plan_remove(
         heads,
         parents,
@@ -53,6 +49,7 @@ pub fn leave_group(
         book_next,
         work,
         ids,
+        &starts[..k],
     );
     let m = heads.len();
     let f = next.len();
@@ -87,6 +84,9 @@ pub fn enter_group(
     requires { ⌜ SomeAddBooked (storedOf (now heads) (now parents) (now rows) (now counts) (now next) (free .0)) (tablesOf (now «book_heads») (now «book_rows») (now «book_next»)) (now ids) (now work) ⌝ }
     ensures { λ x. ⌜ ((N W : List Column) → CanAddBooked (storedOf (now (heads .entry)) (now (parents .entry)) (now (rows .entry)) (now (counts .entry)) (now (next .entry)) (free .0)) (tablesOf (now («book_heads» .entry)) (now («book_rows» .entry)) (now («book_next» .entry))) (now (ids .entry)) (now (work .entry)) N W → GroupEntered (length (now (heads .entry))) (length (now (next .entry))) (storedOf (now (heads .entry)) (now (parents .entry)) (now (rows .entry)) (now (counts .entry)) (now (next .entry)) (free .0)) N W (storedOf (now (heads .entry)) (now (parents .exit)) (now (rows .exit)) (now (counts .exit)) (now (next .exit)) (x .free .0)) (now (work .entry)) (now (work .exit)) (x .fits)) ⌝ }
 {
+    let k = ids.len();
+    let mut starts = [0u32; 64];
+    filling::booked_starts(book_heads, book_rows, ids, &mut starts[..k]);
     let plan = updown::plan_enter(
         heads,
         parents,
@@ -98,6 +98,7 @@ pub fn enter_group(
         book_next,
         work,
         ids,
+        &starts[..k],
         free,
     );
     if plan.fits {
@@ -126,7 +127,17 @@ pub fn enter_group(
     }
 }
 
-// The columns under all ids leave, group by group. Gives the free head.
+// Whether no booked id counts at one minute and not at another.
+pub fn none_moves(book_heads: &[u32], windows: &[u32], minute: u32, other: u32) -> bool
+    requires { ⌜ CanCollect (now «book_heads») (now windows) 1 ⌝ }
+    ensures { λ r. ⌜ r ≡ eqb (length (movingIds (now («book_heads» .entry)) (now (windows .entry)) minute other)) 0 ⌝ }
+{
+    let mut first = [0u32; 1];
+    let g = windows::collect(book_heads, windows, minute, other, Id(1), &mut first);
+    g.count == 0
+}
+
+// The columns that count at one minute and not at another leave, group by group. Gives the free head.
 pub fn leave_all(
     heads: &[u32],
     parents: &mut [u16],
@@ -136,18 +147,24 @@ pub fn leave_all(
     book_heads: &[u32],
     book_rows: &[u16],
     book_next: &[u32],
+    windows: &[u32],
     work: &mut [u32],
-    ids: &[u32],
+    minute: u32,
+    other: u32,
     free: Rec,
 ) -> Rec
-    requires { ⌜ SomeLeaveAll (storedOf (now heads) (now parents) (now rows) (now counts) (now next) (free .0)) (tablesOf (now «book_heads») (now «book_rows») (now «book_next»)) (now ids) (now work) ⌝ }
-    ensures { λ z. ⌜ ((R A : List Column) → CanLeaveAll (storedOf (now (heads .entry)) (now (parents .entry)) (now (rows .entry)) (now (counts .entry)) (now (next .entry)) (free .0)) (tablesOf (now («book_heads» .entry)) (now («book_rows» .entry)) (now («book_next» .entry))) (now (ids .entry)) (now (work .entry)) R A → Moved (length (now (heads .entry))) (length (now (next .entry))) R (storedOf (now (heads .entry)) (now (parents .entry)) (now (rows .entry)) (now (counts .entry)) (now (next .entry)) (free .0)) (isTouched (factorOf (length (now (heads .entry))) (R ++ A)) A) R (storedOf (now (heads .entry)) (now (parents .exit)) (now (rows .exit)) (now (counts .exit)) (now (next .exit)) (z .0)) (now (work .entry)) (now (work .exit))) ⌝ }
+    requires { ⌜ SomeLeaveAll (storedOf (now heads) (now parents) (now rows) (now counts) (now next) (free .0)) (tablesOf (now «book_heads») (now «book_rows») (now «book_next»)) (now windows) minute other (now work) ⌝ }
+    ensures { λ z. ⌜ ((R A : List Column) → CanLeaveAll (storedOf (now (heads .entry)) (now (parents .entry)) (now (rows .entry)) (now (counts .entry)) (now (next .entry)) (free .0)) (tablesOf (now («book_heads» .entry)) (now («book_rows» .entry)) (now («book_next» .entry))) (movingIds (now («book_heads» .entry)) (now (windows .entry)) minute other) (now (work .entry)) R A → Moved (length (now (heads .entry))) (length (now (next .entry))) R (storedOf (now (heads .entry)) (now (parents .entry)) (now (rows .entry)) (now (counts .entry)) (now (next .entry)) (free .0)) (isTouched (factorOf (length (now (heads .entry))) (R ++ A)) A) R (storedOf (now (heads .entry)) (now (parents .exit)) (now (rows .exit)) (now (counts .exit)) (now (next .exit)) (z .0)) (now (work .entry)) (now (work .exit))) ⌝ }
 {
-    let n = ids.len();
-    let mut a: usize = 0;
+    let mut i = Id(1);
     let mut z = free;
-    while a < n {
-        let e = group_end(a, n);
+    loop {
+        let mut group = [0u32; 64];
+        let g = windows::collect(book_heads, windows, minute, other, i, &mut group);
+        let k = g.count;
+        if k == 0 {
+            return z;
+        }
         z = leave_group(
             heads,
             parents,
@@ -158,15 +175,14 @@ pub fn leave_all(
             book_rows,
             book_next,
             work,
-            &ids[a..e],
+            &group[..k],
             z,
         );
-        a = e;
+        i = g.next;
     }
-    z
 }
 
-// The columns under all ids enter, group by group, up to the first group that does not fit.
+// The columns that count at one minute and not at another enter, group by group, up to the first group that does not fit.
 pub fn enter_all(
     heads: &[u32],
     parents: &mut [u16],
@@ -176,18 +192,27 @@ pub fn enter_all(
     book_heads: &[u32],
     book_rows: &[u16],
     book_next: &[u32],
+    windows: &[u32],
     work: &mut [u32],
-    ids: &[u32],
+    minute: u32,
+    other: u32,
     free: Rec,
 ) -> Outcome
-    requires { ⌜ SomeEnterAll (storedOf (now heads) (now parents) (now rows) (now counts) (now next) (free .0)) (tablesOf (now «book_heads») (now «book_rows») (now «book_next»)) (now ids) (now work) ⌝ }
-    ensures { λ x. ⌜ ((R B : List Column) → CanEnterAll (storedOf (now (heads .entry)) (now (parents .entry)) (now (rows .entry)) (now (counts .entry)) (now (next .entry)) (free .0)) (tablesOf (now («book_heads» .entry)) (now («book_rows» .entry)) (now («book_next» .entry))) (now (ids .entry)) (now (work .entry)) R B → EnteredAll (length (now (heads .entry))) (length (now (next .entry))) R B (storedOf (now (heads .entry)) (now (parents .entry)) (now (rows .entry)) (now (counts .entry)) (now (next .entry)) (free .0)) (storedOf (now (heads .entry)) (now (parents .exit)) (now (rows .exit)) (now (counts .exit)) (now (next .exit)) (x .free .0)) (now (work .entry)) (now (work .exit)) (x .fits)) ⌝ }
+    requires { ⌜ SomeEnterAll (storedOf (now heads) (now parents) (now rows) (now counts) (now next) (free .0)) (tablesOf (now «book_heads») (now «book_rows») (now «book_next»)) (now windows) minute other (now work) ⌝ }
+    ensures { λ x. ⌜ ((R B : List Column) → CanEnterAll (storedOf (now (heads .entry)) (now (parents .entry)) (now (rows .entry)) (now (counts .entry)) (now (next .entry)) (free .0)) (tablesOf (now («book_heads» .entry)) (now («book_rows» .entry)) (now («book_next» .entry))) (movingIds (now («book_heads» .entry)) (now (windows .entry)) minute other) (now (work .entry)) R B → EnteredAll (length (now (heads .entry))) (length (now (next .entry))) R B (storedOf (now (heads .entry)) (now (parents .entry)) (now (rows .entry)) (now (counts .entry)) (now (next .entry)) (free .0)) (storedOf (now (heads .entry)) (now (parents .exit)) (now (rows .exit)) (now (counts .exit)) (now (next .exit)) (x .free .0)) (now (work .entry)) (now (work .exit)) (x .fits)) ⌝ }
 {
-    let n = ids.len();
-    let mut a: usize = 0;
+    let mut i = Id(1);
     let mut z = free;
-    while a < n {
-        let e = group_end(a, n);
+    loop {
+        let mut group = [0u32; 64];
+        let g = windows::collect(book_heads, windows, minute, other, i, &mut group);
+        let k = g.count;
+        if k == 0 {
+            return Outcome {
+                fits: true,
+                free: z,
+            };
+        }
         let x = enter_group(
             heads,
             parents,
@@ -198,18 +223,13 @@ pub fn enter_all(
             book_rows,
             book_next,
             work,
-            &ids[a..e],
+            &group[..k],
             z,
         );
-        if x.fits {
-            z = x.free;
-            a = e;
-        } else {
+        if !x.fits {
             return x;
         }
-    }
-    Outcome {
-        fits: true,
-        free: z,
+        z = x.free;
+        i = g.next;
     }
 }

@@ -1,13 +1,14 @@
-// Booked columns leave the stored columns of L and others enter, as one change: in groups of at most 64, in the order of the lists, those that leave first. Where
-// the result does not fit, every table is as before, place by place. The book does not change.
+// The clock goes from one minute to another: booked columns that count at the first and not at the second leave the stored columns of L, those that count at the
+// second and not at the first enter, as one change: in groups of at most 64, by rising id, those that leave first. Where the result does not fit, every table is as
+// before, place by place. Book and windows do not change.
 ghost use mathlib.Core.List.{List};
 ghost use Prim.Native.Nat.{ℕ};
 ghost use lib.ListN.{length};
 ghost use Rattle.symbolic.specs.Columns.{Column};
 ghost use Rattle.tables.specs.Stored.{storedOf};
 ghost use Rattle.book.specs.Book.{tablesOf};
-ghost use Rattle.exchange.specs.Exchange.{SomeExchange, CanExchange, Exchanged};
-ghost use Rattle.exchange.specs.Stages.{SomeSwap, Swapped, SomeUndo, CanUndo, Undone};
+ghost use Rattle.exchange.specs.Exchange.{staying, leaving, entering, CanExchange, Exchanged};
+ghost use Rattle.exchange.specs.Stages.{movingIds, SomeSwap, CanSwap, Swapped, SomeUndo, CanUndo, Undone};
 
 pub mod groups;
 pub mod reporting;
@@ -38,7 +39,7 @@ fn undo(
     snapshot::restoring::restore_parents(parents, work, PLAN * m + f + 2 * f);
 }
 
-// The columns under some ids leave, then others enter. Where that does not fit, all records and parents are brought back.
+// Those that count before and not after leave, then those that count after and not before enter. Where that does not fit, all records and parents are brought back.
 fn swap(
     heads: &[u32],
     parents: &mut [u16],
@@ -48,13 +49,14 @@ fn swap(
     book_heads: &[u32],
     book_rows: &[u16],
     book_next: &[u32],
+    windows: &[u32],
     work: &mut [u32],
-    leave: &[u32],
-    enter: &[u32],
+    before: u32,
+    after: u32,
     free: Rec,
 ) -> Outcome
-    requires { ⌜ SomeSwap (storedOf (now heads) (now parents) (now rows) (now counts) (now next) (free .0)) (tablesOf (now «book_heads») (now «book_rows») (now «book_next»)) (now leave) (now enter) (now work) ⌝ }
-    ensures { λ x. ⌜ ((R A B : List Column) → CanExchange (storedOf (now (heads .entry)) (now (parents .entry)) (now (rows .entry)) (now (counts .entry)) (now (next .entry)) (free .0)) (tablesOf (now («book_heads» .entry)) (now («book_rows» .entry)) (now («book_next» .entry))) (now (leave .entry)) (now (enter .entry)) (now (work .entry)) R A B → Swapped (length (now (heads .entry))) (length (now (next .entry))) R A B (storedOf (now (heads .entry)) (now (parents .entry)) (now (rows .entry)) (now (counts .entry)) (now (next .entry)) (free .0)) (storedOf (now (heads .entry)) (now (parents .exit)) (now (rows .exit)) (now (counts .exit)) (now (next .exit)) (x .free .0)) (now (work .entry)) (now (work .exit)) (x .fits)) ⌝ }
+    requires { ⌜ SomeSwap (storedOf (now heads) (now parents) (now rows) (now counts) (now next) (free .0)) (tablesOf (now «book_heads») (now «book_rows») (now «book_next»)) (now windows) before after (now work) ⌝ }
+    ensures { λ x. ⌜ ((R A B : List Column) → CanSwap (storedOf (now (heads .entry)) (now (parents .entry)) (now (rows .entry)) (now (counts .entry)) (now (next .entry)) (free .0)) (tablesOf (now («book_heads» .entry)) (now («book_rows» .entry)) (now («book_next» .entry))) (movingIds (now («book_heads» .entry)) (now (windows .entry)) before after) (movingIds (now («book_heads» .entry)) (now (windows .entry)) after before) (now (work .entry)) R A B → Swapped (length (now (heads .entry))) (length (now (next .entry))) R A B (storedOf (now (heads .entry)) (now (parents .entry)) (now (rows .entry)) (now (counts .entry)) (now (next .entry)) (free .0)) (storedOf (now (heads .entry)) (now (parents .exit)) (now (rows .exit)) (now (counts .exit)) (now (next .exit)) (x .free .0)) (now (work .entry)) (now (work .exit)) (x .fits)) ⌝ }
 {
     let z = groups::leave_all(
         heads,
@@ -65,8 +67,10 @@ fn swap(
         book_heads,
         book_rows,
         book_next,
+        windows,
         work,
-        leave,
+        before,
+        after,
         free,
     );
     let x = groups::enter_all(
@@ -78,8 +82,10 @@ fn swap(
         book_heads,
         book_rows,
         book_next,
+        windows,
         work,
-        enter,
+        after,
+        before,
         z,
     );
     if x.fits {
@@ -93,7 +99,8 @@ fn swap(
     }
 }
 
-// Exchanges the columns under some ids for those under others. The columns on their paths stand behind the saved records, each with its size before.
+// Exchanges the columns that count at the minute before for those that count at the minute after. The columns on their paths stand behind the saved records, each
+// with its size before.
 pub fn exchange(
     heads: &[u32],
     parents: &mut [u16],
@@ -103,18 +110,19 @@ pub fn exchange(
     book_heads: &[u32],
     book_rows: &[u16],
     book_next: &[u32],
+    windows: &[u32],
     work: &mut [u32],
-    leave: &[u32],
-    enter: &[u32],
+    before: u32,
+    after: u32,
     free: Rec,
 ) -> Outcome
-    requires { ⌜ SomeExchange (storedOf (now heads) (now parents) (now rows) (now counts) (now next) (free .0)) (tablesOf (now «book_heads») (now «book_rows») (now «book_next»)) (now leave) (now enter) (now work) ⌝ }
-    ensures { λ x. ⌜ ((R A B : List Column) → CanExchange (storedOf (now (heads .entry)) (now (parents .entry)) (now (rows .entry)) (now (counts .entry)) (now (next .entry)) (free .0)) (tablesOf (now («book_heads» .entry)) (now («book_rows» .entry)) (now («book_next» .entry))) (now (leave .entry)) (now (enter .entry)) (now (work .entry)) R A B → Exchanged (storedOf (now (heads .entry)) (now (parents .entry)) (now (rows .entry)) (now (counts .entry)) (now (next .entry)) (free .0)) R A B (now (work .entry)) (storedOf (now (heads .entry)) (now (parents .exit)) (now (rows .exit)) (now (counts .exit)) (now (next .exit)) (x .free .0)) (now (work .exit)) (x .fits)) ⌝ }
+    requires { ⌜ CanExchange (storedOf (now heads) (now parents) (now rows) (now counts) (now next) (free .0)) (tablesOf (now «book_heads») (now «book_rows») (now «book_next»)) (now windows) before (now work) ⌝ }
+    ensures { λ x. ⌜ Exchanged (storedOf (now (heads .entry)) (now (parents .entry)) (now (rows .entry)) (now (counts .entry)) (now (next .entry)) (free .0)) (staying (tablesOf (now («book_heads» .entry)) (now («book_rows» .entry)) (now («book_next» .entry))) (now (windows .entry)) before after) (leaving (tablesOf (now («book_heads» .entry)) (now («book_rows» .entry)) (now («book_next» .entry))) (now (windows .entry)) before after) (entering (tablesOf (now («book_heads» .entry)) (now («book_rows» .entry)) (now («book_next» .entry))) (now (windows .entry)) before after) (now (work .entry)) (storedOf (now (heads .entry)) (now (parents .exit)) (now (rows .exit)) (now (counts .exit)) (now (next .exit)) (x .free .0)) (now (work .exit)) (x .fits) ⌝ }
 {
     let m = heads.len();
     let f = next.len();
     snapshot::saving::save_parents(parents, work, PLAN * m + f + 2 * f);
-    if enter.len() == 0 {
+    if groups::none_moves(book_heads, windows, after, before) {
         let z = groups::leave_all(
             heads,
             parents,
@@ -124,8 +132,10 @@ pub fn exchange(
             book_heads,
             book_rows,
             book_next,
+            windows,
             work,
-            leave,
+            before,
+            after,
             free,
         );
         return Outcome {
@@ -143,9 +153,10 @@ pub fn exchange(
         book_heads,
         book_rows,
         book_next,
+        windows,
         work,
-        leave,
-        enter,
+        before,
+        after,
         free,
     )
 }

@@ -17,16 +17,18 @@ use Rattle.workspace.specs.Regions.{cleared}
 use Rattle.pool.specs.Chains.{chain}
 use Rattle.book.specs.Book.{Book}
 use Rattle.tables.specs.Stored.{Stored}
-use Rattle.updown.specs.Entries.{CanPlan, CanAdd, CanAddBooked, AddPlanned}
+use Rattle.updown.specs.Entries.{CanPlan, CanAdd, CanEnter, AddPlanned}
 use Rattle.updown.specs.Plans.{PlanIs}
 use Rattle.updown.specs.States.{Setting, Between}
-use Rattle.updown.specs.Starts.{StartsTo, CanMark, CanMarkBooked, CanWalk, Walked, CanEnter, CanWalkBooked, Ended}
+use Rattle.updown.specs.Starts.{StartsTo, CanMark, CanWalk, Walked, CanWalkListed, CanWalkBooked, Ended}
 use Rattle.updown.proofs.Sound.{sound-pool, sound-size}
 use Rattle.updown.proofs.Opening.{walking-start}
 use Rattle.updown.proofs.Ending.{plan-made}
 use Rattle.updown.proofs.Exceeding.{sizes-fit}
 use Rattle.updown.proofs.Halting.{cleared-back}
-use Rattle.updown.proofs.Preparing.{setting-of, room-of, zero-of, bare-of, book-holds, book-mark}
+use Rattle.updown.proofs.Preparing.{setting-of, room-of, zero-of, mark-of, book-holds}
+use Rattle.updown.proofs.Listing.{listed-starts}
+use Rattle.updown.proofs.Booking.{booked-starts}
 
 module _ {s : Stored} {work : List ℕ} {R W : List Column} (c : CanPlan s R W work) where
   abbrev m : ℕ
@@ -79,22 +81,20 @@ module _ {s : Stored} {work : List ℕ} {R W : List Column} (c : CanPlan s R W w
 
 -- ---- listed columns
 
-module _ {s : Stored} {row-counts row-list work : List ℕ} {R W : List Column} (c : CanAdd s row-counts row-list work R W) where
-  pub add-mark : CanMark row-counts row-list (length (s .heads)) (8 * length (s .heads) + 4 * length (s .next)) work W
-  add-mark = record { listed = c .listed; fits = c .can .batch-fits; few = c .can .positions .1; room = room-of (c .can); bare = bare-of (c .can) }
+module _ {s : Stored} {starts row-counts row-list work : List ℕ} {R W : List Column} (c : CanAdd s starts row-counts row-list work R W) where
+  pub add-mark : CanMark starts (length (s .heads)) (8 * length (s .heads) + 4 * length (s .next)) work W
+  add-mark = mark-of (c .can) (listed-starts starts row-counts row-list W (c .listed))
 
-  pub add-enter : {w : List ℕ} →
-      ((W : List Column) → CanMark row-counts row-list (length (s .heads)) (8 * length (s .heads) + 4 * length (s .next)) work W →
-      StartsTo (length (s .heads)) (8 * length (s .heads) + 4 * length (s .next)) W work w (length W)) →
-      CanEnter (s .heads) (s .parents) (s .rows) (s .counts) (s .next) work w row-counts row-list (length (s .heads)) (8 * length (s .heads) + 4 * length (s .next)) (s .free) R W
-  add-enter marks = record { walk = add-walk (c .can) (marks W add-mark); listed = c .listed; fits = c .can .batch-fits }
+  pub add-listed : {w : List ℕ} → StartsTo (length (s .heads)) (8 * length (s .heads) + 4 * length (s .next)) W work w (length W) →
+      CanWalkListed (s .heads) (s .parents) (s .rows) (s .counts) (s .next) work w starts row-counts row-list (length (s .heads)) (8 * length (s .heads) + 4 * length (s .next)) (s .free) R W
+  add-listed t = record { walk = add-walk (c .can) t; listed = c .listed; fits = c .can .batch-fits }
 
 -- ---- booked columns
 
-module _ {s : Stored} {b : Book} {ids work : List ℕ} {R W : List Column} (c : CanAddBooked s b ids work R W) where
-  pub enter-mark : CanMarkBooked (b .heads) (b .rows) (b .next) ids (length (s .heads)) (8 * length (s .heads) + 4 * length (s .next)) work W
-  enter-mark = book-mark (c .can) b (c .booked) (c .book-sized) (c .book-free) (c .book-sound)
+module _ {s : Stored} {b : Book} {starts ids work : List ℕ} {R W : List Column} (c : CanEnter s b starts ids work R W) where
+  pub enter-mark : CanMark starts (length (s .heads)) (8 * length (s .heads) + 4 * length (s .next)) work W
+  enter-mark = mark-of (c .can) (booked-starts b starts ids W (c .booked))
 
   pub enter-walk : {w : List ℕ} → StartsTo (length (s .heads)) (8 * length (s .heads) + 4 * length (s .next)) W work w (length W) →
-      CanWalkBooked (s .heads) (s .parents) (s .rows) (s .counts) (s .next) (b .heads) (b .rows) (b .next) work w ids (length (s .heads)) (8 * length (s .heads) + 4 * length (s .next)) (s .free) R W true
+      CanWalkBooked (s .heads) (s .parents) (s .rows) (s .counts) (s .next) (b .heads) (b .rows) (b .next) work w starts ids (length (s .heads)) (8 * length (s .heads) + 4 * length (s .next)) (s .free) R W true
   enter-walk t = record { walk = add-walk (c .can) t; holds = book-holds (c .can) b (c .booked) (c .book-sized) (c .book-free) (c .book-sound) }

@@ -1,33 +1,30 @@
--- The columns that a sound book has under some ids: the head and the smallest row of each (`booked-first`, `booked-start`), its rows copied into the buffer (`booked-copy`,
--- `booked-gathered`), the loops over them. Assumes nothing.
+-- The columns that a sound book has under some ids: the rows of one that counts (`booked-rows`), copied into the buffer (`booked-copy`, `booked-gathered`), the
+-- loop over them. Assumes nothing.
 use mathlib.Core.Path.{_≡_, refl, sym, ap, _∙_, subst}
 use mathlib.Core.Logic.{inl, inr, _≢_}
-use mathlib.Core.Bool.{Bool, true, _&&_}
+use mathlib.Core.Bool.{Bool, true}
 use mathlib.Core.List.{List, [], _∷_, _++_}
 use Prim.Native.Nat.{ℕ, zero, suc, _+_, _-_, _*_, _≤_, _<_}
 use native.Mathlib.Omega.{arith}
 use lib.ListN.{length, getD, take, drop, length-drop, length-append, List·getD-append}
 use lib.Seq.{ext-getD, getD-take, getD-drop, getD-append-add, length-take-le}
-use Rattle.lists.specs.Lists.{at, among, rises, all, valuesAt, over, allZero}
-use Rattle.lists.proofs.Tests.{and-both}
+use lib.Dec.{eqb}
+use borrow.Author.Tests.{ne-eqb}
+use Rattle.lists.specs.Lists.{pick, at, among, rises, valuesAt, over}
 use Rattle.lists.proofs.Rising.{rises-length}
 use Rattle.symbolic.specs.Columns.{Column, smallest, holds}
 use Rattle.workspace.specs.Regions.{cell, region, IsZero}
 use Rattle.workspace.proofs.Regions.{region-cell, region-length}
-use Rattle.pool.specs.Chains.{chain, Linked}
-use Rattle.pool.specs.Whole.{isWhole, Pool}
-use Rattle.pool.proofs.Chains.{linked-head}
-use Rattle.pool.proofs.Whole.{whole-pool, pool-linked}
+use Rattle.pool.specs.Chains.{chain}
 use Rattle.book.specs.Book as book
-use Rattle.book.specs.Entries.{CanCopy, HasHead, StartsAt}
+use Rattle.book.specs.Entries.{CanCopy}
 use Rattle.differences.specs.Gather.{Gathered}
 use Rattle.differences.specs.Count.{Counted}
-use Rattle.updown.specs.Entries.{Booked}
-use Rattle.updown.specs.Marks.{Room, startMarked}
+use Rattle.updown.specs.Entries.{Booked, BookedFrom}
 use Rattle.updown.proofs.Brought.{Steady}
-use Rattle.updown.specs.Starts.{StartsTo, CanStart, BookHolds, CanMarkBooked}
+use Rattle.updown.specs.Starts.{CanStart, BookHolds}
 use Rattle.updown.proofs.Gathering.{bumps}
-use Rattle.updown.proofs.Listing.{none, Fits, fits-at, starts-more, Counting, counting-steady, counting-here, counting-past}
+use Rattle.updown.proofs.Listing.{none, Fits, fits-at, Counting, counting-steady, counting-here, counting-past}
 
 pub booked-length : (b : book.Book) (ids : List ℕ) (W : List Column) → Booked b ids W → length W ≡ length ids
 unfolding Booked
@@ -36,57 +33,67 @@ booked-length b [] (w ∷ ws) h = absurd h
 booked-length b (i ∷ is) [] h = absurd h
 booked-length b (i ∷ is) (w ∷ ws) h = ap suc (booked-length b is ws (h .3))
 
-booked-at : (b : book.Book) (ids : List ℕ) (W : List Column) (k : ℕ) → Booked b ids W → k < length ids →
-    (getD W k none .rows ≡ book.columnFor b (getD ids k 0) .rows) × (1 ≤ getD ids k 0) × (getD ids k 0 ≤ length (b .heads))
-unfolding Booked
-booked-at b [] W k h l = absurd (omega arith)
-booked-at b (i ∷ is) [] k h l = absurd h
-booked-at b (i ∷ is) (w ∷ ws) zero h l = (h .0, h .1, h .2)
-booked-at b (i ∷ is) (w ∷ ws) (suc k) h l = booked-at b is ws k (h .3) (omega arith)
+from-length : (b : book.Book) (starts ids : List ℕ) (W : List Column) → BookedFrom b starts ids W → (length W ≡ length ids) × (length starts ≡ length ids)
+unfolding BookedFrom
+from-length b [] [] [] h = (refl, refl)
+from-length b [] [] (w ∷ ws) h = absurd h
+from-length b [] (i ∷ is) ws h = absurd h
+from-length b (r ∷ rs) [] ws h = absurd h
+from-length b (r ∷ rs) (i ∷ is) [] h = absurd h
+from-length b (r ∷ rs) (i ∷ is) (w ∷ ws) h = let e = from-length b rs is ws (h .4) in (ap suc (e .0), ap suc (e .1))
 
-module _ {heads rows next ids : List ℕ} {m : ℕ} {W : List Column} (h : BookHolds heads rows next ids m W) where
-  pub booked-size : length W ≡ length ids
-  booked-size = booked-length (book.tablesOf heads rows next) ids W (h .booked)
+booked-at : (b : book.Book) (starts ids : List ℕ) (W : List Column) (k : ℕ) → BookedFrom b starts ids W → k < length W →
+    (getD W k none .rows ≡ pick (eqb (getD starts k 0) 0) [] (book.columnFor b (getD ids k 0) .rows)) × (getD starts k 0 ≡ smallest (getD W k none)) ×
+    (1 ≤ getD ids k 0) × (getD ids k 0 ≤ length (b .heads))
+unfolding BookedFrom
+booked-at b rs is [] k h l = absurd (omega arith)
+booked-at b [] [] (w ∷ ws) k h l = absurd h
+booked-at b [] (i ∷ is) (w ∷ ws) k h l = absurd h
+booked-at b (r ∷ rs) [] (w ∷ ws) k h l = absurd h
+booked-at b (r ∷ rs) (i ∷ is) (w ∷ ws) zero h l = (h .0, sym (h .1), h .2, h .3)
+booked-at b (r ∷ rs) (i ∷ is) (w ∷ ws) (suc k) h l = booked-at b rs is ws k (h .4) (omega arith)
 
-  book-pool : Pool next heads (h .free)
-  book-pool =
-      let zs : Bool = allZero (valuesAt rows (chain next (h .free))) in
-      let fs : Bool = all (book.columnFits m) (book.columnsIn (book.bookOf heads rows next (h .free))) in
-      whole-pool next heads (h .free) (and-both (isWhole next heads (h .free)) zs (and-both (isWhole next heads (h .free) && zs) fs (h .sound) .0) .0)
+-- a batch that is booked starts where the list of starts says
+pub booked-starts : (b : book.Book) (starts ids : List ℕ) (W : List Column) → BookedFrom b starts ids W →
+    (length W ≡ length starts) × ((k : ℕ) → k < length W → getD starts k 0 ≡ smallest (getD W k none))
+booked-starts b starts ids W h =
+    let e = from-length b starts ids W h in (e .0 ∙ sym (e .1), λ k l. booked-at b starts ids W k h l .1)
+
+module _ {heads rows next starts ids : List ℕ} {m : ℕ} {W : List Column} (h : BookHolds heads rows next starts ids m W) where
+  pub booked-size : (length W ≡ length ids) × (length starts ≡ length ids)
+  booked-size = from-length (book.tablesOf heads rows next) starts ids W (h .booked)
 
   module _ (k : ℕ) (l : k < length ids) where
     abbrev id : ℕ
     id = getD ids k 0
 
-    entry : (getD W k none .rows ≡ valuesAt rows (chain next (at heads id))) × (1 ≤ id) × (id ≤ length heads)
-    entry = booked-at (book.tablesOf heads rows next) ids W k (h .booked) l
+    entry : (getD W k none .rows ≡ pick (eqb (getD starts k 0) 0) [] (valuesAt rows (chain next (at heads id)))) × (getD starts k 0 ≡ smallest (getD W k none)) × (1 ≤ id) × (id ≤ length heads)
+    entry = booked-at (book.tablesOf heads rows next) starts ids W k (h .booked) (omega (arith, booked-size))
 
-    pub booked-fits : Fits m (getD W k none)
+    booked-fits : Fits m (getD W k none)
     booked-fits = fits-at m W (h .fits) k (omega (arith, booked-size))
 
-    booked-linked : Linked next (at heads id) (chain next (at heads id))
-    booked-linked = pool-linked book-pool id (entry .1) (entry .2)
+    booked-first : getD starts k 0 ≡ smallest (getD W k none)
+    booked-first = entry .1
 
-    pub booked-first : HasHead heads rows id
-    booked-first =
-        record { low = entry .1; high = entry .2; within = omega (arith, linked-head next (at heads id) (chain next (at heads id)) booked-linked, h .sized) }
+    -- it counts rows: those of the book
+    module _ (n : getD starts k 0 ≢ 0) where
+      booked-rows : getD W k none .rows ≡ valuesAt rows (chain next (at heads id))
+      booked-rows = entry .0 ∙ ap (λ (z : Bool). pick z [] (valuesAt rows (chain next (at heads id)))) (ne-eqb (getD starts k 0) 0 n)
 
-    pub booked-start : {row : ℕ} → StartsAt heads rows id row → row ≡ smallest (getD W k none)
-    booked-start s = s next (h .sized) ∙ ap (λ (xs : List ℕ). getD xs 0 0) (sym (entry .0))
+      booked-rise : rises 1 m (valuesAt rows (chain next (at heads id))) ≡ true
+      booked-rise = sym (ap (rises 1 m) booked-rows) ∙ booked-fits .rising
 
-    rows-short : length (getD W k none .rows) ≤ m
-    rows-short = omega (arith, rises-length 1 m (getD W k none .rows) (omega arith) (booked-fits .rising))
+      booked-short : length (valuesAt rows (chain next (at heads id))) ≤ m
+      booked-short = omega (arith, rises-length 1 m (valuesAt rows (chain next (at heads id))) (omega arith) booked-rise)
 
-    pub booked-rows : getD W k none .rows ≡ valuesAt rows (chain next (at heads id))
-    booked-rows = entry .0
-
-    pub booked-copy : (room : ℕ) → room ≡ m → CanCopy heads rows next id room
-    booked-copy room e =
-        record {
-          free = h .free;
-          has = record { m = m; sized = h .sized; sound = h .sound; low = entry .1; high = entry .2 };
-          fits = omega (arith, rows-short, ap length (entry .0));
-        }
+      booked-copy : (room : ℕ) → room ≡ m → CanCopy heads rows next id room
+      booked-copy room e =
+          record {
+            free = h .free;
+            has = record { m = m; sized = h .sized; sound = h .sound; low = entry .2; high = entry .3 };
+            fits = omega (arith, booked-short);
+          }
 
 -- ---- a list written over the front of the empty buffer
 
@@ -159,48 +166,38 @@ module _ (m : ℕ) (w rows ys : List ℕ) (l : 3 * m ≤ length w) (z : IsZero w
         rows = λ i. ap (λ (v : List ℕ). among i v) e₁;
       }
 
--- ---- the loops over booked columns
+-- ---- the loop over booked columns
 
-module _ {heads rows next ids : List ℕ} {m flags : ℕ} {w₀ : List ℕ} {W : List Column} (c : CanMarkBooked heads rows next ids m flags w₀ W) {w : List ℕ} {k : ℕ}
-    (s : StartsTo m flags W w₀ w k) (l : k < length ids) where
-  room-here : Room m flags w
-  room-here = record { m-bound = c .room .m-bound; low = c .room .low; long = omega (arith, c .room .long, s .same-length) }
-
-  pub marking-booked : {row : ℕ} → StartsAt heads rows (getD ids k 0) row → Room m flags w × (row ≤ m) × (k + 1 ≤ 64)
-  marking-booked e = (room-here, omega (arith, booked-start (c .holds) k l e, booked-fits (c .holds) k l .high), omega (arith, c .few, booked-size (c .holds)))
-
-  pub marking-booked-next : {w₁ : List ℕ} {row : ℕ} → StartsAt heads rows (getD ids k 0) row → w₁ ≡ startMarked m flags w row (k + 1) → StartsTo m flags W w₀ w₁ (k + 1)
-  marking-booked-next a = starts-more (c .holds .fits) s room-here (omega (arith, booked-size (c .holds))) (booked-start (c .holds) k l a)
-
-module _ {heads rows next ids : List ℕ} {m : ℕ} {R W : List Column} {adding : Bool} {w₀ w : List ℕ} {n j k : ℕ} (c : CanStart m R W adding w₀ j)
-    (h : BookHolds heads rows next ids m W) (t : Counting m R W adding w₀ w n j k) (l : k < length ids) where
+module _ {heads rows next starts ids : List ℕ} {m : ℕ} {R W : List Column} {adding : Bool} {w₀ w : List ℕ} {n j k : ℕ} (c : CanStart m R W adding w₀ j)
+    (h : BookHolds heads rows next starts ids m W) (t : Counting m R W adding w₀ w n j k) (l : k < length ids) where
   pub booked-steady : Steady m w n
   booked-steady = counting-steady c t (omega (arith, booked-size h))
 
-  -- the copied rows
-  pub booked-gathered : (ys : List ℕ) (g : ℕ) → g ≡ length (valuesAt rows (chain next (at heads (getD ids k 0)))) →
-      ys ≡ over (valuesAt rows (chain next (at heads (getD ids k 0)))) (take (3 * m - 2 * m) (drop (2 * m) w)) →
-      Gathered m w (take (2 * m) w ++ (ys ++ drop (3 * m - 2 * m) (drop (2 * m) w))) g (λ i. among i (valuesAt rows (chain next (at heads (getD ids k 0)))))
-  booked-gathered ys g e o =
-      let f : Fits m (getD W k none) = booked-fits h k l in
-      let q : getD W k none .rows ≡ valuesAt rows (chain next (at heads (getD ids k 0))) = booked-rows h k l in
-      let r : rises 1 m (valuesAt rows (chain next (at heads (getD ids k 0)))) ≡ true = sym (ap (rises 1 m) q) ∙ f .rising in
-      subst (λ (x : ℕ). Gathered m w (take (2 * m) w ++ (ys ++ drop (3 * m - 2 * m) (drop (2 * m) w))) x (λ i. among i (valuesAt rows (chain next (at heads (getD ids k 0)))))) (sym e)
-      (put-gathered m w (valuesAt rows (chain next (at heads (getD ids k 0)))) ys (booked-steady .tally .touched .long) (booked-steady .tally .buffer)
-      (omega (arith, rises-length 1 m (valuesAt rows (chain next (at heads (getD ids k 0)))) (omega arith) r)) o r)
+  -- it starts here
+  module _ (e : getD starts k 0 ≡ j) where
+    some : getD starts k 0 ≢ 0
+    some = omega (arith, c .low)
 
-  pub booked-here : {w₁ w₂ : List ℕ} {g n′ row : ℕ} → StartsAt heads rows (getD ids k 0) row → row ≡ j →
-      Gathered m w w₁ g (λ i. among i (valuesAt rows (chain next (at heads (getD ids k 0))))) → Counted m w₁ g adding w₂ n′ → Counting m R W adding w₀ w₂ n′ j (k + 1)
-  booked-here a e x y =
-      counting-here c t (omega (arith, booked-size h)) (sym (booked-start h k l a) ∙ e)
-      (bumps x adding (holds (getD W k none)) (λ i p q. ap (λ (z : List ℕ). among i z) (sym (booked-rows h k l))) y)
+    pub booked-ready : (room : ℕ) → room ≡ m → CanCopy heads rows next (getD ids k 0) room
+    booked-ready = booked-copy h k l some
 
-  pub booked-past : {row : ℕ} → StartsAt heads rows (getD ids k 0) row → row ≢ j → Counting m R W adding w₀ w n j (k + 1)
-  booked-past a e = counting-past c t (omega (arith, booked-size h)) (λ x. e (booked-start h k l a ∙ x))
+    -- the copied rows
+    pub booked-gathered : (ys : List ℕ) (g : ℕ) → g ≡ length (valuesAt rows (chain next (at heads (getD ids k 0)))) →
+        ys ≡ over (valuesAt rows (chain next (at heads (getD ids k 0)))) (take (3 * m - 2 * m) (drop (2 * m) w)) →
+        Gathered m w (take (2 * m) w ++ (ys ++ drop (3 * m - 2 * m) (drop (2 * m) w))) g (λ i. among i (valuesAt rows (chain next (at heads (getD ids k 0)))))
+    booked-gathered ys g q o =
+        subst (λ (x : ℕ). Gathered m w (take (2 * m) w ++ (ys ++ drop (3 * m - 2 * m) (drop (2 * m) w))) x (λ i. among i (valuesAt rows (chain next (at heads (getD ids k 0)))))) (sym q)
+        (put-gathered m w (valuesAt rows (chain next (at heads (getD ids k 0)))) ys (booked-steady .tally .touched .long) (booked-steady .tally .buffer)
+        (booked-short h k l some) o (booked-rise h k l some))
+
+    pub booked-here : {w₁ w₂ : List ℕ} {g n′ : ℕ} → Gathered m w w₁ g (λ i. among i (valuesAt rows (chain next (at heads (getD ids k 0))))) → Counted m w₁ g adding w₂ n′ →
+        Counting m R W adding w₀ w₂ n′ j (k + 1)
+    booked-here x y =
+        counting-here c t (omega (arith, booked-size h)) (sym (booked-first h k l) ∙ e)
+        (bumps x adding (holds (getD W k none)) (λ i p q. ap (λ (z : List ℕ). among i z) (sym (booked-rows h k l some))) y)
+
+  pub booked-past : getD starts k 0 ≢ j → Counting m R W adding w₀ w n j (k + 1)
+  booked-past e = counting-past c t (omega (arith, booked-size h)) (λ x. e (booked-first h k l ∙ x))
 
 pub part-length : (m : ℕ) (w : List ℕ) → 3 * m ≤ length w → length (take (3 * m - 2 * m) (drop (2 * m) w)) ≡ m
 part-length m w l = omega (arith, length-take-le (3 * m - 2 * m) (drop (2 * m) w) (omega (arith, length-drop (2 * m) w)))
-
-pub marking-booked-end : {heads rows next ids : List ℕ} {m flags : ℕ} {W : List Column} {w₀ w : List ℕ} {k : ℕ} → BookHolds heads rows next ids m W → StartsTo m flags W w₀ w k →
-    k ≤ length ids → length ids ≤ k → StartsTo m flags W w₀ w (length W)
-marking-booked-end {m = m} {flags} {W} {w₀} {w} {k} h s a b = let e : k ≡ length W = omega (arith, booked-size h) in subst (λ (x : ℕ). StartsTo m flags W w₀ w x) e s

@@ -20,6 +20,7 @@ pub mod Upward
 pub mod Walking
 pub mod Listing
 pub mod Booking
+pub mod Filled
 pub mod Numbering
 pub mod Ending
 pub mod Halting

@@ -1,5 +1,5 @@
--- Batch columns read one after another, listed or booked: the column at a position (`Reading`); their starts marked (`starts-more`), and at row j counted
--- (`counting-here`, `counting-past`). Assumes nothing.
+-- Batch columns read one after another: their starts marked (`marking-next`), and at row j counted (`counting-here`, `counting-past`); the listed column at a
+-- position (`Reading`). Assumes nothing.
 use mathlib.Core.Path.{_≡_, refl, sym, ap, _∙_, subst}
 use mathlib.Core.Logic.{inl, inr, _≢_}
 use mathlib.Core.Bool.{Bool, true, false}
@@ -8,9 +8,10 @@ use Prim.Native.Nat.{ℕ, zero, suc, _+_, _-_, _*_, _/_, _%_, _≤_, _<_}
 use native.Mathlib.Omega.{arith}
 use native.Mathlib.Numerals.{add-one}
 use lib.ListN.{length, getD, take, drop, set, length-drop, length-set}
-use lib.Seq.{drop-cons, drop-drop, getD-take, getD-drop, getD-set-same, getD-set-other}
+use lib.Dec.{eqb}
+use lib.Seq.{drop-cons, drop-drop, getD-set-same, getD-set-other}
 use borrow.Author.Tests.{eq-eqb, ne-eqb}
-use Rattle.lists.specs.Lists.{among, rises, all}
+use Rattle.lists.specs.Lists.{pick, among, rises, all, first}
 use Rattle.lists.proofs.Tests.{eq-or-ne, refute}
 use Rattle.lists.proofs.Member.{all-at, place-mem, among-mem}
 use Rattle.lists.proofs.Rising.{rises-first, rises-high}
@@ -50,54 +51,71 @@ rows-above m w f i l = go (w .rows) (f .rising) l
 
 -- ---- the column at a position of a list
 
-pub record Reading (counts list : List ℕ) (W : List Column) (k at : ℕ) : Type 0 where
-  pub listed : Listed (drop k counts) (drop at list) (drop k W)
+pub record Reading (starts counts list : List ℕ) (W : List Column) (k at : ℕ) : Type 0 where
+  pub listed : Listed (drop k starts) (drop k counts) (drop at list) (drop k W)
   pub size : length W ≡ length counts
+  pub paired : length starts ≡ length counts
   pub within : at ≤ length list
 
--- the first of n rows from a place on
-pub listed-first : (list : List ℕ) (at n : ℕ) → n ≢ 0 → getD list at 0 ≡ getD (take n (drop at list)) 0 0
-listed-first list at n h =
-    let z : at + 0 ≡ at = omega arith in
-    sym (getD-take n (drop at list) 0 0 (omega arith) ∙ getD-drop at list 0 0 ∙ ap (λ (x : ℕ). getD list x 0) z)
-
-listed-length : (ks xs : List ℕ) (ws : List Column) → Listed ks xs ws → length ws ≡ length ks
+listed-length : (rs ks xs : List ℕ) (ws : List Column) → Listed rs ks xs ws → (length ws ≡ length ks) × (length rs ≡ length ks)
 unfolding Listed
-listed-length [] xs [] h = refl
-listed-length [] xs (w ∷ ws) h = absurd h
-listed-length (k ∷ ks) xs [] h = absurd h
-listed-length (k ∷ ks) xs (w ∷ ws) h = ap suc (listed-length ks (drop k xs) ws (h .2))
+listed-length [] [] xs [] h = (refl, refl)
+listed-length [] [] xs (w ∷ ws) h = absurd h
+listed-length [] (k ∷ ks) xs ws h = absurd h
+listed-length (r ∷ rs) [] xs ws h = absurd h
+listed-length (r ∷ rs) (k ∷ ks) xs [] h = absurd h
+listed-length (r ∷ rs) (k ∷ ks) xs (w ∷ ws) h = let e = listed-length rs ks (drop k xs) ws (h .3) in (ap suc (e .0), ap suc (e .1))
 
-pub reading-start : {counts list : List ℕ} {W : List Column} → Listed counts list W → Reading counts list W 0 0
-reading-start {counts} {list} {W} h = record { listed = h; size = listed-length counts list W h; within = omega arith }
+pub reading-start : {starts counts list : List ℕ} {W : List Column} → Listed starts counts list W → Reading starts counts list W 0 0
+reading-start {starts} {counts} {list} {W} h =
+    let e = listed-length starts counts list W h in record { listed = h; size = e .0; paired = e .1; within = omega arith }
 
-module _ {counts list : List ℕ} {W : List Column} {k at : ℕ} (r : Reading counts list W k at) (l : k < length counts) where
-  parts : (getD W k none .rows ≡ take (getD counts k 0) (drop at list)) × (getD counts k 0 ≤ length (drop at list)) ×
-      Listed (drop (suc k) counts) (drop (getD counts k 0) (drop at list)) (drop (suc k) W)
+module _ {starts counts list : List ℕ} {W : List Column} {k at : ℕ} (r : Reading starts counts list W k at) (l : k < length counts) where
+  parts : (getD W k none .rows ≡ pick (eqb (getD starts k 0) 0) [] (take (getD counts k 0) (drop at list))) × (smallest (getD W k none) ≡ getD starts k 0) ×
+      (getD counts k 0 ≤ length (drop at list)) × Listed (drop (suc k) starts) (drop (suc k) counts) (drop (getD counts k 0) (drop at list)) (drop (suc k) W)
   unfolding Listed
   parts =
-      let a : drop k counts ≡ getD counts k 0 ∷ drop (suc k) counts = drop-cons counts k 0 l in
-      let b : drop k W ≡ getD W k none ∷ drop (suc k) W = drop-cons W k none (omega (arith, r .size)) in
-      let h : Listed (getD counts k 0 ∷ drop (suc k) counts) (drop at list) (getD W k none ∷ drop (suc k) W) =
-      subst (λ (x : List ℕ). Listed x (drop at list) (getD W k none ∷ drop (suc k) W)) a (subst (λ (x : List Column). Listed (drop k counts) (drop at list) x) b (r .listed)) in
-      (h .0, h .1, h .2)
+      let a : drop k starts ≡ getD starts k 0 ∷ drop (suc k) starts = drop-cons starts k 0 (omega (arith, r .paired)) in
+      let b : drop k counts ≡ getD counts k 0 ∷ drop (suc k) counts = drop-cons counts k 0 l in
+      let d : drop k W ≡ getD W k none ∷ drop (suc k) W = drop-cons W k none (omega (arith, r .size)) in
+      let h : Listed (getD starts k 0 ∷ drop (suc k) starts) (getD counts k 0 ∷ drop (suc k) counts) (drop at list) (getD W k none ∷ drop (suc k) W) =
+      subst (λ (x : List ℕ). Listed x (getD counts k 0 ∷ drop (suc k) counts) (drop at list) (getD W k none ∷ drop (suc k) W)) a
+      (subst (λ (x : List ℕ). Listed (drop k starts) x (drop at list) (getD W k none ∷ drop (suc k) W)) b
+      (subst (λ (x : List Column). Listed (drop k starts) (drop k counts) (drop at list) x) d (r .listed))) in
+      (h .0, h .1, h .2, h .3)
 
-  pub reading-rows : getD W k none .rows ≡ take (getD counts k 0) (drop at list)
-  reading-rows = parts .0
+  -- it counts rows: those of the list
+  reading-rows : getD starts k 0 ≢ 0 → getD W k none .rows ≡ take (getD counts k 0) (drop at list)
+  reading-rows n = parts .0 ∙ ap (λ (z : Bool). pick z [] (take (getD counts k 0) (drop at list))) (ne-eqb (getD starts k 0) 0 n)
+
+  reading-first : smallest (getD W k none) ≡ getD starts k 0
+  reading-first = parts .1
 
   pub reading-end : at + getD counts k 0 ≤ length list
-  reading-end = omega (arith, parts .1, length-drop at list, r .within)
+  reading-end = omega (arith, parts .2, length-drop at list, r .within)
 
-  pub reading-next : Reading counts list W (k + 1) (at + getD counts k 0)
+  pub reading-next : Reading starts counts list W (k + 1) (at + getD counts k 0)
   reading-next =
       record {
-        listed = rw (add-one k) (subst (λ (x : List ℕ). Listed (drop (suc k) counts) x (drop (suc k) W)) (drop-drop (getD counts k 0) at list) (parts .2));
+        listed = rw (add-one k) (subst (λ (x : List ℕ). Listed (drop (suc k) starts) (drop (suc k) counts) x (drop (suc k) W)) (drop-drop (getD counts k 0) at list) (parts .3));
         size = r .size;
+        paired = r .paired;
         within = reading-end;
       }
 
-  pub reading-first : {row : ℕ} → row ≡ getD (take (getD counts k 0) (drop at list)) 0 0 → row ≡ smallest (getD W k none)
-  reading-first e = e ∙ sym (ap (λ (xs : List ℕ). getD xs 0 0) reading-rows)
+listed-at : (rs ks xs : List ℕ) (ws : List Column) → Listed rs ks xs ws → (k : ℕ) → k < length ws → getD rs k 0 ≡ smallest (getD ws k none)
+unfolding Listed
+listed-at rs ks xs [] h k l = absurd (omega arith)
+listed-at [] [] xs (w ∷ ws) h k l = absurd h
+listed-at [] (n ∷ ks) xs (w ∷ ws) h k l = absurd h
+listed-at (r ∷ rs) [] xs (w ∷ ws) h k l = absurd h
+listed-at (r ∷ rs) (n ∷ ks) xs (w ∷ ws) h zero l = sym (h .1)
+listed-at (r ∷ rs) (n ∷ ks) xs (w ∷ ws) h (suc k) l = listed-at rs ks (drop n xs) ws (h .3) k (omega arith)
+
+-- a batch that is listed starts where the list of starts says
+pub listed-starts : (starts counts list : List ℕ) (W : List Column) → Listed starts counts list W →
+    (length W ≡ length starts) × ((k : ℕ) → k < length W → getD starts k 0 ≡ smallest (getD W k none))
+listed-starts starts counts list W h = let e = listed-length starts counts list W h in (e .0 ∙ sym (e .1), listed-at starts counts list W h)
 
 -- ---- starts marked
 
@@ -195,7 +213,7 @@ starts-skip {m} {W = W} {w = w} {k = k} s z =
     older p y o = elim (eq-or-ne p (k + 1)) [ inl e ↦ absurd (omega (arith, ap (startOf W) e)) | inr e ↦ omega arith ]
 
 -- one column more, as mark_start marks it
-pub starts-more : {m flags : ℕ} {W : List Column} {w₀ w w₁ : List ℕ} {k row : ℕ} → all (fitsRows m) W ≡ true → StartsTo m flags W w₀ w k → Room m flags w → k < length W →
+starts-more : {m flags : ℕ} {W : List Column} {w₀ w w₁ : List ℕ} {k row : ℕ} → all (fitsRows m) W ≡ true → StartsTo m flags W w₀ w k → Room m flags w → k < length W →
     row ≡ smallest (getD W k none) → w₁ ≡ startMarked m flags w row (k + 1) → StartsTo m flags W w₀ w₁ (k + 1)
 starts-more {m} {flags} {W} {w₀} {w} {w₁} {k} {row} fits s r l a e =
     let q : k + 1 - 1 ≡ k = omega arith in
@@ -206,6 +224,31 @@ starts-more {m} {flags} {W} {w₀} {w} {w₁} {k} {row} fits s r l a e =
       | inl z ↦ rw (eq-eqb (startOf W (k + 1)) 0 z) (starts-skip s z)
       | inr z ↦ rw (ne-eqb (startOf W (k + 1)) 0 z) (starts-next s r (omega arith) (within (k + 1) (omega arith) (omega arith)) (λ p x y. within p x (omega arith)))
     ])
+
+-- what marking asks, from a batch whose starts are given
+pub can-mark : {starts : List ℕ} {m flags : ℕ} {work : List ℕ} {W : List Column} → (length W ≡ length starts) × ((k : ℕ) → k < length W → getD starts k 0 ≡ smallest (getD W k none)) →
+    all (fitsRows m) W ≡ true → length W ≤ 64 → Room m flags work → IsZero work (3 * m) m → CanMark starts m flags work W
+can-mark e f n r z = record { size = e .0; starts-are = λ k a b. e .1 (k - 1) (omega arith); fits = f; few = n; room = r; bare = z }
+
+module _ {starts : List ℕ} {m flags : ℕ} {w₀ : List ℕ} {W : List Column} (c : CanMark starts m flags w₀ W) {w : List ℕ} {k : ℕ} (s : StartsTo m flags W w₀ w k)
+    (l : k < length starts) where
+  first-here : getD starts k 0 ≡ smallest (getD W k none)
+  first-here =
+      let q : suc k - 1 ≡ k = omega arith in
+      sym (ap (λ (x : ℕ). getD starts x 0) q) ∙ c .starts-are (suc k) (omega arith) (omega (arith, c .size)) ∙ ap (λ (x : ℕ). smallest (getD W x none)) q
+
+  room-here : Room m flags w
+  room-here = record { m-bound = c .room .m-bound; low = c .room .low; long = omega (arith, c .room .long, s .same-length) }
+
+  pub marking-row : Room m flags w × (getD starts k 0 ≤ m) × (k + 1 ≤ 64)
+  marking-row = (room-here, omega (arith, first-here, fits-at m W (c .fits) k (omega (arith, c .size)) .high), omega (arith, c .few, c .size))
+
+  pub marking-next : {w₁ : List ℕ} → w₁ ≡ startMarked m flags w (getD starts k 0) (k + 1) → StartsTo m flags W w₀ w₁ (k + 1)
+  marking-next = starts-more (c .fits) s room-here (omega (arith, c .size)) first-here
+
+pub marking-end : {starts : List ℕ} {m flags : ℕ} {W : List Column} {w₀ w : List ℕ} {k : ℕ} → CanMark starts m flags w₀ W → StartsTo m flags W w₀ w k → k ≤ length starts →
+    length starts ≤ k → StartsTo m flags W w₀ w (length W)
+marking-end {m = m} {flags} {W} {w₀} {w} {k} c s a b = let e : k ≡ length W = omega (arith, c .size) in subst (λ (x : ℕ). StartsTo m flags W w₀ w x) e s
 
 -- ---- A: batch columns handled
 
@@ -249,36 +292,24 @@ started-none {m} {R} {W} {adding} {w} {j} c bits n = counting-end c (go (length 
     go zero l = counting-start c
     go (suc k) l = subst (λ (x : ℕ). Counting m R W adding w w 0 j x) (add-one k) (counting-past c (go k (omega arith)) (omega arith) (away k (omega arith)))
 
--- ---- the loops over listed columns
+-- ---- the loop over listed columns
 
-module _ {counts list : List ℕ} {m flags : ℕ} {w₀ : List ℕ} {W : List Column} (c : CanMark counts list m flags w₀ W) {w : List ℕ} {k at : ℕ} (r : Reading counts list W k at)
-    (s : StartsTo m flags W w₀ w k) (l : k < length counts) where
-  room-here : Room m flags w
-  room-here = record { m-bound = c .room .m-bound; low = c .room .low; long = omega (arith, c .room .long, s .same-length) }
-
-  pub marking-row : {row : ℕ} → row ≡ getD (take (getD counts k 0) (drop at list)) 0 0 → Room m flags w × (row ≤ m) × (k + 1 ≤ 64)
-  marking-row e = (room-here, omega (arith, reading-first r l e, fits-at m W (c .fits) k (omega (arith, r .size)) .high), omega (arith, c .few, r .size))
-
-  pub marking-next : {w₁ : List ℕ} {row : ℕ} → row ≡ getD (take (getD counts k 0) (drop at list)) 0 0 → w₁ ≡ startMarked m flags w row (k + 1) → StartsTo m flags W w₀ w₁ (k + 1)
-  marking-next e = starts-more (c .fits) s room-here (omega (arith, r .size)) (reading-first r l e)
-
-module _ {counts list : List ℕ} {m : ℕ} {R W : List Column} {w₀ w : List ℕ} {n j k at : ℕ} (c : CanStart m R W true w₀ j) (r : Reading counts list W k at)
+module _ {starts counts list : List ℕ} {m : ℕ} {R W : List Column} {w₀ w : List ℕ} {n j k at : ℕ} (c : CanStart m R W true w₀ j) (r : Reading starts counts list W k at)
     (t : Counting m R W true w₀ w n j k) (l : k < length counts) where
-  listed-rows : take (at + getD counts k 0 - at) (drop at list) ≡ getD W k none .rows
-  listed-rows = let q : at + getD counts k 0 - at ≡ getD counts k 0 = omega arith in ap (λ (x : ℕ). take x (drop at list)) q ∙ sym (reading-rows r l)
+  -- it starts here
+  module _ (e : getD starts k 0 ≡ j) where
+    listed-rows : take (at + getD counts k 0 - at) (drop at list) ≡ getD W k none .rows
+    listed-rows =
+        let q : at + getD counts k 0 - at ≡ getD counts k 0 = omega arith in
+        ap (λ (x : ℕ). take x (drop at list)) q ∙ sym (reading-rows r l (omega (arith, c .low)))
 
-  pub listed-gather : CanGather m w × (rises 1 m (take (at + getD counts k 0 - at) (drop at list)) ≡ true)
-  listed-gather = (can-gather (counting-steady c t (omega (arith, r .size))), ap (rises 1 m) listed-rows ∙ fits-at m W (c .fits) k (omega (arith, r .size)) .rising)
+    pub listed-gather : CanGather m w × (rises 1 m (take (at + getD counts k 0 - at) (drop at list)) ≡ true)
+    listed-gather = (can-gather (counting-steady c t (omega (arith, r .size))), ap (rises 1 m) listed-rows ∙ fits-at m W (c .fits) k (omega (arith, r .size)) .rising)
 
-  pub listed-here : {w₁ w₂ : List ℕ} {g n′ row : ℕ} → row ≡ getD (take (getD counts k 0) (drop at list)) 0 0 → row ≡ j → Gathered m w w₁ g (λ i. among i (take (at + getD counts k 0 - at) (drop at list))) → Counted m w₁ g true w₂ n′ →
-      Counting m R W true w₀ w₂ n′ j (k + 1)
-  listed-here f e a b =
-      counting-here c t (omega (arith, r .size)) (sym (reading-first r l f) ∙ e)
-      (bumps a true (holds (getD W k none)) (λ i x y. ap (λ (z : List ℕ). among i z) listed-rows) b)
+    pub listed-here : {w₁ w₂ : List ℕ} {g n′ : ℕ} → Gathered m w w₁ g (λ i. among i (take (at + getD counts k 0 - at) (drop at list))) → Counted m w₁ g true w₂ n′ →
+        Counting m R W true w₀ w₂ n′ j (k + 1)
+    listed-here a b =
+        counting-here c t (omega (arith, r .size)) (reading-first r l ∙ e) (bumps a true (holds (getD W k none)) (λ i x y. ap (λ (z : List ℕ). among i z) listed-rows) b)
 
-  pub listed-past : {row : ℕ} → row ≡ getD (take (getD counts k 0) (drop at list)) 0 0 → row ≢ j → Counting m R W true w₀ w n j (k + 1)
-  listed-past f e = counting-past c t (omega (arith, r .size)) (λ x. e (reading-first r l f ∙ x))
-
-pub marking-end : {counts list : List ℕ} {m flags : ℕ} {W : List Column} {w₀ w : List ℕ} {k at : ℕ} → Reading counts list W k at → StartsTo m flags W w₀ w k → k ≤ length counts → length counts ≤ k →
-    StartsTo m flags W w₀ w (length W)
-marking-end {m = m} {flags} {W} {w₀} {w} {k} r s a b = let e : k ≡ length W = omega (arith, r .size) in subst (λ (x : ℕ). StartsTo m flags W w₀ w x) e s
+  pub listed-past : getD starts k 0 ≢ j → Counting m R W true w₀ w n j (k + 1)
+  listed-past e = counting-past c t (omega (arith, r .size)) (λ x. e (sym (reading-first r l) ∙ x))

@@ -14,7 +14,7 @@ use Rattle.updown.specs.Entries.{Listed}
 use Rattle.updown.specs.Marks.{markAt, Taken}
 use Rattle.updown.specs.Turns.{larger}
 use Rattle.updown.specs.States.{startOf, Between, Halted}
-use Rattle.updown.specs.Starts.{CanStart, Started, SomeStart, BookHolds, SomeStartBooked, CanWalk, Walked, CanEnter, CanWalkBooked}
+use Rattle.updown.specs.Starts.{CanStart, Started, SomeStart, BookHolds, SomeStartBooked, CanWalk, Walked, CanWalkListed, CanWalkBooked}
 use Rattle.updown.proofs.Turned.{Turning, Turned}
 use Rattle.updown.proofs.Seeking.{between-start, taken-none, taken-begun, seeking-start, seeking-bits, turning-from}
 use Rattle.updown.proofs.Exceeding.{stops-adding}
@@ -71,30 +71,30 @@ module _ {heads parents rows counts next : List ℕ} {m flags free : ℕ} {R W :
 
 -- ---- A over listed columns
 
-module _ {heads parents rows counts next row-counts row-list : List ℕ} {m flags free : ℕ} {R W : List Column} {work₀ start : List ℕ}
-    (c : CanEnter heads parents rows counts next work₀ start row-counts row-list m flags free R W) {w : List ℕ} {ok : Bool} {f l n k used avail : ℕ}
+module _ {heads parents rows counts next starts row-counts row-list : List ℕ} {m flags free : ℕ} {R W : List Column} {work₀ start : List ℕ}
+    (c : CanWalkListed heads parents rows counts next work₀ start starts row-counts row-list m flags free R W) {w : List ℕ} {ok : Bool} {f l n k used avail : ℕ}
     (g : Looping next work₀ w m flags (length (chain next free)) R W true ok f l n k used avail) (y : ok ≡ true) {wb : List ℕ} {j : ℕ} (t : Taken m w wb l used j) (z : j ≢ 0) where
-  pub enter-start : SomeStart row-counts row-list m wb j × (4 * m ≤ length wb)
-  enter-start =
+  pub listed-start : SomeStart starts row-counts row-list m wb j × (4 * m ≤ length wb)
+  listed-start =
       let s : CanStart m R W true wb j × (4 * m ≤ length wb) = loop-start (c .walk) g y t z (c .fits) in
       (record { R = R; W = W; listed = c .listed; can = s .0 }, s .1)
 
-  pub enter-turning : {wa : List ℕ} {d : ℕ} → ((R W : List Column) → Listed row-counts row-list W → CanStart m R W true wb j →
+  pub listed-turning : {wa : List ℕ} {d : ℕ} → ((R W : List Column) → Listed starts row-counts row-list W → CanStart m R W true wb j →
       ((i : ℕ) → 1 ≤ i → i ≤ length W → startOf W i ≡ j → markAt m wb j % 4 ≡ 2) → Started m R W true wb wa d j) →
       Turning next work₀ wa m flags R W true (length (chain next free)) d j f l n k used avail
-  enter-turning a = loop-turning (c .walk) g y t z (a R W (c .listed) (loop-start (c .walk) g y t z (c .fits) .0))
+  listed-turning a = loop-turning (c .walk) g y t z (a R W (c .listed) (loop-start (c .walk) g y t z (c .fits) .0))
 
 -- ---- A over booked columns
 
-module _ {heads parents rows counts next book-heads book-rows book-next ids : List ℕ} {m flags free : ℕ} {R W : List Column} {adding : Bool} {work₀ start : List ℕ}
-    (c : CanWalkBooked heads parents rows counts next book-heads book-rows book-next work₀ start ids m flags free R W adding) {w : List ℕ} {ok : Bool} {f l n k used avail : ℕ}
+module _ {heads parents rows counts next book-heads book-rows book-next starts ids : List ℕ} {m flags free : ℕ} {R W : List Column} {adding : Bool} {work₀ start : List ℕ}
+    (c : CanWalkBooked heads parents rows counts next book-heads book-rows book-next work₀ start starts ids m flags free R W adding) {w : List ℕ} {ok : Bool} {f l n k used avail : ℕ}
     (g : Looping next work₀ w m flags (length (chain next free)) R W adding ok f l n k used avail) (y : ok ≡ true) {wb : List ℕ} {j : ℕ} (t : Taken m w wb l used j) (z : j ≢ 0) where
-  pub booked-start : SomeStartBooked book-heads book-rows book-next ids m wb j adding × (4 * m ≤ length wb)
+  pub booked-start : SomeStartBooked book-heads book-rows book-next starts ids m wb j adding × (4 * m ≤ length wb)
   booked-start =
       let s : CanStart m R W adding wb j × (4 * m ≤ length wb) = loop-start (c .walk) g y t z (c .holds .fits) in
       (record { R = R; W = W; holds = c .holds; can = s .0 }, s .1)
 
-  pub booked-turning : {wa : List ℕ} {d : ℕ} → ((R W : List Column) → BookHolds book-heads book-rows book-next ids m W → CanStart m R W adding wb j →
+  pub booked-turning : {wa : List ℕ} {d : ℕ} → ((R W : List Column) → BookHolds book-heads book-rows book-next starts ids m W → CanStart m R W adding wb j →
       ((i : ℕ) → 1 ≤ i → i ≤ length W → startOf W i ≡ j → markAt m wb j % 4 ≡ 2) → Started m R W adding wb wa d j) →
       Turning next work₀ wa m flags R W adding (length (chain next free)) d j f l n k used avail
   booked-turning a = loop-turning (c .walk) g y t z (a R W (c .holds) (loop-start (c .walk) g y t z (c .holds .fits) .0))

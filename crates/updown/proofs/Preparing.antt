@@ -1,15 +1,15 @@
--- What planning asks, as the walk needs it: the setting of sound tables (`setting-of`), the work table, a book that has the batch (`book-holds`, `book-mark`);
+-- What planning asks, as the walk needs it: the setting of sound tables (`setting-of`), the work table, a book that has the batch (`book-holds`);
 -- and that a walk leaves room to end it (`walk-end`). Assumes nothing.
 use mathlib.Core.Path.{_≡_, ap, _∙_, subst}
 use mathlib.Core.Logic.{inl, inr}
 use mathlib.Core.Bool.{Bool, true}
 use mathlib.Core.List.{List, [], _∷_}
-use Prim.Native.Nat.{ℕ, suc, _+_, _-_, _*_, _≤_}
+use Prim.Native.Nat.{ℕ, suc, _+_, _-_, _*_, _≤_, _<_}
 use native.Mathlib.Omega.{arith}
-use lib.ListN.{length}
+use lib.ListN.{length, getD}
 use Rattle.lists.specs.Lists.{all}
 use Rattle.lists.proofs.Tests.{cases}
-use Rattle.symbolic.specs.Columns.{Column, fitsRows}
+use Rattle.symbolic.specs.Columns.{Column, smallest, fitsRows}
 use Rattle.symbolic.specs.Factor.{FactorColumn, factorOf, columnAt, parentOf, multiplicitiesOf}
 use Rattle.symbolic.specs.Batch.{sizeSumOf}
 use Rattle.workspace.specs.Regions.{IsZero}
@@ -17,13 +17,13 @@ use Rattle.workspace.proofs.Regions.{zero-at}
 use Rattle.pool.specs.Chains.{chain}
 use Rattle.book.specs.Book as book
 use Rattle.tables.specs.Stored.{Stored, Sized, isSoundFor}
-use Rattle.updown.specs.Entries.{Booked, CanPlan}
+use Rattle.updown.specs.Entries.{BookedFrom, CanPlan}
 use Rattle.updown.specs.Walks.{ChainOf}
 use Rattle.updown.specs.Marks.{Room}
 use Rattle.updown.specs.Turns.{before, done}
 use Rattle.updown.specs.States.{startOf, Setting}
-use Rattle.updown.specs.Starts.{BookHolds, CanMarkBooked, CanWalk, Walked, CanEnd}
-use Rattle.updown.proofs.Listing.{fits-at}
+use Rattle.updown.specs.Starts.{BookHolds, CanMark, CanWalk, Walked, CanEnd}
+use Rattle.updown.proofs.Listing.{none, fits-at, can-mark}
 use Rattle.updown.proofs.Sound.{sound-column, sound-chain, sound-size, sizes-within}
 
 -- ---- the setting: tables that hold the factor before the batch
@@ -67,26 +67,29 @@ module _ {s : Stored} {cs W : List Column} {work : List ℕ} (p : CanPlan s cs W
   pub zero-of : IsZero work 0 (8 * length (s .heads))
   zero-of k h = p .zero k (omega arith)
 
-  pub bare-of : IsZero work (3 * length (s .heads)) (length (s .heads))
-  bare-of i h = zero-at work 0 (8 * length (s .heads)) (3 * length (s .heads) + i) zero-of (omega arith) (omega arith)
+  -- what marking asks, from the batch's starts
+  pub mark-of : {starts : List ℕ} → (length W ≡ length starts) × ((k : ℕ) → k < length W → getD starts k 0 ≡ smallest (getD W k none)) →
+      CanMark starts (length (s .heads)) (8 * length (s .heads) + 4 * length (s .next)) work W
+  mark-of e =
+      can-mark e (p .batch-fits) (p .positions .1) room-of
+      (λ i h. zero-at work 0 (8 * length (s .heads)) (3 * length (s .heads) + i) zero-of (omega arith) (omega arith))
 
 -- ---- the book
 
 -- the book's columns do not depend on its free head
-booked-tables : (b : book.Book) (ids : List ℕ) (W : List Column) → Booked b ids W → Booked (book.tablesOf (b .heads) (b .rows) (b .next)) ids W
-unfolding Booked
-booked-tables b [] [] h = h
-booked-tables b [] (w ∷ ws) h = h
-booked-tables b (i ∷ is) [] h = h
-booked-tables b (i ∷ is) (w ∷ ws) h = (h .0, h .1, h .2, booked-tables b is ws (h .3))
+booked-tables : (b : book.Book) (starts ids : List ℕ) (W : List Column) → BookedFrom b starts ids W → BookedFrom (book.tablesOf (b .heads) (b .rows) (b .next)) starts ids W
+unfolding BookedFrom
+booked-tables b [] [] [] h = h
+booked-tables b [] [] (w ∷ ws) h = h
+booked-tables b [] (i ∷ is) ws h = h
+booked-tables b (r ∷ rs) [] ws h = h
+booked-tables b (r ∷ rs) (i ∷ is) [] h = h
+booked-tables b (r ∷ rs) (i ∷ is) (w ∷ ws) h = (h .0, h .1, h .2, h .3, booked-tables b rs is ws (h .4))
 
-module _ {s : Stored} {cs W : List Column} {work : List ℕ} (p : CanPlan s cs W work) (b : book.Book) {ids : List ℕ} (booked : Booked b ids W) (sized : book.Sized b) (free : ℕ)
+module _ {s : Stored} {cs W : List Column} {work : List ℕ} (p : CanPlan s cs W work) (b : book.Book) {starts ids : List ℕ} (booked : BookedFrom b starts ids W) (sized : book.Sized b) (free : ℕ)
     (sound : book.isSound (length (s .heads)) (book.bookOf (b .heads) (b .rows) (b .next) free) ≡ true) where
-  pub book-holds : BookHolds (b .heads) (b .rows) (b .next) ids (length (s .heads)) W
-  book-holds = record { booked = booked-tables b ids W booked; sized = sized; free = free; sound = sound; fits = p .batch-fits }
-
-  pub book-mark : CanMarkBooked (b .heads) (b .rows) (b .next) ids (length (s .heads)) (8 * length (s .heads) + 4 * length (s .next)) work W
-  book-mark = record { holds = book-holds; few = p .positions .1; room = room-of p; bare = bare-of p }
+  pub book-holds : BookHolds (b .heads) (b .rows) (b .next) starts ids (length (s .heads)) W
+  book-holds = record { booked = booked-tables b starts ids W booked; sized = sized; free = free; sound = sound; fits = p .batch-fits }
 
 -- ---- the walk's end
 

@@ -22,20 +22,21 @@ use Rattle.updown.specs.Entries.{CanRemove, RemovePlanned}
 use Rattle.updown.specs.Plans.{PlanIs}
 use Rattle.updown.specs.Turns.{before}
 use Rattle.updown.specs.States.{Setting}
-use Rattle.updown.specs.Starts.{StartsTo, CanMarkBooked, Walked, CanWalkBooked, Ended}
+use Rattle.updown.specs.Starts.{StartsTo, CanMark, Walked, CanWalkBooked, Ended}
 use Rattle.updown.proofs.Opening.{walking-start}
 use Rattle.updown.proofs.Ending.{plan-made}
-use Rattle.updown.proofs.Preparing.{setting-of, room-of, zero-of, book-holds, book-mark}
+use Rattle.updown.proofs.Preparing.{setting-of, room-of, zero-of, mark-of, book-holds}
+use Rattle.updown.proofs.Booking.{booked-starts}
 
-module _ {s : Stored} {b : book.Book} {ids work : List ℕ} {R W : List Column} (c : CanRemove s b ids work R W) where
+module _ {s : Stored} {b : book.Book} {starts ids work : List ℕ} {R W : List Column} (c : CanRemove s b starts ids work R W) where
   abbrev m : ℕ
   m = length (s .heads)
 
   abbrev flags : ℕ
   flags = 8 * length (s .heads) + 4 * length (s .next)
 
-  pub remove-mark : CanMarkBooked (b .heads) (b .rows) (b .next) ids (length (s .heads)) (8 * length (s .heads) + 4 * length (s .next)) work W
-  remove-mark = book-mark (c .can) b (c .booked) (c .book-sized) (c .book-free) (c .book-sound)
+  pub remove-mark : CanMark starts (length (s .heads)) (8 * length (s .heads) + 4 * length (s .next)) work W
+  remove-mark = mark-of (c .can) (booked-starts b starts ids W (c .booked))
 
   same-factor : factorOf m (c .columns) ≡ before false m R W
   same-factor = factor-bag m (c .columns) (R ++ W) (c .same)
@@ -53,7 +54,7 @@ module _ {s : Stored} {b : book.Book} {ids work : List ℕ} {R W : List Column} 
       few-columns (c .can .positions .1) (c .can .batch-fits) (length (chain (s .next) 0)) (omega (arith, none-free))
 
   pub remove-walk : {w : List ℕ} → StartsTo (length (s .heads)) (8 * length (s .heads) + 4 * length (s .next)) W work w (length W) →
-      CanWalkBooked (s .heads) (s .parents) (s .rows) (s .counts) (s .next) (b .heads) (b .rows) (b .next) work w ids (length (s .heads)) (8 * length (s .heads) + 4 * length (s .next)) 0 R W false
+      CanWalkBooked (s .heads) (s .parents) (s .rows) (s .counts) (s .next) (b .heads) (b .rows) (b .next) work w starts ids (length (s .heads)) (8 * length (s .heads) + 4 * length (s .next)) 0 R W false
   remove-walk t =
       record {
         walk = record {

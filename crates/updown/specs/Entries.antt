@@ -4,10 +4,10 @@ use mathlib.Core.Path.{_≡_}
 use mathlib.Core.Bool.{Bool, true, false}
 use mathlib.Core.List.{List, [], _∷_, _++_}
 use Prim.Native.Nat.{ℕ, _+_, _≤_}
-use lib.Dec.{leb}
-use lib.ListN.{length, take, drop}
-use Rattle.lists.specs.Lists.{all}
-use Rattle.symbolic.specs.Columns.{Column, fitsRows}
+use lib.Dec.{leb, eqb}
+use lib.ListN.{length, getD, take, drop}
+use Rattle.lists.specs.Lists.{pick, all}
+use Rattle.symbolic.specs.Columns.{Column, smallest, fitsRows}
 use Rattle.symbolic.specs.Factor.{factorOf, sizeSum}
 use Rattle.symbolic.specs.Batch.{touched, labelOf}
 use Rattle.symbolic.specs.Change.{Bag}
@@ -18,25 +18,49 @@ use Rattle.book.specs.Book as book
 use Rattle.tables.specs.Stored.{Stored, Sized, storedOf, isSoundFor}
 use Rattle.updown.specs.Plans.{PlanIs}
 
--- the places of the work table that planning may use
+-- the length of a work table that planning asks; it uses the regions before `spare` and the flags, and reads no other place
 abbrev pub planNeed : (m f : ℕ) → ℕ
 planNeed m f = flagsAt m f + 1024
 
--- ---- batches, as they are lent
+-- ---- batches, as they are lent, and by position where each column starts
 
--- the rows of the batch's columns stand one after another in a list, as many of them as counts say
-unfoldable pub Listed : (counts list : List ℕ) → (batch : List Column) → Type 0
-Listed [] xs [] = Unit {0}
-Listed [] xs (w ∷ ws) = ⊥
-Listed (k ∷ ks) xs [] = ⊥
-Listed (k ∷ ks) xs (w ∷ ws) = (w .rows ≡ take k xs) × (k ≤ length xs) × Listed ks (drop k xs) ws
+-- the rows of the batch's columns stand one after another in a list, as many of them as counts say; a start of 0 says that a column counts no row, whatever rows are lent for it
+unfoldable pub Listed : (starts counts list : List ℕ) → (batch : List Column) → Type 0
+Listed [] [] xs [] = Unit {0}
+Listed [] [] xs (w ∷ ws) = ⊥
+Listed [] (k ∷ ks) xs ws = ⊥
+Listed (r ∷ rs) [] xs ws = ⊥
+Listed (r ∷ rs) (k ∷ ks) xs [] = ⊥
+Listed (r ∷ rs) (k ∷ ks) xs (w ∷ ws) = (w .rows ≡ pick (eqb r 0) [] (take k xs)) × (smallest w ≡ r) × (k ≤ length xs) × Listed rs ks (drop k xs) ws
 
--- the batch's columns are those that the book has under some ids
+-- the batch's columns are those that the book has under some ids; a start of 0 says that a column counts no row, whatever rows are booked for it
+unfoldable pub BookedFrom : book.Book → (starts ids : List ℕ) → (batch : List Column) → Type 0
+BookedFrom b [] [] [] = Unit {0}
+BookedFrom b [] [] (w ∷ ws) = ⊥
+BookedFrom b [] (i ∷ is) ws = ⊥
+BookedFrom b (r ∷ rs) [] ws = ⊥
+BookedFrom b (r ∷ rs) (i ∷ is) [] = ⊥
+BookedFrom b (r ∷ rs) (i ∷ is) (w ∷ ws) =
+    (w .rows ≡ pick (eqb r 0) [] (book.columnFor b i .rows)) × (smallest w ≡ r) × (1 ≤ i) × (i ≤ length (b .heads)) × BookedFrom b rs is ws
+
+-- ---- batches whose columns count all their rows
+
+-- the batch's columns are, with all their rows, those that the book has under some ids
 unfoldable pub Booked : book.Book → (ids : List ℕ) → (batch : List Column) → Type 0
 Booked b [] [] = Unit {0}
 Booked b [] (w ∷ ws) = ⊥
 Booked b (i ∷ is) [] = ⊥
 Booked b (i ∷ is) (w ∷ ws) = (w .rows ≡ book.columnFor b i .rows) × (1 ≤ i) × (i ≤ length (b .heads)) × Booked b is ws
+
+-- where listed columns start that count all their rows, 0 for one that has none
+unfoldable pub listedStarts : (counts list : List ℕ) → List ℕ
+listedStarts [] xs = []
+listedStarts (k ∷ ks) xs = getD (take k xs) 0 0 ∷ listedStarts ks (drop k xs)
+
+-- where booked columns start that count all their rows, 0 for one that has none
+unfoldable pub bookedStarts : book.Book → (ids : List ℕ) → List ℕ
+bookedStarts b [] = []
+bookedStarts b (i ∷ is) = smallest (book.columnFor b i) ∷ bookedStarts b is
 
 -- ---- what planning asks: stored columns that are sound for columns cs, a batch, and a work table whose regions for it are zero
 
@@ -58,17 +82,31 @@ pub record CanPlan (s : Stored) (cs batch : List Column) (work : List ℕ) : Typ
   pub flags-zero : IsZero work (flagsAt (length (s .heads)) (length (s .next))) flagCount
 
 -- adding W to the columns R that the tables are sound for
-pub record CanAdd (s : Stored) (counts list work : List ℕ) (R W : List Column) : Type 0 where
+pub record CanAdd (s : Stored) (starts counts list work : List ℕ) (R W : List Column) : Type 0 where
   pub can : CanPlan s R W work
-  pub listed : Listed counts list W
+  pub listed : Listed starts counts list W
 
 -- what a caller shows: that W can be added to R, for some R and W
-pub record SomeAdd (s : Stored) (counts list work : List ℕ) : Type 0 where
+pub record SomeAdd (s : Stored) (starts counts list work : List ℕ) : Type 0 where
   pub R : List Column
   pub W : List Column
-  pub can : CanAdd s counts list work R W
+  pub can : CanAdd s starts counts list work R W
 
 -- adding W, which the book has, to the columns R that the tables are sound for; the free head of b is not read, any that suits will do
+pub record CanEnter (s : Stored) (b : book.Book) (starts ids work : List ℕ) (R W : List Column) : Type 0 where
+  pub can : CanPlan s R W work
+  pub booked : BookedFrom b starts ids W
+  pub book-sized : book.Sized b
+  pub book-free : ℕ
+  pub book-sound : book.isSound (length (s .heads)) (book.bookOf (b .heads) (b .rows) (b .next) book-free) ≡ true
+
+-- what a caller shows: that W, which the book has, can be added to R, for some R and W
+pub record SomeEnter (s : Stored) (b : book.Book) (starts ids work : List ℕ) : Type 0 where
+  pub R : List Column
+  pub W : List Column
+  pub can : CanEnter s b starts ids work R W
+
+-- the same of a W that counts all its rows
 pub record CanAddBooked (s : Stored) (b : book.Book) (ids work : List ℕ) (R W : List Column) : Type 0 where
   pub can : CanPlan s R W work
   pub booked : Booked b ids W
@@ -76,28 +114,28 @@ pub record CanAddBooked (s : Stored) (b : book.Book) (ids work : List ℕ) (R W 
   pub book-free : ℕ
   pub book-sound : book.isSound (length (s .heads)) (book.bookOf (b .heads) (b .rows) (b .next) book-free) ≡ true
 
--- what a caller shows: that W, which the book has, can be added to R, for some R and W
+-- what a caller shows: that W, which counts all its rows, can be added to R, for some R and W
 pub record SomeAddBooked (s : Stored) (b : book.Book) (ids work : List ℕ) : Type 0 where
   pub R : List Column
   pub W : List Column
   pub can : CanAddBooked s b ids work R W
 
 -- removing W, which the book has, from columns that are R and W but for their order; the free heads of s and b are not read, any that suit will do
-pub record CanRemove (s : Stored) (b : book.Book) (ids work : List ℕ) (R W : List Column) : Type 0 where
+pub record CanRemove (s : Stored) (b : book.Book) (starts ids work : List ℕ) (R W : List Column) : Type 0 where
   pub columns : List Column
   pub free : ℕ
   pub book-free : ℕ
   pub can : CanPlan (storedOf (s .heads) (s .parents) (s .rows) (s .counts) (s .next) free) columns W work
   pub same : Bag columns (R ++ W)
-  pub booked : Booked b ids W
+  pub booked : BookedFrom b starts ids W
   pub book-sized : book.Sized b
   pub book-sound : book.isSound (length (s .heads)) (book.bookOf (b .heads) (b .rows) (b .next) book-free) ≡ true
 
 -- what a caller shows: that W can be removed and R stays, for some R and W
-pub record SomeRemove (s : Stored) (b : book.Book) (ids work : List ℕ) : Type 0 where
+pub record SomeRemove (s : Stored) (b : book.Book) (starts ids work : List ℕ) : Type 0 where
   pub R : List Column
   pub W : List Column
-  pub can : CanRemove s b ids work R W
+  pub can : CanRemove s b starts ids work R W
 
 -- ---- what it promises
 

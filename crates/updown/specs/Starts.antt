@@ -6,13 +6,13 @@ use mathlib.Core.Bool.{Bool, true, false}
 use mathlib.Core.List.{List}
 use Prim.Native.Nat.{ℕ, suc, _+_, _*_, _/_, _%_, _≤_, _<_}
 use lib.ListN.{length, getD}
-use Rattle.lists.specs.Lists.{pick, all}
+use Rattle.lists.specs.Lists.{at, pick, all}
 use Rattle.symbolic.specs.Columns.{Column, fitsRows}
 use Rattle.workspace.specs.Regions.{Outside, IsZero, OnlyIn, cleared}
 use Rattle.updown.specs.Plans.{startBit, labelWeight}
 use Rattle.workspace.specs.Layout.{marksAt, planAt, flagCount}
 use Rattle.book.specs.Book as book
-use Rattle.updown.specs.Entries.{Listed, Booked}
+use Rattle.updown.specs.Entries.{Listed, BookedFrom}
 use Rattle.updown.specs.Marks.{Room, markAt, Flagged}
 use Rattle.updown.specs.Turns.{larger, smaller}
 use Rattle.updown.specs.SoFar.{nobody, SoFar}
@@ -31,18 +31,19 @@ pub record StartsTo (m flags : ℕ) (W : List Column) (before after : List ℕ) 
   pub flagged : Flagged m flags after 0
   pub rest : (x : ℕ) → Outside (marksAt m) m x → Outside flags flagCount x → getD after x 0 ≡ getD before x 0
 
--- a batch in a list, and a table without marks
-pub record CanMark (counts list : List ℕ) (m flags : ℕ) (work : List ℕ) (W : List Column) : Type 0 where
-  pub listed : Listed counts list W
+-- where a batch's columns start, by position, and a table without marks
+pub record CanMark (starts : List ℕ) (m flags : ℕ) (work : List ℕ) (W : List Column) : Type 0 where
+  pub size : length W ≡ length starts
+  pub starts-are : (k : ℕ) → 1 ≤ k → k ≤ length W → at starts k ≡ startOf W k
   pub fits : all (fitsRows m) W ≡ true
   pub few : length W ≤ 64
   pub room : Room m flags work
   pub bare : IsZero work (marksAt m) m
 
 -- what a caller shows: that the starts can be marked, for some batch
-pub record SomeMark (counts list : List ℕ) (m flags : ℕ) (work : List ℕ) : Type 0 where
+pub record SomeMark (starts : List ℕ) (m flags : ℕ) (work : List ℕ) : Type 0 where
   pub W : List Column
-  pub can : CanMark counts list m flags work W
+  pub can : CanMark starts m flags work W
 
 -- ---- counted
 
@@ -62,40 +63,27 @@ pub record Started (m : ℕ) (R W : List Column) (adding : Bool) (before after :
   pub only : OnlyIn 0 (marksAt m) before after
 
 -- what a caller shows: that listed columns that start at j can be counted, for some R and W
-pub record SomeStart (counts list : List ℕ) (m : ℕ) (work : List ℕ) (j : ℕ) : Type 0 where
+pub record SomeStart (starts counts list : List ℕ) (m : ℕ) (work : List ℕ) (j : ℕ) : Type 0 where
   pub R : List Column
   pub W : List Column
-  pub listed : Listed counts list W
+  pub listed : Listed starts counts list W
   pub can : CanStart m R W true work j
 
 -- ---- booked columns: a sound book that has them
 
 -- a sound book that has the batch's columns under the ids
-pub record BookHolds (heads rows next ids : List ℕ) (m : ℕ) (W : List Column) : Type 0 where
-  pub booked : Booked (book.tablesOf heads rows next) ids W
+pub record BookHolds (heads rows next starts ids : List ℕ) (m : ℕ) (W : List Column) : Type 0 where
+  pub booked : BookedFrom (book.tablesOf heads rows next) starts ids W
   pub sized : length rows ≡ length next
   pub free : ℕ
   pub sound : book.isSound m (book.bookOf heads rows next free) ≡ true
   pub fits : all (fitsRows m) W ≡ true
 
--- a batch in the book, and a table without marks
-pub record CanMarkBooked (heads rows next ids : List ℕ) (m flags : ℕ) (work : List ℕ) (W : List Column) : Type 0 where
-  pub holds : BookHolds heads rows next ids m W
-  pub few : length W ≤ 64
-  pub room : Room m flags work
-  pub bare : IsZero work (marksAt m) m
-
--- what a caller shows: that the starts can be marked, for some batch; nexts are not read, any that suit will do
-pub record SomeMarkBooked (heads rows ids : List ℕ) (m flags : ℕ) (work : List ℕ) : Type 0 where
-  pub next : List ℕ
-  pub W : List Column
-  pub can : CanMarkBooked heads rows next ids m flags work W
-
 -- what a caller shows: that booked columns that start at j can be counted, for some R and W
-pub record SomeStartBooked (heads rows next ids : List ℕ) (m : ℕ) (work : List ℕ) (j : ℕ) (adding : Bool) : Type 0 where
+pub record SomeStartBooked (heads rows next starts ids : List ℕ) (m : ℕ) (work : List ℕ) (j : ℕ) (adding : Bool) : Type 0 where
   pub R : List Column
   pub W : List Column
-  pub holds : BookHolds heads rows next ids m W
+  pub holds : BookHolds heads rows next starts ids m W
   pub can : CanStart m R W adding work j
 
 -- ---- a walk, of columns that enter or leave
@@ -114,29 +102,29 @@ pub record Walked (next work₀ work : List ℕ) (m flags free : ℕ) (R W : Lis
   pub halted : fits ≡ false → (adding ≡ true) × Halted m (length next) flags work₀ work used × (length next < sizeSum (larger m R W))
 
 -- listed columns that enter
-pub record CanEnter (heads parents rows counts next work₀ work row-counts row-list : List ℕ) (m flags free : ℕ) (R W : List Column) : Type 0 where
+pub record CanWalkListed (heads parents rows counts next work₀ work starts row-counts row-list : List ℕ) (m flags free : ℕ) (R W : List Column) : Type 0 where
   pub walk : CanWalk heads parents rows counts next work₀ work m flags free R W true
-  pub listed : Listed row-counts row-list W
+  pub listed : Listed starts row-counts row-list W
   pub fits : all (fitsRows m) W ≡ true
 
 -- what a caller shows: that the walk can go, for some R and W
-pub record SomeEnter (heads parents rows counts next work row-counts row-list : List ℕ) (m flags free : ℕ) : Type 0 where
+pub record SomeWalkListed (heads parents rows counts next work starts row-counts row-list : List ℕ) (m flags free : ℕ) : Type 0 where
   pub R : List Column
   pub W : List Column
   pub work₀ : List ℕ
-  pub can : CanEnter heads parents rows counts next work₀ work row-counts row-list m flags free R W
+  pub can : CanWalkListed heads parents rows counts next work₀ work starts row-counts row-list m flags free R W
 
 -- booked columns that enter or leave
-pub record CanWalkBooked (heads parents rows counts next book-heads book-rows book-next work₀ work ids : List ℕ) (m flags free : ℕ) (R W : List Column) (adding : Bool) : Type 0 where
+pub record CanWalkBooked (heads parents rows counts next book-heads book-rows book-next work₀ work starts ids : List ℕ) (m flags free : ℕ) (R W : List Column) (adding : Bool) : Type 0 where
   pub walk : CanWalk heads parents rows counts next work₀ work m flags free R W adding
-  pub holds : BookHolds book-heads book-rows book-next ids m W
+  pub holds : BookHolds book-heads book-rows book-next starts ids m W
 
 -- what a caller shows: that the walk can go, for some R and W
-pub record SomeWalkBooked (heads parents rows counts next book-heads book-rows book-next work ids : List ℕ) (m flags free : ℕ) (adding : Bool) : Type 0 where
+pub record SomeWalkBooked (heads parents rows counts next book-heads book-rows book-next work starts ids : List ℕ) (m flags free : ℕ) (adding : Bool) : Type 0 where
   pub R : List Column
   pub W : List Column
   pub work₀ : List ℕ
-  pub can : CanWalkBooked heads parents rows counts next book-heads book-rows book-next work₀ work ids m flags free R W adding
+  pub can : CanWalkBooked heads parents rows counts next book-heads book-rows book-next work₀ work starts ids m flags free R W adding
 
 -- ---- its end
 

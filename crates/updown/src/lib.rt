@@ -6,10 +6,11 @@ ghost use mathlib.Core.List.{List};
 ghost use Rattle.tables.specs.Stored.{storedOf};
 ghost use Rattle.symbolic.specs.Columns.{Column};
 ghost use Rattle.book.specs.Book.{tablesOf};
-ghost use Rattle.updown.specs.Entries.{CanAdd, SomeAdd, CanAddBooked, SomeAddBooked, AddPlanned, CanRemove, SomeRemove, RemovePlanned};
+ghost use Rattle.updown.specs.Entries.{CanAdd, SomeAdd, CanEnter, SomeEnter, AddPlanned, CanRemove, SomeRemove, RemovePlanned};
 ghost use Rattle.updown.specs.Starts.{CanEnd, Ended};
 
 mod children;
+pub mod filling;
 mod marks;
 mod starts;
 mod turns;
@@ -64,8 +65,8 @@ fn plan_of(work: &mut [u32], m: usize, flags: usize, walk: Walk) -> Plan
     }
 }
 
-// Plans an addition: of the columns whose rows stand one after another in row_list, row_counts[k] of them each, beside the tables' columns. Where the
-// records are too few the work table is as lent.
+// Plans an addition: of the columns whose rows stand one after another in row_list, row_counts[k] of them each, beside the tables' columns; starts[k] is the
+// smallest row of each, 0 for one that counts no row. Where the records are too few the work table is as lent.
 pub fn plan_add(
     heads: &[u32],
     parents: &[u16],
@@ -75,14 +76,15 @@ pub fn plan_add(
     work: &mut [u32],
     row_counts: &[u32],
     row_list: &[u32],
+    starts: &[u32],
     free: Rec,
 ) -> Plan
-    requires { ⌜ SomeAdd (storedOf (now heads) (now parents) (now rows) (now counts) (now next) (free .0)) (now «row_counts») (now «row_list») (now work) ⌝ }
-    ensures { λ p. ⌜ ((R W : List Column) → CanAdd (storedOf (now (heads .entry)) (now (parents .entry)) (now (rows .entry)) (now (counts .entry)) (now (next .entry)) (free .0)) (now («row_counts» .entry)) (now («row_list» .entry)) (now (work .entry)) R W → AddPlanned (storedOf (now (heads .entry)) (now (parents .entry)) (now (rows .entry)) (now (counts .entry)) (now (next .entry)) (free .0)) R W (now (work .entry)) (now (work .exit)) (p .fits) (p .first .0) (p .count) (p .entries) (p .used)) ⌝ }
+    requires { ⌜ SomeAdd (storedOf (now heads) (now parents) (now rows) (now counts) (now next) (free .0)) (now starts) (now «row_counts») (now «row_list») (now work) ⌝ }
+    ensures { λ p. ⌜ ((R W : List Column) → CanAdd (storedOf (now (heads .entry)) (now (parents .entry)) (now (rows .entry)) (now (counts .entry)) (now (next .entry)) (free .0)) (now (starts .entry)) (now («row_counts» .entry)) (now («row_list» .entry)) (now (work .entry)) R W → AddPlanned (storedOf (now (heads .entry)) (now (parents .entry)) (now (rows .entry)) (now (counts .entry)) (now (next .entry)) (free .0)) R W (now (work .entry)) (now (work .exit)) (p .fits) (p .first .0) (p .count) (p .entries) (p .used)) ⌝ }
 {
     let m = heads.len();
     let flags = PLAN * m + RECORD_PLACES * next.len();
-    starts::mark_listed(work, row_counts, row_list, m, flags);
+    starts::mark_starts(work, starts, m, flags);
     let walk = walks::walk_add(
         heads,
         parents,
@@ -92,6 +94,7 @@ pub fn plan_add(
         work,
         row_counts,
         row_list,
+        starts,
         m,
         flags,
         free,
@@ -99,8 +102,8 @@ pub fn plan_add(
     plan_of(work, m, flags, walk)
 }
 
-// Plans an addition of booked columns: of those that the book has under ids, beside the tables' columns. Where the records are too few the work table is as
-// lent.
+// Plans an addition of booked columns: of those that the book has under ids, with the starts, beside the tables' columns. Where the records are too few the work
+// table is as lent.
 pub fn plan_enter(
     heads: &[u32],
     parents: &[u16],
@@ -112,14 +115,15 @@ pub fn plan_enter(
     book_next: &[u32],
     work: &mut [u32],
     ids: &[u32],
+    starts: &[u32],
     free: Rec,
 ) -> Plan
-    requires { ⌜ SomeAddBooked (storedOf (now heads) (now parents) (now rows) (now counts) (now next) (free .0)) (tablesOf (now «book_heads») (now «book_rows») (now «book_next»)) (now ids) (now work) ⌝ }
-    ensures { λ p. ⌜ ((R W : List Column) → CanAddBooked (storedOf (now (heads .entry)) (now (parents .entry)) (now (rows .entry)) (now (counts .entry)) (now (next .entry)) (free .0)) (tablesOf (now («book_heads» .entry)) (now («book_rows» .entry)) (now («book_next» .entry))) (now (ids .entry)) (now (work .entry)) R W → AddPlanned (storedOf (now (heads .entry)) (now (parents .entry)) (now (rows .entry)) (now (counts .entry)) (now (next .entry)) (free .0)) R W (now (work .entry)) (now (work .exit)) (p .fits) (p .first .0) (p .count) (p .entries) (p .used)) ⌝ }
+    requires { ⌜ SomeEnter (storedOf (now heads) (now parents) (now rows) (now counts) (now next) (free .0)) (tablesOf (now «book_heads») (now «book_rows») (now «book_next»)) (now starts) (now ids) (now work) ⌝ }
+    ensures { λ p. ⌜ ((R W : List Column) → CanEnter (storedOf (now (heads .entry)) (now (parents .entry)) (now (rows .entry)) (now (counts .entry)) (now (next .entry)) (free .0)) (tablesOf (now («book_heads» .entry)) (now («book_rows» .entry)) (now («book_next» .entry))) (now (starts .entry)) (now (ids .entry)) (now (work .entry)) R W → AddPlanned (storedOf (now (heads .entry)) (now (parents .entry)) (now (rows .entry)) (now (counts .entry)) (now (next .entry)) (free .0)) R W (now (work .entry)) (now (work .exit)) (p .fits) (p .first .0) (p .count) (p .entries) (p .used)) ⌝ }
 {
     let m = heads.len();
     let flags = PLAN * m + RECORD_PLACES * next.len();
-    starts::mark_booked(book_heads, book_rows, work, ids, m, flags);
+    starts::mark_starts(work, starts, m, flags);
     let walk = walks::walk_booked(
         heads,
         parents,
@@ -131,6 +135,7 @@ pub fn plan_enter(
         book_next,
         work,
         ids,
+        starts,
         m,
         flags,
         free,
@@ -139,7 +144,7 @@ pub fn plan_enter(
     plan_of(work, m, flags, walk)
 }
 
-// Plans a removal: of the columns that the book has under ids, from the tables' columns. It always fits.
+// Plans a removal: of the columns that the book has under ids, with the starts, from the tables' columns. It always fits.
 pub fn plan_remove(
     heads: &[u32],
     parents: &[u16],
@@ -151,13 +156,14 @@ pub fn plan_remove(
     book_next: &[u32],
     work: &mut [u32],
     ids: &[u32],
+    starts: &[u32],
 ) -> Plan
-    requires { ⌜ SomeRemove (storedOf (now heads) (now parents) (now rows) (now counts) (now next) 0) (tablesOf (now «book_heads») (now «book_rows») (now «book_next»)) (now ids) (now work) ⌝ }
-    ensures { λ p. ⌜ ((R W : List Column) → CanRemove (storedOf (now (heads .entry)) (now (parents .entry)) (now (rows .entry)) (now (counts .entry)) (now (next .entry)) 0) (tablesOf (now («book_heads» .entry)) (now («book_rows» .entry)) (now («book_next» .entry))) (now (ids .entry)) (now (work .entry)) R W → RemovePlanned (storedOf (now (heads .entry)) (now (parents .entry)) (now (rows .entry)) (now (counts .entry)) (now (next .entry)) 0) R W (now (work .entry)) (now (work .exit)) (p .fits) (p .first .0) (p .count) (p .entries) (p .used)) ⌝ }
+    requires { ⌜ SomeRemove (storedOf (now heads) (now parents) (now rows) (now counts) (now next) 0) (tablesOf (now «book_heads») (now «book_rows») (now «book_next»)) (now starts) (now ids) (now work) ⌝ }
+    ensures { λ p. ⌜ ((R W : List Column) → CanRemove (storedOf (now (heads .entry)) (now (parents .entry)) (now (rows .entry)) (now (counts .entry)) (now (next .entry)) 0) (tablesOf (now («book_heads» .entry)) (now («book_rows» .entry)) (now («book_next» .entry))) (now (starts .entry)) (now (ids .entry)) (now (work .entry)) R W → RemovePlanned (storedOf (now (heads .entry)) (now (parents .entry)) (now (rows .entry)) (now (counts .entry)) (now (next .entry)) 0) R W (now (work .entry)) (now (work .exit)) (p .fits) (p .first .0) (p .count) (p .entries) (p .used)) ⌝ }
 {
     let m = heads.len();
     let flags = PLAN * m + RECORD_PLACES * next.len();
-    starts::mark_booked(book_heads, book_rows, work, ids, m, flags);
+    starts::mark_starts(work, starts, m, flags);
     let walk = walks::walk_booked(
         heads,
         parents,
@@ -169,6 +175,7 @@ pub fn plan_remove(
         book_next,
         work,
         ids,
+        starts,
         m,
         flags,
         Rec(0),

@@ -13,7 +13,7 @@
 //   π(c) with a bar                  the new parent, in the mark of c
 //   the multiset of j, with ♯        rows and multiplicities in the chain of j
 //   the same with a bar              the old multiplicity plus the difference in the work table; then j's plan
-//   k_i, and i into its path-queue   starts::mark_listed, starts::mark_booked
+//   k_i, and i into its path-queue   starts::mark_starts
 //   j with a path-queue not empty    turns::take_column
 //   Case A                           starts::case_a_listed, starts::case_a_booked
 //   Case B, Case C                   children::cases_b_and_c: children::case_b, children::case_c for each child
@@ -28,7 +28,7 @@ ghost use Prim.Native.Nat.{ℕ};
 ghost use lib.ListN.{length};
 ghost use Rattle.symbolic.specs.Columns.{Column};
 ghost use Rattle.pool.specs.Chains.{chain};
-ghost use Rattle.updown.specs.Starts.{Walked, CanEnter, SomeEnter, CanWalkBooked, SomeWalkBooked};
+ghost use Rattle.updown.specs.Starts.{Walked, CanWalkListed, SomeWalkListed, CanWalkBooked, SomeWalkBooked};
 use crate::children;
 use crate::starts;
 use crate::turns;
@@ -45,12 +45,13 @@ pub fn walk_add(
     work: &mut [u32],
     row_counts: &[u32],
     row_list: &[u32],
+    starts: &[u32],
     m: usize,
     flags: usize,
     free: Rec,
 ) -> Walk
-    requires { ⌜ SomeEnter (now heads) (now parents) (now rows) (now counts) (now next) (now work) (now «row_counts») (now «row_list») m flags (free .0) ⌝ }
-    ensures { λ r. ⌜ ((R W : List Column) («work₀» : List ℕ) → CanEnter (now (heads .entry)) (now (parents .entry)) (now (rows .entry)) (now (counts .entry)) (now (next .entry)) «work₀» (now (work .entry)) (now («row_counts» .entry)) (now («row_list» .entry)) m flags (free .0) R W → Walked (now (next .entry)) «work₀» (now (work .exit)) m flags (length (chain (now (next .entry)) (free .0))) R W true (r .fits) (r .first .0) (r .last .0) (r .count) (r .entries) (r .used) (r .avail .0)) ⌝ }
+    requires { ⌜ SomeWalkListed (now heads) (now parents) (now rows) (now counts) (now next) (now work) (now starts) (now «row_counts») (now «row_list») m flags (free .0) ⌝ }
+    ensures { λ r. ⌜ ((R W : List Column) («work₀» : List ℕ) → CanWalkListed (now (heads .entry)) (now (parents .entry)) (now (rows .entry)) (now (counts .entry)) (now (next .entry)) «work₀» (now (work .entry)) (now (starts .entry)) (now («row_counts» .entry)) (now («row_list» .entry)) m flags (free .0) R W → Walked (now (next .entry)) «work₀» (now (work .exit)) m flags (length (chain (now (next .entry)) (free .0))) R W true (r .fits) (r .first .0) (r .last .0) (r .count) (r .entries) (r .used) (r .avail .0)) ⌝ }
 {
     let mut walk = turns::walk_from(free);
     while walk.fits {
@@ -58,7 +59,7 @@ pub fn walk_add(
         if j.0 == 0 {
             return walk;
         }
-        let n = starts::case_a_listed(work, row_counts, row_list, m, j);
+        let n = starts::case_a_listed(work, row_counts, row_list, starts, m, j);
         let n = children::cases_b_and_c(heads, parents, rows, next, work, m, n, j, true);
         let n = children::case_d(heads, rows, next, work, m, n, j, true);
         let avail = walk.avail;
@@ -80,13 +81,14 @@ pub fn walk_booked(
     book_next: &[u32],
     work: &mut [u32],
     ids: &[u32],
+    starts: &[u32],
     m: usize,
     flags: usize,
     free: Rec,
     adding: bool,
 ) -> Walk
-    requires { ⌜ SomeWalkBooked (now heads) (now parents) (now rows) (now counts) (now next) (now «book_heads») (now «book_rows») (now «book_next») (now work) (now ids) m flags (free .0) adding ⌝ }
-    ensures { λ r. ⌜ ((R W : List Column) («work₀» : List ℕ) → CanWalkBooked (now (heads .entry)) (now (parents .entry)) (now (rows .entry)) (now (counts .entry)) (now (next .entry)) (now («book_heads» .entry)) (now («book_rows» .entry)) (now («book_next» .entry)) «work₀» (now (work .entry)) (now (ids .entry)) m flags (free .0) R W adding → Walked (now (next .entry)) «work₀» (now (work .exit)) m flags (length (chain (now (next .entry)) (free .0))) R W adding (r .fits) (r .first .0) (r .last .0) (r .count) (r .entries) (r .used) (r .avail .0)) ⌝ }
+    requires { ⌜ SomeWalkBooked (now heads) (now parents) (now rows) (now counts) (now next) (now «book_heads») (now «book_rows») (now «book_next») (now work) (now starts) (now ids) m flags (free .0) adding ⌝ }
+    ensures { λ r. ⌜ ((R W : List Column) («work₀» : List ℕ) → CanWalkBooked (now (heads .entry)) (now (parents .entry)) (now (rows .entry)) (now (counts .entry)) (now (next .entry)) (now («book_heads» .entry)) (now («book_rows» .entry)) (now («book_next» .entry)) «work₀» (now (work .entry)) (now (starts .entry)) (now (ids .entry)) m flags (free .0) R W adding → Walked (now (next .entry)) «work₀» (now (work .exit)) m flags (length (chain (now (next .entry)) (free .0))) R W adding (r .fits) (r .first .0) (r .last .0) (r .count) (r .entries) (r .used) (r .avail .0)) ⌝ }
 {
     let mut walk = turns::walk_from(free);
     while walk.fits {
@@ -94,7 +96,17 @@ pub fn walk_booked(
         if j.0 == 0 {
             return walk;
         }
-        let n = starts::case_a_booked(book_heads, book_rows, book_next, work, ids, m, j, adding);
+        let n = starts::case_a_booked(
+            book_heads,
+            book_rows,
+            book_next,
+            work,
+            ids,
+            starts,
+            m,
+            j,
+            adding,
+        );
         let n = children::cases_b_and_c(heads, parents, rows, next, work, m, n, j, adding);
         let n = children::case_d(heads, rows, next, work, m, n, j, adding);
         let avail = walk.avail;

@@ -10,7 +10,7 @@ use Rattle.exchange.proofs.swap.Tie as tie
 -- ---- the places, named
 
 abbrev start : tie.After-leave-all-arg5 → tie.Start
-start c = c .before .before .before .before .before .before .before .before .before .before .before .before .before .before .before .before
+start c = c .before .before .before .before .before .before .before .before .before .before .before .before .before .before .before
 
 abbrev left : tie.After-enter-all-arg5 → tie.After-leave-all
 left c = c .before .before .before .before .before .before .before .before .before .before .before .before .before .before .before
@@ -26,16 +26,16 @@ undone c = c .before .before .before .before .before .before .before .before
 
 -- multiplicities have 16 bits
 small : (c : tie.After-leave-all-arg5) → (k : ℕ) → getD (start c .args .counts .now) k 0 < 65536
-small c k = omega (arith, c .before .before .before .before .before .before .before .before .before .before .before .before .slice-known3 .given k)
+small c k = omega (arith, c .before .before .before .before .before .before .before .before .before .before .before .slice-known3 .given k)
 
 leave-all-requires : tie.Need-leave-all-requires
-leave-all-requires c κs = some-leave-all (start c .pre .some .can)
+leave-all-requires c κs = let p = start c .pre in some-leave-all (can-leave-all (p .can)) (p .scan)
 
 enter-all-requires : tie.Need-enter-all-requires
 enter-all-requires c κs =
     let l = left c in
-    let q = start (l .before) .pre .some in
-    some-enter-all (q .can) (l .leave-all .ensures (q .R) (q .A) (can-leave-all (q .can)))
+    let p = start (l .before) .pre in
+    some-enter-all (can-enter-all (p .can) (l .leave-all .ensures (p .R) (p .A) (can-leave-all (p .can)))) (p .scan)
 
 -- ---- where all fits
 
@@ -52,7 +52,7 @@ same-length-4 : tie.Need-same-length-4
 same-length-4 c = let e = entered (c .before) in e .enter-all .kept .1 .1 .1 .1 .0 ∙ left (e .before) .leave-all .kept .1 .1 .1 .1 .0
 
 same-length-5 : tie.Need-same-length-5
-same-length-5 c = let e = entered (c .before) in e .enter-all .kept .1 .1 .1 .1 .1 .1 .1 .1 .0 ∙ left (e .before) .leave-all .kept .1 .1 .1 .1 .1 .1 .1 .1 .0
+same-length-5 c = let e = entered (c .before) in e .enter-all .kept .1 .1 .1 .1 .1 .1 .1 .1 .1 .0 ∙ left (e .before) .leave-all .kept .1 .1 .1 .1 .1 .1 .1 .1 .1 .0
 
 returns : tie.Need-returns
 returns c = λ R A B can.
@@ -67,9 +67,8 @@ undo-requires c κs =
     let e = entered (halted c .before) in
     let l = left (e .before) in
     let p = start (l .before) .pre in
-    let q = p .some in
-    let v = l .leave-all .ensures (q .R) (q .A) (can-leave-all (q .can)) in
-    some-undo (can-undo (q .can) v (e .enter-all .ensures (q .R) (q .B) (can-enter-all (q .can) v)) (p .records) (p .parents) (small (l .before))
+    let v = l .leave-all .ensures (p .R) (p .A) (can-leave-all (p .can)) in
+    some-undo (can-undo (p .can) v (e .enter-all .ensures (p .R) (p .B) (can-enter-all (p .can) v)) (p .records) (p .parents) (small (l .before))
     (e .enter-all .kept .1 .0 ∙ l .leave-all .kept .1 .0) (e .enter-all .kept .1 .1 .0 ∙ l .leave-all .kept .1 .1 .0) (e .enter-all .kept .1 .1 .1 .0 ∙ l .leave-all .kept .1 .1 .1 .0) (e .enter-all .kept .1 .1 .1 .1 .0 ∙ l .leave-all .kept .1 .1 .1 .1 .0))
 
 same-length-6 : tie.Need-same-length-6
@@ -97,7 +96,7 @@ same-length-9 c =
     u .undo .kept .1 .1 .1 .0 ∙ e .enter-all .kept .1 .1 .1 .1 .0 ∙ left (e .before) .leave-all .kept .1 .1 .1 .1 .0
 
 same-length-10 : tie.Need-same-length-10
-same-length-10 c = let e = entered (halted (undone c .before) .before) in e .enter-all .kept .1 .1 .1 .1 .1 .1 .1 .1 .0 ∙ left (e .before) .leave-all .kept .1 .1 .1 .1 .1 .1 .1 .1 .0
+same-length-10 c = let e = entered (halted (undone c .before) .before) in e .enter-all .kept .1 .1 .1 .1 .1 .1 .1 .1 .1 .0 ∙ left (e .before) .leave-all .kept .1 .1 .1 .1 .1 .1 .1 .1 .1 .0
 
 returns-2 : tie.Need-returns-2
 returns-2 c = λ R A B can.

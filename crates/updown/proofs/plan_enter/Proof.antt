@@ -7,10 +7,10 @@ use Rattle.updown.proofs.plan_enter.Tie as tie
 
 -- ---- places: the start, the starts marked, the walk gone
 
-abbrev start : tie.After-mark-booked-arg → tie.Start
-start c = c .before .before .before .before .before .before .before .before .before .before .before
+abbrev start : tie.After-mark-starts-arg → tie.Start
+start c = c .before .before .before .before .before .before .before .before .before .before .before .before
 
-abbrev marked : tie.After-walk-booked-arg → tie.After-mark-booked
+abbrev marked : tie.After-walk-booked-arg → tie.After-mark-starts
 marked c = c .before .before .before
 
 abbrev walked : tie.After-plan-of-arg → tie.After-walk-booked
@@ -25,8 +25,8 @@ mul-flags-2 c = search needs
 add-flags : tie.Need-add-flags
 add-flags c = search needs
 
-mark-booked-requires : tie.Need-mark-booked-requires
-mark-booked-requires c κs = let t = start c in record { next = t .args .book-next .now; W = t .pre .W; can = enter-mark (t .pre .can) }
+mark-starts-requires : tie.Need-mark-starts-requires
+mark-starts-requires c κs = let t = start c in record { W = t .pre .W; can = enter-mark (t .pre .can) }
 
 walk-booked-requires : tie.Need-walk-booked-requires
 walk-booked-requires c κs =
@@ -35,7 +35,7 @@ walk-booked-requires c κs =
       R = t .pre .R;
       W = t .pre .W;
       work₀ = t .args .work .now;
-      can = enter-walk (t .pre .can) (marked c .mark-booked .ensures (t .args .book-next .now) (t .pre .W) (enter-mark (t .pre .can)));
+      can = enter-walk (t .pre .can) (marked c .mark-starts .ensures (t .pre .W) (enter-mark (t .pre .can)));
     }
 
 plan-of-requires : tie.Need-plan-of-requires
@@ -43,7 +43,7 @@ plan-of-requires c κs =
     let w = walked c in
     let k = marked (w .before) in
     let t = start (k .before) in
-    let can = enter-walk (t .pre .can) (k .mark-booked .ensures (t .args .book-next .now) (t .pre .W) (enter-mark (t .pre .can))) in
+    let can = enter-walk (t .pre .can) (k .mark-starts .ensures (t .pre .W) (enter-mark (t .pre .can))) in
     walk-end (can .walk) (w .walk-booked .ensures (t .pre .R) (t .pre .W) (t .args .work .now) can)
 
 same-length : tie.Need-same-length
@@ -55,7 +55,7 @@ returns c = λ R W can.
     let w = walked (p .before) in
     let k = marked (w .before) in
     let t = start (k .before) in
-    add-made (can .can) (w .walk-booked .ensures R W (t .args .work .now) (enter-walk can (k .mark-booked .ensures (t .args .book-next .now) W (enter-mark can))))
+    add-made (can .can) (w .walk-booked .ensures R W (t .args .work .now) (enter-walk can (k .mark-starts .ensures W (enter-mark can))))
     (p .plan-of .ensures)
 
 pub plan-enter-spec : {M : Type 1} → statement M
@@ -65,7 +65,7 @@ plan-enter-spec =
     mul-flags
     mul-flags-2
     add-flags
-    mark-booked-requires
+    mark-starts-requires
     walk-booked-requires
     plan-of-requires
     same-length

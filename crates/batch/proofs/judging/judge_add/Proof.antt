@@ -2,21 +2,24 @@
 use mathlib.Core.Path.{_≡_, sym, ap, _∙_}
 use mathlib.Core.Bool.{true}
 use mathlib.Core.List.{List}
-use Prim.Native.Nat.{ℕ}
+use Prim.Native.Nat.{ℕ, _≤_}
 use native.Mathlib.Omega.{arith}
 use borrow.Author.Needs.{needs}
 use borrow.Author.Tests.{eq-eqb, ne-eqb}
-use lib.ListN.{length}
+use lib.ListN.{length, drop, replicate}
+use lib.Seq.{length-take-le, take-at}
+use Rattle.lists.specs.Lists.{sumOf}
 use Rattle.symbolic.specs.Grades.{Limits}
 use Rattle.tables.specs.Tables.{Tables, tablesOf}
 use Rattle.calls.specs.Refusals.{isAccepted, batchOf}
 use Rattle.calls.specs.Steps.{bookedIn}
 use Rattle.refusals.specs.Found.{addFound}
+use Rattle.updown.proofs.Filled.{filled-within}
 use Rattle.batch.specs.Outcome.{cutWorld, CanFind}
 use Rattle.batch.specs.Parts.{bookWhole, verdictNumber}
 use Rattle.batch.specs.declared.Verdict.{Verdict}
 use Rattle.batch.proofs.Cut.{sizes-are, book-sound}
-use Rattle.batch.proofs.Adding.{add-refused, add-can, add-planned, add-full}
+use Rattle.batch.proofs.Adding.{add-refused, add-few, add-can, add-planned, add-full}
 use Rattle.batch.proofs.judging.judge_add.Statement.{statement}
 use Rattle.batch.proofs.judging.judge_add.Tie as tie
 
@@ -65,14 +68,47 @@ returns c lim br can =
     (ap verdictNumber (c .refused .ensures) ∙ x .find-add .ensures br (book-sound can))
     (ap (λ (v : Verdict). isAccepted (verdictNumber v)) (c .refused .ensures) ∙ ne-eqb (x .find-add .result .number) 0 (c .before .if1 .taken))
 
+-- ---- the starts, filled in
+
+-- the positions are few, and their rows lie within the list
+few : (c : tie.Else1) → (length (at-plan c .args .row-counts .now) ≤ 64) × (sumOf (λ n. n) (at-plan c .args .row-counts .now) ≤ length (at-plan c .args .row-list .now))
+few c =
+    let s = at-plan c in
+    add-few (s .pre .can) (s .args .ids .now) (s .args .row-counts .now) (s .args .row-list .now) (accepted-at c (s .pre .limits) (s .pre .book-rows) (s .pre .can))
+
+array-borrow-prefix-starts : tie.Need-array-borrow-prefix-starts
+array-borrow-prefix-starts c = few c .0
+
+slice-aggregate-listed-starts : tie.Need-slice-aggregate-listed-starts
+slice-aggregate-listed-starts c = sym (length-take-le _ _ (few (c .before) .0))
+
+listed-starts-requires : tie.Need-listed-starts-requires
+listed-starts-requires c κs = (length-take-le _ _ (few (c .before) .0), few (c .before) .1)
+
+filled : (c : tie.After-listed-starts) → length (c .listed-starts .last .1 .1 .0) ≡ length (at-plan (c .before .before) .args .row-counts .now)
+filled c = c .listed-starts .kept .1 .1 .0 ∙ length-take-le _ _ (few (c .before .before) .0)
+
+array-share-prefix-starts : tie.Need-array-share-prefix-starts
+array-share-prefix-starts c =
+    let d = c .before .before in
+    let n = length (at-plan (d .before .before) .args .row-counts .now) in filled-within n (d .listed-starts .last .1 .1 .0) (drop n (replicate {A = ℕ} 64 0)) (filled d)
+
+slice-aggregate-plan-add : tie.Need-slice-aggregate-plan-add
+slice-aggregate-plan-add c = sym (length-take-le _ _ (array-share-prefix-starts (c .before)))
+
+-- ---- planned
+
 plan-add-requires : tie.Need-plan-add-requires
 plan-add-requires c κs =
-    let s = at-plan (c .before) in
+    let d = c .before .before .before in
+    let no = d .before .before in
+    let s = at-plan no in
     let br : List ℕ = s .pre .book-rows in
     record {
       R = bookedIn (cutWorld (tablesAt s br) (s .pre .limits) (s .args .free .0) (s .args .book-free .0)) .columns;
       W = batchOf (s .args .ids .now) (s .args .row-counts .now) (s .args .row-list .now);
-      can = add-can (s .pre .can) (s .args .ids .now) (s .args .row-counts .now) (s .args .row-list .now) (accepted-at (c .before) (s .pre .limits) br (s .pre .can));
+      can = add-can (s .pre .can) (s .args .ids .now) (s .args .row-counts .now) (s .args .row-list .now) (accepted-at no (s .pre .limits) br (s .pre .can))
+          (take-at _ _ _ (filled d) ∙ d .listed-starts .ensures);
     }
 
 planned-requires : tie.Need-planned-requires
@@ -84,7 +120,8 @@ same-length c = search needs
 returns-2 : tie.Need-returns-2
 returns-2 c lim br can =
     let p = plans (c .before .before) in
-    let no = p .before .before in
+    let d = p .before .before .before .before in
+    let no = d .before .before in
     let s = at-plan no in
     let ids = s .args .ids .now in
     let ns = s .args .row-counts .now in
@@ -92,7 +129,7 @@ returns-2 c lim br can =
     let ok = accepted-at no lim br can in
     let u = bookedIn (cutWorld (tablesAt s br) lim (s .args .free .0) (s .args .book-free .0)) .columns in
     let e = c .planned .ensures in
-    add-planned can ids ns rs ok (p .plan-add .ensures u (batchOf ids ns rs) (add-can can ids ns rs ok)) (c .before .if2 .taken)
+    add-planned can ids ns rs ok (p .plan-add .ensures u (batchOf ids ns rs) (add-can can ids ns rs ok (take-at _ _ _ (filled d) ∙ d .listed-starts .ensures))) (c .before .if2 .taken)
     (ap verdictNumber e) (ap (λ (v : Verdict). v .plan .first .0) e) (ap (λ (v : Verdict). v .plan .count) e) (ap (λ (v : Verdict). v .plan .entries) e) (ap (λ (v : Verdict). v .plan .used) e)
 
 refused-requires-2 : tie.Need-refused-requires-2
@@ -104,14 +141,15 @@ same-length-2 c = search needs
 returns-3 : tie.Need-returns-3
 returns-3 c lim br can =
     let p = plans (c .before .before) in
-    let no = p .before .before in
+    let d = p .before .before .before .before in
+    let no = d .before .before in
     let s = at-plan no in
     let ids = s .args .ids .now in
     let ns = s .args .row-counts .now in
     let rs = s .args .row-list .now in
     let ok = accepted-at no lim br can in
     let u = bookedIn (cutWorld (tablesAt s br) lim (s .args .free .0) (s .args .book-free .0)) .columns in
-    add-full can ids ns rs ok (p .plan-add .ensures u (batchOf ids ns rs) (add-can can ids ns rs ok)) (c .before .if2 .left) (ap verdictNumber (c .refused2 .ensures))
+    add-full can ids ns rs ok (p .plan-add .ensures u (batchOf ids ns rs) (add-can can ids ns rs ok (take-at _ _ _ (filled d) ∙ d .listed-starts .ensures))) (c .before .if2 .left) (ap verdictNumber (c .refused2 .ensures))
 
 pub judge-add-spec : {M : Type 1} → statement M
 judge-add-spec =
@@ -121,6 +159,11 @@ judge-add-spec =
     find-add-requires
     refused-requires
     returns
+    array-borrow-prefix-starts
+    slice-aggregate-listed-starts
+    listed-starts-requires
+    array-share-prefix-starts
+    slice-aggregate-plan-add
     plan-add-requires
     planned-requires
     same-length

@@ -1,19 +1,21 @@
 -- `judging::judge_remove` meets its contract: what it finds and what it plans are the call's verdict, by the laws of Removing.antt. Assumes nothing.
 use mathlib.Core.Path.{_≡_, sym, ap, _∙_}
 use mathlib.Core.Bool.{true}
-use Prim.Native.Nat.{ℕ}
+use Prim.Native.Nat.{ℕ, _≤_}
 use borrow.Author.Needs.{needs}
 use borrow.Author.Tests.{eq-eqb, ne-eqb}
-use lib.ListN.{length}
+use lib.ListN.{length, drop, replicate}
+use lib.Seq.{length-take-le, take-at}
 use Rattle.symbolic.specs.Change.{without, columnsOf}
 use Rattle.tables.specs.Tables.{Tables, tablesOf}
 use Rattle.calls.specs.Refusals.{isAccepted}
 use Rattle.calls.specs.Steps.{bookedIn}
 use Rattle.refusals.specs.Found.{removeFound}
+use Rattle.updown.proofs.Filled.{filled-within}
 use Rattle.batch.specs.Outcome.{cutWorld}
 use Rattle.batch.specs.Parts.{bookWhole, verdictNumber}
 use Rattle.batch.specs.declared.Verdict.{Verdict}
-use Rattle.batch.proofs.Removing.{remove-refused, remove-can, remove-planned}
+use Rattle.batch.proofs.Removing.{remove-refused, remove-few, remove-can, remove-planned}
 use Rattle.batch.proofs.judging.judge_remove.Statement.{statement}
 use Rattle.batch.proofs.judging.judge_remove.Tie as tie
 
@@ -53,14 +55,44 @@ returns c lim f g can =
     (ap verdictNumber (c .refused .ensures) ∙ x .find-remove .ensures (length (s .args .heads .now)) (s .args .book-rows .now) (s .args .book-next .now) g)
     (ap (λ (v : Verdict). isAccepted (verdictNumber v)) (c .refused .ensures) ∙ ne-eqb (x .find-remove .result .number) 0 (c .before .if1 .taken))
 
+-- ---- the starts, filled in
+
+few : (c : tie.Else1) → length (at-plan c .args .ids .now) ≤ 64
+few c = let s = at-plan c in remove-few (s .pre .can) (s .args .ids .now) (accepted-at c (s .pre .book-free)) .0
+
+array-borrow-prefix-starts : tie.Need-array-borrow-prefix-starts
+array-borrow-prefix-starts c = few c
+
+slice-aggregate-booked-starts : tie.Need-slice-aggregate-booked-starts
+slice-aggregate-booked-starts c = sym (length-take-le _ _ (few (c .before)))
+
+booked-starts-requires : tie.Need-booked-starts-requires
+booked-starts-requires c κs =
+    let s = at-plan (c .before) in
+    (length-take-le _ _ (few (c .before)), remove-few (s .pre .can) (s .args .ids .now) (accepted-at (c .before) (s .pre .book-free)) .1)
+
+filled : (c : tie.After-booked-starts) → length (c .booked-starts .last .1 .1 .1 .0) ≡ length (at-plan (c .before .before) .args .ids .now)
+filled c = c .booked-starts .kept .1 .1 .1 .0 ∙ length-take-le _ _ (few (c .before .before))
+
+array-share-prefix-starts : tie.Need-array-share-prefix-starts
+array-share-prefix-starts c =
+    let d = c .before .before in
+    let n = length (at-plan (d .before .before) .args .ids .now) in filled-within n (d .booked-starts .last .1 .1 .1 .0) (drop n (replicate {A = ℕ} 64 0)) (filled d)
+
+slice-aggregate-plan-remove : tie.Need-slice-aggregate-plan-remove
+slice-aggregate-plan-remove c = sym (length-take-le _ _ (array-share-prefix-starts (c .before)))
+
 plan-remove-requires : tie.Need-plan-remove-requires
 plan-remove-requires c κs =
-    let s = at-plan (c .before) in
+    let d = c .before .before .before in
+    let no = d .before .before in
+    let s = at-plan no in
     let cs = bookedIn (cutWorld (tablesAt s) (s .pre .limits) (s .pre .free) (s .pre .book-free)) .columns in
     record {
       R = without (s .args .ids .now) cs;
       W = columnsOf (s .args .ids .now) cs;
-      can = remove-can (s .pre .can) (s .args .ids .now) (accepted-at (c .before) (s .pre .book-free)) 0 0;
+      can = remove-can (s .pre .can) (s .args .ids .now) (accepted-at no (s .pre .book-free)) 0 0
+          (take-at _ _ _ (filled d) ∙ d .booked-starts .ensures (s .args .book-next .now) (s .pre .can .book-rows));
     }
 
 planned-requires : tie.Need-planned-requires
@@ -72,15 +104,17 @@ same-length c = search needs
 returns-2 : tie.Need-returns-2
 returns-2 c lim f g can =
     let p = plans c in
-    let no = p .before .before in
+    let d = p .before .before .before .before in
+    let no = d .before .before in
     let s = at-plan no in
     let ids = s .args .ids .now in
     let ok = accepted-at no g in
     let cs = bookedIn (cutWorld (tablesAt s) lim f g) .columns in
     let e = c .planned .ensures in
-    remove-planned can ids ok (p .plan-remove .ensures (without ids cs) (columnsOf ids cs) (remove-can can ids ok 0 0))
+    let starts = take-at _ _ _ (filled d) ∙ d .booked-starts .ensures (s .args .book-next .now) (can .book-rows) in
+    remove-planned can ids ok (p .plan-remove .ensures (without ids cs) (columnsOf ids cs) (remove-can can ids ok 0 0 starts))
     (ap verdictNumber e) (ap (λ (v : Verdict). v .plan .first .0) e) (ap (λ (v : Verdict). v .plan .count) e) (ap (λ (v : Verdict). v .plan .entries) e) (ap (λ (v : Verdict). v .plan .used) e)
 
 pub judge-remove-spec : {M : Type 1} → statement M
 judge-remove-spec =
-    tie.close (tie.spec find-remove-requires refused-requires returns plan-remove-requires planned-requires same-length returns-2)
+    tie.close (tie.spec find-remove-requires refused-requires returns array-borrow-prefix-starts slice-aggregate-booked-starts booked-starts-requires array-share-prefix-starts slice-aggregate-plan-remove plan-remove-requires planned-requires same-length returns-2)

@@ -1,14 +1,27 @@
 -- `exchange::groups::enter_group` meets its contract: planned and, where that fits, gathered and written, by the laws of Grouped.antt. Assumes nothing.
-use mathlib.Core.Path.{refl, _∙_}
+use mathlib.Core.Path.{_≡_, refl, sym, _∙_}
 use native.Mathlib.Omega.{arith}
-use Rattle.exchange.proofs.Grouped.{enter-gather, enter-write, group-entered, group-halted}
+use mathlib.Core.List.{List, _++_}
+use Prim.Native.Nat.{ℕ}
+use lib.ListN.{length, take, drop, replicate}
+use lib.Seq.{length-take-le, take-at}
+use Rattle.book.specs.Book.{tablesOf}
+use Rattle.updown.specs.Entries.{bookedStarts}
+use Rattle.updown.proofs.Filled.{filled-within, whole-enter}
+use Rattle.exchange.proofs.Grouped.{enter-few, enter-gather, enter-write, group-entered, group-halted}
 use Rattle.exchange.proofs.groups.enter_group.Statement.{statement}
 use Rattle.exchange.proofs.groups.enter_group.Tie as tie
 
 -- ---- the places, named
 
-abbrev start : tie.After-plan-enter-arg5 → tie.Start
-start c = c .before .before .before .before .before .before .before .before .before .before .before .before .before .before .before
+abbrev filled : tie.After-plan-enter-arg5 → tie.After-booked-starts
+filled c = c .before .before .before .before .before .before
+
+abbrev first : tie.After-booked-starts → tie.Start
+first c = c .before .before .before .before .before .before .before .before .before .before .before .before
+
+abbrev start : tie.After-starts3 → tie.Start
+start c = first (filled (c .before))
 
 abbrev planned : tie.After-slice-known6 → tie.After-plan-enter
 planned c = c .before .before
@@ -22,8 +35,38 @@ gathered c = c .before .before .before .before .before .before .before
 abbrev written : tie.After-slice-known12 → tie.After-write-plan
 written c = c .before .before .before .before .before .before .before .before .before .before
 
+-- ---- the starts, filled in
+
+array-borrow-prefix-starts : tie.Need-array-borrow-prefix-starts
+array-borrow-prefix-starts c = enter-few (c .before .before .before .before .before .before .before .before .before .before .pre .can) .0
+
+slice-aggregate-booked-starts : tie.Need-slice-aggregate-booked-starts
+slice-aggregate-booked-starts c = sym (length-take-le _ _ (array-borrow-prefix-starts (c .before)))
+
+booked-starts-requires : tie.Need-booked-starts-requires
+booked-starts-requires c κs =
+    (length-take-le _ _ (array-borrow-prefix-starts (c .before)), enter-few (c .before .before .before .before .before .before .before .before .before .before .before .pre .can) .1)
+
+filled-long : (c : tie.After-booked-starts) → length (c .booked-starts .last .1 .1 .1 .0) ≡ length (first c .args .ids .now)
+filled-long c = c .booked-starts .kept .1 .1 .1 .0 ∙ length-take-le _ _ (array-borrow-prefix-starts (c .before .before))
+
+array-share-prefix-starts : tie.Need-array-share-prefix-starts
+array-share-prefix-starts c =
+    let d = filled c in
+    let n = length (first d .args .ids .now) in filled-within n (d .booked-starts .last .1 .1 .1 .0) (drop n (replicate {A = ℕ} 64 0)) (filled-long d)
+
+slice-aggregate-plan-enter : tie.Need-slice-aggregate-plan-enter
+slice-aggregate-plan-enter c = sym (length-take-le _ _ (array-share-prefix-starts (c .before)))
+
+-- the starts as they are lent
+abbrev lent : tie.After-booked-starts → List ℕ
+lent c = let n = length (first c .args .ids .now) in take n (c .booked-starts .last .1 .1 .1 .0 ++ drop n (replicate {A = ℕ} 64 0))
+
+lent-is : (c : tie.After-booked-starts) → lent c ≡ bookedStarts (tablesOf (first c .args .book-heads .now) (first c .args .book-rows .now) (first c .args .book-next .now)) (first c .args .ids .now)
+lent-is c = take-at _ _ _ (filled-long c) ∙ c .booked-starts .ensures (first c .args .book-next .now) (first c .pre .can .book-sized)
+
 plan-enter-requires : tie.Need-plan-enter-requires
-plan-enter-requires c κs = start c .pre
+plan-enter-requires c κs = let p = start c .pre in record { R = p .R; W = p .W; can = whole-enter (lent-is (filled (c .before))) (p .can) }
 
 -- ---- where it fits
 
@@ -43,14 +86,14 @@ gather-requires : tie.Need-gather-requires
 gather-requires c κs =
     let t = fitting c in
     let p = planned (t .before) in
-    enter-gather (start (p .before) .pre .can) (p .plan-enter .ensures) (t .if1 .taken)
+    enter-gather (start (p .before) .pre .can) (lent-is (filled (p .before .before))) (p .plan-enter .ensures) (t .if1 .taken)
 
 write-plan-requires : tie.Need-write-plan-requires
 write-plan-requires c κs =
     let g = gathered c in
     let t = fitting (g .before) in
     let p = planned (t .before) in
-    enter-write (start (p .before) .pre .can) (p .plan-enter .ensures) (t .if1 .taken) (g .gather .ensures)
+    enter-write (start (p .before) .pre .can) (lent-is (filled (p .before .before))) (p .plan-enter .ensures) (t .if1 .taken) (g .gather .ensures)
 
 same-length : tie.Need-same-length
 same-length c = written c .write-plan .kept .1 .0
@@ -75,7 +118,7 @@ returns c = λ N W can.
     let g = gathered (w .before) in
     let t = fitting (g .before) in
     let p = planned (t .before) in
-    group-entered can (p .plan-enter .ensures) (t .if1 .taken) (g .gather .ensures) (w .write-plan .ensures) (w .write-plan .kept .1 .1 .1 .1 .0)
+    group-entered can (lent-is (filled (p .before .before))) (p .plan-enter .ensures) (t .if1 .taken) (g .gather .ensures) (w .write-plan .ensures) (w .write-plan .kept .1 .1 .1 .1 .0)
 
 -- ---- where it does not
 
@@ -95,12 +138,17 @@ same-length-10 : tie.Need-same-length-10
 same-length-10 c = planned (c .before) .plan-enter .kept .1 .1 .1 .1 .1 .1 .1 .1 .0
 
 returns-2 : tie.Need-returns-2
-returns-2 c = λ N W can. group-halted can (planned (c .before) .plan-enter .ensures) (c .if1 .left)
+returns-2 c = λ N W can. group-halted can (lent-is (filled (planned (c .before) .before .before))) (planned (c .before) .plan-enter .ensures) (c .if1 .left)
 
 pub enter-group-spec : {M : Type 1} → statement M
 enter-group-spec =
     tie.close
     (tie.spec
+    array-borrow-prefix-starts
+    slice-aggregate-booked-starts
+    booked-starts-requires
+    array-share-prefix-starts
+    slice-aggregate-plan-enter
     plan-enter-requires
     mul-gather
     add-gather

@@ -1,9 +1,9 @@
 -- `updown::walks::walk_add` meets its contract: at the loop's test the walk is between two turns or has stopped, for all columns that the tables and the list
 -- suit; the measure is the rows left. Assumes nothing.
-use Rattle.updown.proofs.Looping.{Looping, loop-begins, loop-stops, loop-ends, loop-on, enter-start, enter-turning}
+use Rattle.updown.proofs.Looping.{Looping, loop-begins, loop-stops, loop-ends, loop-on, listed-start, listed-turning}
 use Rattle.updown.proofs.Turned.{Turning, turning-ready, family-ready, plan-ready, step-ready, turned}
 use Rattle.updown.proofs.Seeking.{rowsLeft, rows-fewer, seeking-take}
-use Rattle.updown.specs.Starts.{CanEnter}
+use Rattle.updown.specs.Starts.{CanWalkListed}
 use Rattle.pool.specs.Chains.{chain}
 use Rattle.symbolic.specs.Columns.{Column}
 use lib.ListN.{length}
@@ -16,17 +16,17 @@ use Rattle.updown.proofs.walks.walk_add.Statement.{statement}
 use Rattle.updown.proofs.walks.walk_add.Tie as tie
 
 abbrev Inv-loop : tie.InvT-loop
-Inv-loop heads parents rows counts next work₀ row-counts row-list m flags walk₀ work walk =
-    (R W : List Column) (lent : List ℕ) (free : ℕ) → walk₀ .avail .0 ≡ free → CanEnter heads parents rows counts next lent work₀ row-counts row-list m flags free R W →
+Inv-loop heads parents rows counts next work₀ row-counts row-list starts m flags walk₀ work walk =
+    (R W : List Column) (lent : List ℕ) (free : ℕ) → walk₀ .avail .0 ≡ free → CanWalkListed heads parents rows counts next lent work₀ starts row-counts row-list m flags free R W →
     Looping next lent work m flags (length (chain next free)) R W true (walk .fits) (walk .first .0) (walk .last .0) (walk .count) (walk .entries) (walk .used) (walk .avail .0)
 
 abbrev μ-loop : tie.MeasureT-loop
-μ-loop heads parents rows counts next work₀ row-counts row-list m flags walk₀ work walk = rowsLeft m (walk .fits) (walk .last .0)
+μ-loop heads parents rows counts next work₀ row-counts row-list starts m flags walk₀ work walk = rowsLeft m (walk .fits) (walk .last .0)
 
 -- ---- places: the start, the loop's test, and before each call the call before it
 
 abbrev start : tie.At-loop Inv-loop μ-loop → tie.Start Inv-loop μ-loop
-start c = c .before .before .before .before .before .before .before .before .before .before
+start c = c .before .before .before .before .before .before .before .before .before .before .before
 
 abbrev at-loop : tie.After-case-a-listed-arg Inv-loop μ-loop → tie.At-loop Inv-loop μ-loop
 at-loop c = c .before .before .before .before .before .before .before .before
@@ -52,7 +52,7 @@ abbrev Enters : (c : tie.At-loop Inv-loop μ-loop) (R W : List Column) (lent : L
 Enters c R W lent free =
     let s = start c .args in
     (c .before .walk-from .result .avail .0 ≡ free) ×
-    CanEnter (s .heads .now) (s .parents .now) (s .rows .now) (s .counts .now) (s .next .now) lent (s .work .now) (s .row-counts .now) (s .row-list .now) (s .m) (s .flags) free R W
+    CanWalkListed (s .heads .now) (s .parents .now) (s .rows .now) (s .counts .now) (s .next .now) lent (s .work .now) (s .starts .now) (s .row-counts .now) (s .row-list .now) (s .m) (s .flags) free R W
 
 -- those of the premise
 given : (c : tie.At-loop Inv-loop μ-loop) → let s = start c in Enters c (s .pre .R) (s .pre .W) (s .pre .work₀) (s .args .free .0)
@@ -74,7 +74,7 @@ turning : (c : tie.After-cases-b-and-c-arg Inv-loop μ-loop) {R W : List Column}
     (at-a c .before .before .before .before .before .take-column .result .0) (l .first .0) (l .last .0) (l .count) (l .entries) (l .used) (l .avail .0)
 turning c h =
     let a = at-a c in
-    enter-turning (h .1) (looping (at-loop a) h) (a .before .before .before .before .before .before .before .loop-test .taken) (a .before .before .before .before .before .take-column .ensures) (a .before .if1 .left) (c .before .before .before .case-a-listed .ensures)
+    listed-turning (h .1) (looping (at-loop a) h) (a .before .before .before .before .before .before .before .loop-test .taken) (a .before .before .before .before .before .take-column .ensures) (a .before .if1 .left) (c .before .before .before .case-a-listed .ensures)
 
 walk-from-requires : tie.Need-walk-from-requires Inv-loop μ-loop
 walk-from-requires c κs = search needs
@@ -99,7 +99,7 @@ returns c = λ R W lent can. loop-ends (can .walk) (looping (c .before .before .
 case-a-listed-requires : tie.Need-case-a-listed-requires Inv-loop μ-loop
 case-a-listed-requires c κs =
     let h = given (at-loop c) in
-    enter-start (h .1) (looping (at-loop c) h) (c .before .before .before .before .before .before .before .loop-test .taken) (c .before .before .before .before .before .take-column .ensures) (c .before .if1 .left)
+    listed-start (h .1) (looping (at-loop c) h) (c .before .before .before .before .before .before .before .loop-test .taken) (c .before .before .before .before .before .take-column .ensures) (c .before .if1 .left)
 
 cases-b-and-c-requires : tie.Need-cases-b-and-c-requires Inv-loop μ-loop
 cases-b-and-c-requires c κs =

@@ -15,17 +15,17 @@ use Rattle.updown.proofs.walks.walk_booked.Statement.{statement}
 use Rattle.updown.proofs.walks.walk_booked.Tie as tie
 
 abbrev Inv-loop : tie.InvT-loop
-Inv-loop heads parents rows counts next book-heads book-rows book-next work₀ ids m flags adding walk₀ work walk =
-    (R W : List Column) (lent : List ℕ) (free : ℕ) → walk₀ .avail .0 ≡ free → CanWalkBooked heads parents rows counts next book-heads book-rows book-next lent work₀ ids m flags free R W adding →
+Inv-loop heads parents rows counts next book-heads book-rows book-next work₀ ids starts m flags adding walk₀ work walk =
+    (R W : List Column) (lent : List ℕ) (free : ℕ) → walk₀ .avail .0 ≡ free → CanWalkBooked heads parents rows counts next book-heads book-rows book-next lent work₀ starts ids m flags free R W adding →
     Looping next lent work m flags (length (chain next free)) R W adding (walk .fits) (walk .first .0) (walk .last .0) (walk .count) (walk .entries) (walk .used) (walk .avail .0)
 
 abbrev μ-loop : tie.MeasureT-loop
-μ-loop heads parents rows counts next book-heads book-rows book-next work₀ ids m flags adding walk₀ work walk = rowsLeft m (walk .fits) (walk .last .0)
+μ-loop heads parents rows counts next book-heads book-rows book-next work₀ ids starts m flags adding walk₀ work walk = rowsLeft m (walk .fits) (walk .last .0)
 
 -- ---- places: the start, the loop's test, and before each call the call before it
 
 abbrev start : tie.At-loop Inv-loop μ-loop → tie.Start Inv-loop μ-loop
-start c = c .before .before .before .before .before .before .before .before .before .before .before .before
+start c = c .before .before .before .before .before .before .before .before .before .before .before .before .before
 
 abbrev at-loop : tie.After-case-a-booked-arg Inv-loop μ-loop → tie.At-loop Inv-loop μ-loop
 at-loop c = c .before .before .before .before .before .before .before .before
@@ -51,7 +51,7 @@ abbrev Goes : (c : tie.At-loop Inv-loop μ-loop) (R W : List Column) (lent : Lis
 Goes c R W lent free =
     let s = start c .args in
     (c .before .walk-from .result .avail .0 ≡ free) ×
-    CanWalkBooked (s .heads .now) (s .parents .now) (s .rows .now) (s .counts .now) (s .next .now) (s .book-heads .now) (s .book-rows .now) (s .book-next .now) lent (s .work .now) (s .ids .now) (s .m) (s .flags) free R W (s .adding)
+    CanWalkBooked (s .heads .now) (s .parents .now) (s .rows .now) (s .counts .now) (s .next .now) (s .book-heads .now) (s .book-rows .now) (s .book-next .now) lent (s .work .now) (s .starts .now) (s .ids .now) (s .m) (s .flags) free R W (s .adding)
 
 -- those of the premise
 given : (c : tie.At-loop Inv-loop μ-loop) → let s = start c in Goes c (s .pre .R) (s .pre .W) (s .pre .work₀) (s .args .free .0)

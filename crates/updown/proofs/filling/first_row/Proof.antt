@@ -1,8 +1,8 @@
--- `updown::starts::first_row` meets its contract: the first of the rows from a place on, if there is one. Assumes nothing.
+-- `updown::filling::first_row` meets its contract: the first of the rows from a place on, if there is one. Assumes nothing.
 use borrow.Author.Needs.{needs}
-use Rattle.updown.proofs.Listing.{listed-first}
-use Rattle.updown.proofs.starts.first_row.Statement.{statement}
-use Rattle.updown.proofs.starts.first_row.Tie as tie
+use Rattle.updown.proofs.Filled.{listed-first}
+use Rattle.updown.proofs.filling.first_row.Statement.{statement}
+use Rattle.updown.proofs.filling.first_row.Tie as tie
 
 returns : tie.Need-returns
 returns c = search needs
