@@ -6,7 +6,7 @@ use borrow.Author.Needs.{needs}
 use Rattle.questions.specs.Asked.{replyOf}
 use Rattle.tables.specs.Tables.{Tables, State, tablesOf}
 use Rattle.factor.specs.Entries.{stateOf}
-use Rattle.bench_driver.proofs.Checked.{lists-fit, checked-can}
+use Rattle.continuing.proofs.Checked.{lists-fit, checked-can}
 use Rattle.bench_driver.proofs.bench_run_batches.Statement.{statement}
 use Rattle.bench_driver.proofs.bench_run_batches.Tie as tie
 

@@ -1,0 +1,4 @@
+pub mod Turning
+pub mod Stepping
+pub mod Starting
+pub mod Beginning
