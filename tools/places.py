@@ -330,9 +330,11 @@ class Model:
                     self.need(st, f'slice-aggregate-{g.name}', ('aggregate', no, p))
             elif len(lent) > 1 and lent[1] == '[' and a[0] == '&':
                 if lent[2] == '..':
-                    if self.kinds.get(x) == 'mut':
+                    if x in self.arrays:
+                        self.need(st, f'array-{"borrow" if kind == "mut" else "share"}-prefix-{x}', ('relend', no, p))
+                    elif self.kinds.get(x) == 'mut':
                         self.need(st, f'slice-{"relend" if kind == "mut" else "reshare"}-prefix-{g.name}', ('relend', no, p))
-                    self.step(st, arg, ('arg', no, p))
+                    self.step(st, x if x in self.arrays else arg, ('arg', no, p))
                     self.need(st, f'slice-aggregate-{g.name}', ('aggregate', no, p))
                 else:
                     for n in ('mul-{}', 'sub-{}', 'part-{}-start', 'part-{}-end')[x in self.f.bytes:]:
@@ -345,8 +347,11 @@ class Model:
                 st.lent.add(x)
                 if kind == 'mut':
                     back.append((p, x))
+            elif kind == 'mut' and len(lent) > 1:
+                back.append((p, x))
         self.need(st, g.name + '-requires', ('requires', no))
         self.step(st, g.name, ('call', no), call=(g, back))
         for p, x in back:
             self.step(st, x, ('back', no, p))
-            self.step(st, 'slice-known', ('known', no, p))
+            if x not in self.arrays:
+                self.step(st, 'slice-known', ('known', no, p))

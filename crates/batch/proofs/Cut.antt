@@ -103,7 +103,6 @@ module _ {t : Tables} {lim : Limits} {f g : ℕ} {w : List ℕ} (can : CanFind (
       record {
         sized = stored-sized;
         sound = stored-sound;
-        fits = columns-rise;
         batch-fits = fits;
         some = sizes-are .m-low;
         m-bound = sizes-are .m-high;

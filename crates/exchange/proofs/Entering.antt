@@ -1,7 +1,6 @@
 -- The loop in which all groups enter: the columns before place a have entered (`Entering`). Start, what a group asks, what it leaves, the end, and the end at a
 -- group that does not fit. Assumes nothing.
 use mathlib.Core.Path.{_≡_, refl, sym, ap, _∙_, subst}
-use mathlib.Core.Logic.{inl, inr}
 use mathlib.Core.Bool.{Bool, true, false, true≢false}
 use mathlib.Core.List.{List, _++_, append-nil, append-assoc}
 use Prim.Native.Nat.{ℕ, _+_, _-_, _≤_, _<_}
@@ -10,7 +9,7 @@ use lib.ListN.{length, take, drop, take-append-drop, length-append, length-take,
 use lib.Seq.{take-all}
 use borrow.Author.Tests.{leb-false, le-leb, lt-leb}
 use Rattle.lists.specs.Lists.{any}
-use Rattle.lists.proofs.Member.{mem-left, mem-right, mem-either}
+use Rattle.lists.proofs.Member.{mem-right}
 use Rattle.symbolic.specs.Columns.{Column}
 use Rattle.symbolic.specs.Factor.{factorOf, sizeSum}
 use Rattle.symbolic.specs.Batch.{isTouched}
@@ -62,8 +61,6 @@ module _ {s : Stored} {b : book.Book} {ids work : List ℕ} {R B : List Column} 
             can = record {
               sized = o .sized;
               sound = v .sound;
-              fits = some-fit (R ++ B) (R ++ take a B)
-                  (λ x h. elim (mem-either R h) [ inl k ↦ mem-left B k | inr k ↦ mem-right R (mem-front a B k) ]) wide (c .fits);
               batch-fits = some-fit (R ++ B) (group B a e) (λ x h. mem-right R (mem-rest a B (mem-front (e - a) (drop a B) h))) wide (c .fits);
               some = o .some;
               m-bound = o .m-bound;

@@ -26,7 +26,7 @@ use Rattle.tables.proofs.Stored.{sound-facts}
 use Rattle.tables.proofs.Reading.{holds-size}
 use Rattle.updown.proofs.Booking.{booked-length}
 use Rattle.windows.specs.Chosen.{CanCollect}
-use Rattle.exchange.specs.Exchange.{Gathered, Done, Exchanged}
+use Rattle.exchange.specs.Exchange.{Gathered, Done, StoredExchanged}
 use Rattle.exchange.specs.Stages.{gatheredIn, movingIds, Moved, CanSwap, SomeSwap, Swapped}
 use Rattle.exchange.proofs.Stages.{moved-as}
 use Rattle.exchange.proofs.Small.{sizes-fit, parents-small}
@@ -134,7 +134,7 @@ module _ {s : Stored} {b : book.Book} {leave enter work : List ℕ} {R A B : Lis
         (subst (λ (l : List Column). Moved m f R s (isExchanged (factorOf m (R ++ A)) (factorOf m (R ++ [])) A []) l after work₁ work₂) (sym (append-nil R))
         (moved-as exchanged-same (λ g. refl) v))
 
-    pub finished-leaving : Exchanged s R A B work after work₂ true
+    pub finished-leaving : StoredExchanged s R A B work after work₂ true false
     finished-leaving =
         record {
           fits-is = sym (le-leb (sizeSum (factorOf m (R ++ B))) f
@@ -142,13 +142,14 @@ module _ {s : Stored} {b : book.Book} {leave enter work : List ℕ} {R A B : Lis
           done = λ k. finished moved-whole (λ i h. p .low i (omega (arith, c .sized .parents-long)));
           undone = λ k. absurd (false≢true (sym k));
           only = only-join (spare m f) (3 * f) (parents-only p) (v .gathers .only) (omega arith) (omega arith) (omega arith) (omega (arith, exchange-room c));
+          only-gathered = λ k. only-join (gatherAt m f) m (p .only) (v .gathers .only) (omega arith) (omega (arith, c .sized .parents-long)) (omega arith) (omega arith);
         }
 
   -- some enter
   module _ {work₁ : List ℕ} (p : ParentsSaved (s .parents) work work₁ (gatherAt (length (s .heads)) (length (s .next)))) {work₂ : List ℕ}
       (r : RecordsSaved (s .rows) (s .counts) (s .next) work₁ work₂ (spare (length (s .heads)) (length (s .next)))) {after : Stored} {work₃ : List ℕ} {fits : Bool} where
     pub finished-both : ((R A B : List Column) → CanSwap s b leave enter work₂ R A B → Swapped (length (s .heads)) (length (s .next)) R A B s after work₂ work₃ fits) →
-        Exchanged s R A B work after work₃ fits
+        StoredExchanged s R A B work after work₃ fits true
     finished-both d =
         let x : Swapped m f R A B s after work₂ work₃ fits = d R A B (can-after-both p r) in
         record {
@@ -156,6 +157,7 @@ module _ {s : Stored} {b : book.Book} {leave enter work : List ℕ} {R A B : Lis
           done = λ k. finished (x .done k) (low-after p r);
           undone = x .undone;
           only = only-join (spare m f) (3 * f) (both-only p r) (x .only) (omega arith) (omega arith) (omega arith) (omega (arith, exchange-room c));
+          only-gathered = λ k. absurd (false≢true (sym k));
         }
 
 -- what a caller of `swap` shows

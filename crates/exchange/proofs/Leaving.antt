@@ -1,13 +1,12 @@
 -- The loop in which all groups leave: the columns before place a have left (`Leaving`). Start, what a group asks, what it leaves, the end. Assumes nothing.
 use mathlib.Core.Path.{_≡_, refl, sym, ap, _∙_, subst}
-use mathlib.Core.Logic.{inl, inr}
 use mathlib.Core.List.{List, _++_, append-nil}
 use Prim.Native.Nat.{ℕ, _+_, _-_, _≤_}
 use native.Mathlib.Omega.{arith}
 use lib.ListN.{length, take, drop, take-append-drop, length-append, length-take, length-drop, drop-of-length-le}
 use lib.Seq.{take-all}
 use Rattle.lists.specs.Lists.{Mem, any}
-use Rattle.lists.proofs.Member.{mem-left, mem-right, mem-either}
+use Rattle.lists.proofs.Member.{mem-left, mem-right}
 use Rattle.symbolic.specs.Columns.{Column}
 use Rattle.symbolic.specs.Factor.{factorOf}
 use Rattle.symbolic.specs.Batch.{isTouched}
@@ -60,8 +59,6 @@ module _ {s : Stored} {b : book.Book} {ids work : List ℕ} {R A : List Column} 
             can = record {
               sized = o .sized;
               sound = v .sound;
-              fits = some-fit (R ++ A) (R ++ drop a A)
-                  (λ x h. elim (mem-either R h) [ inl k ↦ mem-left A k | inr k ↦ mem-right R (mem-rest a A k) ]) wide (c .fits);
               batch-fits = some-fit (R ++ A) (group A a e) (λ x h. mem-right R (mem-rest a A (mem-front (e - a) (drop a A) h))) wide (c .fits);
               some = o .some;
               m-bound = o .m-bound;

@@ -66,11 +66,13 @@ pub record Done (s : Stored) (R A B : List Column) (after : Stored) (work : List
 
 -- THE EXCHANGE: "16" decides by the columns after it; where it does not fit every table, free chains too, is as before; of the work table only places that a plan
 -- does not use have changed
-pub record Exchanged (s : Stored) (R A B : List Column) (before : List ℕ) (after : Stored) (work : List ℕ) (fits : Bool) : Type 0 where
+pub record StoredExchanged (s : Stored) (R A B : List Column) (before : List ℕ) (after : Stored) (work : List ℕ) (fits saved : Bool) : Type 0 where
   pub fits-is : fits ≡ leb (sizeSum (factorOf (length (s .heads)) (R ++ B))) (length (s .next))
   pub done : fits ≡ true → Done s R A B after work
   pub undone : fits ≡ false → after ≡ s
   pub only : OnlyIn (spare (length (s .heads)) (length (s .next))) (3 * length (s .next)) before work
+  -- where nobody enters no records are saved, and only the m places of the gathered columns have changed: a caller then clears m places and not 3F
+  pub only-gathered : saved ≡ false → OnlyIn (gatherAt (length (s .heads)) (length (s .next))) (length (s .heads)) before work
 
 -- ---- its report
 

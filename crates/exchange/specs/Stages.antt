@@ -137,7 +137,8 @@ pub record SomeEnterAll (s : Stored) (b : book.Book) (windows : List ℕ) (minut
   pub can : CanEnterAll s b (movingIds (b .heads) windows minute other) work R B
   pub scan : CanCollect (b .heads) windows 1
 
--- all of B have entered beside R if all sizes fit then; else some of B have; either way only upper parts of the places of gathering changed in the work table
+-- all of B have entered beside R if all sizes fit then; where they do not, what the stored columns are is left open; either way only upper parts of the places of
+-- gathering changed in the work table
 pub record EnteredAll (m f : ℕ) (R B : List Column) (s after : Stored) (work work′ : List ℕ) (fits : Bool) : Type 0 where
   pub fits-is : fits ≡ leb (sizeSum (factorOf m (R ++ B))) f
   pub done : fits ≡ true → Moved m f R s (isTouched (factorOf m (R ++ B)) B) (R ++ B) after work work′

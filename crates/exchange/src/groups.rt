@@ -12,11 +12,16 @@ ghost use Rattle.book.specs.Book.{tablesOf};
 ghost use Rattle.updown.specs.Entries.{CanAddBooked, SomeAddBooked};
 ghost use Rattle.windows.specs.Chosen.{CanCollect};
 ghost use Rattle.exchange.specs.Stages.{groupTouches, CanLeave, SomeLeave, GroupDone, GroupEntered, movingIds, CanLeaveAll, SomeLeaveAll, Moved, CanEnterAll, SomeEnterAll, EnteredAll};
-use crate::Outcome;
 use book::Id;
 use pool::Rec;
 use updown::filling;
 use workspace::PLAN;
+
+// Whether what was to enter fits, and the free head after it.
+pub struct Entered {
+    pub fits: bool,
+    pub free: Rec,
+}
 
 // Plans that the columns under some ids leave, gathers the touched columns, and writes the plan. Gives the free head.
 pub fn leave_group(
@@ -80,7 +85,7 @@ pub fn enter_group(
     work: &mut [u32],
     ids: &[u32],
     free: Rec,
-) -> Outcome
+) -> Entered
     requires { ⌜ SomeAddBooked (storedOf (now heads) (now parents) (now rows) (now counts) (now next) (free .0)) (tablesOf (now «book_heads») (now «book_rows») (now «book_next»)) (now ids) (now work) ⌝ }
     ensures { λ x. ⌜ ((N W : List Column) → CanAddBooked (storedOf (now (heads .entry)) (now (parents .entry)) (now (rows .entry)) (now (counts .entry)) (now (next .entry)) (free .0)) (tablesOf (now («book_heads» .entry)) (now («book_rows» .entry)) (now («book_next» .entry))) (now (ids .entry)) (now (work .entry)) N W → GroupEntered (length (now (heads .entry))) (length (now (next .entry))) (storedOf (now (heads .entry)) (now (parents .entry)) (now (rows .entry)) (now (counts .entry)) (now (next .entry)) (free .0)) N W (storedOf (now (heads .entry)) (now (parents .exit)) (now (rows .exit)) (now (counts .exit)) (now (next .exit)) (x .free .0)) (now (work .entry)) (now (work .exit)) (x .fits)) ⌝ }
 {
@@ -116,12 +121,12 @@ pub fn enter_group(
             plan.used,
             free,
         );
-        return Outcome {
+        return Entered {
             fits: true,
             free: z,
         };
     }
-    Outcome {
+    Entered {
         fits: false,
         free: free,
     }
@@ -197,7 +202,7 @@ pub fn enter_all(
     minute: u32,
     other: u32,
     free: Rec,
-) -> Outcome
+) -> Entered
     requires { ⌜ SomeEnterAll (storedOf (now heads) (now parents) (now rows) (now counts) (now next) (free .0)) (tablesOf (now «book_heads») (now «book_rows») (now «book_next»)) (now windows) minute other (now work) ⌝ }
     ensures { λ x. ⌜ ((R B : List Column) → CanEnterAll (storedOf (now (heads .entry)) (now (parents .entry)) (now (rows .entry)) (now (counts .entry)) (now (next .entry)) (free .0)) (tablesOf (now («book_heads» .entry)) (now («book_rows» .entry)) (now («book_next» .entry))) (movingIds (now («book_heads» .entry)) (now (windows .entry)) minute other) (now (work .entry)) R B → EnteredAll (length (now (heads .entry))) (length (now (next .entry))) R B (storedOf (now (heads .entry)) (now (parents .entry)) (now (rows .entry)) (now (counts .entry)) (now (next .entry)) (free .0)) (storedOf (now (heads .entry)) (now (parents .exit)) (now (rows .exit)) (now (counts .exit)) (now (next .exit)) (x .free .0)) (now (work .entry)) (now (work .exit)) (x .fits)) ⌝ }
 {
@@ -208,7 +213,7 @@ pub fn enter_all(
         let g = windows::collect(book_heads, windows, minute, other, i, &mut group);
         let k = g.count;
         if k == 0 {
-            return Outcome {
+            return Entered {
                 fits: true,
                 free: z,
             };

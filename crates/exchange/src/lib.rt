@@ -7,19 +7,21 @@ ghost use lib.ListN.{length};
 ghost use Rattle.symbolic.specs.Columns.{Column};
 ghost use Rattle.tables.specs.Stored.{storedOf};
 ghost use Rattle.book.specs.Book.{tablesOf};
-ghost use Rattle.exchange.specs.Exchange.{staying, leaving, entering, CanExchange, Exchanged};
+ghost use Rattle.exchange.specs.Exchange.{staying, leaving, entering, CanExchange, StoredExchanged};
 ghost use Rattle.exchange.specs.Stages.{movingIds, SomeSwap, CanSwap, Swapped, SomeUndo, CanUndo, Undone};
 
 pub mod groups;
 pub mod reporting;
 
+use groups::Entered;
 use pool::Rec;
 use workspace::PLAN;
 
-// Whether an exchange fits, and the free head after it.
+// Whether an exchange fits, the free head after it, and whether records were saved, that is whether somebody enters.
 pub struct Outcome {
     pub fits: bool,
     pub free: Rec,
+    pub saved: bool,
 }
 
 // Brings back all records and parents of m columns that are kept.
@@ -54,7 +56,7 @@ fn swap(
     before: u32,
     after: u32,
     free: Rec,
-) -> Outcome
+) -> Entered
     requires { ⌜ SomeSwap (storedOf (now heads) (now parents) (now rows) (now counts) (now next) (free .0)) (tablesOf (now «book_heads») (now «book_rows») (now «book_next»)) (now windows) before after (now work) ⌝ }
     ensures { λ x. ⌜ ((R A B : List Column) → CanSwap (storedOf (now (heads .entry)) (now (parents .entry)) (now (rows .entry)) (now (counts .entry)) (now (next .entry)) (free .0)) (tablesOf (now («book_heads» .entry)) (now («book_rows» .entry)) (now («book_next» .entry))) (movingIds (now («book_heads» .entry)) (now (windows .entry)) before after) (movingIds (now («book_heads» .entry)) (now (windows .entry)) after before) (now (work .entry)) R A B → Swapped (length (now (heads .entry))) (length (now (next .entry))) R A B (storedOf (now (heads .entry)) (now (parents .entry)) (now (rows .entry)) (now (counts .entry)) (now (next .entry)) (free .0)) (storedOf (now (heads .entry)) (now (parents .exit)) (now (rows .exit)) (now (counts .exit)) (now (next .exit)) (x .free .0)) (now (work .entry)) (now (work .exit)) (x .fits)) ⌝ }
 {
@@ -93,14 +95,14 @@ fn swap(
     }
     let m = heads.len();
     undo(parents, rows, counts, next, work, m);
-    Outcome {
+    Entered {
         fits: false,
         free: free,
     }
 }
 
-// Exchanges the columns that count at the minute before for those that count at the minute after. The columns on their paths stand behind the saved records, each
-// with its size before.
+// Takes out the columns that count at the minute before and not at the one after, and lets in those that count after and not before; those that count at both stay.
+// Records are saved only where somebody enters. The columns on the paths stand, each with its size before, behind the places of saved records.
 pub fn exchange(
     heads: &[u32],
     parents: &mut [u16],
@@ -117,7 +119,7 @@ pub fn exchange(
     free: Rec,
 ) -> Outcome
     requires { ⌜ CanExchange (storedOf (now heads) (now parents) (now rows) (now counts) (now next) (free .0)) (tablesOf (now «book_heads») (now «book_rows») (now «book_next»)) (now windows) before (now work) ⌝ }
-    ensures { λ x. ⌜ Exchanged (storedOf (now (heads .entry)) (now (parents .entry)) (now (rows .entry)) (now (counts .entry)) (now (next .entry)) (free .0)) (staying (tablesOf (now («book_heads» .entry)) (now («book_rows» .entry)) (now («book_next» .entry))) (now (windows .entry)) before after) (leaving (tablesOf (now («book_heads» .entry)) (now («book_rows» .entry)) (now («book_next» .entry))) (now (windows .entry)) before after) (entering (tablesOf (now («book_heads» .entry)) (now («book_rows» .entry)) (now («book_next» .entry))) (now (windows .entry)) before after) (now (work .entry)) (storedOf (now (heads .entry)) (now (parents .exit)) (now (rows .exit)) (now (counts .exit)) (now (next .exit)) (x .free .0)) (now (work .exit)) (x .fits) ⌝ }
+    ensures { λ x. ⌜ StoredExchanged (storedOf (now (heads .entry)) (now (parents .entry)) (now (rows .entry)) (now (counts .entry)) (now (next .entry)) (free .0)) (staying (tablesOf (now («book_heads» .entry)) (now («book_rows» .entry)) (now («book_next» .entry))) (now (windows .entry)) before after) (leaving (tablesOf (now («book_heads» .entry)) (now («book_rows» .entry)) (now («book_next» .entry))) (now (windows .entry)) before after) (entering (tablesOf (now («book_heads» .entry)) (now («book_rows» .entry)) (now («book_next» .entry))) (now (windows .entry)) before after) (now (work .entry)) (storedOf (now (heads .entry)) (now (parents .exit)) (now (rows .exit)) (now (counts .exit)) (now (next .exit)) (x .free .0)) (now (work .exit)) (x .fits) (x .saved) ⌝ }
 {
     let m = heads.len();
     let f = next.len();
@@ -141,10 +143,11 @@ pub fn exchange(
         return Outcome {
             fits: true,
             free: z,
+            saved: false,
         };
     }
     snapshot::saving::save_records(rows, counts, next, work, PLAN * m + f);
-    swap(
+    let x = swap(
         heads,
         parents,
         rows,
@@ -158,5 +161,11 @@ pub fn exchange(
         before,
         after,
         free,
-    )
+    );
+    let z = x.free;
+    Outcome {
+        fits: x.fits,
+        free: z,
+        saved: true,
+    }
 }

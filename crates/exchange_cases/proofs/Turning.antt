@@ -21,7 +21,7 @@ use Rattle.factor.proofs.Cutting.{Cut, cut, in-range}
 use Rattle.changes.proofs.Batching.{joined-length}
 use Rattle.windows.specs.Windows.{countsAt}
 use Rattle.windows.specs.Chosen.{chosen}
-use Rattle.exchange.specs.Exchange.{staying, leaving, entering, CanExchange, Gathered, Done, Exchanged, SomeReport}
+use Rattle.exchange.specs.Exchange.{staying, leaving, entering, CanExchange, Gathered, Done, StoredExchanged, SomeReport}
 use Rattle.exchange.proofs.Choosing.{chosen-free, exchanged-sound}
 use Rattle.exchange_cases.specs.Stands.{Stands}
 
@@ -91,10 +91,10 @@ module _ {s : State} {t : Tables} {w : List ℕ} {minute : ℕ} {work a b : List
     pub back-count : s .sizes .f ≡ length (take (s .sizes .f) (x ++ drop (s .sizes .f) (t .next)))
     back-count = sym (ap length back-is ∙ lx ∙ lengths .next)
 
-  module _ (u : ℕ) {p r k x work′ : List ℕ} {z : ℕ} {fits : Bool} (lp : length p ≡ length (storedIn s t .parents)) (lr : length r ≡ length (storedIn s t .rows))
+  module _ (u : ℕ) {p r k x work′ : List ℕ} {z : ℕ} {fits saved : Bool} (lp : length p ≡ length (storedIn s t .parents)) (lr : length r ≡ length (storedIn s t .rows))
       (lk : length k ≡ length (storedIn s t .counts)) (lx : length x ≡ length (storedIn s t .next))
-      (e : Exchanged (storedIn s t) (staying (booksIn s t) w minute u) (leaving (booksIn s t) w minute u) (entering (booksIn s t) w minute u) work
-      (storedOf (take (s .sizes .m) (t .heads)) p r k x z) work′ fits) where
+      (e : StoredExchanged (storedIn s t) (staying (booksIn s t) w minute u) (leaving (booksIn s t) w minute u) (entering (booksIn s t) w minute u) work
+      (storedOf (take (s .sizes .m) (t .heads)) p r k x z) work′ fits saved) where
     only : OnlyIn (spare (s .sizes .m) (s .sizes .f)) (3 * s .sizes .f) work work′
     only =
         subst (λ (m : ℕ). OnlyIn (spare m (s .sizes .f)) (3 * s .sizes .f) work work′) (lengths .heads)

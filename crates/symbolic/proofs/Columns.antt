@@ -1,20 +1,20 @@
 -- Columns of A in a list: which start at a row, a column's smallest row, rows that share a column. Then sharing a column is a relation as Walks.antt
--- wants it (`edges`), and a chain of rows as the statement has it is a walk (`chain-is-walk`). A column with no row starts nowhere and shares nothing.
+-- wants it (`edges`), and a chain of rows as the statement has it is a walk (`chain-is-walk`). A column with no row starts nowhere (`starts-rows`) and shares nothing.
 -- Assumes nothing.
-use mathlib.Core.Path.{_≡_, refl, ap, subst}
+use mathlib.Core.Path.{_≡_, refl, ap, _∙_, subst}
 use mathlib.Core.Logic.{inl, inr, _↔_}
-use mathlib.Core.Bool.{true, _&&_}
+use mathlib.Core.Bool.{true, false, _&&_}
 use mathlib.Core.List.{List, [], _∷_, _++_}
 use Prim.Native.Nat.{ℕ, _+_, _≤_, _<_}
 use native.Mathlib.Omega.{arith}
 use lib.Dec.{ltb, eqb}
 use lib.ListN.{length, getD}
-use borrow.Author.Tests.{ltb-true, lt-ltb, eqb-true, eq-eqb, ne-eqb}
+use borrow.Author.Tests.{ltb-true, ltb-false, lt-ltb, eqb-true, eq-eqb, ne-eqb}
 use Rattle.lists.specs.Lists.{one, isIn, Mem, first, later, all, among, sumOf, rises}
-use Rattle.lists.proofs.Tests.{cases, and-both, both-and, pos-one, one-le, range-in}
+use Rattle.lists.proofs.Tests.{cases, and-both, both-and, and-false, pos-one, one-le, range-in}
 use Rattle.lists.proofs.Member.{any-find, any-has, all-at, among-mem, mem-among}
 use Rattle.lists.proofs.Rising.{rises-in, rises-first}
-use Rattle.symbolic.specs.Columns.{Column, smallest, holds, fitsRows, startingWith}
+use Rattle.symbolic.specs.Columns.{Column, smallest, holds, hasRows, withRows, fitsRows, startingWith}
 use Rattle.symbolic.specs.Chains.{share, isChain, ChainTo}
 use Rattle.symbolic.proofs.Walks.{Walk, edge, step, Edges}
 
@@ -61,6 +61,28 @@ pub starts-sum : (j i : ℕ) (cs : List Column) → startingWith j i cs ≡ sumO
 unfolding startingWith sumOf
 starts-sum j i [] = refl
 starts-sum j i (c ∷ cs) = omega (arith, starts-sum j i cs)
+
+-- ---- columns with no row
+
+pub rowless : (c : Column) → hasRows c ≡ false → c .rows ≡ []
+rowless c h = go (c .rows) h
+  where
+    go : (rows : List ℕ) → ltb 0 (length rows) ≡ false → rows ≡ []
+    go [] h = refl
+    go (x ∷ xs) h = absurd (omega (arith, ltb-false 0 (length (x ∷ xs)) h))
+
+-- they start nowhere
+pub starts-rows : (j i : ℕ) (cs : List Column) → startingWith j i cs ≡ startingWith j i (withRows cs)
+unfolding startingWith withRows among
+starts-rows j i [] = refl
+starts-rows j i (c ∷ cs) =
+    elim (cases (hasRows c)) [
+      | inl e ↦ rw e (omega (arith, starts-rows j i cs))
+      | inr e ↦ rw e (omega (arith, ap one (nowhere c e), starts-rows j i cs))
+    ]
+  where
+    nowhere : (c : Column) → hasRows c ≡ false → (eqb (smallest c) j && holds c i) ≡ false
+    nowhere c e = ap (λ (rows : List ℕ). eqb (getD rows 0 0) j && among i rows) (rowless c e) ∙ and-false (eqb 0 j)
 
 -- ---- the smallest row
 

@@ -1,5 +1,5 @@
--- What determines the factor: the columns that start at each row (`factor-same`), so the columns up to order (`factor-bag`), whatever their order; and a
--- bound: no multiplicity is above the number of columns and the column's number (`count-bound`), so that 16 bits hold it. Assumes nothing.
+-- What determines the factor: the columns that start at each row (`factor-same`), so the columns up to order (`factor-bag`), and those alone that
+-- have rows (`factor-rows`); and a bound: no multiplicity is above the number of columns and the column's number (`count-bound`), so that 16 bits hold it. Assumes nothing.
 use mathlib.Core.Path.{_≡_, sym, _∙_}
 use mathlib.Core.Logic.{inl, inr}
 use mathlib.Core.List.{List}
@@ -10,14 +10,14 @@ use lib.ListN.{length}
 use lib.Seq.{ext-getD}
 use Rattle.lists.proofs.Tests.{lt-or-le, one-le}
 use Rattle.lists.proofs.Count.{count-le}
-use Rattle.symbolic.specs.Columns.{Column, startingWith}
+use Rattle.symbolic.specs.Columns.{Column, withRows, startingWith}
 use Rattle.symbolic.specs.Factor.{factorOf, noColumn, multiplicity, parentOf}
 use Rattle.symbolic.specs.Definition.{childWith}
 use Rattle.symbolic.specs.Change.{Bag}
 use Rattle.symbolic.proofs.Laws.{counted-at}
 use Rattle.symbolic.proofs.Two.{factor-agrees}
 use Rattle.symbolic.proofs.Build.{laws, factor-length}
-use Rattle.symbolic.proofs.Columns.{starts-le}
+use Rattle.symbolic.proofs.Columns.{starts-le, starts-rows}
 use Rattle.symbolic.proofs.Patterns.{same-column}
 use Rattle.symbolic.proofs.Bags.{bag-starts}
 
@@ -32,6 +32,9 @@ factor-same m cs ds s =
 
 pub factor-bag : (m : ℕ) (cs ds : List Column) → Bag cs ds → factorOf m cs ≡ factorOf m ds
 factor-bag m cs ds b = factor-same m cs ds (λ j i x y z. bag-starts cs ds b j i)
+
+pub factor-rows : (m : ℕ) (cs : List Column) → factorOf m cs ≡ factorOf m (withRows cs)
+factor-rows m cs = factor-same m cs (withRows cs) (λ j i x y z. starts-rows j i cs)
 
 pub count-bound : (m : ℕ) (cs : List Column) (i j : ℕ) → 1 ≤ i → i ≤ m → 1 ≤ j → j ≤ m → multiplicity (factorOf m cs) i j ≤ length cs + j
 count-bound m cs i j a b d e =

@@ -13,7 +13,7 @@ use Rattle.lists.proofs.Member.{all-at}
 use Rattle.symbolic.specs.Columns.{Column, smallest, holds, fitsRows}
 use Rattle.symbolic.specs.Factor.{factorOf, multiplicity, parentOf, inPattern, isChild}
 use Rattle.symbolic.specs.Batch.{passes, atPosition, labelOf}
-use Rattle.symbolic.specs.Statements.{Defined, Unique, DiagonalStands, ParentAbove, ParentHolds, Equation31, Growth, Locality, UpdateSteps, DowndateSteps, OrderFree, RemovalSplits, MultiplicityBound, ChainRule, PatternClosed, PatternLeast, PathIs, TouchedIs, TouchedRises, LabelIs, LabelsFollow, SizesGrow, SizesLocal, AdditionEntries, RemovalEntries, GradeFrom, OldGrades, MeetingIs, MeetingRises, MeetingEnds, CommonIs, NextIs, NextIsDiagonal, NextIsParent, WalkIsColumn, EnterSplits, LeaveSplits, FitsAlong}
+use Rattle.symbolic.specs.Statements.{Defined, Unique, DiagonalStands, ParentAbove, ParentHolds, Equation31, Growth, Locality, UpdateSteps, DowndateSteps, OrderFree, RemovalSplits, MultiplicityBound, ChainRule, PatternClosed, PatternLeast, PathIs, TouchedIs, TouchedRises, LabelIs, LabelsFollow, SizesGrow, SizesLocal, AdditionEntries, RemovalEntries, GradeFrom, OldGrades, MeetingIs, MeetingRises, MeetingEnds, CommonIs, NextIs, NextIsDiagonal, NextIsParent, WalkIsColumn, EnterSplits, LeaveSplits, FitsAlong, RowlessFactor, RowlessTouch}
 use Rattle.symbolic.proofs.Laws.{diagonal-in, start-in, pattern-cases, row-above, parent-contains, pattern-fill}
 use Rattle.symbolic.proofs.Walks.{walk-of, edge-in, walk-in, pattern-within}
 use Rattle.symbolic.proofs.Two.{Agree, factor-agrees}
@@ -21,11 +21,11 @@ use Rattle.symbolic.proofs.Build.{laws}
 use Rattle.symbolic.proofs.Columns.{starts-find, starts-has, smallest-least, share-start, edges, chain-is-walk}
 use Rattle.symbolic.proofs.Patterns.{in-pattern, pattern-in}
 use Rattle.symbolic.proofs.Paths.{path-members}
-use Rattle.symbolic.proofs.Touched.{touched-members, touched-rise}
+use Rattle.symbolic.proofs.Touched.{touched-members, touched-rise, touched-rows}
 use Rattle.symbolic.proofs.Locality.{multiplicity-stays, untouched-column, update-steps-at, downdate-steps-at}
 use Rattle.symbolic.proofs.Labels.{label-passes, label-largest, touched-label, label-follows}
 use Rattle.symbolic.proofs.Bags.{bag-splits}
-use Rattle.symbolic.proofs.Order.{factor-bag, count-bound}
+use Rattle.symbolic.proofs.Order.{factor-bag, factor-rows, count-bound}
 use Rattle.symbolic.proofs.Sizes.{sizes-grow-sum, sizes-local-sum, entries-after, entries-before}
 use Rattle.symbolic.proofs.Groups.{entering-splits, leaving-splits, fitting-along}
 use Rattle.symbolic.proofs.Grades.{grade-begins, old-grade}
@@ -223,3 +223,11 @@ leave-splits = leaving-splits
 
 pub fits-along : FitsAlong
 fits-along = fitting-along
+
+-- ---- 13. columns with no row
+
+pub rowless-factor : RowlessFactor
+rowless-factor = factor-rows
+
+pub rowless-touch : RowlessTouch
+rowless-touch = touched-rows

@@ -1,23 +1,25 @@
 -- Touched columns of a batch: the column where one of the batch starts is touched, and the parent of a touched column
--- (`touched-start`, `touched-parent`); then touched columns as a rising list. No premise on the batch's rows is needed: a column of
+-- (`touched-start`, `touched-parent`), columns with no row touch nothing (`touched-rows`); then touched columns as a rising list. No premise on the batch's rows is needed: a column of
 -- the batch that starts outside 1 to m touches none of 1 to m. Locality.antt has what the others keep. Assumes nothing.
-use mathlib.Core.Path.{_≡_, sym, ap, _∙_, subst}
-use mathlib.Core.Logic.{_↔_}
-use mathlib.Core.Bool.{true}
-use mathlib.Core.List.{List}
+use mathlib.Core.Path.{_≡_, refl, sym, ap, _∙_, subst}
+use mathlib.Core.Logic.{inl, inr, _↔_}
+use mathlib.Core.Bool.{true, false}
+use mathlib.Core.List.{List, [], _∷_}
 use Prim.Native.Nat.{ℕ, _+_, _≤_, _<_}
 use native.Mathlib.Omega.{arith}
-use lib.ListN.{length}
-use Rattle.lists.specs.Lists.{Mem, among, rises}
+use lib.ListN.{length, getD}
+use Rattle.lists.specs.Lists.{Mem, any, among, rises}
+use Rattle.lists.proofs.Tests.{cases}
 use Rattle.lists.proofs.Member.{any-find, any-has, among-mem, mem-among}
-use Rattle.symbolic.specs.Columns.{Column, smallest}
-use Rattle.symbolic.specs.Factor.{FactorColumn, factorOf, parentOf}
+use Rattle.symbolic.specs.Columns.{Column, smallest, hasRows, withRows}
+use Rattle.symbolic.specs.Factor.{FactorColumn, factorOf, parentOf, pathOf}
 use Rattle.symbolic.specs.Definition.{OnPath, here}
 use Rattle.symbolic.specs.Batch.{passes, isTouched, touched, passing}
 use Rattle.symbolic.proofs.Laws.{path-extends}
 use Rattle.symbolic.proofs.Two.{path-closed}
 use Rattle.symbolic.proofs.Build.{laws, factor-length}
-use Rattle.symbolic.proofs.Paths.{path-members, path-start}
+use Rattle.symbolic.proofs.Columns.{rowless}
+use Rattle.symbolic.proofs.Paths.{path-members, path-root, path-start}
 use Rattle.symbolic.proofs.Passing.{passing-mem, mem-passing, passing-rises, touched-passing}
 
 -- ---- which columns are touched
@@ -49,6 +51,17 @@ module _ (m : ℕ) (cs batch : List Column) where
   pub touched-path : {c j : ℕ} → 1 ≤ c → c ≤ m → OnPath (parentOf (factorOf m cs)) c j → isTouched (factorOf m cs) batch c ≡ true →
       isTouched (factorOf m cs) batch j ≡ true
   touched-path a b u h = path-closed (laws m cs) (laws m cs) (λ j. isTouched (factorOf m cs) batch j ≡ true) touched-parent a b u h
+
+-- a column with no row has no path
+pub touched-rows : (fs : List FactorColumn) (batch : List Column) (j : ℕ) → isTouched fs batch j ≡ isTouched fs (withRows batch) j
+unfolding any withRows among
+touched-rows fs [] j = refl
+touched-rows fs (c ∷ cs) j =
+    elim (cases (hasRows c)) [ inl e ↦ rw (e, touched-rows fs cs j) refl | inr e ↦ rw (e, none c e, touched-rows fs cs j) refl ]
+  where
+    none : (c : Column) → hasRows c ≡ false → passes fs j c ≡ false
+    none c e =
+        ap (λ (rows : List ℕ). among j (pathOf fs (getD rows 0 0))) (rowless c e) ∙ ap (among j) (path-root (length fs) fs)
 
 -- ---- as a rising list
 

@@ -2,9 +2,9 @@
 use mathlib.Core.Bool.{Bool, _&&_}
 use mathlib.Core.List.{List, [], _∷_}
 use Prim.Native.Nat.{ℕ, _+_}
-use lib.Dec.{eqb}
-use lib.ListN.{getD}
-use Rattle.lists.specs.Lists.{one, among, rises}
+use lib.Dec.{ltb, eqb}
+use lib.ListN.{length, getD}
+use Rattle.lists.specs.Lists.{pick, one, among, rises}
 
 -- "A column of A is a set of rows under an id": its rows rise
 pub record Column : Type 0 where
@@ -18,6 +18,15 @@ smallest c = getD (c .rows) 0 0
 -- a column holds a row
 abbrev pub holds : Column → (row : ℕ) → Bool
 holds c i = among i (c .rows)
+
+-- a column has a row
+abbrev pub hasRows : Column → Bool
+hasRows c = ltb 0 (length (c .rows))
+
+-- the columns that have a row, in their order
+unfoldable pub withRows : List Column → List Column
+withRows [] = []
+withRows (c ∷ cs) = pick (hasRows c) (c ∷ withRows cs) (withRows cs)
 
 -- "Rows are 1 to m"
 abbrev pub fitsRows : (m : ℕ) → Column → Bool

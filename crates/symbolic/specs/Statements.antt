@@ -8,8 +8,8 @@ use Prim.Native.Nat.{ℕ, suc, _+_, _≤_, _<_}
 use lib.Dec.{ltb, leb, eqb}
 use lib.ListN.{length}
 use Rattle.lists.specs.Lists.{pick, isIn, Mem, all, among, noRepeats, rises}
-use Rattle.symbolic.specs.Columns.{Column, smallest, holds, fitsRows, startingWith}
-use Rattle.symbolic.specs.Factor.{factorOf, columnAt, multiplicity, parentOf, inPattern, isChild, patternOf, multiplicitiesOf, pathOf, sizeSum}
+use Rattle.symbolic.specs.Columns.{Column, smallest, holds, withRows, fitsRows, startingWith}
+use Rattle.symbolic.specs.Factor.{FactorColumn, factorOf, columnAt, multiplicity, parentOf, inPattern, isChild, patternOf, multiplicitiesOf, pathOf, sizeSum}
 use Rattle.symbolic.specs.Definition.{IsFactor, OnPath}
 use Rattle.symbolic.specs.Batch.{atPosition, passes, isTouched, touched, labelOf, sizeSumOf, entriesOf}
 use Rattle.symbolic.specs.Groups.{joined, enterTouches, leaveTouches, fitsEach}
@@ -255,3 +255,13 @@ abbrev pub FitsAlong : Type 0
 FitsAlong =
     (m f : ℕ) (R : List Column) (groups : List (List Column)) →
     fitsEach m f R groups ≡ leb (sizeSum (factorOf m (R ++ joined groups))) f
+
+-- ---- 13. columns with no row, wherever they stand among the others
+
+-- a column with no row starts nowhere: the factor is that of the others
+abbrev pub RowlessFactor : Type 0
+RowlessFactor = (m : ℕ) (cs : List Column) → factorOf m cs ≡ factorOf m (withRows cs)
+
+-- a column with no row touches nothing, in any tree: a batch touches what the others in it touch
+abbrev pub RowlessTouch : Type 0
+RowlessTouch = (fs : List FactorColumn) (batch : List Column) (j : ℕ) → isTouched fs batch j ≡ isTouched fs (withRows batch) j

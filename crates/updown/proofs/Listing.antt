@@ -243,8 +243,8 @@ module _ {starts : List ℕ} {m flags : ℕ} {w₀ : List ℕ} {W : List Column}
   pub marking-row : Room m flags w × (getD starts k 0 ≤ m) × (k + 1 ≤ 64)
   marking-row = (room-here, omega (arith, first-here, fits-at m W (c .fits) k (omega (arith, c .size)) .high), omega (arith, c .few, c .size))
 
-  pub marking-next : {w₁ : List ℕ} → w₁ ≡ startMarked m flags w (getD starts k 0) (k + 1) → StartsTo m flags W w₀ w₁ (k + 1)
-  marking-next = starts-more (c .fits) s room-here (omega (arith, c .size)) first-here
+  pub marking-next : {w₁ : List ℕ} {position : ℕ} → w₁ ≡ startMarked m flags w (getD starts k 0) position → position ≡ k + 1 → StartsTo m flags W w₀ w₁ (k + 1)
+  marking-next e q = starts-more (c .fits) s room-here (omega (arith, c .size)) first-here (e ∙ ap (startMarked m flags w (getD starts k 0)) q)
 
 pub marking-end : {starts : List ℕ} {m flags : ℕ} {W : List Column} {w₀ w : List ℕ} {k : ℕ} → CanMark starts m flags w₀ W → StartsTo m flags W w₀ w k → k ≤ length starts →
     length starts ≤ k → StartsTo m flags W w₀ w (length W)

@@ -68,7 +68,6 @@ bookedStarts b (i ∷ is) = smallest (book.columnFor b i) ∷ bookedStarts b is
 pub record CanPlan (s : Stored) (cs batch : List Column) (work : List ℕ) : Type 0 where
   pub sized : Sized s
   pub sound : isSoundFor cs s ≡ true
-  pub fits : all (fitsRows (length (s .heads))) cs ≡ true
   pub batch-fits : all (fitsRows (length (s .heads))) batch ≡ true
   pub some : 1 ≤ length (s .heads)
   pub m-bound : length (s .heads) ≤ 4096

@@ -27,7 +27,8 @@ pub fn mark_starts(work: &mut [u32], starts: &[u32], m: usize, flags: usize)
 {
     let mut k: usize = 0;
     while k < starts.len() {
-        marks::mark_start(work, m, flags, Row(starts[k]), (k + 1) as u32);
+        let start = starts[k];
+        marks::mark_start(work, m, flags, Row(start), (k + 1) as u32);
         k += 1;
     }
 }

@@ -35,8 +35,8 @@ both c = c .before .before .before .before
 abbrev kept : tie.After-swap-arg5 → tie.After-save-records
 kept c = c .before .before .before .before .before .before .before
 
-abbrev swapped : tie.After-slice-known17 → tie.After-swap
-swapped c = c .before .before .before .before .before .before .before .before .before .before
+abbrev swapped : tie.After-z → tie.After-swap
+swapped c = c .before .before .before .before .before .before .before .before .before .before .before
 
 -- what the laws ask, at the start
 abbrev Asked : tie.After-save-parents-arg2 → Type 0

@@ -27,11 +27,11 @@ hand c = c .loop .inv .1 (start c .pre .W) (start c .pre .can)
 loop-holds : tie.Need-loop-holds Inv-loop μ-loop
 loop-holds c = (omega arith, λ W can. starts-none (can .bare))
 
-mul-t6 : tie.Need-mul-t6 Inv-loop μ-loop
-mul-t6 c = omega arith
+mul-start : tie.Need-mul-start Inv-loop μ-loop
+mul-start c = omega arith
 
-shared-slice-read-t12 : tie.Need-shared-slice-read-t12 Inv-loop μ-loop
-shared-slice-read-t12 c = omega arith
+shared-slice-read-start : tie.Need-shared-slice-read-start Inv-loop μ-loop
+shared-slice-read-start c = omega arith
 
 add-mark-start : tie.Need-add-mark-start Inv-loop μ-loop
 add-mark-start c = omega arith
@@ -53,7 +53,7 @@ loop-again c = (
   omega arith,
   λ W can.
       let t = c .before .before .before .before .before in
-      marking-next can (t .before .loop .inv .1 W can) (t .loop-test .taken) (c .before .before .mark-start .ensures),
+      marking-next can (t .before .loop .inv .1 W can) (t .loop-test .taken) (c .before .before .mark-start .ensures) (omega arith),
 )
 
 same-length : tie.Need-same-length Inv-loop μ-loop
@@ -69,8 +69,8 @@ mark-starts-spec =
     Inv-loop
     μ-loop
     loop-holds
-    mul-t6
-    shared-slice-read-t12
+    mul-start
+    shared-slice-read-start
     add-mark-start
     cast-mark-start
     mark-start-requires
