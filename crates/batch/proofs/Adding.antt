@@ -9,20 +9,25 @@ use lib.Dec.{leb}
 use lib.ListN.{length, take, drop, length-drop}
 use Rattle.lists.specs.Lists.{rises, all, sumOf}
 use Rattle.lists.proofs.Tests.{and-both}
-use Rattle.symbolic.specs.Columns.{Column, fitsRows, Register}
-use Rattle.symbolic.specs.Factor.{factorOf, sizeSum}
+use Rattle.symbolic.specs.Columns.{Column, fitsRows, Register, live}
+use Rattle.symbolic.specs.Factor.{FactorColumn, factorFor, sizeSum}
+use Rattle.symbolic.specs.Batch.{labelOf, touched}
+use Rattle.symbolic.specs.Change.{added}
 use Rattle.symbolic.specs.Grades.{Limits}
+use Rattle.symbolic.proofs.Live.{live-length, live-fits, live-all}
 use Rattle.pool.specs.Chains.{chain}
 use Rattle.tables.specs.Tables.{Tables}
 use Rattle.tables.proofs.Tables.{fits-rows}
 use Rattle.calls.specs.Refusals.{Refusal, refusal, accepted, isAccepted, orElse, unless, batchOf, addRefusal}
 use Rattle.calls.specs.Calls.{adding}
+use Rattle.calls.specs.Changes.{effect}
 use Rattle.calls.specs.Steps.{bookedIn}
-use Rattle.calls.proofs.Changes.{touched-adding}
+use Rattle.calls.proofs.Changes.{touched-adding, addition-factor}
 use Rattle.calls.proofs.Choices.{or-first, or-second, unless-true, unless-false}
 use Rattle.refusals.specs.Offsets.{offsetOf}
 use Rattle.refusals.specs.Found.{addFound}
 use Rattle.refusals.proofs.Accepted.{AddReady, add-ready, add-refusal, ready-length}
+use Rattle.updown.specs.Plans.{PlanIs}
 use Rattle.updown.specs.Entries.{Listed, listedStarts, CanAdd, AddPlanned}
 use Rattle.updown.proofs.Filled.{whole-rows}
 use Rattle.batch.specs.Outcome.{cutSizes, cutWorld, CanFind}
@@ -53,21 +58,24 @@ counts-sum (n ∷ ns) = ap (λ (k : ℕ). n + k) (counts-sum ns)
 -- ---- the verdict
 
 module _ {t : Tables} {lim : Limits} {f g : ℕ} {w : List ℕ} (can : CanFind (cutWorld t lim f g) w) (is ns rs : List ℕ) where
-  abbrev R : List Column
-  R = bookedIn (cutWorld t lim f g) .columns
+  abbrev r : Register
+  r = bookedIn (cutWorld t lim f g)
+
+  abbrev W : List Column
+  W = effect (bookedIn (cutWorld t lim f g)) (adding is ns rs) .enter
 
   abbrev m : ℕ
   m = length (t .heads)
 
   -- 16, where 7 to 15 do not apply
   abbrev pub add-rest : Refusal
-  add-rest = unless (leb (sizeSum (factorOf m (R ++ batchOf is ns rs))) (length (t .next))) 16 0
+  add-rest = unless (leb (sizeSum (factorFor (added (bookedIn (cutWorld t lim f g)) (batchOf is ns rs)))) (length (t .next))) 16 0
 
   pub add-number : numberFor (cutWorld t lim f g) (adding is ns rs) ≡ orElse (addFound m (bookWhole t g) is ns rs) add-rest
   add-number =
-      let r : List Column → Register = λ cs. record { m = m; columns = cs } in
-      let q : List Column → Refusal = λ cs. unless (leb (sizeSum (factorOf m (cs ++ batchOf is ns rs))) (length (t .next))) 16 0 in
-      ap (λ (cs : List Column). addRefusal (cutSizes t) (r cs) is ns rs) (columns-cut can) ∙
+      let s : List Column → Register = λ cs. record { m = m; columns = cs } in
+      let q : List Column → Refusal = λ cs. unless (leb (sizeSum (factorFor (added (s cs) (batchOf is ns rs)))) (length (t .next))) 16 0 in
+      ap (λ (cs : List Column). addRefusal (cutSizes t) (s cs) is ns rs) (columns-cut can) ∙
       add-refusal (cutSizes t) m (bookWhole t g) is ns rs refl refl ∙
       ap (λ (cs : List Column). orElse (addFound m (bookWhole t g) is ns rs) (q cs)) (sym (columns-cut can))
 
@@ -87,29 +95,43 @@ module _ {t : Tables} {lim : Limits} {f g : ℕ} {w : List ℕ} (can : CanFind (
     pub add-few : (length ns ≤ 64) × (sumOf (λ n. n) ns ≤ length rs)
     add-few = omega (arith, ready .few, ready .counted, counts-sum ns, ap (λ (n : ℕ). offsetOf ns n) (ready .counted), ready .used)
 
-    pub add-can : {starts : List ℕ} → starts ≡ listedStarts ns rs → CanAdd (storedWhole t f) starts ns rs w (bookedIn (cutWorld t lim f g) .columns) (batchOf is ns rs)
-    add-can e =
+    pub add-can : {starts : List ℕ} → starts ≡ listedStarts ns rs →
+        CanAdd (storedWhole t f) starts ns rs w (live (bookedIn (cutWorld t lim f g))) (effect (bookedIn (cutWorld t lim f g)) (adding is ns rs) .enter)
+    add-can o =
         let a = ready in
-        let fits : all (fitsRows m) (batchOf is ns rs) ≡ true = fits-rows m (batchOf is ns rs) (a .batch-fits) in
+        let B : List Column = batchOf is ns rs in
+        let e : length W ≡ length B = live-length (added r B) B in
+        let fits : all (fitsRows m) B ≡ true = fits-rows m B (a .batch-fits) in
         record {
-          can = plan-can can (batchOf is ns rs) fits (omega (arith, ready-length a, a .some)) (omega (arith, ready-length a, a .few));
-          listed = subst (λ (xs : List ℕ). Listed xs ns rs (batchOf is ns rs)) (sym e) (batch-listed m is ns rs (a .counted) (omega (arith, a .used)) fits);
+          can = plan-can can W (live-fits (added r B) m B fits) (omega (arith, ready-length a, a .some)) (omega (arith, ready-length a, a .few));
+          listed = subst (λ (xs : List ℕ). Listed xs ns rs W) (sym o)
+              (subst (λ (ws : List Column). Listed (listedStarts ns rs) ns rs ws) (sym (live-all (added r B) B)) (batch-listed m is ns rs (a .counted) (omega (arith, a .used)) fits));
         }
 
     number-full : numberFor (cutWorld t lim f g) (adding is ns rs) ≡ add-rest
     number-full = add-number ∙ or-second (addFound m (bookWhole t g) is ns rs) add-rest found
 
     module _ {w′ : List ℕ} {z : Bool} {first count entries used : ℕ}
-        (p : AddPlanned (storedWhole t f) (bookedIn (cutWorld t lim f g) .columns) (batchOf is ns rs) w w′ z first count entries used) where
+        (p : AddPlanned (storedWhole t f) (live (bookedIn (cutWorld t lim f g))) (effect (bookedIn (cutWorld t lim f g)) (adding is ns rs) .enter) w w′ z first count entries used) where
+      fits-is : z ≡ leb (sizeSum (factorFor (added (bookedIn (cutWorld t lim f g)) (batchOf is ns rs)))) (length (t .next))
+      fits-is = p .fits-is ∙ ap (λ (fs : List FactorColumn). leb (sizeSum fs) (length (t .next))) (sym (addition-factor r is ns rs))
+
       -- it fits
       pub add-planned : z ≡ true → {x : Verdict} → verdictNumber x ≡ accepted → x .plan .first .0 ≡ first → x .plan .count ≡ count → x .plan .entries ≡ entries → x .plan .used ≡ used →
           Judged (cutWorld t lim f g) (adding is ns rs) w w′ x
       add-planned h {x} e q1 q2 q3 q4 =
-          planned-judged (e ∙ sym (number-full ∙ unless-true (leb (sizeSum (factorOf m (R ++ batchOf is ns rs))) (length (t .next))) 16 0 (sym (p .fits-is) ∙ h)))
-          (ap isAccepted e) (record { room = length (chain (t .next) f); room-fits = omega arith; plan = rw (q1, q2, q3, q4, touched-adding (bookedIn (cutWorld t lim f g)) is ns rs) (p .plan h) })
+          planned-judged (e ∙ sym (number-full ∙ unless-true (leb (sizeSum (factorFor (added r (batchOf is ns rs)))) (length (t .next))) 16 0 (sym fits-is ∙ h)))
+          (ap isAccepted e)
+          (record {
+            room = length (chain (t .next) f);
+            room-fits = omega arith;
+            plan = rw (q1, q2, q3, q4, touched-adding r is ns rs)
+                (subst (λ (F : List FactorColumn). PlanIs m (length (t .next)) (length (chain (t .next) f)) (factorFor r) F (labelOf F W) (touched F W) w w′ first count entries used)
+                (sym (addition-factor r is ns rs)) (p .plan h));
+          })
 
       -- it does not: 16
       pub add-full : z ≡ false → {x : Verdict} → verdictNumber x ≡ refusal 16 0 → Judged (cutWorld t lim f g) (adding is ns rs) w w′ x
       add-full h {x} e =
-          refused-judged (e ∙ sym (number-full ∙ unless-false (leb (sizeSum (factorOf m (R ++ batchOf is ns rs))) (length (t .next))) 16 0 (sym (p .fits-is) ∙ h)))
+          refused-judged (e ∙ sym (number-full ∙ unless-false (leb (sizeSum (factorFor (added r (batchOf is ns rs)))) (length (t .next))) 16 0 (sym fits-is ∙ h)))
           (ap isAccepted e) (p .unchanged h)

@@ -8,9 +8,10 @@ use native.Mathlib.Omega.{arith}
 use lib.ListN.{length}
 use lib.Seq.{take-all}
 use Rattle.lists.specs.Lists.{all, noRepeats}
-use Rattle.symbolic.specs.Columns.{Column, fitsRows}
+use Rattle.symbolic.specs.Columns.{Column, fitsRows, Register, live}
 use Rattle.symbolic.specs.Change.{idsOf}
 use Rattle.symbolic.specs.Grades.{Limits}
+use Rattle.symbolic.proofs.Live.{live-length, live-fits}
 use Rattle.workspace.specs.Regions.{IsZero}
 use Rattle.workspace.specs.Layout.{spare, flagsAt, flagCount}
 use Rattle.workspace.proofs.Regions.{zero-part}
@@ -66,9 +67,9 @@ module _ {t : Tables} {lim : Limits} {f g : ℕ} {w : List ℕ} (can : CanFind (
 
   -- ---- sound
 
-  pub stored-sound : isSoundFor (bookedIn (cutWorld t lim f g) .columns) (storedWhole t f) ≡ true
+  pub stored-sound : isSoundFor (live (bookedIn (cutWorld t lim f g))) (storedWhole t f) ≡ true
   stored-sound =
-      subst (λ (s : Stored). isSoundFor (bookedIn (cutWorld t lim f g) .columns) s ≡ true) stored-cut (sound-stored (cutWorld t lim f g .state) t (can .sound))
+      subst (λ (s : Stored). isSoundFor (live (bookedIn (cutWorld t lim f g))) s ≡ true) stored-cut (sound-stored (cutWorld t lim f g .state) t (can .sound))
 
   pub book-sound : book.isSound (length (t .heads)) (bookWhole t g) ≡ true
   book-sound = subst (λ (b : book.Book). book.isSound (length (t .heads)) b ≡ true) book-cut (sound-book (cutWorld t lim f g .state) t (can .sound))
@@ -98,8 +99,9 @@ module _ {t : Tables} {lim : Limits} {f g : ℕ} {w : List ℕ} (can : CanFind (
   -- ---- a batch of 1 to 64 columns whose rows fit can be planned
 
   pub plan-can : (W : List Column) → all (fitsRows (length (t .heads))) W ≡ true → 1 ≤ length W → length W ≤ 64 →
-      CanPlan (storedWhole t f) (bookedIn (cutWorld t lim f g) .columns) W w
+      CanPlan (storedWhole t f) (live (bookedIn (cutWorld t lim f g))) W w
   plan-can W fits some few =
+      let r : Register = bookedIn (cutWorld t lim f g) in
       record {
         sized = stored-sized;
         sound = stored-sound;
@@ -107,7 +109,7 @@ module _ {t : Tables} {lim : Limits} {f g : ℕ} {w : List ℕ} (can : CanFind (
         some = sizes-are .m-low;
         m-bound = sizes-are .m-high;
         f-bound = sizes-are .f-high;
-        few = omega (arith, columns-few);
+        few = omega (arith, columns-few, live-length r (r .columns));
         positions = (some, few);
         long = work-long;
         zero = work-zero;

@@ -9,10 +9,11 @@ use native.Mathlib.Omega.{arith}
 use lib.ListN.{length, drop, drop-of-length-le}
 use Rattle.lists.specs.Lists.{among, rises, over}
 use Rattle.lists.proofs.Tests.{both-and}
-use Rattle.symbolic.specs.Columns.{Column, Register}
+use Rattle.symbolic.specs.Columns.{Column, Register, live}
 use Rattle.symbolic.specs.Factor.{factorOf, factorFor, columnAt}
 use Rattle.symbolic.specs.Change.{Bag}
 use Rattle.symbolic.specs.Grades.{Limits}
+use Rattle.symbolic.proofs.Live.{live-order}
 use Rattle.book.specs.Book as book
 use Rattle.tables.specs.Stored.{Stored, Sized, isSoundFor}
 use Rattle.tables.specs.Stays.{ColumnStays, EntriesKeep, Beyond}
@@ -75,7 +76,7 @@ module _ {t : Tables} {lim : Limits} {f g : ℕ} {k : Change} {w w′ a b : List
   find = c .can .find
 
   pub write-can :
-      CanWrite (storedWhole t f) (bookedIn (cutWorld t lim f g) .columns) (effect (bookedIn (cutWorld t lim f g)) k .register .columns)
+      CanWrite (storedWhole t f) (live (bookedIn (cutWorld t lim f g))) (live (effect (bookedIn (cutWorld t lim f g)) k .register))
       (effect (bookedIn (cutWorld t lim f g)) k .label) (touchedBy (bookedIn (cutWorld t lim f g)) k)
       w w′ first (c .count) (c .entries) used
   write-can =
@@ -86,19 +87,19 @@ module _ {t : Tables} {lim : Limits} {f g : ℕ} {k : Change} {w w′ a b : List
         free = c .plan .room;
         free-enough = c .plan .room-fits;
         plan = subst (λ (n : ℕ).
-            PlanIs (r .m) (length (t .next)) (c .plan .room) (factorFor r) (factorOf n (effect r k .register .columns)) (effect r k .label) (touchedBy r k) w w′ first (c .count) (c .entries) used)
+            PlanIs (r .m) (length (t .next)) (c .plan .room) (factorFor r) (factorOf n (live (effect r k .register))) (effect r k .label) (touchedBy r k) w w′ first (c .count) (c .entries) used)
             (rows-stay r k) (c .plan .plan);
         zero = cut.work-zero find;
         long = cut.work-long find;
         rising = touched-rise r k;
         off = λ j p q h. sym
-            (subst (λ (n : ℕ). columnAt (factorOf n (effect r k .register .columns)) j ≡ columnAt (factorFor r) j) (rows-stay r k)
+            (subst (λ (n : ℕ). columnAt (factorOf n (live (effect r k .register))) j ≡ columnAt (factorFor r) j) (rows-stay r k)
             (untouched-same (cutSizes t) r (cut.columns-distinct find) j p q k (c .accepted) h));
       }
 
   pub report-can :
-      CanReport (length (t .heads)) (factorOf (length (t .heads)) (bookedIn (cutWorld t lim f g) .columns))
-      (factorOf (length (t .heads)) (effect (bookedIn (cutWorld t lim f g)) k .register .columns))
+      CanReport (length (t .heads)) (factorOf (length (t .heads)) (live (bookedIn (cutWorld t lim f g))))
+      (factorOf (length (t .heads)) (live (effect (bookedIn (cutWorld t lim f g)) k .register)))
       (effect (bookedIn (cutWorld t lim f g)) k .label) (touchedBy (bookedIn (cutWorld t lim f g)) k) w′ a b first used
   report-can =
       record {
@@ -115,7 +116,7 @@ module _ {t : Tables} {lim : Limits} {f g : ℕ} {k : Change} {w w′ a b : List
 
   module _ {t′ : Tables} {f′ g′ : ℕ} {w″ a′ b′ : List ℕ} (same-next : length (t′ .next) ≡ length (t .next))
       (z : Reported (effect (bookedIn (cutWorld t lim f g)) k .label) (touchedBy (bookedIn (cutWorld t lim f g)) k) a b a′ b′)
-      (x : PlanWritten (storedWhole t f) (effect (bookedIn (cutWorld t lim f g)) k .register .columns) (touchedBy (bookedIn (cutWorld t lim f g)) k) w (storedWhole t′ f′) w″)
+      (x : PlanWritten (storedWhole t f) (live (effect (bookedIn (cutWorld t lim f g)) k .register)) (touchedBy (bookedIn (cutWorld t lim f g)) k) w (storedWhole t′ f′) w″)
       (y : BookAfter (length (t .heads)) (bookWhole t g) (effect (bookedIn (cutWorld t lim f g)) k .register .columns) (effect (bookedIn (cutWorld t lim f g)) k .ids) (bookWhole t′ g′)) where
     abbrev same-heads : length (t′ .heads) ≡ length (t .heads)
     same-heads = ap length (x .heads)
@@ -134,9 +135,10 @@ module _ {t : Tables} {lim : Limits} {f g : ℕ} {k : Change} {w w′ a b : List
         let p : book.isSound (length (t′ .heads)) (bookIn (cutWorld t′ lim f′ g′ .state) t′) ≡ true =
         subst (λ (d : book.Book). book.isSound (length (t′ .heads)) d ≡ true) (sym book-after)
         (subst (λ (n : ℕ). book.isSound n (bookWhole t′ g′) ≡ true) (sym same-heads) (y .sound)) in
-        let q : isSoundFor (bookedIn (cutWorld t′ lim f′ g′) .columns) (storedIn (cutWorld t′ lim f′ g′ .state) t′) ≡ true =
-        subst (λ (s : Stored). isSoundFor (bookedIn (cutWorld t′ lim f′ g′) .columns) s ≡ true) (sym stored-after)
-        (sound-bag (bookedIn (cutWorld t′ lim f′ g′) .columns) (effect r k .register .columns) (storedWhole t′ f′) columns-after ∙ x .sound) in
+        let r′ : Register = bookedIn (cutWorld t′ lim f′ g′) in
+        let q : isSoundFor (live r′) (storedIn (cutWorld t′ lim f′ g′ .state) t′) ≡ true =
+        subst (λ (s : Stored). isSoundFor (live r′) s ≡ true) (sym stored-after)
+        (sound-bag (live r′) (live (effect r k .register)) (storedWhole t′ f′) (live-order r′ (effect r k .register) columns-after) ∙ x .sound) in
         both-and (sound-limits (cutWorld t lim f g .state) t (find .sound)) (both-and p q)
 
     pub batch-exchanged : Exchanged (cutWorld t lim f g) k (cutWorld t′ lim f′ g′)

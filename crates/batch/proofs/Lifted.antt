@@ -7,7 +7,7 @@ use mathlib.Core.List.{List}
 use Prim.Native.Nat.{ℕ, _≤_}
 use lib.ListN.{length}
 use Rattle.lists.specs.Lists.{among, at}
-use Rattle.symbolic.specs.Columns.{Register}
+use Rattle.symbolic.specs.Columns.{Register, live}
 use Rattle.symbolic.specs.Factor.{factorOf, inPattern}
 use Rattle.symbolic.specs.Change.{Bag}
 use Rattle.symbolic.specs.Grades.{Limits, areLimits}
@@ -67,7 +67,7 @@ module _ {l : Sizes} {t : Tables} (long : Long l t) (lim : Limits) (f g : ℕ) (
       λ i j n. subst (λ (m : ℕ). inPattern (factorOf m (effect (registerOf (u .state) (u .tables)) k .stay)) i j ≡ true) (sym (c .heads))
       (subst (λ (o : Register). inPattern (factorOf (l .m) (effect o k .stay)) i j ≡ true) (sym r) n) in
       let sound : isSound (v .state) y ≡ isSound (after .state) (after .tables) =
-      λ i. areLimits lim && (book.isSound (z .heads i) (b′ i) && isSoundFor (book.columnsIn (b′ i)) (s′ i)) in
+      λ i. areLimits lim && (book.isSound (z .heads i) (b′ i) && isSoundFor (live (book.registerIn (z .heads i) (b′ i))) (s′ i)) in
       record {
         sizes = refl;
         limits = refl;

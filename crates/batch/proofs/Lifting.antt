@@ -9,7 +9,7 @@ use native.Mathlib.Omega.{arith}
 use lib.ListN.{length, take, drop, take-append-drop, length-append, length-drop}
 use lib.Seq.{length-take-le, take-at, drop-at}
 use Rattle.lists.proofs.Tests.{both-and}
-use Rattle.symbolic.specs.Columns.{Register}
+use Rattle.symbolic.specs.Columns.{Register, live}
 use Rattle.symbolic.specs.Grades.{Limits, areLimits}
 use Rattle.workspace.specs.Regions.{IsZero}
 use Rattle.book.specs.Book as book
@@ -158,7 +158,7 @@ module _ {l : Sizes} {t : Tables} (long : Long l t) (lim : Limits) (f g : ℕ) w
   register-lifts = λ i. record { m = cut-fits l t long .heads i; columns = book.columnsIn (book-lifts i) }
 
   sound-lifts : isSound (cutWorld (cutTables l t) lim f g .state) (cutTables l t) ≡ isSound (worldFor l lim f g t .state) t
-  sound-lifts = λ i. areLimits lim && (book.isSound (cut-fits l t long .heads i) (book-lifts i) && isSoundFor (book.columnsIn (book-lifts i)) (stored-lifts i))
+  sound-lifts = λ i. areLimits lim && (book.isSound (cut-fits l t long .heads i) (book-lifts i) && isSoundFor (live (register-lifts i)) (stored-lifts i))
 
   pub lift-can : {w a b : List ℕ} → sizesRefusal bounds l ≡ accepted → isSound (worldFor l lim f g t .state) t ≡ true → workFor l ≤ length w →
       IsZero w 0 (workFor l) → l .m ≤ length a → l .m ≤ length b → CanBatch (cutWorld (cutTables l t) lim f g) w a b

@@ -8,21 +8,23 @@ use Prim.Native.Nat.{ℕ, suc, _≤_, _<_}
 use native.Mathlib.Omega.{arith}
 use lib.ListN.{length, getD}
 use Rattle.lists.specs.Lists.{isIn, all, among}
-use Rattle.symbolic.specs.Columns.{Column, fitsRows, Register}
+use Rattle.symbolic.specs.Columns.{Column, fitsRows, Register, live}
 use Rattle.symbolic.specs.Factor.{FactorColumn, factorOf}
 use Rattle.symbolic.specs.Batch.{labelOf, touched}
-use Rattle.symbolic.specs.Change.{without, columnsOf}
+use Rattle.symbolic.specs.Change.{columnsOf}
 use Rattle.symbolic.specs.Grades.{Limits}
+use Rattle.symbolic.proofs.Live.{live-length, live-fits, live-all}
 use Rattle.book.specs.Book as book
 use Rattle.book.specs.Entries.{HasHead}
 use Rattle.book.proofs.Columns.{column-found}
 use Rattle.tables.specs.Tables.{Tables}
 use Rattle.calls.specs.Refusals.{Refusal, accepted, isAccepted, orElse, unless, inRegister, idsRefusal, removeRefusal}
 use Rattle.calls.specs.Calls.{removing}
+use Rattle.calls.specs.Changes.{effect}
 use Rattle.calls.specs.Steps.{bookedIn}
 use Rattle.calls.proofs.Choices.{Whole, or-whole}
 use Rattle.calls.proofs.Refusals.{RemoveFits, remove-facts}
-use Rattle.calls.proofs.Changes.{touched-removing, removal-bag, removal-fits, removal-factor}
+use Rattle.calls.proofs.Changes.{touched-removing, removal-fits, removal-live, removal-factor}
 use Rattle.refusals.specs.Found.{removeFound}
 use Rattle.refusals.proofs.Accepted.{RemoveReady, remove-ready, remove-refusal}
 use Rattle.updown.specs.Plans.{PlanIs}
@@ -94,10 +96,10 @@ module _ {t : Tables} {lim : Limits} {f g : ℕ} {w : List ℕ} (can : CanFind (
 
   module _ (found : isAccepted (removeFound (length (t .heads)) (bookWhole t g) is) ≡ true) where
     abbrev R : List Column
-    R = without is (r .columns)
+    R = effect (bookedIn (cutWorld t lim f g)) (removing is) .stay
 
     abbrev W : List Column
-    W = columnsOf is (r .columns)
+    W = effect (bookedIn (cutWorld t lim f g)) (removing is) .leave
 
     facts : RemoveFits (cutSizes t) (bookedIn (cutWorld t lim f g)) is
     facts = remove-facts (cutSizes t) r is (ap isAccepted remove-number ∙ found)
@@ -110,34 +112,39 @@ module _ {t : Tables} {lim : Limits} {f g : ℕ} {w : List ℕ} (can : CanFind (
     ready : RemoveReady (bookWhole t g) is
     ready = remove-ready m (bookWhole t g) is found
 
-    batch-booked : Booked (bookWhole t g) is (columnsOf is (bookedIn (cutWorld t lim f g) .columns))
+    abbrev named : List Column
+    named = columnsOf is (bookedIn (cutWorld t lim f g) .columns)
+
+    batch-booked : Booked (bookWhole t g) is named
     batch-booked =
         subst (λ (cs : List Column). Booked (bookWhole t g) is (columnsOf is cs)) (sym (columns-cut can)) (columns-booked (bookWhole t g) is (ready .named) (ready .booked))
 
-    batch-fits : all (fitsRows (length (t .heads))) (columnsOf is (bookedIn (cutWorld t lim f g) .columns)) ≡ true
+    batch-fits : all (fitsRows (length (t .heads))) named ≡ true
     batch-fits = removal-fits (fitsRows m) (cutSizes t) r is (columns-distinct can) facts (columns-rise can) .1
 
     -- its positions are few, and their columns stand in the book
     pub remove-few : (length is ≤ 64) × ((k : ℕ) → k < length is → HasHead (t .bookHeads) (t .bookRows) (getD is k 0))
-    remove-few = (ready .few, whole-heads m (bookWhole t g) g is W batch-booked (can .book-rows) (book-sound can))
+    remove-few = (ready .few, whole-heads m (bookWhole t g) g is named batch-booked (can .book-rows) (book-sound can))
 
     pub remove-can : (h i : ℕ) {starts : List ℕ} → starts ≡ bookedStarts (bookWhole t i) is →
-        CanRemove (storedWhole t h) (bookWhole t i) starts is w (without is (bookedIn (cutWorld t lim f g) .columns)) (columnsOf is (bookedIn (cutWorld t lim f g) .columns))
-    remove-can h i e =
+        CanRemove (storedWhole t h) (bookWhole t i) starts is w (effect (bookedIn (cutWorld t lim f g)) (removing is) .stay) (effect (bookedIn (cutWorld t lim f g)) (removing is) .leave)
+    remove-can h i o =
+        let e : length W ≡ length is = live-length r named ∙ columns-length is (r .columns) in
         record {
-          columns = r .columns;
+          columns = live r;
           free = f;
           book-free = g;
-          can = plan-can can W batch-fits (omega (arith, columns-length is (r .columns), ready .some)) (omega (arith, columns-length is (r .columns), ready .few));
-          same = removal-bag (cutSizes t) r is (columns-distinct can) facts;
-          booked = subst (λ (xs : List ℕ). BookedFrom (bookWhole t i) xs is W) (sym e)
-              (whole-booked m (bookWhole t i) is W batch-fits (booked-free (t .bookHeads) (t .bookRows) (t .bookNext) g i is W batch-booked));
+          can = plan-can can W (live-fits r m named batch-fits) (omega (arith, ready .some)) (omega (arith, ready .few));
+          same = removal-live (cutSizes t) r is (columns-distinct can) facts;
+          booked = subst (λ (xs : List ℕ). BookedFrom (bookWhole t i) xs is W) (sym o)
+              (subst (λ (ws : List Column). BookedFrom (bookWhole t i) (bookedStarts (bookWhole t i) is) is ws) (sym (live-all r named))
+              (whole-booked m (bookWhole t i) is named batch-fits (booked-free (t .bookHeads) (t .bookRows) (t .bookNext) g i is named batch-booked)));
           book-sized = can .book-rows;
           book-sound = book-sound can;
         }
 
     pub remove-planned : {h : ℕ} {w′ : List ℕ} {z : Bool} {first count entries used : ℕ} →
-        RemovePlanned (storedWhole t h) (without is (bookedIn (cutWorld t lim f g) .columns)) (columnsOf is (bookedIn (cutWorld t lim f g) .columns)) w w′ z first count entries used →
+        RemovePlanned (storedWhole t h) (effect (bookedIn (cutWorld t lim f g)) (removing is) .stay) (effect (bookedIn (cutWorld t lim f g)) (removing is) .leave) w w′ z first count entries used →
         {x : Verdict} → verdictNumber x ≡ accepted → x .plan .first .0 ≡ first → x .plan .count ≡ count → x .plan .entries ≡ entries → x .plan .used ≡ used →
         Judged (cutWorld t lim f g) (removing is) w w′ x
     remove-planned {h} {w′} {z} {first} {count} {entries} {used} p {x} e q1 q2 q3 q4 =

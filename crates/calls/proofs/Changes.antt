@@ -1,5 +1,5 @@
 -- What a change does to a register: what an addition and a removal touch (`touched-adding`, `touched-removing`), that touched columns rise, and, where the
--- change is accepted and the columns fit and have distinct ids: a removal's batch and what stays are what there was (`removal-bag`), the columns after it fit,
+-- change is accepted and the columns fit and have distinct ids: a removal's batch and what stays are what there was (`removal-live`), the columns after it fit,
 -- a column that is not touched is the same before and after (`untouched-same`), and the entries of an addition are the sizes after it, those of a removal
 -- the sizes before it (`adding-entries`, `removing-entries`). Assumes nothing.
 use mathlib.Core.Path.{_≡_, refl, sym, ap, _∙_, subst}
@@ -17,6 +17,7 @@ use Rattle.symbolic.specs.Batch.{isTouched, touched, exchanged, sizeSumOf, entr
 use Rattle.symbolic.specs.Change.{idsOf, without, columnsOf, added, removed, Bag}
 use Rattle.symbolic.proofs.Build.{factor-length}
 use Rattle.symbolic.proofs.Bags.{bag-mem}
+use Rattle.symbolic.proofs.Live.{live-adding, live-removing}
 use Rattle.symbolic.proofs.Exchange.{exchanged-entering, exchanged-leaving, exchanged-rises}
 use Rattle.symbolic.proofs.Theorems.{locality, order-free, removal-splits, touched-is, addition-entries, removal-entries}
 use Rattle.book.specs.Book.{columnFits}
@@ -30,13 +31,13 @@ use Rattle.calls.proofs.Refusals.{add-facts, RemoveFits, remove-facts}
 
 module _ (r : Register) where
   -- "in the tree after the call when adding"
-  pub touched-adding : (is ns rs : List ℕ) → touchedBy r (adding is ns rs) ≡ touched (factorFor (added r (batchOf is ns rs))) (batchOf is ns rs)
-  touched-adding is ns rs = exchanged-entering (factorFor r) (factorFor (added r (batchOf is ns rs))) (batchOf is ns rs)
+  pub touched-adding : (is ns rs : List ℕ) → touchedBy r (adding is ns rs) ≡ touched (factorFor (added r (batchOf is ns rs))) (effect r (adding is ns rs) .enter)
+  touched-adding is ns rs = exchanged-entering (factorFor r) (factorFor (added r (batchOf is ns rs))) (effect r (adding is ns rs) .enter)
 
   -- "before it when removing"
-  pub touched-removing : (is : List ℕ) → touchedBy r (removing is) ≡ touched (factorFor r) (columnsOf is (r .columns))
+  pub touched-removing : (is : List ℕ) → touchedBy r (removing is) ≡ touched (factorFor r) (effect r (removing is) .leave)
   touched-removing is =
-      exchanged-leaving (factorFor r) (factorFor (removed r is)) (columnsOf is (r .columns))
+      exchanged-leaving (factorFor r) (factorFor (removed r is)) (effect r (removing is) .leave)
       (factor-length (r .m) (live r) ∙ sym (factor-length (r .m) (live (removed r is))))
 
   -- no change alters m
@@ -62,7 +63,7 @@ module _ {A : Type 0} (f : A → Bool) where
 -- ---- a removal
 
 -- the columns that stay, and the batch
-pub removal-bag : (l : Sizes) (r : Register) (is : List ℕ) → noRepeats (idsOf (r .columns)) ≡ true → RemoveFits l r is →
+removal-bag : (l : Sizes) (r : Register) (is : List ℕ) → noRepeats (idsOf (r .columns)) ≡ true → RemoveFits l r is →
     Bag (r .columns) (without is (r .columns) ++ columnsOf is (r .columns))
 removal-bag l r is u f = removal-splits (r .columns) is u (f .once) (f .live)
 
@@ -74,17 +75,25 @@ removal-fits f l r is u g h =
     let W : List Column = columnsOf is (r .columns) in
     append-all f R W (all-make f (R ++ W) (λ c m. all-at f (bag-mem (r .columns) (R ++ W) (removal-bag l r is u g) m) h))
 
+-- of those that count
+pub removal-live : (l : Sizes) (r : Register) (is : List ℕ) → noRepeats (idsOf (r .columns)) ≡ true → RemoveFits l r is →
+    Bag (live r) (effect r (removing is) .stay ++ effect r (removing is) .leave)
+removal-live l r is u f = live-removing r is (columnsOf is (r .columns)) (removal-bag l r is u f)
+
 -- ---- an accepted change
 
 -- it is an exchange
 pub effect-exchanges : (l : Sizes) (r : Register) → noRepeats (idsOf (r .columns)) ≡ true → (c : Change) → isAccepted (effect r c .refusal l) ≡ true →
     IsExchange r (effect r c)
 effect-exchanges l r u (adding is ns rs) h =
-    record { before = λ f. ap (λ (cs : List Column). sumOf f cs) (sym (append-nil (r .columns))); after = λ f. refl }
+    record {
+      before = λ f. ap (λ (cs : List Column). sumOf f cs) (sym (append-nil (live r)));
+      after = λ f. ap (λ (cs : List Column). sumOf f cs) (live-adding r (batchOf is ns rs));
+    }
 effect-exchanges l r u (removing is) h =
     record {
-      before = removal-bag l r is u (remove-facts l r is h);
-      after = λ f. ap (λ (cs : List Column). sumOf f cs) (sym (append-nil (without is (r .columns))));
+      before = removal-live l r is u (remove-facts l r is h);
+      after = λ f. ap (λ (cs : List Column). sumOf f cs) (sym (append-nil (live (removed r is))));
     }
 
 -- a column that the report leaves out is on no path
@@ -92,21 +101,28 @@ untouched : (m : ℕ) (cs batch : List Column) (j : ℕ) → 1 ≤ j → j ≤ m
 untouched m cs batch j a b h =
     refute (isTouched (factorOf m cs) batch j) (λ e. true≢false (sym (touched-is m cs batch j .1 (a, b, e)) ∙ h))
 
--- the factor of a removal's register, with the batch at its end
+-- the factor of the register after an addition, and of the one before a removal, with the batch at its end
+pub addition-factor : (r : Register) (is ns rs : List ℕ) →
+    factorFor (added r (batchOf is ns rs)) ≡ factorOf (r .m) (effect r (adding is ns rs) .stay ++ effect r (adding is ns rs) .enter)
+addition-factor r is ns rs = ap (λ (cs : List Column). factorOf (r .m) cs) (live-adding r (batchOf is ns rs))
+
 pub removal-factor : (l : Sizes) (r : Register) (is : List ℕ) → noRepeats (idsOf (r .columns)) ≡ true → RemoveFits l r is →
-    factorFor r ≡ factorOf (r .m) (without is (r .columns) ++ columnsOf is (r .columns))
-removal-factor l r is u f = order-free (r .m) (r .columns) (without is (r .columns) ++ columnsOf is (r .columns)) (removal-bag l r is u f)
+    factorFor r ≡ factorOf (r .m) (effect r (removing is) .stay ++ effect r (removing is) .leave)
+removal-factor l r is u f = order-free (r .m) (live r) (effect r (removing is) .stay ++ effect r (removing is) .leave) (removal-live l r is u f)
 
 -- "alters no column off its paths", of the definition itself
 module _ (l : Sizes) (r : Register) (u : noRepeats (idsOf (r .columns)) ≡ true) (j : ℕ) (a : 1 ≤ j) (b : j ≤ r .m) where
   pub untouched-same : (c : Change) → isAccepted (effect r c .refusal l) ≡ true → among j (touchedBy r c) ≡ false →
       columnAt (factorFor (effect r c .register)) j ≡ columnAt (factorFor r) j
   untouched-same (adding is ns rs) h t =
-      sym (locality (r .m) (r .columns) (batchOf is ns rs) j a b
-      (untouched (r .m) (r .columns ++ batchOf is ns rs) (batchOf is ns rs) j a b (ap (λ (js : List ℕ). among j js) (sym (touched-adding r is ns rs)) ∙ t)))
+      let W : List Column = effect r (adding is ns rs) .enter in
+      let e : factorFor (added r (batchOf is ns rs)) ≡ factorOf (r .m) (live r ++ W) = addition-factor r is ns rs in
+      let q : among j (touched (factorFor (added r (batchOf is ns rs))) W) ≡ false = ap (λ (js : List ℕ). among j js) (sym (touched-adding r is ns rs)) ∙ t in
+      ap (λ (fs : List FactorColumn). columnAt fs j) e ∙
+      sym (locality (r .m) (live r) W j a b (untouched (r .m) (live r ++ W) W j a b (ap (λ (fs : List FactorColumn). among j (touched fs W)) (sym e) ∙ q)))
   untouched-same (removing is) h t =
-      let R : List Column = without is (r .columns) in
-      let W : List Column = columnsOf is (r .columns) in
+      let R : List Column = effect r (removing is) .stay in
+      let W : List Column = effect r (removing is) .leave in
       let e : factorFor r ≡ factorOf (r .m) (R ++ W) = removal-factor l r is u (remove-facts l r is h) in
       let q : among j (touched (factorFor r) W) ≡ false = ap (λ (js : List ℕ). among j js) (sym (touched-removing r is)) ∙ t in
       locality (r .m) R W j a b (untouched (r .m) (R ++ W) W j a b (ap (λ (fs : List FactorColumn). among j (touched fs W)) (sym e) ∙ q)) ∙
@@ -116,12 +132,17 @@ module _ (l : Sizes) (r : Register) (u : noRepeats (idsOf (r .columns)) ≡ true
 
 pub adding-entries : (r : Register) (is ns rs : List ℕ) →
     entriesBy r (adding is ns rs) ≡ sizeSumOf (factorFor (effect r (adding is ns rs) .register)) (touchedBy r (adding is ns rs))
-adding-entries r is ns rs = addition-entries (r .m) (r .columns) (batchOf is ns rs) (touchedBy r (adding is ns rs))
+adding-entries r is ns rs =
+    let js : List ℕ = touchedBy r (adding is ns rs) in
+    subst (λ (fs : List FactorColumn). entriesOf (factorFor r) fs js ≡ sizeSumOf fs js) (sym (addition-factor r is ns rs))
+    (addition-entries (r .m) (live r) (effect r (adding is ns rs) .enter) js)
 
 pub removing-entries : (l : Sizes) (r : Register) (is : List ℕ) → noRepeats (idsOf (r .columns)) ≡ true → isAccepted (effect r (removing is) .refusal l) ≡ true →
     entriesBy r (removing is) ≡ sizeSumOf (factorFor r) (touchedBy r (removing is))
 removing-entries l r is u h =
-    let e : factorFor r ≡ factorOf (r .m) (without is (r .columns) ++ columnsOf is (r .columns)) = removal-factor l r is u (remove-facts l r is h) in
+    let R : List Column = effect r (removing is) .stay in
+    let W : List Column = effect r (removing is) .leave in
+    let e : factorFor r ≡ factorOf (r .m) (R ++ W) = removal-factor l r is u (remove-facts l r is h) in
     let js : List ℕ = touchedBy r (removing is) in
-    ap (λ (fs : List FactorColumn). entriesOf fs (factorFor (removed r is)) js) e ∙ removal-entries (r .m) (without is (r .columns)) (columnsOf is (r .columns)) js ∙
+    ap (λ (fs : List FactorColumn). entriesOf fs (factorFor (removed r is)) js) e ∙ removal-entries (r .m) R W js ∙
     ap (λ (fs : List FactorColumn). sizeSumOf fs js) (sym e)

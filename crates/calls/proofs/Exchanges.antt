@@ -17,6 +17,7 @@ use Rattle.symbolic.specs.Factor.{FactorColumn, factorOf, factorFor, inPattern}
 use Rattle.symbolic.specs.Change.{removed, Bag}
 use Rattle.symbolic.proofs.Patterns.{pattern-within-rows}
 use Rattle.symbolic.proofs.Theorems.{order-free}
+use Rattle.symbolic.proofs.Live.{live-order}
 use Rattle.tables.specs.Stored.{recordsOf, holdsFrom}
 use Rattle.tables.specs.Tables.{Tables, Sizes, State, longEnough, storedIn, bookIn, registerOf, isSound}
 use Rattle.tables.specs.Stays.{EntriesKeep, TailsStay}
@@ -56,8 +57,8 @@ module _ {u : World} {c : Change} {v : World} (x : Exchanged u c v) where
           (stands-before (u .state) (u .tables) long sound (live (bookedIn u)) refl j a b p)
       stays (removing is) h =
           let w : List Column = live (removed (bookedIn u) is) in
-          let bag : Bag (bookedIn v .columns) w =
-          subst (λ (k : Change). Bag (bookedIn v .columns) (effect (bookedIn u) k .register .columns)) h (x .columns) in
+          let bag : Bag (live (bookedIn v)) w =
+          live-order (bookedIn v) (removed (bookedIn u) is) (subst (λ (k : Change). Bag (bookedIn v .columns) (effect (bookedIn u) k .register .columns)) h (x .columns)) in
           let f : factorFor (bookedIn v) ≡ factorOf (v .state .sizes .m) w = order-free (v .state .sizes .m) (live (bookedIn v)) w bag in
           let g : inPattern (factorOf (v .state .sizes .m) w) (at (storedIn (v .state) (v .tables) .rows) z) j ≡ true =
           stands-before (v .state) (v .tables) (ap (λ (l : Sizes). longEnough l (v .tables)) (x .sizes) ∙ tails-long (u .state .sizes) (u .tables) (v .tables) (x .tails) long) (x .sound) w f j a

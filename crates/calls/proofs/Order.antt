@@ -14,7 +14,7 @@ use Rattle.lists.proofs.Tests.{cases, eq-or-ne, zero-or-pos, both-ways, or-righ
 use Rattle.lists.proofs.Member.{among-mem}
 use Rattle.lists.proofs.Sum.{sum-append}
 use Rattle.lists.proofs.Times.{among-some, mem-times, once-of, of-once}
-use Rattle.symbolic.specs.Columns.{Column, Register, live}
+use Rattle.symbolic.specs.Columns.{Column, Register, liveOf, live}
 use Rattle.symbolic.specs.Factor.{FactorColumn, factorOf, factorFor}
 use Rattle.symbolic.specs.Batch.{exchanged, labelOf, entriesOf}
 use Rattle.symbolic.specs.Grades.{Limits, gradeOf}
@@ -22,6 +22,7 @@ use Rattle.symbolic.specs.Change.{idsOf, without, columnOf, columnsOf, added, B
 use Rattle.symbolic.proofs.Bags.{bag-append, bag-mem, bag-without, without-le, ids-times, hasId, column-of}
 use Rattle.symbolic.proofs.Bags as bags
 use Rattle.symbolic.proofs.Theorems.{order-free}
+use Rattle.symbolic.proofs.Live.{live-same, live-order}
 use Rattle.tables.specs.Tables.{Sizes}
 use Rattle.calls.specs.Refusals.{isAccepted, orElse, batchOf, inRegister, columnsRefusal, roomRefusal, idsRefusal, roomFor}
 use Rattle.calls.specs.Calls.{Change, adding, removing, Question, askNextRow, askParent, askPath, askColumn, askMeets, askCommon, Entry, opening, changing, checking, asking, Call}
@@ -87,7 +88,7 @@ module _ (r s : Register) (e : r .m ≡ s .m) (b : Bag (r .columns) (s .columns)
   bag-booked i = bag-among (r .columns) (s .columns) b i
 
   pub bag-factor : factorFor r ≡ factorFor s
-  bag-factor = ap (λ (m : ℕ). factorOf m (live r)) e ∙ order-free (s .m) (live r) (live s) b
+  bag-factor = ap (λ (m : ℕ). factorOf m (live r)) e ∙ order-free (s .m) (live r) (live s) (live-order r s b)
 
   -- ---- the register after a change
 
@@ -101,7 +102,7 @@ module _ (r s : Register) (e : r .m ≡ s .m) (b : Bag (r .columns) (s .columns)
   pub bag-factor-after : (c : Change) → factorFor (effect r c .register) ≡ factorFor (effect s c .register)
   bag-factor-after c =
       ap (λ (m : ℕ). factorOf m (live (effect r c .register))) (bag-rows c) ∙
-      order-free (effect s c .register .m) (live (effect r c .register)) (live (effect s c .register)) (bag-after c)
+      order-free (effect s c .register .m) (live (effect r c .register)) (live (effect s c .register)) (live-order (effect r c .register) (effect s c .register) (bag-after c))
 
   -- ---- numbers
 
@@ -161,18 +162,22 @@ module _ (r s : Register) (e : r .m ≡ s .m) (b : Bag (r .columns) (s .columns)
 
     bag-effect : (c : Change) → SameEffect (effect r c) (effect s c)
     bag-effect (adding is ns rs) =
+        let W : List Column = batchOf is ns rs in
+        let q : liveOf (added r W) W ≡ liveOf (added s W) W = live-same (added r W) (added s W) W in
         record {
           leave = refl;
-          enter = refl;
-          label = ap (λ (fs : List FactorColumn). labelOf fs (batchOf is ns rs)) (bag-factor-after r s e b (adding is ns rs));
+          enter = q;
+          label = ap (λ (fs : List FactorColumn). labelOf fs (effect r (adding is ns rs) .enter)) (bag-factor-after r s e b (adding is ns rs)) ∙
+              ap (λ (cs : List Column). labelOf (factorFor (added s (batchOf is ns rs))) cs) q;
           ids = refl;
         }
     bag-effect (removing is) =
-        let q : columnsOf is (r .columns) ≡ columnsOf is (s .columns) = bag-columns (r .columns) (s .columns) b u is in
+        let q : liveOf r (columnsOf is (r .columns)) ≡ liveOf s (columnsOf is (s .columns)) =
+        ap (liveOf r) (bag-columns (r .columns) (s .columns) b u is) ∙ live-same r s (columnsOf is (s .columns)) in
         record {
           leave = q;
           enter = refl;
-          label = ap (λ (fs : List FactorColumn). labelOf fs (columnsOf is (r .columns))) (bag-factor r s e b) ∙ ap (λ (cs : List Column). labelOf (factorFor s) cs) q;
+          label = ap (λ (fs : List FactorColumn). labelOf fs (effect r (removing is) .leave)) (bag-factor r s e b) ∙ ap (λ (cs : List Column). labelOf (factorFor s) cs) q;
           ids = refl;
         }
 

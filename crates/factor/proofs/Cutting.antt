@@ -112,7 +112,7 @@ module _ (s : State) {t : Tables} {w : List ℕ} (r : HasPlaces (s .sizes) t w) 
   -- what is read is what the tables hold
   module _ {a : Bool} (e : a ≡ areSound (storedIn s t) (bookIn s t)) where
     held-sound : a ≡ holdsSound s t
-    held-sound = e ∙ ap (λ (m : ℕ). book.isSound m (bookIn s t) && isSoundFor (live (registerOf s t)) (storedIn s t)) (lengths .heads)
+    held-sound = e ∙ ap (λ (m : ℕ). book.isSound m (bookIn s t) && isSoundFor (live (book.registerIn m (bookIn s t))) (storedIn s t)) (lengths .heads)
 
     -- unsound tables, whatever the limits
     pub read-unsound : a ≡ false → false ≡ isSound s t

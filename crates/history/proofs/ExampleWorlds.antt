@@ -6,7 +6,7 @@ use mathlib.Core.List.{List, [], _∷_, _++_}
 use Prim.Native.Nat.{ℕ}
 use lib.ListN.{replicate}
 use Rattle.lists.specs.Lists.{all, any, among, noRepeats, allZero, same, valuesAt, rises, upFrom}
-use Rattle.symbolic.specs.Columns.{startingWith}
+use Rattle.symbolic.specs.Columns.{startingWith, liveOf}
 use Rattle.symbolic.specs.Factor.{childrenWith, countsFrom, firstAbove, buildFrom, patternFrom, nonZero, pathFrom}
 use Rattle.symbolic.specs.Batch.{passing}
 use Rattle.symbolic.specs.Change.{without, columnOf, columnsOf}
@@ -116,33 +116,33 @@ full g =
 -- ---- what each accepted batch leaves
 
 pub first-exchanged : Exchanged world1 (add 1 (1 ∷ 3 ∷ [])) world2
-unfolding all any among noRepeats allZero same valuesAt rises upFrom startingWith childrenWith countsFrom firstAbove buildFrom patternFrom nonZero pathFrom passing chainFrom lastOf chains columnsFrom holdsFrom batchOf
+unfolding all any among noRepeats allZero same valuesAt rises upFrom startingWith liveOf childrenWith countsFrom firstAbove buildFrom patternFrom nonZero pathFrom passing chainFrom lastOf chains columnsFrom holdsFrom batchOf
 first-exchanged = exchange-passed world1 (add 1 (1 ∷ 3 ∷ [])) world2 refl refl refl refl
 
 pub second-exchanged : Exchanged world2 (add 2 (1 ∷ 4 ∷ [])) world3
-unfolding all any among noRepeats allZero same valuesAt rises upFrom startingWith childrenWith countsFrom firstAbove buildFrom patternFrom nonZero pathFrom passing chainFrom lastOf chains columnsFrom holdsFrom batchOf
+unfolding all any among noRepeats allZero same valuesAt rises upFrom startingWith liveOf childrenWith countsFrom firstAbove buildFrom patternFrom nonZero pathFrom passing chainFrom lastOf chains columnsFrom holdsFrom batchOf
 second-exchanged = exchange-passed world2 (add 2 (1 ∷ 4 ∷ [])) world3 refl refl refl refl
 
 pub third-exchanged : Exchanged world3 (add 3 (2 ∷ 3 ∷ [])) world4
-unfolding all any among noRepeats allZero same valuesAt rises upFrom startingWith childrenWith countsFrom firstAbove buildFrom patternFrom nonZero pathFrom passing chainFrom lastOf chains columnsFrom holdsFrom batchOf
+unfolding all any among noRepeats allZero same valuesAt rises upFrom startingWith liveOf childrenWith countsFrom firstAbove buildFrom patternFrom nonZero pathFrom passing chainFrom lastOf chains columnsFrom holdsFrom batchOf
 third-exchanged = exchange-passed world3 (add 3 (2 ∷ 3 ∷ [])) world4 refl refl refl refl
 
 pub removal-exchanged : Exchanged world4 (removing (2 ∷ [])) world5
-unfolding all any among noRepeats allZero same valuesAt rises upFrom startingWith childrenWith countsFrom firstAbove buildFrom patternFrom nonZero pathFrom passing chainFrom lastOf chains columnsFrom holdsFrom without columnOf columnsOf
+unfolding all any among noRepeats allZero same valuesAt rises upFrom startingWith liveOf childrenWith countsFrom firstAbove buildFrom patternFrom nonZero pathFrom passing chainFrom lastOf chains columnsFrom holdsFrom without columnOf columnsOf
 removal-exchanged = exchange-passed world4 (removing (2 ∷ [])) world5 refl refl refl refl
 
 pub returned-exchanged : Exchanged world5 (add 4 (1 ∷ 4 ∷ [])) world6
-unfolding all any among noRepeats allZero same valuesAt rises upFrom startingWith childrenWith countsFrom firstAbove buildFrom patternFrom nonZero pathFrom passing chainFrom lastOf chains columnsFrom holdsFrom batchOf
+unfolding all any among noRepeats allZero same valuesAt rises upFrom startingWith liveOf childrenWith countsFrom firstAbove buildFrom patternFrom nonZero pathFrom passing chainFrom lastOf chains columnsFrom holdsFrom batchOf
 returned-exchanged = exchange-passed world5 (add 4 (1 ∷ 4 ∷ [])) world6 refl refl refl refl
 
 pub filled-exchanged : Exchanged (fresh (limitsOf 2 3 4)) (add 1 (1 ∷ 2 ∷ [])) (full (limitsOf 2 3 4))
-unfolding all any among noRepeats allZero same valuesAt rises upFrom startingWith childrenWith countsFrom firstAbove buildFrom patternFrom nonZero pathFrom passing chainFrom lastOf chains columnsFrom holdsFrom batchOf
+unfolding all any among noRepeats allZero same valuesAt rises upFrom startingWith liveOf childrenWith countsFrom firstAbove buildFrom patternFrom nonZero pathFrom passing chainFrom lastOf chains columnsFrom holdsFrom batchOf
 filled-exchanged = exchange-passed (fresh (limitsOf 2 3 4)) (add 1 (1 ∷ 2 ∷ [])) (full (limitsOf 2 3 4)) refl refl refl refl
 
 pub emptied-exchanged : Exchanged (full (limitsOf 2 3 4)) (removing (1 ∷ [])) (fresh (limitsOf 2 3 4))
-unfolding all any among noRepeats allZero same valuesAt rises upFrom startingWith childrenWith countsFrom firstAbove buildFrom patternFrom nonZero pathFrom passing chainFrom lastOf chains columnsFrom holdsFrom batchOf without columnOf columnsOf
+unfolding all any among noRepeats allZero same valuesAt rises upFrom startingWith liveOf childrenWith countsFrom firstAbove buildFrom patternFrom nonZero pathFrom passing chainFrom lastOf chains columnsFrom holdsFrom batchOf without columnOf columnsOf
 emptied-exchanged = exchange-passed (full (limitsOf 2 3 4)) (removing (1 ∷ [])) (fresh (limitsOf 2 3 4)) refl refl refl refl
 
 pub refilled-exchanged : Exchanged (fresh oldLimits) (add 1 (1 ∷ 2 ∷ [])) (full oldLimits)
-unfolding all any among noRepeats allZero same valuesAt rises upFrom startingWith childrenWith countsFrom firstAbove buildFrom patternFrom nonZero pathFrom passing chainFrom lastOf chains columnsFrom holdsFrom batchOf
+unfolding all any among noRepeats allZero same valuesAt rises upFrom startingWith liveOf childrenWith countsFrom firstAbove buildFrom patternFrom nonZero pathFrom passing chainFrom lastOf chains columnsFrom holdsFrom batchOf
 refilled-exchanged = exchange-passed (fresh oldLimits) (add 1 (1 ∷ 2 ∷ [])) (full oldLimits) refl refl refl refl

@@ -3,7 +3,7 @@
 -- Assumes nothing.
 use mathlib.Core.Path.{refl}
 use Rattle.lists.specs.Lists.{all, any, among, sumOf, upFrom, pairsOf}
-use Rattle.symbolic.specs.Columns.{startingWith}
+use Rattle.symbolic.specs.Columns.{startingWith, liveOf}
 use Rattle.symbolic.specs.Factor.{childrenWith, countsFrom, firstAbove, buildFrom, patternFrom, nonZero, pathFrom, sizeSum}
 use Rattle.symbolic.specs.Batch.{passing, labelFrom}
 use Rattle.symbolic.specs.NextRow.{firstFrom}
@@ -13,7 +13,7 @@ use Rattle.calls.specs.Changes.{labelled}
 use Rattle.history.specs.Instances.{StarredInstances, NinthInstance, LimitInstances, RecordInstances, MeetingInstances, NextInstances}
 
 pub starred-instances : StarredInstances
-unfolding any among sumOf upFrom startingWith childrenWith countsFrom firstAbove buildFrom patternFrom nonZero pathFrom sizeSum passing labelFrom labelled idsOf without columnOf columnsOf batchOf rowsRefusal columnsRefusal pairsOf
+unfolding any among sumOf upFrom startingWith liveOf childrenWith countsFrom firstAbove buildFrom patternFrom nonZero pathFrom sizeSum passing labelFrom labelled idsOf without columnOf columnsOf batchOf rowsRefusal columnsRefusal pairsOf
 starred-instances =
     record {
       fresh = (refl, refl);
@@ -45,11 +45,11 @@ starred-instances =
     }
 
 pub ninth-instance : NinthInstance
-unfolding among sumOf startingWith childrenWith countsFrom firstAbove buildFrom pathFrom idsOf without batchOf rowsRefusal columnsRefusal idsRefusal
+unfolding among sumOf startingWith liveOf childrenWith countsFrom firstAbove buildFrom pathFrom idsOf without batchOf rowsRefusal columnsRefusal idsRefusal
 ninth-instance = record { emptied = refl; repeated = refl; equal-rows = refl; path = refl }
 
 pub limit-instances : LimitInstances
-unfolding any among sumOf upFrom startingWith childrenWith countsFrom firstAbove buildFrom patternFrom nonZero pathFrom sizeSum passing labelFrom labelled without columnOf columnsOf batchOf
+unfolding any among sumOf upFrom startingWith liveOf childrenWith countsFrom firstAbove buildFrom patternFrom nonZero pathFrom sizeSum passing labelFrom labelled without columnOf columnsOf batchOf
 limit-instances =
     record {
       opening-000 = refl;
@@ -94,7 +94,7 @@ record-instances =
     }
 
 pub meeting-instances : MeetingInstances
-unfolding all among startingWith childrenWith countsFrom firstAbove buildFrom pathFrom passing batchOf
+unfolding all among startingWith liveOf childrenWith countsFrom firstAbove buildFrom pathFrom passing batchOf
 meeting-instances =
     record {
       meets-1 = refl;
@@ -128,7 +128,7 @@ meeting-instances =
     }
 
 pub next-instances : NextInstances
-unfolding among startingWith childrenWith countsFrom firstAbove buildFrom patternFrom nonZero batchOf firstFrom
+unfolding among startingWith liveOf childrenWith countsFrom firstAbove buildFrom patternFrom nonZero batchOf firstFrom
 next-instances =
     record {
       stands = refl;

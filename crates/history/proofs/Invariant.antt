@@ -12,6 +12,7 @@ use Rattle.symbolic.specs.Factor.{FactorColumn, factorOf, factorFor}
 use Rattle.symbolic.specs.Change.{idsOf, Bag}
 use Rattle.symbolic.specs.Grades.{Limits, areLimits, limitsFor}
 use Rattle.symbolic.proofs.Bags.{bag-mem, bag-all}
+use Rattle.symbolic.proofs.Live.{live-fits}
 use Rattle.book.specs.Book.{columnFits}
 use Rattle.book.proofs.Columns.{ids-distinct}
 use Rattle.tables.specs.Stored.{Stored, holdsFrom}
@@ -93,7 +94,7 @@ module _ {p : Plain} {u : World} (i : Inv p u) where
         register-once = i .once;
         factor = held-factor (p .register) u inv-holds;
         stored = inv-numbers;
-        chains = λ x j a b d. stands-chain m (live (p .register)) s h (fits-rows m (p .register .columns) inv-fits) x j a b d;
+        chains = λ x j a b d. stands-chain m (live (p .register)) s h (live-fits (p .register) m (p .register .columns) (fits-rows m (p .register .columns) inv-fits)) x j a b d;
       }
 
 -- ---- an accepted opening

@@ -1,6 +1,6 @@
 -- What a column is given is what the definition gives it (given-is): the rows of its children but their first, counted where the children's chains were
 -- verified, the rows of the book columns that start there, and 1 on the diagonal. Before that: the columns that count and start at a row,
--- as a count over the ids of the book; that all booked columns count is used in `live-booked` alone. Assumes nothing.
+-- as a count over the ids of the book; that all booked columns count is used in `starting-count` alone. Assumes nothing.
 use mathlib.Core.Path.{_≡_, refl, sym, ap, subst, _∙_}
 use mathlib.Core.Logic.{inl, inr, _≢_, _↔_}
 use mathlib.Core.Bool.{Bool, true, false, _&&_, not}
@@ -21,6 +21,7 @@ use Rattle.symbolic.specs.Factor.{FactorColumn, factorOf, columnAt, multiplicit
 use Rattle.symbolic.specs.Definition.{childWith}
 use Rattle.symbolic.proofs.Build.{factor-length, count-is, counts-length, children-count}
 use Rattle.symbolic.proofs.Patterns.{pattern-holds, pattern-parts}
+use Rattle.symbolic.proofs.Live.{live-all}
 use Rattle.pool.specs.Chains.{chain}
 use Rattle.pool.proofs.Chains.{chain-nil, linked-step}
 use Rattle.pool.proofs.Whole.{pool-linked}
@@ -110,12 +111,9 @@ starting-from b j x low (suc n) i =
     ]
 
 -- all that the book has counts
-live-booked : (m : ℕ) (b : Book) → live (registerIn m b) ≡ columnsIn b
-live-booked m b = refl
-
 pub starting-count : (m : ℕ) (b : Book) (j x : ℕ) → 1 ≤ j → startingWith j x (live (registerIn m b)) ≡ count (startsWith b j x) (length (b .heads))
 starting-count m b j x low =
-    ap (startingWith j x) (live-booked m b) ∙ starting-from b j x low (length (b .heads)) 0 ∙ count-ext (λ k. startsWith b j x (0 + k)) (startsWith b j x) (length (b .heads)) (λ k p q. (let e : 0 + k ≡ k = omega arith in ap (startsWith b j x) e))
+    ap (startingWith j x) (live-all (registerIn m b) (columnsIn b)) ∙ starting-from b j x low (length (b .heads)) 0 ∙ count-ext (λ k. startsWith b j x (0 + k)) (startsWith b j x) (length (b .heads)) (λ k p q. (let e : 0 + k ≡ k = omega arith in ap (startsWith b j x) e))
 
 -- ---- the local equation
 

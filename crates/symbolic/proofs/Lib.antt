@@ -22,3 +22,4 @@ pub mod Grades
 pub mod Theorems
 pub mod Instances
 pub mod Fresh
+pub mod Live

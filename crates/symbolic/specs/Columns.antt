@@ -43,11 +43,11 @@ pub record Register : Type 0 where
   pub columns : List Column
 
 -- the columns that count, of some that a register has booked: all of them, whole. What a later rule leaves out or shortens is left out or shortened
--- here; a column then keeps its place in a list, with fewer rows or none
-abbrev pub liveOf : Register → List Column → List Column
+-- here; a column then keeps its place in a list, with fewer rows or none. Shut: proofs use it by the laws of proofs/Live.antt
+unfoldable pub liveOf : Register → List Column → List Column
 liveOf r cs = cs
 
--- the "live" columns of document 01, which the definitions of the factor take, and check 6 too: that they are all the book has is used in
--- soundness/proofs/Local.antt `live-booked` alone
+-- the "live" columns of document 01, which the definitions of the factor take, and check 6 too: that they are all that is
+-- booked is the law `live-all`
 abbrev pub live : Register → List Column
 live r = liveOf r (r .columns)

@@ -13,10 +13,11 @@ use Rattle.lists.specs.Lists.{at, valuesAt, allZero, over, upFrom}
 use Rattle.lists.proofs.Tests.{both-and}
 use Rattle.lists.proofs.Rising.{up-length, up-at}
 use Rattle.lists.proofs.Place.{over-length, padded-length, padded-back}
-use Rattle.symbolic.specs.Columns.{Column, live}
+use Rattle.symbolic.specs.Columns.{Column, Register, liveOf, live}
 use Rattle.symbolic.specs.Factor.{factorOf, columnAt}
 use Rattle.symbolic.specs.Grades.{Limits, areLimits}
 use Rattle.symbolic.proofs.Fresh.{fresh-parent, fresh-column}
+use Rattle.symbolic.proofs.Live.{live-nil}
 use Rattle.pool.specs.Chains.{chain, Linked}
 use Rattle.pool.specs.Whole.{Pool}
 use Rattle.pool.specs.Opening.{openedNexts, freeHead}
@@ -144,12 +145,17 @@ module _ (l : Sizes) (g : Limits) (t : Tables) (h : l .m ≤ l .f) where
   pub opened-columns : registerOf (openedState l g) (openedTables l t) .columns ≡ []
   opened-columns = ap (λ (b : book.Book). book.columnsIn b) (opened-book l g t h) ∙ booked.opened-columns (l .n) (l .c)
 
+  opened-live : live (registerOf (openedState l g) (openedTables l t)) ≡ []
+  opened-live =
+      let r : Register = registerOf (openedState l g) (openedTables l t) in
+      ap (liveOf r) opened-columns ∙ live-nil r
+
   pub opened-sound : areLimits g ≡ true → isSound (openedState l g) (openedTables l t) ≡ true
   opened-sound r =
       let b : book.isSound (l .m) (bookIn (openedState l g) (openedTables l t)) ≡ true =
       ap (λ (b : book.Book). book.isSound (l .m) b) (opened-book l g t h) ∙ booked.opened-sound (l .m) (l .n) (l .c) in
       let s : isSoundFor (live (registerOf (openedState l g) (openedTables l t))) (storedIn (openedState l g) (openedTables l t)) ≡ true =
-      ap (λ (cs : List Column). isSoundFor cs (storedIn (openedState l g) (openedTables l t))) opened-columns ∙
+      ap (λ (cs : List Column). isSoundFor cs (storedIn (openedState l g) (openedTables l t))) opened-live ∙
       ap (λ (x : Stored). isSoundFor [] x) (opened-stored l g t h) ∙ opened-stored-sound l h in
       both-and r (both-and b s)
 

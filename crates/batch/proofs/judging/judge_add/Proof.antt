@@ -11,7 +11,9 @@ use lib.Seq.{length-take-le, take-at}
 use Rattle.lists.specs.Lists.{sumOf}
 use Rattle.symbolic.specs.Grades.{Limits}
 use Rattle.tables.specs.Tables.{Tables, tablesOf}
-use Rattle.calls.specs.Refusals.{isAccepted, batchOf}
+use Rattle.calls.specs.Refusals.{isAccepted}
+use Rattle.calls.specs.Calls.{adding}
+use Rattle.calls.specs.Changes.{effect}
 use Rattle.calls.specs.Steps.{bookedIn}
 use Rattle.refusals.specs.Found.{addFound}
 use Rattle.updown.proofs.Filled.{filled-within}
@@ -104,9 +106,10 @@ plan-add-requires c κs =
     let no = d .before .before in
     let s = at-plan no in
     let br : List ℕ = s .pre .book-rows in
+    let x = effect (bookedIn (cutWorld (tablesAt s br) (s .pre .limits) (s .args .free .0) (s .args .book-free .0))) (adding (s .args .ids .now) (s .args .row-counts .now) (s .args .row-list .now)) in
     record {
-      R = bookedIn (cutWorld (tablesAt s br) (s .pre .limits) (s .args .free .0) (s .args .book-free .0)) .columns;
-      W = batchOf (s .args .ids .now) (s .args .row-counts .now) (s .args .row-list .now);
+      R = x .stay;
+      W = x .enter;
       can = add-can (s .pre .can) (s .args .ids .now) (s .args .row-counts .now) (s .args .row-list .now) (accepted-at no (s .pre .limits) br (s .pre .can))
           (take-at _ _ _ (filled d) ∙ d .listed-starts .ensures);
     }
@@ -127,9 +130,9 @@ returns-2 c lim br can =
     let ns = s .args .row-counts .now in
     let rs = s .args .row-list .now in
     let ok = accepted-at no lim br can in
-    let u = bookedIn (cutWorld (tablesAt s br) lim (s .args .free .0) (s .args .book-free .0)) .columns in
+    let x = effect (bookedIn (cutWorld (tablesAt s br) lim (s .args .free .0) (s .args .book-free .0))) (adding ids ns rs) in
     let e = c .planned .ensures in
-    add-planned can ids ns rs ok (p .plan-add .ensures u (batchOf ids ns rs) (add-can can ids ns rs ok (take-at _ _ _ (filled d) ∙ d .listed-starts .ensures))) (c .before .if2 .taken)
+    add-planned can ids ns rs ok (p .plan-add .ensures (x .stay) (x .enter) (add-can can ids ns rs ok (take-at _ _ _ (filled d) ∙ d .listed-starts .ensures))) (c .before .if2 .taken)
     (ap verdictNumber e) (ap (λ (v : Verdict). v .plan .first .0) e) (ap (λ (v : Verdict). v .plan .count) e) (ap (λ (v : Verdict). v .plan .entries) e) (ap (λ (v : Verdict). v .plan .used) e)
 
 refused-requires-2 : tie.Need-refused-requires-2
@@ -148,8 +151,8 @@ returns-3 c lim br can =
     let ns = s .args .row-counts .now in
     let rs = s .args .row-list .now in
     let ok = accepted-at no lim br can in
-    let u = bookedIn (cutWorld (tablesAt s br) lim (s .args .free .0) (s .args .book-free .0)) .columns in
-    add-full can ids ns rs ok (p .plan-add .ensures u (batchOf ids ns rs) (add-can can ids ns rs ok (take-at _ _ _ (filled d) ∙ d .listed-starts .ensures))) (c .before .if2 .left) (ap verdictNumber (c .refused2 .ensures))
+    let x = effect (bookedIn (cutWorld (tablesAt s br) lim (s .args .free .0) (s .args .book-free .0))) (adding ids ns rs) in
+    add-full can ids ns rs ok (p .plan-add .ensures (x .stay) (x .enter) (add-can can ids ns rs ok (take-at _ _ _ (filled d) ∙ d .listed-starts .ensures))) (c .before .if2 .left) (ap verdictNumber (c .refused2 .ensures))
 
 pub judge-add-spec : {M : Type 1} → statement M
 judge-add-spec =

@@ -6,9 +6,10 @@ use borrow.Author.Needs.{needs}
 use borrow.Author.Tests.{eq-eqb, ne-eqb}
 use lib.ListN.{length, drop, replicate}
 use lib.Seq.{length-take-le, take-at}
-use Rattle.symbolic.specs.Change.{without, columnsOf}
 use Rattle.tables.specs.Tables.{Tables, tablesOf}
 use Rattle.calls.specs.Refusals.{isAccepted}
+use Rattle.calls.specs.Calls.{removing}
+use Rattle.calls.specs.Changes.{effect}
 use Rattle.calls.specs.Steps.{bookedIn}
 use Rattle.refusals.specs.Found.{removeFound}
 use Rattle.updown.proofs.Filled.{filled-within}
@@ -87,10 +88,10 @@ plan-remove-requires c κs =
     let d = c .before .before .before in
     let no = d .before .before in
     let s = at-plan no in
-    let cs = bookedIn (cutWorld (tablesAt s) (s .pre .limits) (s .pre .free) (s .pre .book-free)) .columns in
+    let x = effect (bookedIn (cutWorld (tablesAt s) (s .pre .limits) (s .pre .free) (s .pre .book-free))) (removing (s .args .ids .now)) in
     record {
-      R = without (s .args .ids .now) cs;
-      W = columnsOf (s .args .ids .now) cs;
+      R = x .stay;
+      W = x .leave;
       can = remove-can (s .pre .can) (s .args .ids .now) (accepted-at no (s .pre .book-free)) 0 0
           (take-at _ _ _ (filled d) ∙ d .booked-starts .ensures (s .args .book-next .now) (s .pre .can .book-rows));
     }
@@ -109,10 +110,10 @@ returns-2 c lim f g can =
     let s = at-plan no in
     let ids = s .args .ids .now in
     let ok = accepted-at no g in
-    let cs = bookedIn (cutWorld (tablesAt s) lim f g) .columns in
+    let x = effect (bookedIn (cutWorld (tablesAt s) lim f g)) (removing ids) in
     let e = c .planned .ensures in
     let starts = take-at _ _ _ (filled d) ∙ d .booked-starts .ensures (s .args .book-next .now) (can .book-rows) in
-    remove-planned can ids ok (p .plan-remove .ensures (without ids cs) (columnsOf ids cs) (remove-can can ids ok 0 0 starts))
+    remove-planned can ids ok (p .plan-remove .ensures (x .stay) (x .leave) (remove-can can ids ok 0 0 starts))
     (ap verdictNumber e) (ap (λ (v : Verdict). v .plan .first .0) e) (ap (λ (v : Verdict). v .plan .count) e) (ap (λ (v : Verdict). v .plan .entries) e) (ap (λ (v : Verdict). v .plan .used) e)
 
 pub judge-remove-spec : {M : Type 1} → statement M

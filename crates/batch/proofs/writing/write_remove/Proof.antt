@@ -6,7 +6,7 @@ use Prim.Native.Nat.{ℕ}
 use lib.ListN.{length}
 use Rattle.tables.specs.Tables.{tablesOf}
 use Rattle.symbolic.specs.Grades.{Limits}
-use Rattle.symbolic.specs.Columns.{Register}
+use Rattle.symbolic.specs.Columns.{Register, live}
 use Rattle.symbolic.specs.Factor.{factorOf}
 use Rattle.calls.specs.Calls.{Change, removing}
 use Rattle.calls.specs.Changes.{effect, touchedBy}
@@ -47,8 +47,8 @@ report-requires c κs =
     let r : Register = bookedIn (worldAt s (s .pre .limits)) in
     let k : Change = changeAt s in
     record {
-      L = factorOf (length (s .args .heads .now)) (r .columns);
-      L′ = factorOf (length (s .args .heads .now)) (effect r k .register .columns);
+      L = factorOf (length (s .args .heads .now)) (live r);
+      L′ = factorOf (length (s .args .heads .now)) (live (effect r k .register));
       label = effect r k .label;
       columns = touchedBy r k;
       used = s .args .used;
@@ -61,8 +61,8 @@ write-plan-requires c κs =
     let r : Register = bookedIn (worldAt s (s .pre .limits)) in
     let k : Change = changeAt s in
     record {
-      cs = r .columns;
-      ds = effect r k .register .columns;
+      cs = live r;
+      ds = live (effect r k .register);
       label = effect r k .label;
       columns = touchedBy r k;
       before = s .pre .before;
@@ -117,8 +117,8 @@ returns c lim w can =
     let k : Change = changeAt s in
     let m : ℕ = length (s .args .heads .now) in
     batch-written can (x .write-plan .kept .1 .1 .1 .1 .0)
-    (p .report .ensures (factorOf m (r .columns)) (factorOf m (effect r k .register .columns)) (effect r k .label) (touchedBy r k) (s .args .used) (report-can can))
-    (x .write-plan .ensures (r .columns) (effect r k .register .columns) (effect r k .label) (touchedBy r k) w (can .count) (can .entries) (write-can can))
+    (p .report .ensures (factorOf m (live r)) (factorOf m (live (effect r k .register))) (effect r k .label) (touchedBy r k) (s .args .used) (report-can can))
+    (x .write-plan .ensures (live r) (live (effect r k .register)) (effect r k .label) (touchedBy r k) w (can .count) (can .entries) (write-can can))
     (left-after (can .can .find) (s .args .ids .now) (can .accepted)
     (y .leave-columns .ensures (length (s .args .heads .now)) (leave-can (can .can .find) (s .args .ids .now) (can .accepted))))
 
