@@ -1,13 +1,14 @@
 -- Where the clock starts (`begun`): tables that a check accepts and whose book has no column, beside a sound book of the same sizes of which none counts at minute 0.
 -- Assumes nothing.
-use mathlib.Core.Path.{_≡_, sym, subst, _∙_}
+use mathlib.Core.Path.{_≡_, sym, ap, subst, _∙_}
 use mathlib.Core.Bool.{Bool, true, false, _&&_}
 use mathlib.Core.List.{List, []}
 use Prim.Native.Nat.{ℕ, zero, suc, _+_, _≤_, _<_}
 use native.Mathlib.Omega.{arith}
 use lib.ListN.{length, take}
 use lib.Seq.{length-take-le}
-use Rattle.symbolic.specs.Columns.{Column}
+use Rattle.symbolic.specs.Columns.{Column, liveOf}
+use Rattle.symbolic.proofs.Live.{live-nil}
 use Rattle.workspace.specs.Layout.{spare, flagsAt, flagCount}
 use Rattle.workspace.proofs.Regions.{zero-part}
 use Rattle.book.specs.Book as book
@@ -16,7 +17,7 @@ use Rattle.windows.specs.Windows.{countsAt}
 use Rattle.windows.specs.Chosen.{chosenFrom, chosen}
 use Rattle.windows.proofs.Chosen.{chosen-nil, chosen-out}
 use Rattle.tables.specs.Stored.{isSoundFor}
-use Rattle.tables.specs.Tables.{Tables, State, storedIn, bookIn, tablesOf}
+use Rattle.tables.specs.Tables.{Tables, State, storedIn, bookIn, registerOf, tablesOf}
 use Rattle.tables.proofs.Tables.{Long, long-facts, facts-long, sound-book, sound-stored}
 use Rattle.calls.specs.Refusals.{workFor}
 use Rattle.factor.specs.Admission.{Usable, CanUse}
@@ -76,7 +77,7 @@ module _ (s z : State) (t u : Tables) (work windows : List ℕ) where
         });
         windows-long = k .windows-long;
         booked = rw (em, en, ec) (sound-book z u (d .sound));
-        sound = subst (λ (cs : List Column). isSoundFor cs (storedIn s t) ≡ true) (none-booked k ∙ sym (none-chosen k heads-long)) (sound-stored s t (c .usable .sound));
+        sound = subst (λ (cs : List Column). isSoundFor cs (storedIn s t) ≡ true) (ap (liveOf (registerOf s t)) (none-booked k) ∙ live-nil (registerOf s t) ∙ sym (none-chosen k heads-long)) (sound-stored s t (c .usable .sound));
         room = c .room;
         zero = zero-part work 0 (workFor (s .sizes)) 0 (spare (s .sizes .m) (s .sizes .f)) (c .zero) (omega arith) (omega arith);
         flags-zero = zero-part work 0 (workFor (s .sizes)) (flagsAt (s .sizes .m) (s .sizes .f)) flagCount (c .zero) (omega arith) (omega arith);

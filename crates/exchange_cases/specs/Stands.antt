@@ -1,6 +1,6 @@
 -- Tables between two turns of the clock: the stored columns are those that count, the book has all of them. Assumes nothing: these are definitions.
 use mathlib.Core.Path.{_≡_}
-use mathlib.Core.Bool.{true, false, _&&_}
+use mathlib.Core.Bool.{Bool, true, false, _&&_}
 use mathlib.Core.List.{List}
 use Prim.Native.Nat.{ℕ, _*_, _≤_}
 use lib.ListN.{length, take}
@@ -43,3 +43,8 @@ pub record Stands (s : State) (t : Tables) (windows : List ℕ) (minute : ℕ) (
   pub flags-zero : IsZero work (flagsAt (s .sizes .m) (s .sizes .f)) flagCount
   pub touched-long : s .sizes .m ≤ length touched
   pub labels-long : s .sizes .m ≤ length labels
+
+-- the minute after a turn: the one asked for where it fits, the old one where it does not
+pub record Went (fits : Bool) (minute before after : ℕ) : Type 0 where
+  pub on : fits ≡ true → minute ≡ after
+  pub stayed : fits ≡ false → minute ≡ before

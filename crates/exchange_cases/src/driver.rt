@@ -3,7 +3,7 @@
 ghost use mathlib.Core.Path.{_≡_};
 ghost use Rattle.tables.specs.Tables.{tablesOf};
 ghost use Rattle.factor.specs.Entries.{stateOf};
-ghost use Rattle.exchange_cases.specs.Stands.{Stands};
+ghost use Rattle.exchange_cases.specs.Stands.{Stands, Went};
 use exchange::reporting;
 use factor::Factor;
 use pool::Rec;
@@ -53,7 +53,7 @@ pub fn turn(
     after: u32,
 ) -> Turned
     requires { ⌜ Stands (stateOf factor) (tablesOf (now heads) (now parents) (now rows) (now counts) (now next) (now «book_heads») (now «book_rows») (now «book_next»)) (now windows) before (now work) (now touched) (now labels) ⌝ }
-    ensures { λ t. ⌜ Stands (stateOf (t .factor)) (tablesOf (now (heads .entry)) (now (parents .exit)) (now (rows .exit)) (now (counts .exit)) (now (next .exit)) (now («book_heads» .entry)) (now («book_rows» .entry)) (now («book_next» .entry))) (now (windows .entry)) (t .minute) (now (work .exit)) (now (touched .exit)) (now (labels .exit)) ⌝ }
+    ensures { λ t. ⌜ Stands (stateOf (t .factor)) (tablesOf (now (heads .entry)) (now (parents .exit)) (now (rows .exit)) (now (counts .exit)) (now (next .exit)) (now («book_heads» .entry)) (now («book_rows» .entry)) (now («book_next» .entry))) (now (windows .entry)) (t .minute) (now (work .exit)) (now (touched .exit)) (now (labels .exit)) × Went (t .fits) (t .minute) before after ⌝ }
 {
     let m = factor.m as usize;
     let n = factor.n as usize;

@@ -1,4 +1,4 @@
-// A copy of the tables of L, and how many places differ from it.
+// A copy of the tables of L and of a report's lists, and how many places differ from it.
 ghost use Prim.Native.Nat.{_≤_};
 
 pub struct Kept {
@@ -6,6 +6,11 @@ pub struct Kept {
     rows: [u16; 2080],
     counts: [u16; 2080],
     next: [u32; 2080],
+}
+
+pub struct KeptLists {
+    touched: [u16; 64],
+    labels: [u16; 64],
 }
 
 fn copy_short(from: &[u16], to: &mut [u16]) {
@@ -45,6 +50,18 @@ pub fn keep(parents: &[u16], rows: &[u16], counts: &[u16], next: &[u32]) -> Kept
         rows: kept_rows,
         counts: kept_counts,
         next: kept_next,
+    }
+}
+
+// A copy of both lists.
+pub fn keep_lists(touched: &[u16], labels: &[u16]) -> KeptLists {
+    let mut kept_touched = [0u16; 64];
+    let mut kept_labels = [0u16; 64];
+    copy_short(touched, &mut kept_touched);
+    copy_short(labels, &mut kept_labels);
+    KeptLists {
+        touched: kept_touched,
+        labels: kept_labels,
     }
 }
 
@@ -93,8 +110,10 @@ fn differing_wide(a: &[u32], b: &[u32]) -> u32
     n
 }
 
-// How many places of the four tables differ from the copy.
-pub fn differing(kept: Kept, parents: &[u16], rows: &[u16], counts: &[u16], next: &[u32]) -> u32 {
+// How many places of the tables differ from the copy.
+pub fn differing(kept: Kept, parents: &[u16], rows: &[u16], counts: &[u16], next: &[u32]) -> u32
+    ensures { λ r. ⌜ r ≤ 8320 ⌝ }
+{
     let kept_parents = kept.parents;
     let kept_rows = kept.rows;
     let kept_counts = kept.counts;
@@ -104,4 +123,15 @@ pub fn differing(kept: Kept, parents: &[u16], rows: &[u16], counts: &[u16], next
     let c = differing_short(&kept_counts, counts);
     let d = differing_wide(&kept_next, next);
     a + b + c + d
+}
+
+// How many places of the lists differ from the copy.
+pub fn differing_lists(kept: KeptLists, touched: &[u16], labels: &[u16]) -> u32
+    ensures { λ r. ⌜ r ≤ 4160 ⌝ }
+{
+    let kept_touched = kept.touched;
+    let kept_labels = kept.labels;
+    let a = differing_short(&kept_touched, touched);
+    let b = differing_short(&kept_labels, labels);
+    a + b
 }

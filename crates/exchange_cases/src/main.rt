@@ -108,6 +108,15 @@ fn small(f: u32) {
     );
 }
 
+// Column 1 leaves as 2 enters, on paths that have no column in common; f records hold each of them, but not both. From minute 20 on nobody counts.
+fn apart(f: u32) {
+    let mut columns = [0u32; 768];
+    let mut windows = [0u32; 512];
+    put(&mut columns, &mut windows, 1, 1, 2, 3, 1, 10);
+    put(&mut columns, &mut windows, 2, 4, 5, 6, 10, 20);
+    run(8, f, &columns, &windows, &[1, 9, 10, 20, 1]);
+}
+
 // 20 columns that stay, in rows 1 to 16; 80 that count up to minute 10, and from then on 64 with the same rows; from minute 20 on 64 more, from minute 30 on 28.
 fn large(f: u32, minutes: &[u32]) {
     let mut columns = [0u32; 768];
@@ -136,6 +145,8 @@ fn main() {
     small(36);
     title(b"small, 22 records");
     small(22);
+    title(b"apart, 12 records");
+    apart(12);
     title(b"large, 2080 records");
     large(2080, &[1, 10, 1, 20, 1, 30, 1, 0]);
     title(b"large, 600 records");

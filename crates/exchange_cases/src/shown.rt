@@ -1,5 +1,5 @@
-// A turn of the clock with its lines: `ok`, the number of columns on the paths and the entries, then these columns; or `no 16`, then how many places of the
-// tables have changed. Then what the public check says of the stored columns beside a book that has just the columns that count.
+// A turn of the clock with its lines: `ok`, the number of columns on the paths and the entries, then these columns and their labels; or `no 16`, then how many
+// places of the tables and of the report's lists have changed. Then what the public check says of the stored columns beside a book that has just the columns that count.
 ghost use Rattle.tables.specs.Tables.{tablesOf};
 ghost use Rattle.factor.specs.Entries.{stateOf};
 ghost use Rattle.exchange_cases.specs.Stands.{Stands};
@@ -44,8 +44,8 @@ fn check_beside(
     reply.number
 }
 
-// Says what a turn did: which columns it touched and their entries, or that it was refused.
-fn tell(t: Turned, before: u32, after: u32, touched: &[u16]) {
+// Says what a turn did: how many columns it touched and their entries, then these columns and their labels; or that it was refused.
+fn tell(t: Turned, before: u32, after: u32, touched: &[u16], labels: &[u16]) {
     io::print_decimal(1, before as u64);
     io::write_all(1, b" to");
     word(after);
@@ -55,6 +55,8 @@ fn tell(t: Turned, before: u32, after: u32, touched: &[u16]) {
         word(t.entries);
         io::write_all(1, b"; touched");
         lines::words(touched, t.touched);
+        io::write_all(1, b"; labels");
+        lines::words(labels, t.touched);
     } else {
         io::write_all(1, b": no 16");
     }
@@ -101,6 +103,7 @@ fn step(
     ensures { λ t. ⌜ Stands (stateOf (t .factor)) (tablesOf (now (heads .entry)) (now (parents .exit)) (now (rows .exit)) (now (counts .exit)) (now (next .exit)) (now («book_heads» .entry)) (now («book_rows» .entry)) (now («book_next» .entry))) (now (windows .entry)) (t .minute) (now (work .exit)) (now (touched .exit)) (now (labels .exit)) ⌝ }
 {
     let was = kept::keep(parents, rows, counts, next);
+    let lists = kept::keep_lists(touched, labels);
     let t = driver::turn(
         factor,
         heads,
@@ -118,11 +121,12 @@ fn step(
         before,
         after,
     );
-    tell(t, before, after, touched);
+    tell(t, before, after, touched, labels);
     let places = kept::differing(was, parents, rows, counts, next);
+    let others = kept::differing_lists(lists, touched, labels);
     let fresh = windowed::counting(factor.m, 2080, columns, windows, t.minute);
     let number = check_beside(fresh, t.factor, heads, parents, rows, counts, next);
-    tell_tables(t, places, factor.free, number);
+    tell_tables(t, places + others, factor.free, number);
     t
 }
 

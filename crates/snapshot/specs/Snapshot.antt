@@ -79,7 +79,7 @@ pub record ParentsSaved (parents before after : List ℕ) (a : ℕ) : Type 0 whe
 
 -- ---- brought back
 
--- places that hold records of tables that are as long as these three, with multiplicities of 16 bits
+-- places that hold records of tables that are as long as these three, with multiplicities below the bound
 pub record CanUnpair (rows counts next work : List ℕ) (a : ℕ) : Type 0 where
   pub inside : a + 2 * length next ≤ length work
   pub rows-long : length rows ≡ length next

@@ -27,11 +27,11 @@ chosenIds hs p = idsFrom hs p 1 (length hs)
 abbrev pub chosen : Book → (choice : ℕ → Bool) → List Column
 chosen b p = chosenFrom b p 1 (length (b .heads))
 
--- the ids that a choice takes from an id on
+-- the booked ids that a choice takes from an id on
 abbrev pub idsOn : (heads : List ℕ) → (choice : ℕ → Bool) → (id : ℕ) → List ℕ
 idsOn hs p i = idsFrom hs p i (length hs + 1 - i)
 
--- a place to go on from, tables that have two minutes for each id, and ids that 32 bits hold
+-- an id to go on from, two minutes for each id, and no more ids than document 01 allows
 pub record CanCollect (heads windows : List ℕ) (first : ℕ) : Type 0 where
   pub low : 1 ≤ first
   pub high : first ≤ length heads + 1

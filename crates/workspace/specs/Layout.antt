@@ -50,7 +50,7 @@ linksAt m = 7 * m
 abbrev pub planAt : (m : ℕ) → ℕ
 planAt m = 8 * m
 
--- free in the base, 3F places
+-- 3F places that planning does not use; an exchange keeps what it may have to bring back there
 abbrev pub spare : (m f : ℕ) → ℕ
 spare m f = 8 * m + f
 

@@ -1,5 +1,6 @@
 -- `driver::turn` meets its contract: the exchange and its report on prefixes, by the laws of Turning.antt. Assumes nothing.
-use mathlib.Core.Path.{sym, ap}
+use mathlib.Core.Path.{refl, sym, ap}
+use mathlib.Core.Bool.{true≢false}
 use borrow.Author.Needs.{needs}
 use borrow.Author.Tests.{not-true, not-false}
 use Rattle.tables.specs.Tables.{Tables, State, tablesOf}
@@ -111,8 +112,10 @@ same-length-5 c = ran (c .before) .exchange .kept .1 .1 .1 .1 .1 .1 .1 .1 .1 .0
 returns : tie.Need-returns
 returns c =
     let x = ran (c .before) in
-    let s = lent (x .before) in
-    stayed (s .pre) (s .args .after) (x .exchange .kept .1 .0) (x .exchange .kept .1 .1 .0) (x .exchange .kept .1 .1 .1 .0) (x .exchange .kept .1 .1 .1 .1 .0) (x .exchange .ensures) (not-true _ (c .if1 .taken))
+    let s = lent (x .before) in (
+      stayed (s .pre) (s .args .after) (x .exchange .kept .1 .0) (x .exchange .kept .1 .1 .0) (x .exchange .kept .1 .1 .1 .0) (x .exchange .kept .1 .1 .1 .1 .0) (x .exchange .ensures) (not-true _ (c .if1 .taken)),
+      record { on = λ e. absurd (true≢false (sym e)); stayed = λ e. refl },
+    )
 
 -- ---- where it fits
 
@@ -163,9 +166,11 @@ returns-2 : tie.Need-returns-2
 returns-2 c =
     let h = fitting (told c .before .before .before .before .before) in
     let x = ran (h .before) in
-    let s = lent (x .before) in
-    turned (s .pre) (s .args .after) (x .exchange .kept .1 .0) (x .exchange .kept .1 .1 .0) (x .exchange .kept .1 .1 .1 .0) (x .exchange .kept .1 .1 .1 .1 .0) (x .exchange .ensures) (not-false _ (h .if1 .left))
-    (ap stateOf (c .with-free .ensures)) (told c .report .kept .1 .1 .1 .0) (told c .report .kept .1 .1 .1 .1 .0)
+    let s = lent (x .before) in (
+      turned (s .pre) (s .args .after) (x .exchange .kept .1 .0) (x .exchange .kept .1 .1 .0) (x .exchange .kept .1 .1 .1 .0) (x .exchange .kept .1 .1 .1 .1 .0) (x .exchange .ensures) (not-false _ (h .if1 .left))
+          (ap stateOf (c .with-free .ensures)) (told c .report .kept .1 .1 .1 .0) (told c .report .kept .1 .1 .1 .1 .0),
+      record { on = λ e. refl; stayed = λ e. absurd (true≢false e) },
+    )
 
 pub turn-spec : {M : Type 1} → statement M
 turn-spec =

@@ -6,13 +6,16 @@ use Rattle.exchange_cases.proofs.shown.step.Tie as tie
 -- ---- the places, named
 
 abbrev entry : tie.After-turn-arg8 → tie.Start
-entry c = c .before .before .before .before .before .before .before .before .before .before .before .before .before .before .before .before .before .before .before .before .before .before .before .before
+entry c = c .before .before .before .before .before .before .before .before .before .before .before .before .before .before .before .before .before .before .before .before .before .before .before .before .before .before .before
 
 abbrev ran : tie.After-tell-tables → tie.After-turn
-ran c = c .before .before .before .before .before .before .before .before .before .before .before .before .before .before .before .before .before .before .before .before .before .before .before .before .before .before .before .before
+ran c = c .before .before .before .before .before .before .before .before .before .before .before .before .before .before .before .before .before .before .before .before .before .before .before .before .before .before .before .before .before .before .before .before
 
 keep-requires : tie.Need-keep-requires
 keep-requires c κs = search needs
+
+keep-lists-requires : tie.Need-keep-lists-requires
+keep-lists-requires c κs = search needs
 
 turn-requires : tie.Need-turn-requires
 turn-requires c κs = entry c .pre
@@ -23,11 +26,17 @@ tell-requires c κs = search needs
 differing-requires : tie.Need-differing-requires
 differing-requires c κs = search needs
 
+differing-lists-requires : tie.Need-differing-lists-requires
+differing-lists-requires c κs = search needs
+
 counting-requires : tie.Need-counting-requires
 counting-requires c κs = search needs
 
 check-beside-requires : tie.Need-check-beside-requires
 check-beside-requires c κs = search needs
+
+add-tell-tables : tie.Need-add-tell-tables
+add-tell-tables c = search needs
 
 tell-tables-requires : tie.Need-tell-tables-requires
 tell-tables-requires c κs = search needs
@@ -54,18 +63,21 @@ same-length-7 : tie.Need-same-length-7
 same-length-7 c = ran c .turn .kept .1 .1 .1 .1 .1 .1 .1 .1 .1 .1 .1 .1 .0
 
 returns : tie.Need-returns
-returns c = ran c .turn .ensures
+returns c = ran c .turn .ensures .0
 
 pub step-spec : {M : Type 1} → statement M
 step-spec =
     tie.close
     (tie.spec
     keep-requires
+    keep-lists-requires
     turn-requires
     tell-requires
     differing-requires
+    differing-lists-requires
     counting-requires
     check-beside-requires
+    add-tell-tables
     tell-tables-requires
     same-length
     same-length-2
