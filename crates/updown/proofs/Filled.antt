@@ -1,17 +1,18 @@
--- Where the columns of a batch start that count all their rows: a list of starts filled place by place (`Filling`), from listed columns (`Summing`) and from
+-- Where the columns of a batch start that count all their rows: a list of starts filled from the front (`Filling` of `lists`), from listed columns (`Summing`) and from
 -- booked ones; and that these are the starts of such a batch (`whole-rows`, `whole-booked`). Assumes nothing.
 use mathlib.Core.Path.{_≡_, refl, sym, ap, _∙_, subst}
-use mathlib.Core.Logic.{inl, inr, _≢_}
+use mathlib.Core.Logic.{_≢_}
 use mathlib.Core.Bool.{Bool, true, _&&_}
 use mathlib.Core.List.{List, [], _∷_, _++_}
 use Prim.Native.Nat.{ℕ, zero, suc, _+_, _≤_, _<_}
 use native.Mathlib.Omega.{arith}
 use lib.Dec.{eqb}
-use lib.ListN.{length, getD, take, drop, set, length-set, length-append}
-use lib.Seq.{ext-getD, drop-cons, drop-drop, getD-take, getD-drop, getD-set-same, getD-set-other}
+use lib.ListN.{length, getD, take, drop, set, length-append}
+use lib.Seq.{drop-cons, drop-drop, getD-take, getD-drop}
 use borrow.Author.Tests.{ne-eqb}
 use Rattle.lists.specs.Lists.{pick, at, rises, all, allZero, sumOf, valuesAt, first}
-use Rattle.lists.proofs.Tests.{eq-or-ne, and-both}
+use Rattle.lists.proofs.Tests.{and-both}
+use Rattle.lists.proofs.Over.{Filling, filling-start, filling-next, filling-end}
 use Rattle.lists.proofs.Rising.{rises-in}
 use Rattle.symbolic.specs.Columns.{Column, smallest, fitsRows}
 use Rattle.pool.specs.Chains.{chain}
@@ -22,28 +23,6 @@ use Rattle.book.specs.Book as book
 use Rattle.book.specs.Entries.{HasHead}
 use Rattle.tables.specs.Stored.{Stored}
 use Rattle.updown.specs.Entries.{Booked, BookedFrom, listedStarts, bookedStarts, CanAddBooked, CanEnter}
-
--- ---- a list filled place by place
-
-pub record Filling (want starts : List ℕ) (k : ℕ) : Type 0 where
-  pub long : length starts ≡ length want
-  pub done : (i : ℕ) → i < k → getD starts i 0 ≡ getD want i 0
-
-pub filling-start : {want starts : List ℕ} → length starts ≡ length want → Filling want starts 0
-filling-start e = record { long = e; done = λ i l. absurd (omega arith) }
-
-pub filling-next : {want starts : List ℕ} {k v : ℕ} → Filling want starts k → k < length want → v ≡ getD want k 0 → Filling want (set starts k v) (k + 1)
-filling-next {want} {starts} {k} {v} f l e =
-    record {
-      long = length-set starts k v ∙ f .long;
-      done = λ i x. elim (eq-or-ne i k) [
-        | inl q ↦ ap (λ (y : ℕ). getD (set starts k v) y 0) q ∙ getD-set-same starts k v 0 (omega (arith, f .long)) ∙ e ∙ ap (λ (y : ℕ). getD want y 0) (sym q)
-        | inr q ↦ getD-set-other starts k i v 0 q ∙ f .done i (omega arith)
-      ];
-    }
-
-pub filling-end : {want starts : List ℕ} {k : ℕ} → Filling want starts k → length want ≤ k → starts ≡ want
-filling-end {want} {starts} f l = ext-getD 0 starts want (f .long) (λ i x. f .done i (omega (arith, f .long)))
 
 -- what was filled in is the front of the list
 pub filled-within : (k : ℕ) (starts rest : List ℕ) → length starts ≡ k → k ≤ length (starts ++ rest)
@@ -98,15 +77,15 @@ module _ {counts list : List ℕ} {k at : ℕ} (s : Summing counts list k at) (l
         within = omega (arith, s .within, left, ap (λ (x : ℕ). sumOf (λ n. n) (drop x counts)) z);
       }
 
-pub listed-filling : (counts list : List ℕ) {starts : List ℕ} → length starts ≡ length counts → Filling (listedStarts counts list) starts 0
-listed-filling counts list e = filling-start (e ∙ sym (listed-long counts list))
+pub listed-filling : (counts list : List ℕ) {starts : List ℕ} → length starts ≡ length counts → Filling (listedStarts counts list) starts starts 0
+listed-filling counts list {starts} e = filling-start (listedStarts counts list) starts (listed-long counts list ∙ sym e)
 
-pub listed-filled : (counts list : List ℕ) {starts : List ℕ} {k : ℕ} → Filling (listedStarts counts list) starts k → length counts ≤ k → starts ≡ listedStarts counts list
-listed-filled counts list f l = filling-end f (omega (arith, listed-long counts list))
+pub listed-filled : (counts list : List ℕ) {old starts : List ℕ} {k : ℕ} → Filling (listedStarts counts list) old starts k → length counts ≤ k → starts ≡ listedStarts counts list
+listed-filled counts list f l = filling-end f (omega (arith, f .size, listed-long counts list))
 
-pub listed-filling-next : (counts list : List ℕ) {starts : List ℕ} {k at v : ℕ} → Summing counts list k at → k < length counts → Filling (listedStarts counts list) starts k →
-    v ≡ getD (take (getD counts k 0) (drop at list)) 0 0 → Filling (listedStarts counts list) (set starts k v) (k + 1)
-listed-filling-next counts list s l f e = filling-next f (omega (arith, listed-long counts list)) (e ∙ summing-first s l)
+pub listed-filling-next : (counts list : List ℕ) {old starts : List ℕ} {k at v : ℕ} → Summing counts list k at → k < length counts → Filling (listedStarts counts list) old starts k →
+    v ≡ getD (take (getD counts k 0) (drop at list)) 0 0 → Filling (listedStarts counts list) old (set starts k v) (k + 1)
+listed-filling-next counts list s l f e = filling-next f (omega (arith, f .size, listed-long counts list)) (sym (e ∙ summing-first s l))
 
 -- ---- booked columns
 
@@ -121,15 +100,15 @@ booked-value b [] k l = absurd (omega arith)
 booked-value b (i ∷ is) zero l = refl
 booked-value b (i ∷ is) (suc k) l = booked-value b is k (omega arith)
 
-pub booked-filling : (b : book.Book) (ids : List ℕ) {starts : List ℕ} → length starts ≡ length ids → Filling (bookedStarts b ids) starts 0
-booked-filling b ids e = filling-start (e ∙ sym (booked-long b ids))
+pub booked-filling : (b : book.Book) (ids : List ℕ) {starts : List ℕ} → length starts ≡ length ids → Filling (bookedStarts b ids) starts starts 0
+booked-filling b ids {starts} e = filling-start (bookedStarts b ids) starts (booked-long b ids ∙ sym e)
 
-pub booked-filling-next : (b : book.Book) (ids : List ℕ) {starts : List ℕ} {k v : ℕ} → Filling (bookedStarts b ids) starts k → k < length ids → v ≡ smallest (book.columnFor b (getD ids k 0)) →
-    Filling (bookedStarts b ids) (set starts k v) (k + 1)
-booked-filling-next b ids {k = k} f l e = filling-next f (omega (arith, booked-long b ids)) (e ∙ sym (booked-value b ids k l))
+pub booked-filling-next : (b : book.Book) (ids : List ℕ) {old starts : List ℕ} {k v : ℕ} → Filling (bookedStarts b ids) old starts k → k < length ids → v ≡ smallest (book.columnFor b (getD ids k 0)) →
+    Filling (bookedStarts b ids) old (set starts k v) (k + 1)
+booked-filling-next b ids {k = k} f l e = filling-next f (omega (arith, f .size, booked-long b ids)) (booked-value b ids k l ∙ sym e)
 
-pub booked-filled : (b : book.Book) (ids : List ℕ) {starts : List ℕ} {k : ℕ} → Filling (bookedStarts b ids) starts k → length ids ≤ k → starts ≡ bookedStarts b ids
-booked-filled b ids f l = filling-end f (omega (arith, booked-long b ids))
+pub booked-filled : (b : book.Book) (ids : List ℕ) {old starts : List ℕ} {k : ℕ} → Filling (bookedStarts b ids) old starts k → length ids ≤ k → starts ≡ bookedStarts b ids
+booked-filled b ids f l = filling-end f (omega (arith, f .size, booked-long b ids))
 
 -- ---- the starts of columns that count all their rows
 

@@ -1,6 +1,6 @@
--- The columns that a choice takes: at one id; two choices that agree on the booked ids take the same; a choice that takes every booked id takes all columns; what one
--- takes is what it takes with another choice and without it; what a member is; rows that fit; no more than ids; the ids that a choice takes. Assumes nothing.
-use mathlib.Core.Path.{_≡_, refl, sym, ap, subst, _∙_}
+-- The columns that a choice takes: at one id; two choices that agree on the booked ids take the same; what one takes is what it takes with another choice and
+-- without it; what a member is; rows that fit; no more than ids; the ids that a choice takes. Assumes nothing.
+use mathlib.Core.Path.{_≡_, refl, sym, subst, _∙_}
 use mathlib.Core.Logic.{inl, inr}
 use mathlib.Core.Bool.{Bool, true, false, _&&_, not}
 use mathlib.Core.List.{List, [], _∷_, _++_}
@@ -8,15 +8,15 @@ use Prim.Native.Nat.{ℕ, zero, suc, _+_, _≤_, _<_}
 use native.Mathlib.Omega.{arith}
 use lib.ListN.{length}
 use Rattle.lists.specs.Lists.{Mem, first, later, all, sumOf}
-use Rattle.lists.proofs.Tests.{cases, and-both, and-false, and-true}
+use Rattle.lists.proofs.Tests.{cases, and-both, and-swap}
 use Rattle.lists.proofs.Member.{all-make}
 use Rattle.lists.proofs.Sum.{sum-append}
 use Rattle.symbolic.specs.Columns.{Column, fitsRows}
-use Rattle.symbolic.specs.Change.{idsOf, Bag}
-use Rattle.book.specs.Book.{Book, isBooked, columnFor, columnsFrom, columnsIn, isSound}
+use Rattle.symbolic.specs.Change.{Bag}
+use Rattle.book.specs.Book.{Book, isBooked, columnFor, isSound}
 use Rattle.book.proofs.Sound.{sound-of, fitting}
 use Rattle.windows.specs.Windows.{countsAt, staysBetween}
-use Rattle.windows.specs.Chosen.{idsFrom, chosenFrom, chosenIds, chosen}
+use Rattle.windows.specs.Chosen.{idsFrom, chosenFrom, chosen}
 
 -- ---- the list at one id
 
@@ -49,27 +49,9 @@ from-same b p q (suc n) i h =
 pub chosen-same : (b : Book) (p q : ℕ → Bool) → ((l : ℕ) → isBooked (b .heads) l ≡ true → p l ≡ q l) → chosen b p ≡ chosen b q
 chosen-same b p q h = from-same b p q (length (b .heads)) 1 (λ l s t e. h l e)
 
--- a choice that takes every booked id
-pub from-all : (b : Book) (p : ℕ → Bool) (n i : ℕ) → ((l : ℕ) → i ≤ l → l < i + n → isBooked (b .heads) l ≡ true → p l ≡ true) → chosenFrom b p i n ≡ columnsFrom b i n
-unfolding chosenFrom columnsFrom
-from-all b p zero i h = refl
-from-all b p (suc n) i h =
-    let k : chosenFrom b p (suc i) n ≡ columnsFrom b (suc i) n = from-all b p n (suc i) (λ l s t e. h l (omega arith) (omega arith) e) in
-    elim (cases (isBooked (b .heads) i)) [
-      | inl e ↦ rw (e, h i (omega arith) (omega arith) e, k) refl
-      | inr e ↦ rw (e, k) refl
-    ]
-
-pub chosen-all : (b : Book) (p : ℕ → Bool) → ((l : ℕ) → isBooked (b .heads) l ≡ true → p l ≡ true) → chosen b p ≡ columnsIn b
-chosen-all b p h = from-all b p (length (b .heads)) 1 (λ l s t e. h l e)
-
 -- to count at both minutes is to count at both
 pub stays-both : (b : Book) (w : List ℕ) (n t u : ℕ) → chosen b (staysBetween w n t u) ≡ chosen b (staysBetween w n u t)
-stays-both b w n t u = chosen-same b (staysBetween w n t u) (staysBetween w n u t) (λ l e. swap (countsAt w n t l) (countsAt w n u l))
-  where
-    swap : (x y : Bool) → (x && y) ≡ (y && x)
-    swap true y = sym (and-true y)
-    swap false y = sym (and-false y)
+stays-both b w n t u = chosen-same b (staysBetween w n t u) (staysBetween w n u t) (λ l e. and-swap (countsAt w n t l) (countsAt w n u l))
 
 -- ---- what one choice takes: with another choice, and without it
 
@@ -148,28 +130,9 @@ from-few b p (suc n) i =
 pub chosen-few : (b : Book) (p : ℕ → Bool) → length (chosen b p) ≤ length (b .heads)
 chosen-few b p = from-few b p (length (b .heads)) 1
 
--- ---- ids
-
-from-ids : (b : Book) (p : ℕ → Bool) (n i : ℕ) → idsOf (chosenFrom b p i n) ≡ idsFrom (b .heads) p i n
-unfolding idsOf chosenFrom idsFrom
-from-ids b p zero i = refl
-from-ids b p (suc n) i =
-    elim (cases (isBooked (b .heads) i && p i)) [
-      | inl e ↦ rw e (ap (λ (l : List ℕ). i ∷ l) (from-ids b p n (suc i)))
-      | inr e ↦ rw e (from-ids b p n (suc i))
-    ]
-
--- the ids of the columns are the ids that the choice takes
-pub chosen-ids : (b : Book) (p : ℕ → Bool) → idsOf (chosen b p) ≡ chosenIds (b .heads) p
-chosen-ids b p = from-ids b p (length (b .heads)) 1
-
 -- ---- the ids at one id
 
 module _ (hs : List ℕ) (p : ℕ → Bool) (i : ℕ) where
-  ids-nil : idsFrom hs p i 0 ≡ []
-  unfolding idsFrom
-  ids-nil = refl
-
   pub ids-in : (n : ℕ) → (isBooked hs i && p i) ≡ true → idsFrom hs p i (suc n) ≡ i ∷ idsFrom hs p (suc i) n
   unfolding idsFrom
   ids-in n e = rw e refl
@@ -177,27 +140,3 @@ module _ (hs : List ℕ) (p : ℕ → Bool) (i : ℕ) where
   pub ids-out : (n : ℕ) → (isBooked hs i && p i) ≡ false → idsFrom hs p i (suc n) ≡ idsFrom hs p (suc i) n
   unfolding idsFrom
   ids-out n e = rw e refl
-
--- every id is one of those looked at, booked and taken
-pub record IdTaken (hs : List ℕ) (p : ℕ → Bool) (i n l : ℕ) : Type 0 where
-  pub low : i ≤ l
-  pub high : l < i + n
-  pub booked : isBooked hs l ≡ true
-  pub taken : p l ≡ true
-
-pub ids-mem : (hs : List ℕ) (p : ℕ → Bool) (n i l : ℕ) → Mem l (idsFrom hs p i n) → IdTaken hs p i n l
-ids-mem hs p zero i l m = elim (subst (λ (t : List ℕ). Mem l t) (ids-nil hs p i) m) [ ]
-ids-mem hs p (suc n) i l m =
-    elim (cases (isBooked hs i && p i)) [
-      | inl e ↦ here l e (subst (λ (t : List ℕ). Mem l t) (ids-in hs p i n e) m) (ids-mem hs p n (suc i) l)
-      | inr e ↦ more l (ids-mem hs p n (suc i) l (subst (λ (t : List ℕ). Mem l t) (ids-out hs p i n e) m))
-    ]
-  where
-    more : (l : ℕ) → IdTaken hs p (suc i) n l → IdTaken hs p i (suc n) l
-    more l k = record { low = omega (arith, k .low); high = omega (arith, k .high); booked = k .booked; taken = k .taken }
-
-    here : (l : ℕ) → (isBooked hs i && p i) ≡ true → Mem l (i ∷ idsFrom hs p (suc i) n) → (Mem l (idsFrom hs p (suc i) n) → IdTaken hs p (suc i) n l) → IdTaken hs p i (suc n) l
-    here l e first f =
-        let t : (isBooked hs i ≡ true) × (p i ≡ true) = and-both (isBooked hs i) (p i) e in
-        record { low = omega arith; high = omega arith; booked = t .0; taken = t .1 }
-    here l e (later k) f = more l (f k)

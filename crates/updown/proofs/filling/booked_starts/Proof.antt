@@ -1,5 +1,6 @@
 -- `updown::filling::booked_starts` meets its contract: the loop's invariant is `Filling`, for all nexts that suit; the measure is the ids left. Assumes nothing.
-use Rattle.updown.proofs.Filled.{Filling, booked-filling, booked-filling-next, booked-filled}
+use Rattle.lists.proofs.Over.{Filling}
+use Rattle.updown.proofs.Filled.{booked-filling, booked-filling-next, booked-filled}
 use Rattle.updown.specs.Entries.{bookedStarts}
 use Rattle.book.specs.Book.{tablesOf}
 use lib.ListN.{length, length-set}
@@ -13,7 +14,7 @@ use Rattle.updown.proofs.filling.booked_starts.Tie as tie
 abbrev Inv-loop : tie.InvT-loop
 Inv-loop book-heads book-rows ids starts₀ k₀ starts k =
     (k ≤ length ids) × (length starts ≡ length starts₀) ×
-    ((next : List ℕ) → length book-rows ≡ length next → Filling (bookedStarts (tablesOf book-heads book-rows next) ids) starts k)
+    ((next : List ℕ) → length book-rows ≡ length next → Filling (bookedStarts (tablesOf book-heads book-rows next) ids) starts₀ starts k)
 
 abbrev μ-loop : tie.MeasureT-loop
 μ-loop book-heads book-rows ids starts₀ k₀ starts k = length ids - k

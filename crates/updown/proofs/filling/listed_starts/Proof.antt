@@ -1,5 +1,6 @@
 -- `updown::filling::listed_starts` meets its contract: the loop's invariant is `Summing` and `Filling`; the measure is the columns left. Assumes nothing.
-use Rattle.updown.proofs.Filled.{Filling, Summing, summing-start, summing-end, summing-next, listed-filling, listed-filling-next, listed-filled}
+use Rattle.lists.proofs.Over.{Filling}
+use Rattle.updown.proofs.Filled.{Summing, summing-start, summing-end, summing-next, listed-filling, listed-filling-next, listed-filled}
 use Rattle.updown.specs.Entries.{listedStarts}
 use lib.ListN.{length, length-set}
 use Prim.Native.Nat.{_-_, _≤_}
@@ -10,7 +11,7 @@ use Rattle.updown.proofs.filling.listed_starts.Tie as tie
 
 abbrev Inv-loop : tie.InvT-loop
 Inv-loop row-counts row-list starts₀ k₀ at₀ starts k at =
-    (k ≤ length row-counts) × (length starts ≡ length starts₀) × Summing row-counts row-list k at × Filling (listedStarts row-counts row-list) starts k
+    (k ≤ length row-counts) × (length starts ≡ length starts₀) × Summing row-counts row-list k at × Filling (listedStarts row-counts row-list) starts₀ starts k
 
 abbrev μ-loop : tie.MeasureT-loop
 μ-loop row-counts row-list starts₀ k₀ at₀ starts k at = length row-counts - k
