@@ -2,8 +2,9 @@
      inner   a batch on tables known to be sound: plain C's inner way; the library's unchecked entries, run by bench_driver
      check   reading all tables through
      public  a batch with all input checked first
-   A second table has questions (questions.c), a third the read-through of tables of several kinds (reading.c).
+   A second table has clock changes (clock.c), a third questions (questions.c), a fourth the read-through of tables of several kinds (reading.c).
    usage: bench [seed [passes]] */
+#include "clock.h"
 #include "measure.h"
 #include "ours.h"
 #include "plain.h"
@@ -18,16 +19,16 @@ static uint16_t touched[4096], labels[4096];
 
 static Ans plain_batch(Fac *f, const Flat *x, size_t b, int public)
 {
-    const uint32_t *p = x->plan + 6 * b; uint32_t r = p[2] - p[1], nr = p[5] - p[4];
-    if (p[0]) return (public ? host_add : inner_add)(f, x->ids + p[1], x->counts + p[3], r, x->rows + p[4], nr, touched, labels);
-    return (public ? host_remove : inner_remove)(f, x->ids + p[1], r, touched, labels);
+    Lists y = lists_of(x, b);
+    if (x->plan[6 * b]) return (public ? host_add : inner_add)(f, &y, touched, labels);
+    return (public ? host_remove : inner_remove)(f, y.ids, y.r, touched, labels);
 }
 
 /* all measured batches by the inner way, a mean; the library's list of batches begins with a check, whose time is taken off */
 static void inner_pass(const Load *w, double *t)
 {
-    Flat fill = flatten(w, 0, w->fill), x = flatten(w, w->fill, w->nb), none = {x.plan, x.ids, x.counts, x.rows, 0, 0, 0, 0};
-    Fac f, g; double s, check[9];
+    Flat fill = flatten(w, 0, w->fill), x = flatten(w, w->fill, w->nb), none = x;
+    Fac f, g; double s, check[9]; none.batches = none.n_ids = none.n_counts = none.n_rows = 0;
     fac_alloc(&f, w->m, w->n, w->F, w->C); fac_alloc(&g, w->m, w->n, w->F, w->C);
     fac_open(&f, w->m, w->n, w->F, w->C); fac_open(&g, w->m, w->n, w->F, w->C);
     for (size_t b = 0; b < fill.batches; b++) if (plain_batch(&f, &fill, b, 0).number) die("plain fill");
@@ -93,6 +94,7 @@ int main(int argc, char **argv)
            "---|---|---|---|---|---|---|---|---|---|---|---|---|---|");
     for (int shape = 0; shape < 2; shape++) for (int q = 0; q < 2; q++) for (int z = 0; z < 3; z++) row(shape, ms[q], rs[z], pairs[shape][z], seed, passes, 0);
     for (int z = 0; z < 3; z++) row(NESTED, 4096, rs[z], pairs[NESTED][z], seed, passes, 1);
+    clock_changes(seed, passes);
     questions(seed, passes);
     const Way ways[] = {ours_way, plain_way};
     reading(ways, 2, seed, passes);

@@ -12,6 +12,13 @@ void die(const char *why) { printf("FAIL: %s\n", why); exit(1); }
 static int rising(const void *a, const void *b) { double x = *(const double *)a, y = *(const double *)b; return x < y ? -1 : x > y; }
 double median(double *t, size_t n) { qsort(t, n, sizeof *t, rising); return t[n / 2]; }
 
+Lists lists_of(const Flat *x, size_t b)
+{
+    const uint32_t *p = x->plan + 6 * b;
+    Lists y = {x->ids + p[1], x->counts + p[3], x->rows + p[4], x->firsts + p[1], x->seconds + p[1], p[2] - p[1], p[5] - p[4]};
+    return y;
+}
+
 int same(const Fac *a, const Fac *b)
 {
     for (uint32_t j = 0; j < a->m; j++) {

@@ -1,21 +1,26 @@
 /* The public entries of the proved library over the tables of plain.h, by the host interface. */
+#include "measure.h"
 #include "ours.h"
 
 static Ans answer(Fac *f, nigvalds_changed a)
 { Ans y = {a.number, a.position, a.touched, a.entries, a.grade}; keep(f, a.factor); return y; }
 
-static Ans ours_add(Fac *f, const uint32_t *ids, const uint32_t *counts, uint32_t r, const uint32_t *rows, uint32_t nrows, uint16_t *touched, uint16_t *labels)
-{ return answer(f, nigvalds_add(record(f), TABLES(f), REPORT(f), ids, r, counts, r, rows, nrows)); }
+Ans ours_add(Fac *f, const Lists *x, uint16_t *touched, uint16_t *labels)
+{
+    return answer(f, nigvalds_add(record(f), TABLES(f), REPORT(f), x->ids, x->r, x->counts, x->r, x->rows, x->nrows, x->firsts, x->r, x->seconds, x->r));
+}
 
 static Ans ours_remove(Fac *f, const uint32_t *ids, uint32_t r, uint16_t *touched, uint16_t *labels)
 { return answer(f, nigvalds_remove(record(f), TABLES(f), REPORT(f), ids, r)); }
 
 Ans ours_public(Fac *f, const Flat *x, size_t b, uint16_t *touched, uint16_t *labels)
 {
-    const uint32_t *p = x->plan + 6 * b; uint32_t r = p[2] - p[1];
-    if (p[0]) return ours_add(f, x->ids + p[1], x->counts + p[3], r, x->rows + p[4], p[5] - p[4], touched, labels);
-    return ours_remove(f, x->ids + p[1], r, touched, labels);
+    Lists y = lists_of(x, b);
+    return x->plan[6 * b] ? ours_add(f, &y, touched, labels) : ours_remove(f, y.ids, y.r, touched, labels);
 }
+
+Ans ours_set_clock(Fac *f, uint32_t minute, uint16_t *touched, uint16_t *labels)
+{ return answer(f, nigvalds_set_clock(record(f), TABLES(f), REPORT(f), minute)); }
 
 uint32_t ours_check(Fac *f) { return nigvalds_check(record(f), TABLES(f)).number; }
 

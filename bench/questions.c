@@ -1,4 +1,4 @@
-/* The second table: questions on tables known to be sound, plain C's inner way beside the library's unchecked entries, run by bench_driver. */
+/* The third table: questions on tables known to be sound, plain C's inner way beside the library's unchecked entries, run by bench_driver. */
 #include "measure.h"
 #include "ours.h"
 #include "questions.h"
@@ -27,8 +27,8 @@ static void fill_both(const Load *w, Fac *f, Fac *g)
     fac_alloc(f, w->m, w->n, w->F, w->C); fac_alloc(g, w->m, w->n, w->F, w->C);
     fac_open(f, w->m, w->n, w->F, w->C); fac_open(g, w->m, w->n, w->F, w->C);
     for (size_t b = 0; b < x.batches; b++) {
-        const uint32_t *p = x.plan + 6 * b;
-        if (inner_add(f, x.ids + p[1], x.counts + p[3], p[2] - p[1], x.rows + p[4], p[5] - p[4], touched, labels).number) die("plain fill");
+        Lists y = lists_of(&x, b);
+        if (inner_add(f, &y, touched, labels).number) die("plain fill");
     }
     if (ours_run(g, &x, touched, labels)) die("fill");
     if (!same(f, g)) die("the factors differ");

@@ -1,4 +1,4 @@
-/* The second table of the benchmark. */
+/* The third table of the benchmark. */
 #ifndef QUESTIONS_H
 #define QUESTIONS_H
 #include <stddef.h>

@@ -1,4 +1,4 @@
-/* The third table: reading all tables through, by checks and by public batches of one column, on the same tables in turn. */
+/* The fourth table: reading all tables through, by checks and by public batches of one column, on the same tables in turn. */
 #include "measure.h"
 #include "reading.h"
 #include "tables.h"
@@ -18,7 +18,8 @@ static double public_batches(const Way *way, Fac *f, Ans *added)
 {
     uint32_t id = 1, count = 2, rows[] = {f->m - 1, f->m};
     while (id < f->n && f->bhead[id - 1]) id++;
-    double s = now(); *added = way->add(f, &id, &count, 1, rows, count, touched, labels);
+    Lists x = {&id, &count, rows, no_windows, no_windows, 1, count};
+    double s = now(); *added = way->add(f, &x, touched, labels);
     Ans removed = way->remove(f, &id, 1, touched, labels); s = now() - s;
     if (added->number || removed.number) die("a batch of one column");
     return s / 2;

@@ -1,4 +1,4 @@
-/* The third table of the benchmark: the read-through, on tables of several kinds. */
+/* The fourth table of the benchmark: the read-through, on tables of several kinds. */
 #ifndef READING_H
 #define READING_H
 #include "plain.h"
@@ -7,7 +7,7 @@
 typedef struct {
     const char *name;                       /* before the names of its columns; nothing for the library's */
     uint32_t (*check)(Fac *f);
-    Ans (*add)(Fac *f, const uint32_t *ids, const uint32_t *counts, uint32_t r, const uint32_t *rows, uint32_t nrows, uint16_t *touched, uint16_t *labels);
+    Ans (*add)(Fac *f, const Lists *x, uint16_t *touched, uint16_t *labels);
     Ans (*remove)(Fac *f, const uint32_t *ids, uint32_t r, uint16_t *touched, uint16_t *labels);
 } Way;
 

@@ -22,9 +22,8 @@ void loaded_tables(Fac *f, int shape, uint32_t pairs, uint64_t seed, int largest
     Flat x = flatten(&w, 0, w.nb);
     opened(f, &w);
     for (size_t b = 0; b < x.batches; b++) {
-        const uint32_t *p = x.plan + 6 * b, r = p[2] - p[1];
-        Ans a = p[0] ? inner_add(f, x.ids + p[1], x.counts + p[3], r, x.rows + p[4], p[5] - p[4], touched, labels)
-                     : inner_remove(f, x.ids + p[1], r, touched, labels);
+        Lists y = lists_of(&x, b);
+        Ans a = x.plan[6 * b] ? inner_add(f, &y, touched, labels) : inner_remove(f, y.ids, y.r, touched, labels);
         if (a.number) die("a batch of the tables");
     }
     free_flat(&x); free_load(&w);
@@ -37,7 +36,8 @@ void dense_tables(Fac *f, uint64_t seed)
     for (uint32_t id = 1; id < f->n && !number; id++) {
         uint32_t k = 0, row = 1 + below(M);
         while (row <= M && k < MOST) { rows[k++] = row; row += 1 + below(APART); }
-        number = inner_add(f, &id, &k, 1, rows, k, touched, labels).number;
+        Lists x = {&id, &k, rows, no_windows, no_windows, 1, k};
+        number = inner_add(f, &x, touched, labels).number;
     }
     if (number != 16) die("the columns of the dense tables");
 }

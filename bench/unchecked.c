@@ -8,6 +8,13 @@ uint32_t ours_run(Fac *f, const Flat *x, uint16_t *touched, uint16_t *labels)
     return a.number;
 }
 
+uint32_t ours_clock(Fac *f, const uint32_t *minutes, size_t n, uint16_t *touched, uint16_t *labels)
+{
+    Ran a = bench_clock(record(f), TABLES(f), REPORT(f), minutes, n);
+    keep(f, a.factor);
+    return a.number;
+}
+
 Asked ours_meets_all(Fac *f, const uint32_t *rows, size_t n, uint32_t *list, size_t places)
 { return bench_meets(record(f), TABLES(f), list, places, rows, n); }
 

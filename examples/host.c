@@ -1,4 +1,5 @@
-/* A host of Nigvalds: opens a factor, adds and removes columns, asks, reads columns, is refused, and opens anew with limits of its own and with F = 0. */
+/* A host of Nigvalds: opens a factor, adds and removes columns, asks, reads columns, is refused, opens anew with limits of its own and with F = 0, and sets the clock
+   over columns with windows. */
 #include <inttypes.h>
 #include <stdio.h>
 
@@ -22,7 +23,7 @@ static void show(nigvalds_factor factor) {
     }
 }
 
-/* What a batch answers: its numbers and the touched columns with their labels, or the refusal. */
+/* What a batch or a clock change answers: its numbers and the touched columns with their labels, or the refusal. */
 static void report(const char *what, nigvalds_changed a) {
     if (a.number != NIGVALDS_ACCEPTED) {
         printf("%s: no %" PRIu32 " %" PRIu32 ", %s\n", what, a.number, a.position, nigvalds_refusal_text(a.number));
@@ -163,6 +164,42 @@ static void open_other(const nigvalds_tables *t, uint32_t f) {
     printf("%" PRIu32 " records\n", o.factor.f);
 }
 
+/* Sets the clock and says what came of it; the record after it. */
+static nigvalds_factor set_clock(nigvalds_factor factor, uint32_t minute) {
+    char what[32];
+    snprintf(what, sizeof what, "clock to %" PRIu32, minute);
+    nigvalds_changed a = nigvalds_set_clock_in(&tables, factor, minute);
+    report(what, a);
+    return a.factor;
+}
+
+/* Columns with windows: {1, 3} always, {1, 4} from minute 480 up to 720, {2, 3} up to 600, {1, 2, 3, 4, 5} from 600 up to 601, at which it does not fit. Then
+   minutes that are refused, and a table of windows that something else has written. */
+static void windows(void) {
+    const uint32_t ids[] = {1, 2, 3, 4}, counts[] = {2, 2, 2, 5}, rows[] = {1, 3, 1, 4, 2, 3, 1, 2, 3, 4, 5};
+    const uint32_t firsts[] = {0, 480, 0, 600}, seconds[] = {0, 720, 600, 601}, equal[] = {7};
+    nigvalds_factor factor = nigvalds_open_in(&tables, M, N, F, C).factor;
+    nigvalds_changed a = nigvalds_add_in_with_windows(&tables, factor, ids, 4, counts, 4, rows, 11, firsts, 4, seconds, 4);
+    report("add 1 2 3 4 with windows", a);
+    factor = set_clock(a.factor, 479);
+    factor = set_clock(factor, 480);
+    show(factor);
+    factor = set_clock(factor, 600);
+    factor = set_clock(factor, 601);
+    show(factor);
+    printf("clock: %" PRIu32 ", check: %" PRIu32 "\n", factor.clock, nigvalds_check_in(&tables, factor).number);
+    report("add 2 again", nigvalds_add_in(&tables, factor, ids + 1, 1, counts, 1, rows, 2));
+    a = nigvalds_remove_in(&tables, factor, ids + 2, 2);
+    report("remove 3 4", a);
+    factor = a.factor;
+    const uint32_t id[] = {5};
+    report("add 5 from 7 to 7", nigvalds_add_in_with_windows(&tables, factor, id, 1, counts, 1, rows, 2, equal, 1, equal, 1));
+    report("add 5 without minutes", nigvalds_add_in_with_windows(&tables, factor, id, 1, counts, 1, rows, 2, firsts, 0, seconds, 0));
+    factor = set_clock(factor, UINT32_MAX);
+    tables.windows[4] = 1;
+    report("clock with minutes for id 5", nigvalds_set_clock_in(&tables, factor, 0));
+}
+
 int main(void) {
     nigvalds_opened o = nigvalds_open_in(&tables, M, N, F + 1, C);
     printf("open with a larger F: no %" PRIu32 ", %s\n", o.number, nigvalds_refusal_text(o.number));
@@ -201,5 +238,6 @@ int main(void) {
     open_other(&fewer, 0);
     open_other(&fewer, 16 * M);
     open_other(&enough, 0);
+    windows();
     return 0;
 }

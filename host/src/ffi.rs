@@ -1,7 +1,7 @@
 //! The library's functions as `include/nigvalds.h` declares them; `tools/check-header` compares both with crates/nigvalds/src.
 //! A slice crosses as a pointer and a length in places; structs cross by value.
 
-/// The record of sizes, free heads and limits of the grades. It goes with the tables.
+/// The record of sizes, free heads, limits of the grades and clock. It goes with the tables.
 #[repr(C)]
 #[derive(Clone, Copy, Debug, Default, PartialEq, Eq)]
 pub struct Record {
@@ -23,6 +23,8 @@ pub struct Record {
     pub grade3: u32,
     /// From so many entries on the grade is 4.
     pub grade4: u32,
+    /// The minute at which the factor stands.
+    pub clock: u32,
 }
 
 /// What an opening answers: number 0 and the record, or the refusal's number and a record of zeros.
@@ -35,7 +37,7 @@ pub struct Opened {
     pub record: Record,
 }
 
-/// What a batch answers, with the record after it.
+/// What a batch or a clock change answers, with the record after it.
 #[repr(C)]
 #[derive(Clone, Copy, Debug, PartialEq, Eq)]
 pub struct Changed {
@@ -45,9 +47,9 @@ pub struct Changed {
     pub position: u32,
     /// How many columns the lists report.
     pub touched: u32,
-    /// The sum of their sizes: for an addition those after the call, for a removal those before it.
+    /// The sum of their sizes, of each the larger of before and after the call: for an addition those after it, for a removal those before it.
     pub entries: u32,
-    /// 1 to 4, by the entries and the limits in the record; 0 where it is refused.
+    /// 1 to 4, by the entries and the limits in the record; 0 where it is refused, and where it touches nothing.
     pub grade: u32,
     /// The record after the call; where it is refused, the one that was given.
     pub record: Record,
@@ -87,21 +89,23 @@ pub struct Read {
     pub next: u32,
 }
 
-// A function with its first parameters, the eight tables and the work table (whether the heads and the other tables are written), and its last parameters.
+// A function with its first parameters, the nine tables and the work table (whether the heads, the other tables of the factor, and those of the book with the
+// windows are written), and its last parameters.
 macro_rules! declare {
-    ($($(#[$doc:meta])* fn $name:ident($($first:ident: $first_type:ty),*; $heads:ident $rest:ident; $($last:ident: $last_type:ty),*) -> $answer:ty;)*) => {
+    ($($(#[$doc:meta])* fn $name:ident($($first:ident: $first_type:ty),*; $heads:ident $stored:ident $book:ident; $($last:ident: $last_type:ty),*) -> $answer:ty;)*) => {
         extern "C" {
             $($(#[$doc])*
             pub fn $name(
                 $($first: $first_type,)*
                 heads: pointer!($heads u32), heads_length: usize,
-                parents: pointer!($rest u16), parents_length: usize,
-                rows: pointer!($rest u16), rows_length: usize,
-                counts: pointer!($rest u16), counts_length: usize,
-                next: pointer!($rest u32), next_length: usize,
-                book_heads: pointer!($rest u32), book_heads_length: usize,
-                book_rows: pointer!($rest u16), book_rows_length: usize,
-                book_next: pointer!($rest u32), book_next_length: usize,
+                parents: pointer!($stored u16), parents_length: usize,
+                rows: pointer!($stored u16), rows_length: usize,
+                counts: pointer!($stored u16), counts_length: usize,
+                next: pointer!($stored u32), next_length: usize,
+                book_heads: pointer!($book u32), book_heads_length: usize,
+                book_rows: pointer!($book u16), book_rows_length: usize,
+                book_next: pointer!($book u32), book_next_length: usize,
+                windows: pointer!($book u32), windows_length: usize,
                 work: *mut u32, work_length: usize,
                 $($last: $last_type,)*
             ) -> $answer;)*
@@ -115,19 +119,22 @@ macro_rules! pointer {
 }
 
 declare! {
-    fn nigvalds_open(m: u32, n: u32, f: u32, c: u32, grade2: u32, grade3: u32, grade4: u32; written written;) -> Opened;
-    fn nigvalds_add(factor: Record; read written;
+    fn nigvalds_open(m: u32, n: u32, f: u32, c: u32, grade2: u32, grade3: u32, grade4: u32; written written written;) -> Opened;
+    fn nigvalds_add(factor: Record; read written written;
         touched: *mut u16, touched_length: usize, labels: *mut u16, labels_length: usize, ids: *const u32, ids_length: usize,
-        row_counts: *const u32, row_counts_length: usize, row_list: *const u32, row_list_length: usize) -> Changed;
-    fn nigvalds_remove(factor: Record; read written;
+        row_counts: *const u32, row_counts_length: usize, row_list: *const u32, row_list_length: usize,
+        firsts: *const u32, firsts_length: usize, seconds: *const u32, seconds_length: usize) -> Changed;
+    fn nigvalds_remove(factor: Record; read written written;
         touched: *mut u16, touched_length: usize, labels: *mut u16, labels_length: usize, ids: *const u32, ids_length: usize) -> Changed;
-    fn nigvalds_check(factor: Record; read read;) -> Reply;
-    fn nigvalds_next_row(factor: Record; read read; i: u32, j: u32) -> Found;
-    fn nigvalds_parent(factor: Record; read read; j: u32) -> Reply;
-    fn nigvalds_path(factor: Record; read read; list: *mut u32, list_length: usize, j: u32, place: usize) -> Reply;
-    fn nigvalds_column(factor: Record; read read; list: *mut u32, list_length: usize, j: u32, place: usize) -> Reply;
-    fn nigvalds_meets(factor: Record; read read; list: *mut u32, list_length: usize, i: u32, place: usize) -> Reply;
-    fn nigvalds_common(factor: Record; read read; row_list: *const u32, row_list_length: usize) -> Reply;
+    fn nigvalds_set_clock(factor: Record; read written read;
+        touched: *mut u16, touched_length: usize, labels: *mut u16, labels_length: usize, minute: u32) -> Changed;
+    fn nigvalds_check(factor: Record; read read read;) -> Reply;
+    fn nigvalds_next_row(factor: Record; read read read; i: u32, j: u32) -> Found;
+    fn nigvalds_parent(factor: Record; read read read; j: u32) -> Reply;
+    fn nigvalds_path(factor: Record; read read read; list: *mut u32, list_length: usize, j: u32, place: usize) -> Reply;
+    fn nigvalds_column(factor: Record; read read read; list: *mut u32, list_length: usize, j: u32, place: usize) -> Reply;
+    fn nigvalds_meets(factor: Record; read read read; list: *mut u32, list_length: usize, i: u32, place: usize) -> Reply;
+    fn nigvalds_common(factor: Record; read read read; row_list: *const u32, row_list_length: usize) -> Reply;
 }
 
 extern "C" {

@@ -33,7 +33,7 @@ impl Default for Limits {
     }
 }
 
-/// The eight tables; what belongs to number k stands at place k - 1.
+/// The nine tables; what belongs to number k stands at place k - 1.
 #[derive(Clone, Debug, Default, PartialEq, Eq)]
 pub struct Tables {
     /// The first record of each factor column.
@@ -46,12 +46,14 @@ pub struct Tables {
     pub counts: Vec<u16>,
     /// The record after it, 0 at the end of a chain.
     pub next: Vec<u32>,
-    /// The first book record of each id, 0 where it is not live.
+    /// The first book record of each id, 0 where it is not booked.
     pub book_heads: Vec<u32>,
     /// The row of each book record, 0 where it is free.
     pub book_rows: Vec<u16>,
     /// The book record after it, 0 at the end of a chain.
     pub book_next: Vec<u32>,
+    /// The first minutes of ids 1 to n, then their second minutes; 0 and 0 where a column always counts, or an id is not booked.
+    pub windows: Vec<u32>,
 }
 
 macro_rules! written {
@@ -75,6 +77,7 @@ macro_rules! read {
                 $t.book_heads.as_ptr(), $t.book_heads.len(),
                 $t.book_rows.as_ptr(), $t.book_rows.len(),
                 $t.book_next.as_ptr(), $t.book_next.len(),
+                $t.windows.as_ptr(), $t.windows.len(),
                 $work.as_mut_ptr(), $work.len(),
                 $($last,)*
             )
@@ -95,26 +98,47 @@ impl Tables {
             book_heads: vec![0; n],
             book_rows: vec![0; c],
             book_next: vec![0; c],
+            windows: vec![0; 2 * n],
         }
     }
 
-    /// Opens a fresh factor: writes all tables. f = 0 means [`crate::Factor::RECORDS_PER_ROW`] × m, three zeros for limits mean the default ones.
+    /// Opens a fresh factor at minute 0: writes all tables. f = 0 means [`crate::Factor::RECORDS_PER_ROW`] × m, three zeros for limits mean the default ones.
     pub fn open(&mut self, m: u32, n: u32, f: u32, c: u32, limits: Limits, work: &mut [u32]) -> Opened {
-        written!(self.heads, self.parents, self.rows, self.counts, self.next, self.book_heads, self.book_rows, self.book_next, work;
+        written!(self.heads, self.parents, self.rows, self.counts, self.next, self.book_heads, self.book_rows, self.book_next, self.windows, work;
             nigvalds_open(m, n, f, c, limits.grade2, limits.grade3, limits.grade4))
     }
 
-    /// Adds a batch: by position, each id with as many of the rows not yet used as its count says.
+    /// Adds a batch: by position, each id with as many of the rows not yet used as its count says, and with a window from its first minute up to, not
+    /// including, its second; minutes 0 and 0 mean none: it always counts. Counts and both lists of minutes must be as long as the ids, or 7 is given.
     #[allow(clippy::too_many_arguments)]
-    pub fn add(&mut self, record: Record, work: &mut [u32], touched: &mut [u16], labels: &mut [u16], ids: &[u32], counts: &[u32], rows: &[u32]) -> Changed {
-        written!(self.heads, self.parents, self.rows, self.counts, self.next, self.book_heads, self.book_rows, self.book_next, work, touched, labels;
-            nigvalds_add(record) ids.as_ptr(), ids.len(), counts.as_ptr(), counts.len(), rows.as_ptr(), rows.len())
+    pub fn add(
+        &mut self,
+        record: Record,
+        work: &mut [u32],
+        touched: &mut [u16],
+        labels: &mut [u16],
+        ids: &[u32],
+        counts: &[u32],
+        rows: &[u32],
+        firsts: &[u32],
+        seconds: &[u32],
+    ) -> Changed {
+        written!(self.heads, self.parents, self.rows, self.counts, self.next, self.book_heads, self.book_rows, self.book_next, self.windows, work, touched, labels;
+            nigvalds_add(record) ids.as_ptr(), ids.len(), counts.as_ptr(), counts.len(), rows.as_ptr(), rows.len(),
+            firsts.as_ptr(), firsts.len(), seconds.as_ptr(), seconds.len())
     }
 
     /// Removes the columns of a batch of ids.
     pub fn remove(&mut self, record: Record, work: &mut [u32], touched: &mut [u16], labels: &mut [u16], ids: &[u32]) -> Changed {
-        written!(self.heads, self.parents, self.rows, self.counts, self.next, self.book_heads, self.book_rows, self.book_next, work, touched, labels;
+        written!(self.heads, self.parents, self.rows, self.counts, self.next, self.book_heads, self.book_rows, self.book_next, self.windows, work, touched, labels;
             nigvalds_remove(record) ids.as_ptr(), ids.len())
+    }
+
+    /// Sets the clock: booked columns whose windows end leave the factor, those whose windows begin enter it. The touched columns have label 0. 16 where the
+    /// columns that count then do not fit. Book and windows stay.
+    pub fn set_clock(&mut self, record: Record, work: &mut [u32], touched: &mut [u16], labels: &mut [u16], minute: u32) -> Changed {
+        written!(self.heads, self.parents, self.rows, self.counts, self.next, self.book_heads, self.book_rows, self.book_next, self.windows, work, touched, labels;
+            nigvalds_set_clock(record) minute)
     }
 
     /// Whether the tables are sound and the record's limits keep the rule: number 0, or 6 for no; 1 to 5 where the sizes or tables cannot be used.

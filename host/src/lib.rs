@@ -12,6 +12,8 @@
 //! # Ok::<(), nigvalds::Refusal>(())
 //! ```
 //!
+//! A column may be booked with a window, and counts while the factor's clock stands in it ([`Factor::add_with_windows`], [`Factor::set_clock`]).
+//!
 //! `cargo run --example planner` runs an active-set loop over it, values and all.
 #![warn(missing_docs)]
 
@@ -27,6 +29,13 @@ pub use refusal::Refusal;
 use lent::{Changed, Found, Record, Tables};
 use std::cell::RefCell;
 use std::fmt;
+use std::ops::Range;
+
+/// The minutes at which a column counts: a range `a..b`, or `None` for always.
+///
+/// That says what a window means in Rust's own words: a half-open range has its first minute and not its second, and no range is no window. An empty range is
+/// refused by [`Refusal::Window`], also `0..0`, though as two minutes 0 and 0 would mean none; no window has minute `u32::MAX`.
+pub type Window = Option<Range<u32>>;
 
 /// A factor of m rows for columns with ids 1 to n, in F factor records and C book records.
 ///
@@ -45,16 +54,17 @@ pub struct Factor {
     labels: Vec<u16>,
 }
 
-/// What an accepted batch reports.
+/// What an accepted batch or clock change reports. One that touches nothing, since it moves no column that counts, reports no column, 0 entries and grade 0.
 #[derive(Clone, Copy, Debug, PartialEq, Eq)]
 pub struct Report<'a> {
     /// The touched columns, rising.
     pub touched: &'a [u16],
-    /// For each, the largest position in the batch whose path passes through it.
+    /// For each, the largest position in the batch whose path passes through it; 0 for each in a clock change.
     pub labels: &'a [u16],
-    /// What to size the work on values by: the sum of the touched columns' sizes, for an addition those after the call, for a removal those before it.
+    /// What to size the work on values by: the sum of the touched columns' sizes, of each the larger of before and after the call: for an addition those after
+    /// it, for a removal those before it.
     pub entries: u32,
-    /// 1 to 4, by the entries: 1, and one more for each of the factor's [`Limits`] that they reach.
+    /// 1 to 4, by the entries: 1, and one more for each of the factor's [`Limits`] that they reach; 0 for no entries.
     pub grade: u32,
 }
 
@@ -99,7 +109,7 @@ impl Factor {
         Ok(factor)
     }
 
-    /// Opens anew in the tables there are, without a column and with the default limits; f = 0 as in [`Factor::open`]. Where it is refused, for the sizes or
+    /// Opens anew in the tables there are, without a column, at minute 0 and with the default limits; f = 0 as in [`Factor::open`]. Where it is refused, for the sizes or
     /// since the tables are too short for them, the factor stays.
     pub fn reopen(&mut self, m: u32, n: u32, f: u32, c: u32) -> Result<(), Refusal> {
         self.reopen_with_limits(m, n, f, c, Limits::default())
@@ -113,23 +123,59 @@ impl Factor {
         Ok(())
     }
 
-    /// Adds columns, each an id with its rows, as one batch.
+    /// Adds columns, each an id with its rows, as one batch. They always count.
     pub fn add(&mut self, columns: &[(u32, &[u32])]) -> Result<Report<'_>, Refusal> {
-        let ids: Vec<u32> = columns.iter().map(|c| c.0).collect();
-        let counts: Vec<u32> = columns.iter().map(|c| c.1.len().min(u32::MAX as usize) as u32).collect();
-        let rows: Vec<u32> = columns.iter().flat_map(|c| c.1.iter().copied()).collect();
-        self.add_lists(&ids, &counts, &rows)
+        let (ids, counts, rows) = lists(columns.iter().copied());
+        let none = vec![0; ids.len()];
+        self.add_lists(&ids, &counts, &rows, &none, &none)
     }
 
-    /// Adds a batch: by position, each id with as many of the rows not yet used as its count says.
-    pub fn add_lists(&mut self, ids: &[u32], counts: &[u32], rows: &[u32]) -> Result<Report<'_>, Refusal> {
-        let changed = self.tables.add(self.record, self.work.get_mut(), &mut self.touched, &mut self.labels, ids, counts, rows);
+    /// Adds columns with windows as one batch: each an id with its rows and the minutes at which it counts. A [`Window`] that lies in the past or the future is
+    /// taken: its column is booked, and counts when [`set_clock`](Factor::set_clock) comes to it.
+    ///
+    /// ```
+    /// # let mut factor = nigvalds::Factor::open(5, 8, 80, 16)?;
+    /// let report = factor.add_with_windows(&[(1, &[1, 3], None), (2, &[1, 4], Some(480..720))])?;
+    /// assert_eq!((report.touched, report.labels, report.entries), (&[1, 3][..], &[1, 1][..], 3)); // at minute 0 column 2 is booked, and does not count
+    /// assert_eq!(factor.add(&[(2, &[5])]).unwrap_err(), nigvalds::Refusal::IdBooked { position: 1 });
+    /// let report = factor.set_clock(480)?;
+    /// assert_eq!((report.touched, report.labels, report.entries), (&[1, 3, 4][..], &[0, 0, 0][..], 6));
+    /// assert_eq!(factor.add_with_windows(&[(3, &[5], Some(9..9))]).unwrap_err(), nigvalds::Refusal::Window { position: 1 });
+    /// # Ok::<(), nigvalds::Refusal>(())
+    /// ```
+    pub fn add_with_windows(&mut self, columns: &[(u32, &[u32], Window)]) -> Result<Report<'_>, Refusal> {
+        let (ids, counts, rows) = lists(columns.iter().map(|c| (c.0, c.1)));
+        let (firsts, seconds): (Vec<u32>, Vec<u32>) = columns.iter().map(|c| minutes(&c.2)).unzip();
+        self.add_lists(&ids, &counts, &rows, &firsts, &seconds)
+    }
+
+    /// Adds a batch: by position, each id with as many of the rows not yet used as its count says, and a window of its first and second minutes, 0 and 0 for
+    /// none. Counts and both lists of minutes must be as long as the ids, or [`Refusal::Shape`] is given.
+    pub fn add_lists(&mut self, ids: &[u32], counts: &[u32], rows: &[u32], firsts: &[u32], seconds: &[u32]) -> Result<Report<'_>, Refusal> {
+        let changed = self.tables.add(self.record, self.work.get_mut(), &mut self.touched, &mut self.labels, ids, counts, rows, firsts, seconds);
         self.report(changed)
     }
 
-    /// Removes the columns of these ids, as one batch. The report's entries are those that the touched columns had before.
+    /// Removes the columns of these ids, as one batch, those too that do not count now. The report's entries are those that the touched columns had before.
     pub fn remove(&mut self, ids: &[u32]) -> Result<Report<'_>, Refusal> {
         let changed = self.tables.remove(self.record, self.work.get_mut(), &mut self.touched, &mut self.labels, ids);
+        self.report(changed)
+    }
+
+    /// Sets the clock, forward or back, as one change however many columns it moves: those whose windows end leave the factor, those whose windows begin enter it.
+    /// The report has the columns on the old paths of the ones and on the new paths of the others. Where what counts then does not fit, it is refused by
+    /// [`Refusal::FactorFull`], and the clock stays.
+    ///
+    /// ```
+    /// # let mut factor = nigvalds::Factor::open(5, 8, 80, 16)?;
+    /// factor.add_with_windows(&[(1, &[1, 3], Some(480..600)), (2, &[1, 4], Some(540..720))])?;
+    /// assert_eq!(factor.set_clock(500)?.touched, [1, 3]);
+    /// assert_eq!(factor.set_clock(600)?.touched, [1, 3, 4]); // column 1 leaves, column 2 enters
+    /// assert_eq!((factor.set_clock(719)?.touched.len(), factor.clock()), (0, 719)); // nobody moves
+    /// # Ok::<(), nigvalds::Refusal>(())
+    /// ```
+    pub fn set_clock(&mut self, minute: u32) -> Result<Report<'_>, Refusal> {
+        let changed = self.tables.set_clock(self.record, self.work.get_mut(), &mut self.touched, &mut self.labels, minute);
         self.report(changed)
     }
 
@@ -242,7 +288,12 @@ impl Factor {
         Limits { grade2, grade3, grade4 }
     }
 
-    /// The record of sizes, free heads and limits.
+    /// The minute at which it stands: 0 from an opening on, until it is set.
+    pub fn clock(&self) -> u32 {
+        self.record.clock
+    }
+
+    /// The record of sizes, free heads, limits and clock.
     pub fn record(&self) -> Record {
         self.record
     }
@@ -257,6 +308,26 @@ impl Factor {
 impl fmt::Debug for Factor {
     fn fmt(&self, f: &mut fmt::Formatter<'_>) -> fmt::Result {
         self.columns().try_for_each(|column| writeln!(f, "{column:?}"))
+    }
+}
+
+// The ids, row counts and rows of some columns.
+fn lists<'a>(columns: impl Iterator<Item = (u32, &'a [u32])>) -> (Vec<u32>, Vec<u32>, Vec<u32>) {
+    let (mut ids, mut counts, mut rows) = (Vec::new(), Vec::new(), Vec::new());
+    for (id, column) in columns {
+        ids.push(id);
+        counts.push(column.len().min(u32::MAX as usize) as u32);
+        rows.extend(column);
+    }
+    (ids, counts, rows)
+}
+
+// The two minutes of a window, 0 and 0 for none. The empty range of these goes as another empty one, for the library to refuse in its place.
+fn minutes(window: &Window) -> (u32, u32) {
+    match window {
+        None => (0, 0),
+        Some(Range { start: 0, end: 0 }) => (1, 1),
+        Some(range) => (range.start, range.end),
     }
 }
 

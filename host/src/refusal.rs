@@ -70,20 +70,21 @@ refusals! {
     4 Booked "C is outside 1 to 262,144";
     5 Short "a table or list that is needed is too short";
     6 Unsound "the tables are not sound";
-    7 Shape "not 1 to 64 columns or rows named, or not as many counts as ids";
+    7 Shape "not 1 to 64 columns or rows named, or not as many counts or minutes as ids";
     8 IdOutside { position } "an id is outside 1 to n";
     9 IdRepeated { position } "an id stands earlier in the batch";
-    10 IdLive { position } "an id to add is live";
-    11 IdNotLive { position } "an id to remove is not live";
+    10 IdBooked { position } "an id to add is booked";
+    11 IdNotBooked { position } "an id to remove is not booked";
     12 Count { position } "a count is outside 1 to 256, or there are fewer or more rows than the counts say";
     13 RowOutside { position } "a row is outside 1 to m";
     14 RowOrder { position } "a row is not above the row before";
-    15 BookFull "the rows of the live columns would exceed C";
+    15 BookFull "the rows of the booked columns would exceed C";
     16 FactorFull "the sum of all pattern sizes would exceed F";
     17 AskedOutside "a row or column asked about is outside 1 to m";
     18 ListEnds "the list ends before the answer does";
     19 NoCommand "a line is no command";
     20 Limits "a limit of the grades is below 2 or not above the limit before";
+    21 Window { position } "the second minute of a window other than 0 and 0 is not later than its first";
 }
 
 impl fmt::Display for Refusal {

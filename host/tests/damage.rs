@@ -1,10 +1,10 @@
 //! Damaged and rearranged tables: check and every other call answer 6 exactly if the definition says that the tables are not sound.
 mod model;
 
-use model::random::Random;
+use model::random::{Random, LAST};
 use model::sound::{is_sound, stored};
 use model::world::World;
-use nigvalds::lent::{Found, Record, Tables};
+use nigvalds::lent::{Changed, Found, Record, Tables};
 
 // A world with some columns.
 fn filled(seed: u64) -> (World, Random) {
@@ -12,11 +12,15 @@ fn filled(seed: u64) -> (World, Random) {
     let (sizes, limits) = (random.sizes(), random.limits());
     let mut world = World::open(sizes, limits, &mut random);
     for _ in 0..12 {
-        let (ids, counts, rows) = random.addition(sizes, &world.live);
-        world.add(&ids, &counts, &rows);
+        let lists = random.addition(sizes, &world.book);
+        world.add(&lists);
         if random.once_in(3) {
-            let ids = random.removal(sizes, &world.live);
+            let ids = random.removal(sizes, &world.book);
             world.remove(&ids);
+        }
+        if random.once_in(2) {
+            let minute = random.minute();
+            world.set_clock(minute);
         }
     }
     (world, random)
@@ -43,10 +47,10 @@ fn change32(random: &mut Random, table: &mut [u32], most: u32) {
     table[k] = other(random, table[k], most);
 }
 
-// Changes one place of the tables, perhaps one beyond the sizes, a free head or a limit.
+// Changes one place of the tables, perhaps one beyond the sizes, a free head, a limit or the clock.
 fn damage(random: &mut Random, record: &mut Record, t: &mut Tables) {
     let r = *record;
-    match random.within(1, 13) {
+    match random.within(1, 16) {
         1 => change32(random, &mut t.heads, r.f),
         2 => change16(random, &mut t.parents, r.m),
         3 => change16(random, &mut t.rows, r.m),
@@ -59,6 +63,8 @@ fn damage(random: &mut Random, record: &mut Record, t: &mut Tables) {
         10 => record.book_free = other(random, r.book_free, r.c),
         11 => record.grade2 = other(random, r.grade2, r.grade3),
         12 => record.grade3 = other(random, r.grade3, r.grade4),
+        13 | 14 => change32(random, &mut t.windows, LAST),
+        15 => record.clock = other(random, r.clock, LAST),
         _ => record.grade4 = other(random, r.grade4, r.grade4),
     }
 }
@@ -100,9 +106,17 @@ fn calls_agree(record: Record, t: &mut Tables, w: &World) -> bool {
     }
     assert_eq!(*t, before);
     if !sound {
-        assert_eq!(t.add(record, &mut work, &mut touched, &mut labels, &[1], &[1], &[1]).number, 6);
+        assert_eq!(t.add(record, &mut work, &mut touched, &mut labels, &[1], &[1], &[1], &[0], &[0]).number, 6);
         assert_eq!(t.remove(record, &mut work, &mut touched, &mut labels, &[1]).number, 6);
+        assert_eq!(t.set_clock(record, &mut work, &mut touched, &mut labels, record.clock).number, 6);
         assert!(*t == before && touched == w.touched && labels == w.labels && list.iter().all(|x| *x == 5));
+    }
+    if sound {
+        let mut x = t.clone();
+        let changed = x.set_clock(record, &mut work, &mut touched, &mut labels, record.clock);
+        let after = Record { free: changed.record.free, ..record };
+        assert_eq!(changed, Changed { number: 0, position: 0, touched: 0, entries: 0, grade: 0, record: after });
+        assert!(is_sound(after, &x) && touched == w.touched && labels == w.labels);
     }
     assert_eq!(work, w.work);
     sound

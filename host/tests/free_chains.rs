@@ -2,10 +2,10 @@
 //! in every block of 1,024 free records.
 mod model;
 
-use model::judging::{judged, laid, live_for, LARGE, PARTS, SMALL};
+use model::judging::{book_for, judged, laid, LARGE, PARTS, SMALL};
 use model::laid::{Laid, Link, Order, Part};
 use model::random::Random;
-use model::{Live, Sizes, OLD_LIMITS};
+use model::{Book, Sizes, OLD_LIMITS};
 use nigvalds::Factor;
 
 // The free chain's last record becomes that of each column: it is led to from the column's last record but one, or its head, and gets row and multiplicity of
@@ -48,11 +48,11 @@ fn a_column_into_the_free_chain() {
 fn a_column_into_a_short_free_chain() {
     let mut random = Random::new(2);
     for _ in 0..10 {
-        let live = live_for(SMALL, &mut random);
-        let records = model::size(&model::factor(SMALL.m, &live)) as u32;
-        let booked = live.values().map(Vec::len).sum::<usize>() as u32;
+        let (book, clock) = (book_for(SMALL, &mut random), random.minute());
+        let records = model::size(&model::factor(SMALL.m, &model::live(&book, clock))) as u32;
+        let booked = book.values().map(|line| line.rows.len()).sum::<usize>() as u32;
         for (f, c) in [(records + 1, booked + 1), (records + 2, booked + 2)] {
-            let mut x = Laid::out(Sizes { f, c, ..SMALL }, OLD_LIMITS, &live, Order::Random, &mut random);
+            let mut x = Laid::out(Sizes { f, c, ..SMALL }, OLD_LIMITS, &book, clock, Order::Random, &mut random);
             for part in PARTS {
                 into_the_free_chain(&mut x, part, &mut random);
             }
@@ -75,7 +75,7 @@ fn rings_in_every_free_block() {
     let mut random = Random::new(3);
     for m in [1, 30] {
         let s = Sizes { m, n: 20, f: Factor::MOST_RECORDS, c: Factor::MOST_BOOKED };
-        let x = Laid::out(s, OLD_LIMITS, &Live::new(), Order::Rising, &mut random);
+        let x = Laid::out(s, OLD_LIMITS, &Book::new(), 0, Order::Rising, &mut random);
         assert!(judged(&x, &mut random));
         for part in PARTS {
             let first = if part == Part::Factor && m > 1 { 1 } else { 0 };

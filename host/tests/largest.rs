@@ -2,7 +2,7 @@
 mod model;
 
 use model::random::Random;
-use model::{factor, path, report, size, Live, Pattern, OLD_LIMITS};
+use model::{factor, path, positions, report, size, Live, Pattern, OLD_LIMITS};
 use nigvalds::{Entry, Factor, Refusal};
 
 const M: u32 = 4096;
@@ -29,8 +29,8 @@ fn largest_batch() {
     let columns = band(60);
     let live: Live = columns.iter().enumerate().map(|(k, rows)| (16321 + k as u32, rows.clone())).collect();
     let expected = factor(M, &live);
-    let starts: Vec<u32> = columns.iter().map(|rows| rows[0]).collect();
-    let said = report(OLD_LIMITS, &expected, &starts);
+    let starts: Vec<Option<u32>> = columns.iter().map(|rows| Some(rows[0])).collect();
+    let said = report(OLD_LIMITS, &factor(M, &Live::new()), &expected, &positions(&expected, &starts));
     let mut f = largest();
     let r = f.add(&batch(16321, &columns)).unwrap();
     assert_eq!((r.touched, r.labels, r.entries, r.grade), (&said.touched[..], &said.labels[..], said.entries, 4));
@@ -72,13 +72,13 @@ fn full_book() {
     assert_eq!(f.check(), Ok(()));
 }
 
-// Every id live, each with row 1: the largest number of columns and the largest multiplicity of a start.
+// Every id booked, each with row 1: the largest number of columns and the largest multiplicity of a start.
 #[test]
 fn every_id() {
     let mut f = Factor::open(1, Factor::MOST_IDS, 1, Factor::MOST_IDS).unwrap();
     for k in 0..256 {
         let ids: Vec<u32> = (1..=64).map(|i| 64 * k + i).collect();
-        f.add_lists(&ids, &[1; 64], &[1; 64]).unwrap();
+        f.add_lists(&ids, &[1; 64], &[1; 64], &[0; 64], &[0; 64]).unwrap();
     }
     assert_eq!(f.next_row(1, 1), Ok(Some(Entry { row: 1, multiplicity: 16385 })));
     assert_eq!(format!("{f:?}"), "1 0 1:16385\n");

@@ -121,7 +121,7 @@ fn others_in_a_record() {
 fn how_long_they_stay() {
     let mut factor = example(OWN);
     assert_eq!(factor.remove(&[2]).unwrap().grade, 2);
-    assert_eq!(factor.remove(&[2]).err(), Some(Refusal::IdNotLive { position: 1 }));
+    assert_eq!(factor.remove(&[2]).err(), Some(Refusal::IdNotBooked { position: 1 }));
     assert_eq!(factor.add(&[(2, &[1, 5]), (4, &[1, 2])]).err(), Some(Refusal::FactorFull));
     for (sizes, limits, refusal) in [
         ((0, 8, 9, 16), OLD_LIMITS, Refusal::Rows),

@@ -6,7 +6,7 @@ use model::early::{each_early, work_stays};
 use model::meeting::{common, meets};
 use model::random::Random;
 use model::world::World;
-use model::{Sizes, OLD_LIMITS};
+use model::{Lists, Sizes, OLD_LIMITS};
 use nigvalds::lent::{work_places, Record, Reply, Tables};
 use nigvalds::{Factor, Refusal};
 
@@ -16,7 +16,7 @@ const SIZES: Sizes = Sizes { m: 5, n: 8, f: 9, c: 16 };
 fn example() -> (World, Random) {
     let mut random = Random::new(1);
     let mut world = World::open(SIZES, OLD_LIMITS, &mut random);
-    assert_eq!(world.add(&[1, 2, 3], &[2, 2, 2], &[1, 3, 1, 4, 2, 3]), (0, 0));
+    assert_eq!(world.add(&Lists::always(&[1, 2, 3], &[2, 2, 2], &[1, 3, 1, 4, 2, 3])), (0, 0));
     (world, random)
 }
 

@@ -4,7 +4,7 @@ mod model;
 
 use model::early::{each_early, work_stays};
 use model::random::Random;
-use model::{added, Live, Sizes};
+use model::{added, Book, Sizes};
 use nigvalds::lent::{work_places, Found, Record, Tables};
 use nigvalds::{Entry, Factor, Refusal};
 
@@ -60,18 +60,22 @@ fn column_agrees(factor: &Factor, j: u32, entries: &[Entry], counted: &mut [u32;
     }
 }
 
-// An addition or a removal, accepted or refused.
-fn step(factor: &mut Factor, s: Sizes, live: &mut Live, random: &mut Random) {
+// An addition, a removal or a clock change, accepted or refused.
+fn step(factor: &mut Factor, s: Sizes, book: &mut Book, random: &mut Random) {
+    if random.once_in(4) {
+        let _ = factor.set_clock(random.minute());
+        return;
+    }
     if random.once_in(3) {
-        let ids = random.removal(s, live);
+        let ids = random.removal(s, book);
         if factor.remove(&ids).is_ok() {
-            live.retain(|id, _| !ids.contains(id));
+            book.retain(|id, _| !ids.contains(id));
         }
         return;
     }
-    let (ids, counts, rows) = random.addition(s, live);
-    if factor.add_lists(&ids, &counts, &rows).is_ok() {
-        *live = added(live, &ids, &counts, &rows);
+    let x = random.addition(s, book);
+    if factor.add_lists(&x.ids, &x.counts, &x.rows, &x.firsts, &x.seconds).is_ok() {
+        *book = added(book, &x);
     }
 }
 
@@ -81,9 +85,9 @@ fn random_histories() {
     for seed in 0..200 {
         let mut random = Random::new(seed);
         let s = random.sizes();
-        let (mut factor, mut live) = (Factor::open(s.m, s.n, s.f, s.c).unwrap(), Live::new());
+        let (mut factor, mut book) = (Factor::open(s.m, s.n, s.f, s.c).unwrap(), Book::new());
         for _ in 0..20 {
-            step(&mut factor, s, &mut live, &mut random);
+            step(&mut factor, s, &mut book, &mut random);
             for j in 1..=s.m {
                 let entries: Vec<Entry> = factor.columns().nth(j as usize - 1).unwrap().entries().collect();
                 column_agrees(&factor, j, &entries, &mut counted);

@@ -2,10 +2,11 @@
 //! table as lent and the work table zero. Small tables, and large ones with few columns, whose free chains may be read in pieces.
 mod model;
 
-use model::judging::{judged, laid, live_for, LARGE, PARTS, SMALL};
+use model::booked::always;
+use model::judging::{book_for, judged, laid, laid_always, LARGE, PARTS, SMALL};
 use model::laid::{Laid, Link, Order, Part};
 use model::random::Random;
-use model::{Live, Sizes, OLD_LIMITS};
+use model::{Book, Live, Sizes, OLD_LIMITS};
 
 const ORDERS: [Order; 5] = [Order::Rising, Order::Falling, Order::Strides(7), Order::Strides(1024), Order::Random];
 
@@ -47,9 +48,9 @@ fn any_order_is_sound() {
     let tiny = tiny.map(|(m, n, f, c)| Sizes { m, n, f, c });
     for s in tiny.into_iter().chain([SMALL]).chain(LARGE) {
         for order in ORDERS {
-            assert!(judged(&Laid::out(s, OLD_LIMITS, &Live::new(), order, &mut random), &mut random), "fresh: {s:?}, {order:?}");
-            let first: Live = [(1, vec![1])].into();
-            assert!(judged(&Laid::out(s, OLD_LIMITS, &first, order, &mut random), &mut random), "one column: {s:?}, {order:?}");
+            assert!(judged(&Laid::out(s, OLD_LIMITS, &Book::new(), 0, order, &mut random), &mut random), "fresh: {s:?}, {order:?}");
+            let first = always(&[(1, vec![1])].into());
+            assert!(judged(&Laid::out(s, OLD_LIMITS, &first, u32::MAX, order, &mut random), &mut random), "one column: {s:?}, {order:?}");
             let whole = s == SMALL || LARGE.contains(&s);
             assert!(!whole || judged(&laid(s, order, &mut random), &mut random), "{s:?}, {order:?}");
         }
@@ -114,7 +115,7 @@ fn exchanged_nexts() {
     }
 }
 
-// Heads exchanged: of two columns of L unsound, of two ids sound, since the same columns are live.
+// Heads exchanged: of two columns of L unsound; of two ids as the definition says, and with their minutes sound, since the same columns are live.
 #[test]
 fn exchanged_heads() {
     let mut random = Random::new(5);
@@ -125,7 +126,12 @@ fn exchanged_heads() {
             let mut y = x.clone();
             let (p, q) = (*y.link(part, Link::Head(a)), *y.link(part, Link::Head(b)));
             (*y.link(part, Link::Head(a)), *y.link(part, Link::Head(b))) = (q, p);
-            assert_eq!(judged(&y, &mut random), part == Part::Book);
+            let sound = judged(&y, &mut random);
+            assert!(part == Part::Book || !sound);
+            if part == Part::Book {
+                [0, SMALL.n].iter().for_each(|k| y.tables.windows.swap((k + a) as usize - 1, (k + b) as usize - 1));
+                assert!(judged(&y, &mut random), "ids {a} and {b}");
+            }
         }
     }
 }
@@ -135,7 +141,7 @@ fn exchanged_heads() {
 fn rows_and_multiplicities() {
     let mut random = Random::new(6);
     for s in [SMALL].into_iter().chain(LARGE) {
-        let mut x = laid(s, Order::Random, &mut random);
+        let mut x = laid_always(s, Order::Random, &mut random);
         for part in PARTS {
             let most = x.most(part);
             let records = if s == SMALL { (1..=most).collect() } else { [some_records(&mut x, part), around_cuts(most)].concat() };
@@ -153,6 +159,28 @@ fn rows_and_multiplicities() {
             }
         }
     }
+}
+
+// The same of the book where some windows do not count: an id's rows may be others then.
+#[test]
+fn rows_outside_their_windows() {
+    let (mut random, mut found) = (Random::new(15), [0; 2]);
+    for _ in 0..10 {
+        let mut x = laid(SMALL, Order::Random, &mut random);
+        for (id, column) in x.columns(Part::Book) {
+            let dormant = !model::sound::booked(x.record, &x.tables).unwrap()[&id].counts_at(x.record.clock);
+            for r in &column {
+                for row in 0..=SMALL.m + 1 {
+                    let mut y = x.clone();
+                    *y.row(Part::Book, *r) = row as u16;
+                    let sound = judged(&y, &mut random);
+                    assert!(dormant || sound == (y == x), "id {id}: record {r} has row {row}");
+                    found[usize::from(sound)] += u32::from(dormant && y != x);
+                }
+            }
+        }
+    }
+    assert!(found.iter().all(|n| *n > 100), "{found:?}");
 }
 
 // Two columns whose last entries are alike end with the same record. The other one is left in no chain, with its row or without, or is free: then all lengths
@@ -221,7 +249,7 @@ fn free_chain_into_a_column() {
 fn free_chain_takes_a_record() {
     let mut random = Random::new(9);
     for s in [SMALL, LARGE[0], LARGE[2]] {
-        let mut x = laid(s, Order::Random, &mut random);
+        let mut x = laid_always(s, Order::Random, &mut random);
         for part in PARTS {
             let last = *x.chain(part, Link::Free).last().unwrap();
             for column in x.columns(part).into_iter().map(|c| c.1).filter(|c| c.len() > 1) {
@@ -290,11 +318,11 @@ fn entries_out_of_order() {
 fn full_pools() {
     let mut random = Random::new(11);
     for _ in 0..20 {
-        let live = live_for(SMALL, &mut random);
-        let records = model::size(&model::factor(SMALL.m, &live)) as u32;
-        let booked = live.values().map(Vec::len).sum::<usize>() as u32;
+        let (book, clock) = (book_for(SMALL, &mut random), random.minute());
+        let records = model::size(&model::factor(SMALL.m, &model::live(&book, clock))) as u32;
+        let booked = book.values().map(|line| line.rows.len()).sum::<usize>() as u32;
         for (f, c) in [(records, SMALL.c), (SMALL.f.max(records), booked), (records, booked), (records + 1, booked + 1)] {
-            let mut x = Laid::out(Sizes { f, c, ..SMALL }, OLD_LIMITS, &live, Order::Random, &mut random);
+            let mut x = Laid::out(Sizes { f, c, ..SMALL }, OLD_LIMITS, &book, clock, Order::Random, &mut random);
             assert!(judged(&x, &mut random));
             for part in PARTS {
                 let targets = some_records(&mut x, part);
@@ -312,7 +340,7 @@ fn rows_of_a_column() {
     for count in [255, 256, 257, 258] {
         for id in [1, 4] {
             let live: Live = [(id, (20..20 + count).collect()), (2, vec![20, 299])].into();
-            let x = Laid::out(s, OLD_LIMITS, &live, Order::Random, &mut random);
+            let x = Laid::out(s, OLD_LIMITS, &always(&live), 3, Order::Random, &mut random);
             assert_eq!(judged(&x, &mut random), count <= 256);
         }
     }
@@ -323,7 +351,7 @@ fn rows_of_a_column() {
 fn any_place_of_large_tables() {
     let mut random = Random::new(13);
     for s in LARGE {
-        let x = laid(s, Order::Random, &mut random);
+        let x = laid_always(s, Order::Random, &mut random);
         for _ in 0..150 {
             let mut y = x.clone();
             let part = random.one(&PARTS);

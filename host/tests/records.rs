@@ -57,10 +57,12 @@ fn histories_by_default() {
         let mut world = World::open(asked, OLD_LIMITS, &mut random);
         assert_eq!(world.record.f, 32 * asked.m);
         for _ in 0..10 {
-            let (ids, counts, rows) = random.addition(world.sizes, &world.live);
-            world.add(&ids, &counts, &rows);
-            let ids = random.removal(world.sizes, &world.live);
+            let lists = random.addition(world.sizes, &world.book);
+            world.add(&lists);
+            let ids = random.removal(world.sizes, &world.book);
             world.remove(&ids);
+            let minute = random.minute();
+            world.set_clock(minute);
         }
         world.ask();
         assert_eq!(world.reopen(asked, OLD_LIMITS), 0);

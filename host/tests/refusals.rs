@@ -1,9 +1,9 @@
-//! Every number, 1 to 18, with its position; and the order among them. The limits of the grades, with 20, have tests of their own.
+//! Every number, 1 to 18, with its position; and the order among them. The limits of the grades, with 20, and windows, with 21, have tests of their own.
 mod model;
 
 use model::random::Random;
 use model::world::{World, CUTS};
-use model::{Sizes, OLD_LIMITS};
+use model::{Lists, Sizes, OLD_LIMITS};
 use nigvalds::lent::{work_places, Record, Tables};
 use nigvalds::{Factor, Limits, Refusal};
 
@@ -73,8 +73,9 @@ fn short_tables_and_lists() {
     let record = open(&mut t, places).record;
     let mut work = vec![1; places];
     for (touched, labels, number) in [(4, 5, 5), (5, 4, 5), (5, 5, 7)] {
-        assert_eq!(t.add(record, &mut work, &mut vec![0; touched], &mut vec![0; labels], &[], &[], &[]).number, number);
+        assert_eq!(t.add(record, &mut work, &mut vec![0; touched], &mut vec![0; labels], &[], &[], &[], &[], &[]).number, number);
         assert_eq!(t.remove(record, &mut work, &mut vec![0; touched], &mut vec![0; labels], &[]).number, number);
+        assert_eq!(t.set_clock(record, &mut work, &mut vec![0; touched], &mut vec![0; labels], 7).number, if number == 7 { 0 } else { 5 });
     }
 }
 
@@ -100,7 +101,7 @@ fn additions() {
         (&[4, 0], &[1, 1], &rows, Refusal::IdOutside { position: 2 }),
         (&[9], &[1], &rows, Refusal::IdOutside { position: 1 }),
         (&[4, 5, 4], &[1, 1, 1], &rows, Refusal::IdRepeated { position: 3 }),
-        (&[4, 3], &[1, 1], &rows, Refusal::IdLive { position: 2 }),
+        (&[4, 3], &[1, 1], &rows, Refusal::IdBooked { position: 2 }),
         (&[4, 5], &[1, 0], &rows, Refusal::Count { position: 2 }),
         (&[4], &[257], &rows, Refusal::Count { position: 1 }),
         (&[4, 5], &[2, 4], &rows, Refusal::Count { position: 2 }),
@@ -113,7 +114,8 @@ fn additions() {
     ];
     for (ids, counts, rows, refusal) in cases {
         let mut factor = example();
-        assert_eq!(factor.add_lists(ids, counts, rows).unwrap_err(), refusal);
+        let none = vec![0; ids.len()];
+        assert_eq!(factor.add_lists(ids, counts, rows, &none, &none).unwrap_err(), refusal);
         assert_eq!(format!("{factor:?}"), format!("{:?}", example()));
     }
 }
@@ -125,7 +127,7 @@ fn removals() {
         (&[1; 65], Refusal::Shape),
         (&[1, 9], Refusal::IdOutside { position: 2 }),
         (&[3, 3], Refusal::IdRepeated { position: 2 }),
-        (&[3, 4], Refusal::IdNotLive { position: 2 }),
+        (&[3, 4], Refusal::IdNotBooked { position: 2 }),
     ];
     for (ids, refusal) in cases {
         assert_eq!(example().remove(ids).unwrap_err(), refusal);
@@ -150,17 +152,17 @@ fn questions() {
     }
 }
 
-// The numbers as a type: 1 to 20, there and back, each with words of its own.
+// The numbers as a type: 1 to 21, there and back, each with words of its own.
 #[test]
 fn numbers_of_the_type() {
     let mut words = std::collections::BTreeSet::new();
-    for number in 1..=20 {
+    for number in 1..=21 {
         let refusal = Refusal::of(number, 3).unwrap();
         assert_eq!(refusal.number(), number);
-        assert_eq!(refusal.position(), if (8..=14).contains(&number) { 3 } else { 0 });
+        assert_eq!(refusal.position(), if (8..=14).contains(&number) || number == 21 { 3 } else { 0 });
         words.insert(refusal.to_string());
     }
-    assert_eq!(words.len(), 20);
+    assert_eq!(words.len(), 21);
     assert_eq!(Refusal::of(0, 0), None);
     assert_eq!(Refusal::RowOrder { position: 2 }.to_string(), "refused by 14 at position 2: a row is not above the row before");
 }
@@ -168,7 +170,7 @@ fn numbers_of_the_type() {
 // A number that this package does not know is an error like any other.
 #[test]
 fn unknown_numbers() {
-    for number in [21, u32::MAX] {
+    for number in [22, u32::MAX] {
         let refusal = Refusal::of(number, 7).unwrap();
         assert_eq!((refusal.number(), refusal.position()), (number, 7));
         assert_eq!(refusal.to_string(), format!("refused by {number} at position 7: no number of this library"));
@@ -180,6 +182,6 @@ fn unknown_numbers() {
 fn longest_columns() {
     let rows: Vec<u32> = (1..=257).collect();
     let mut world = World::open(Sizes { m: 257, n: 2, f: 65536, c: 600 }, OLD_LIMITS, &mut Random::new(1));
-    assert_eq!(world.add(&[1], &[256], &rows[..256]), (0, 0));
-    assert_eq!(world.add(&[2], &[257], &rows), (12, 1));
+    assert_eq!(world.add(&Lists::always(&[1], &[256], &rows[..256])), (0, 0));
+    assert_eq!(world.add(&Lists::always(&[2], &[257], &rows)), (12, 1));
 }

@@ -1,13 +1,14 @@
--- A batch written: an accepted batch has what the report and the writing of its plan ask (`report-can`, `write-can`), and columns so written with a book
--- changed by it (`BookAfter`) are the change's world, beside its report (`batch-written`). Adding and removing differ only in the book's change:
+-- A batch written: an accepted batch has what the report and the writing of its plan ask (`report-can`, `write-can`), and columns so written with book and
+-- windows changed by it (`BookAfter`) are the change's world, beside its report (`batch-written`). Adding and removing differ only in the book's change:
 -- Booking.antt. Assumes nothing.
 use mathlib.Core.Path.{_≡_, refl, sym, ap, _∙_, subst}
-use mathlib.Core.Bool.{Bool, true, false, false≢true}
-use mathlib.Core.List.{List, [], _∷_, _++_}
-use Prim.Native.Nat.{ℕ, _≤_}
+use mathlib.Core.Bool.{true, false}
+use mathlib.Core.List.{List, [], _∷_}
+use Prim.Native.Nat.{ℕ, _*_, _≤_}
 use native.Mathlib.Omega.{arith}
-use lib.ListN.{length, drop, drop-of-length-le}
-use Rattle.lists.specs.Lists.{among, rises, over}
+use lib.ListN.{length, drop-of-length-le}
+use lib.Seq.{take-all}
+use Rattle.lists.specs.Lists.{among, over, sumOf}
 use Rattle.lists.proofs.Tests.{both-and}
 use Rattle.symbolic.specs.Columns.{Column, Register, live}
 use Rattle.symbolic.specs.Factor.{factorOf, factorFor, columnAt}
@@ -15,12 +16,12 @@ use Rattle.symbolic.specs.Change.{Bag}
 use Rattle.symbolic.specs.Grades.{Limits}
 use Rattle.symbolic.proofs.Live.{live-order}
 use Rattle.book.specs.Book as book
-use Rattle.tables.specs.Stored.{Stored, Sized, isSoundFor}
-use Rattle.tables.specs.Stays.{ColumnStays, EntriesKeep, Beyond}
-use Rattle.tables.specs.Tables.{Tables, storedIn, bookIn, isSound}
+use Rattle.windows.specs.Windowed.{linesIn, areSound}
+use Rattle.tables.specs.Stored.{Stored, isSoundFor}
+use Rattle.tables.specs.Stays.{ColumnStays, EntriesKeep, MinutesStay, Beyond}
+use Rattle.tables.specs.Tables.{Tables, storedIn, bookIn, windowsIn, isSound}
 use Rattle.tables.proofs.Stored.{sound-bag}
 use Rattle.tables.proofs.Tables.{sound-limits}
-use Rattle.calls.specs.Refusals.{isAccepted}
 use Rattle.calls.specs.Calls.{Change}
 use Rattle.calls.specs.Changes.{effect, touchedBy, labelled}
 use Rattle.calls.specs.Steps.{bookedIn, Exchanged}
@@ -28,9 +29,9 @@ use Rattle.calls.proofs.Changes.{rows-stay, touched-rise, untouched-same}
 use Rattle.updown.specs.Plans.{PlanIs}
 use Rattle.commit.specs.Writes.{CanWrite, PlanWritten}
 use Rattle.commit.specs.Report.{labelsFor, CanReport, Reported}
-use Rattle.batch.specs.Outcome.{cutSizes, cutWorld, CanFind, CanBatch}
-use Rattle.batch.specs.Parts.{storedWhole, bookWhole, numberFor, CanWriteBatch, BatchWritten}
-use Rattle.batch.proofs.Cut as cut
+use Rattle.steps.specs.Outcome.{cutSizes, cutWorld, storedWhole, bookWhole, CanFind}
+use Rattle.steps.proofs.Cut as cut
+use Rattle.batch.specs.Parts.{CanWriteBatch, BatchWritten}
 
 -- the labels of a plan are the report's
 labels-same : (f : ℕ → ℕ) (js : List ℕ) → labelsFor f js ≡ labelled f js
@@ -40,14 +41,18 @@ labels-same f (j ∷ js) = ap (λ (ls : List ℕ). f j ∷ ls) (labels-same f js
 
 -- ---- the book's change, of any batch
 
--- a sound book with columns cs; the columns of all but some ids stay
-pub record BookAfter (m : ℕ) (b : book.Book) (cs : List Column) (ids : List ℕ) (after : book.Book) : Type 0 where
+-- a sound book with sound windows, together columns cs; book column and minutes stay of all but some ids
+pub record BookAfter (m : ℕ) (b : book.Book) (w : List ℕ) (cs : List Column) (ids : List ℕ) (after : book.Book) (w′ : List ℕ) : Type 0 where
+  pub some : 1 ≤ length ids
   pub sized : book.Sized after
   pub sound : book.isSound m after ≡ true
   pub same-heads : length (after .heads) ≡ length (b .heads)
   pub same-records : length (after .next) ≡ length (b .next)
-  pub columns : Bag (book.columnsIn after) cs
+  pub same-windows : length w′ ≡ length w
+  pub windows-sound : areSound (after .heads) w′ ≡ true
+  pub columns : Bag (linesIn after w′) cs
   pub others : (i : ℕ) → 1 ≤ i → i ≤ length (b .heads) → among i ids ≡ false → book.ColumnStays b after i
+  pub minutes : (i : ℕ) → 1 ≤ i → i ≤ length (b .heads) → among i ids ≡ false → MinutesStay (length (b .heads)) w w′ i
 
 -- ---- tables that are cut to their sizes, before and after
 
@@ -67,17 +72,17 @@ beyond-cut q = beyond-at refl q
 
 -- ---- the plan's report and writing
 
-module _ {t : Tables} {lim : Limits} {f g : ℕ} {k : Change} {w w′ a b : List ℕ} {first used : ℕ}
-    (c : CanWriteBatch (cutWorld t lim f g) k w w′ a b first used) where
+module _ {t : Tables} {lim : Limits} {o f g : ℕ} {k : Change} {w w′ a b : List ℕ} {first used : ℕ}
+    (c : CanWriteBatch (cutWorld t lim o f g) k w w′ a b first used) where
   abbrev r : Register
-  r = bookedIn (cutWorld t lim f g)
+  r = bookedIn (cutWorld t lim o f g)
 
-  abbrev find : CanFind (cutWorld t lim f g) w
+  abbrev find : CanFind (cutWorld t lim o f g) w
   find = c .can .find
 
   pub write-can :
-      CanWrite (storedWhole t f) (live (bookedIn (cutWorld t lim f g))) (live (effect (bookedIn (cutWorld t lim f g)) k .register))
-      (effect (bookedIn (cutWorld t lim f g)) k .label) (touchedBy (bookedIn (cutWorld t lim f g)) k)
+      CanWrite (storedWhole t f) (live (bookedIn (cutWorld t lim o f g))) (live (effect (bookedIn (cutWorld t lim o f g)) k .register))
+      (effect (bookedIn (cutWorld t lim o f g)) k .label) (touchedBy (bookedIn (cutWorld t lim o f g)) k)
       w w′ first (c .count) (c .entries) used
   write-can =
       record {
@@ -98,9 +103,9 @@ module _ {t : Tables} {lim : Limits} {f g : ℕ} {k : Change} {w w′ a b : List
       }
 
   pub report-can :
-      CanReport (length (t .heads)) (factorOf (length (t .heads)) (live (bookedIn (cutWorld t lim f g))))
-      (factorOf (length (t .heads)) (live (effect (bookedIn (cutWorld t lim f g)) k .register)))
-      (effect (bookedIn (cutWorld t lim f g)) k .label) (touchedBy (bookedIn (cutWorld t lim f g)) k) w′ a b first used
+      CanReport (length (t .heads)) (factorOf (length (t .heads)) (live (bookedIn (cutWorld t lim o f g))))
+      (factorOf (length (t .heads)) (live (effect (bookedIn (cutWorld t lim o f g)) k .register)))
+      (effect (bookedIn (cutWorld t lim o f g)) k .label) (touchedBy (bookedIn (cutWorld t lim o f g)) k) w′ a b first used
   report-can =
       record {
         m-bound = write-can .m-bound;
@@ -112,45 +117,53 @@ module _ {t : Tables} {lim : Limits} {f g : ℕ} {k : Change} {w w′ a b : List
         labels-long = c .can .labels-long;
       }
 
-  -- ---- columns written and a book changed
+  -- ---- columns written and a book changed, at the same clock
 
-  module _ {t′ : Tables} {f′ g′ : ℕ} {w″ a′ b′ : List ℕ} (same-next : length (t′ .next) ≡ length (t .next))
-      (z : Reported (effect (bookedIn (cutWorld t lim f g)) k .label) (touchedBy (bookedIn (cutWorld t lim f g)) k) a b a′ b′)
-      (x : PlanWritten (storedWhole t f) (live (effect (bookedIn (cutWorld t lim f g)) k .register)) (touchedBy (bookedIn (cutWorld t lim f g)) k) w (storedWhole t′ f′) w″)
-      (y : BookAfter (length (t .heads)) (bookWhole t g) (effect (bookedIn (cutWorld t lim f g)) k .register .columns) (effect (bookedIn (cutWorld t lim f g)) k .ids) (bookWhole t′ g′)) where
+  module _ {t′ : Tables} {f′ g′ : ℕ} {w″ a′ b′ : List ℕ} (same-clock : effect (bookedIn (cutWorld t lim o f g)) k .register .clock ≡ o) (same-next : length (t′ .next) ≡ length (t .next))
+      (z : Reported (effect (bookedIn (cutWorld t lim o f g)) k .label) (touchedBy (bookedIn (cutWorld t lim o f g)) k) a b a′ b′)
+      (x : PlanWritten (storedWhole t f) (live (effect (bookedIn (cutWorld t lim o f g)) k .register)) (touchedBy (bookedIn (cutWorld t lim o f g)) k) w (storedWhole t′ f′) w″)
+      (y : BookAfter (length (t .heads)) (bookWhole t g) (t .windows) (effect (bookedIn (cutWorld t lim o f g)) k .register .columns) (effect (bookedIn (cutWorld t lim o f g)) k .ids) (bookWhole t′ g′) (t′ .windows)) where
     abbrev same-heads : length (t′ .heads) ≡ length (t .heads)
     same-heads = ap length (x .heads)
 
-    stored-after : storedIn (cutWorld t′ lim f′ g′ .state) t′ ≡ storedWhole t′ f′
-    stored-after = cut.stored-whole t′ lim f′ g′ (x .sized)
+    stored-after : storedIn (cutWorld t′ lim o f′ g′ .state) t′ ≡ storedWhole t′ f′
+    stored-after = cut.stored-whole t′ lim o f′ g′ (x .sized)
 
-    book-after : bookIn (cutWorld t′ lim f′ g′ .state) t′ ≡ bookWhole t′ g′
-    book-after = cut.book-whole t′ lim f′ g′ (y .sized)
+    book-after : bookIn (cutWorld t′ lim o f′ g′ .state) t′ ≡ bookWhole t′ g′
+    book-after = cut.book-whole t′ lim o f′ g′ (y .sized)
 
-    columns-after : Bag (bookedIn (cutWorld t′ lim f′ g′) .columns) (effect (bookedIn (cutWorld t lim f g)) k .register .columns)
-    columns-after = subst (λ (d : book.Book). Bag (book.columnsIn d) (effect r k .register .columns)) (sym book-after) (y .columns)
+    windows-after : windowsIn (cutWorld t′ lim o f′ g′ .state) t′ ≡ t′ .windows
+    windows-after = take-all (2 * length (t′ .bookHeads)) (t′ .windows) (omega (arith, find .windows, y .same-windows, y .same-heads))
 
-    sound-after : isSound (cutWorld t′ lim f′ g′ .state) t′ ≡ true
+    columns-after : Bag (bookedIn (cutWorld t′ lim o f′ g′) .columns) (effect (bookedIn (cutWorld t lim o f g)) k .register .columns)
+    columns-after h = (λ i. sumOf h (linesIn (book-after i) (windows-after i))) ∙ y .columns h
+
+    -- book, windows and stored columns
+    sound-after : isSound (cutWorld t′ lim o f′ g′ .state) t′ ≡ true
     sound-after =
-        let p : book.isSound (length (t′ .heads)) (bookIn (cutWorld t′ lim f′ g′ .state) t′) ≡ true =
-        subst (λ (d : book.Book). book.isSound (length (t′ .heads)) d ≡ true) (sym book-after)
-        (subst (λ (n : ℕ). book.isSound n (bookWhole t′ g′) ≡ true) (sym same-heads) (y .sound)) in
-        let r′ : Register = bookedIn (cutWorld t′ lim f′ g′) in
-        let q : isSoundFor (live r′) (storedIn (cutWorld t′ lim f′ g′ .state) t′) ≡ true =
+        let p : book.isSound (length (t′ .heads)) (bookIn (cutWorld t′ lim o f′ g′ .state) t′) ≡ true =
+        (λ i. book.isSound (same-heads i) (book-after i)) ∙ y .sound in
+        let v : areSound (bookIn (cutWorld t′ lim o f′ g′ .state) t′ .heads) (windowsIn (cutWorld t′ lim o f′ g′ .state) t′) ≡ true =
+        (λ i. areSound (book-after i .heads) (windows-after i)) ∙ y .windows-sound in
+        let r′ : Register = bookedIn (cutWorld t′ lim o f′ g′) in
+        let q : isSoundFor (live r′) (storedIn (cutWorld t′ lim o f′ g′ .state) t′) ≡ true =
         subst (λ (s : Stored). isSoundFor (live r′) s ≡ true) (sym stored-after)
-        (sound-bag (live r′) (live (effect r k .register)) (storedWhole t′ f′) (live-order r′ (effect r k .register) columns-after) ∙ x .sound) in
-        both-and (sound-limits (cutWorld t lim f g .state) t (find .sound)) (both-and p q)
+        (sound-bag (live r′) (live (effect r k .register)) (storedWhole t′ f′) (live-order r′ (effect r k .register) (sym same-clock) columns-after) ∙ x .sound) in
+        both-and (sound-limits (cutWorld t lim o f g .state) t (find .sound)) (both-and (both-and p v) q)
 
-    pub batch-exchanged : Exchanged (cutWorld t lim f g) k (cutWorld t′ lim f′ g′)
+    pub batch-exchanged : Exchanged (cutWorld t lim o f g) k (cutWorld t′ lim o f′ g′)
     batch-exchanged =
         record {
           sizes = λ i. record { m = same-heads i; n = y .same-heads i; f = same-next i; c = y .same-records i };
           limits = refl;
+          clock = sym same-clock;
           sound = sound-after;
           columns = columns-after;
           others = λ j p q h. both-read (λ (s s′ : Stored). ColumnStays s s′ j) (cut.stored-cut find) stored-after (x .others j p q h);
-          entries = λ j p q i o d e h n. both-read (λ (s s′ : Stored). EntriesKeep s s′ j) (cut.stored-cut find) stored-after (x .keep j p q) i o d e h;
+          entries = λ j p q i l d e h n. both-read (λ (s s′ : Stored). EntriesKeep s s′ j) (cut.stored-cut find) stored-after (x .keep j p q) i l d e h;
           book = λ i p q h. both-read (λ (d d′ : book.Book). book.ColumnStays d d′ i) (cut.book-cut find) book-after (y .others i p q h);
+          minutes = λ i p q h. both-read (λ (v v′ : List ℕ). MinutesStay (length (t .bookHeads)) v v′ i) (cut.windows-cut find) windows-after (y .minutes i p q h);
+          still = λ e. absurd (omega (arith, y .some, ap length e));
           tails = record {
             heads = beyond-cut same-heads;
             parents = beyond-at (find .parents) (x .sized .parents-long ∙ same-heads);
@@ -160,10 +173,11 @@ module _ {t : Tables} {lim : Limits} {f g : ℕ} {k : Change} {w w′ a b : List
             bookHeads = beyond-cut (y .same-heads);
             bookRows = beyond-at (find .book-rows) (y .sized ∙ y .same-records);
             bookNext = beyond-cut (y .same-records);
+            windows = beyond-at (find .windows) (y .same-windows ∙ find .windows);
           };
         }
 
-    pub batch-written : BatchWritten (cutWorld t lim f g) k w a b (cutWorld t′ lim f′ g′) w″ a′ b′
+    pub batch-written : BatchWritten (cutWorld t lim o f g) k w a b (cutWorld t′ lim o f′ g′) w″ a′ b′
     batch-written =
         record {
           exchanged = batch-exchanged;

@@ -1,11 +1,7 @@
-pub mod Cut
+pub mod Planning
 pub mod Verdicts
 pub mod Adding
 pub mod Removing
 pub mod Exchanging
 pub mod Booking
-pub mod Grading
 pub mod Stepping
-pub mod Lifting
-pub mod Lifted
-pub mod Whole

@@ -9,8 +9,8 @@ use borrow.Author.Tests.{eq-eqb, ne-eqb}
 use Rattle.calls.specs.Refusals.{isAccepted}
 use Rattle.calls.specs.Calls.{Change}
 use Rattle.calls.specs.Steps.{World}
-use Rattle.batch.specs.Outcome.{CanBatch}
-use Rattle.batch.specs.Parts.{numberFor, verdictNumber, BatchPlan, Judged, CanWriteBatch}
+use Rattle.steps.specs.Outcome.{numberFor, CanStep}
+use Rattle.batch.specs.Parts.{verdictNumber, BatchPlan, Judged, CanWriteBatch}
 use Rattle.batch.specs.declared.Verdict.{Verdict}
 
 -- a verdict that refuses leaves the work table; whatever the change
@@ -33,7 +33,7 @@ module _ {u : World} {c : Change} {before after : List ℕ} {x : Verdict} (j : J
   judged-not e = ap isAccepted (sym (j .number-is)) ∙ ne-eqb (x .refusal .number) 0 e
 
   -- an accepted batch with its plan can be written
-  pub judged-can : {touched labels : List ℕ} → x .refusal .number ≡ 0 → CanBatch u before touched labels →
+  pub judged-can : {touched labels : List ℕ} → x .refusal .number ≡ 0 → CanStep u before touched labels →
       CanWriteBatch u c before after touched labels (x .plan .first .0) (x .plan .used)
   judged-can e can =
       record { can = can; accepted = judged-taken e; count = x .plan .count; entries = x .plan .entries; plan = j .plan (judged-taken e) }

@@ -9,32 +9,16 @@ use Rattle.lists.specs.Lists.{over}
 use Rattle.symbolic.specs.Factor.{factorFor}
 use Rattle.symbolic.specs.Grades.{Limits}
 use Rattle.pool.specs.Chains.{chain}
-use Rattle.book.specs.Book as book
-use Rattle.tables.specs.Stored.{Stored, storedOf}
 use Rattle.tables.specs.Tables.{Tables, tablesOf}
 use Rattle.calls.specs.Refusals.{Refusal, refusal, isAccepted}
 use Rattle.calls.specs.Calls.{Change}
 use Rattle.calls.specs.Changes.{effect, touchedBy, labelsBy}
 use Rattle.calls.specs.Steps.{World, bookedIn, Exchanged}
 use Rattle.updown.specs.Plans.{PlanIs}
-use Rattle.batch.specs.Outcome.{cutWorld, CanFind, CanBatch}
+use Rattle.steps.specs.Outcome.{numberFor, cutWorld, CanFind, CanStep}
 use Rattle.batch.specs.declared.Verdict.{Verdict}
 
--- ---- the two halves of tables that are cut to their sizes
-
--- the tables of L with their free head, nothing cut off
-abbrev pub storedWhole : Tables → (free : ℕ) → Stored
-storedWhole t f = storedOf (t .heads) (t .parents) (t .rows) (t .counts) (t .next) f
-
--- the book's tables with its free head, nothing cut off
-abbrev pub bookWhole : Tables → (bookFree : ℕ) → book.Book
-bookWhole t g = book.bookOf (t .bookHeads) (t .bookRows) (t .bookNext) g
-
 -- ---- found and planned
-
--- the number and position of a change
-abbrev pub numberFor : World → Change → Refusal
-numberFor u c = effect (bookedIn u) c .refusal (u .state .sizes)
 
 -- the number and position that a search has found
 abbrev pub verdictNumber : Verdict → Refusal
@@ -54,34 +38,36 @@ pub record Judged (u : World) (c : Change) (before after : List ℕ) (x : Verdic
   pub plan : isAccepted (numberFor u c) ≡ true → BatchPlan u c before after (x .plan .first .0) (x .plan .count) (x .plan .entries) (x .plan .used)
   pub unchanged : isAccepted (numberFor u c) ≡ false → after ≡ before
 
--- what an addition's search asks: limits and the book's rows are not read, any that suit will do
-pub record SomeRows (heads parents rows counts next bookHeads bookNext : List ℕ) (free bookFree : ℕ) (work : List ℕ) : Type 0 where
+-- what an addition's search asks: limits, the book's rows and its windows are not read, any that suit will do
+pub record SomeRows (heads parents rows counts next bookHeads bookNext : List ℕ) (clock free bookFree : ℕ) (work : List ℕ) : Type 0 where
   pub limits : Limits
   pub book-rows : List ℕ
-  pub can : CanFind (cutWorld (tablesOf heads parents rows counts next bookHeads book-rows bookNext) limits free bookFree) work
+  pub windows : List ℕ
+  pub can : CanFind (cutWorld (tablesOf heads parents rows counts next bookHeads book-rows bookNext windows) limits clock free bookFree) work
 
 -- what a removal's search asks: limits and the free heads are not read, any that suit will do
-pub record SomeFree (t : Tables) (work : List ℕ) : Type 0 where
+pub record SomeFree (t : Tables) (clock : ℕ) (work : List ℕ) : Type 0 where
   pub limits : Limits
   pub free : ℕ
   pub book-free : ℕ
-  pub can : CanFind (cutWorld t limits free book-free) work
+  pub can : CanFind (cutWorld t limits clock free book-free) work
 
 -- ---- written
 
 -- an accepted batch with its plan in the work table
 pub record CanWriteBatch (u : World) (c : Change) (before work touched labels : List ℕ) (first used : ℕ) : Type 0 where
-  pub can : CanBatch u before touched labels
+  pub can : CanStep u before touched labels
   pub accepted : isAccepted (numberFor u c) ≡ true
   pub count : ℕ
   pub entries : ℕ
   pub plan : BatchPlan u c before work first count entries used
 
--- what a caller shows: such a batch, for some limits, and some work table before the plan
+-- what a caller shows: such a batch, for some limits, some clock, and some work table before the plan
 pub record SomePlan (t : Tables) (free bookFree : ℕ) (c : Change) (work touched labels : List ℕ) (first used : ℕ) : Type 0 where
   pub limits : Limits
+  pub clock : ℕ
   pub before : List ℕ
-  pub can : CanWriteBatch (cutWorld t limits free bookFree) c before work touched labels first used
+  pub can : CanWriteBatch (cutWorld t limits clock free bookFree) c before work touched labels first used
 
 -- tables and report are the change's, and the work table is as before the plan
 pub record BatchWritten (u : World) (c : Change) (before touched labels : List ℕ) (v : World) (work touched′ labels′ : List ℕ) : Type 0 where

@@ -6,7 +6,7 @@ ghost use Prim.Native.Nat.{ℕ};
 ghost use Rattle.tables.specs.Tables.{tablesOf};
 ghost use Rattle.calls.specs.Calls.Change.{adding, removing};
 ghost use Rattle.symbolic.specs.Grades.{Limits};
-ghost use Rattle.batch.specs.Outcome.{cutWorld, CanFind};
+ghost use Rattle.steps.specs.Outcome.{cutWorld, CanFind};
 ghost use Rattle.batch.specs.Parts.{Judged, SomeRows, SomeFree};
 use crate::Verdict;
 use book::Row;
@@ -40,7 +40,7 @@ fn planned(plan: Plan) -> Verdict
     Verdict { refusal, plan }
 }
 
-// An addition's number, and its plan in the work table where that is 0: 7 to 15, then 16, for which the plan is made.
+// An addition's number, and its plan in the work table where that is 0: 7 to 15 and 21, then 16, for which the plan is made. A column outside its window starts nowhere.
 pub fn judge_add(
     heads: &[u32],
     parents: &[u16],
@@ -53,11 +53,14 @@ pub fn judge_add(
     ids: &[u32],
     row_counts: &[u32],
     row_list: &[u32],
+    firsts: &[u32],
+    seconds: &[u32],
     free: Rec,
     book_free: Rec,
+    clock: u32,
 ) -> Verdict
-    requires { ⌜ SomeRows (now heads) (now parents) (now rows) (now counts) (now next) (now «book_heads») (now «book_next») (free .0) («book_free» .0) (now work) ⌝ }
-    ensures { λ x. ⌜ ((h : Limits) (br : List ℕ) → CanFind (cutWorld (tablesOf (now (heads .entry)) (now (parents .entry)) (now (rows .entry)) (now (counts .entry)) (now (next .entry)) (now («book_heads» .entry)) br (now («book_next» .entry))) h (free .0) («book_free» .0)) (now (work .entry)) → Judged (cutWorld (tablesOf (now (heads .entry)) (now (parents .entry)) (now (rows .entry)) (now (counts .entry)) (now (next .entry)) (now («book_heads» .entry)) br (now («book_next» .entry))) h (free .0) («book_free» .0)) (adding (now (ids .entry)) (now («row_counts» .entry)) (now («row_list» .entry))) (now (work .entry)) (now (work .exit)) x) ⌝ }
+    requires { ⌜ SomeRows (now heads) (now parents) (now rows) (now counts) (now next) (now «book_heads») (now «book_next») clock (free .0) («book_free» .0) (now work) ⌝ }
+    ensures { λ x. ⌜ ((h : Limits) (br ws : List ℕ) → CanFind (cutWorld (tablesOf (now (heads .entry)) (now (parents .entry)) (now (rows .entry)) (now (counts .entry)) (now (next .entry)) (now («book_heads» .entry)) br (now («book_next» .entry)) ws) h clock (free .0) («book_free» .0)) (now (work .entry)) → Judged (cutWorld (tablesOf (now (heads .entry)) (now (parents .entry)) (now (rows .entry)) (now (counts .entry)) (now (next .entry)) (now («book_heads» .entry)) br (now («book_next» .entry)) ws) h clock (free .0) («book_free» .0)) (adding (now (ids .entry)) (now («row_counts» .entry)) (now («row_list» .entry)) (now (firsts .entry)) (now (seconds .entry))) (now (work .entry)) (now (work .exit)) x) ⌝ }
 {
     let found = refusals::find_add(
         book_heads,
@@ -65,6 +68,8 @@ pub fn judge_add(
         ids,
         row_counts,
         row_list,
+        firsts,
+        seconds,
         book_free,
         heads.len() as u32,
     );
@@ -74,6 +79,7 @@ pub fn judge_add(
     let k = row_counts.len();
     let mut starts = [0u32; 64];
     filling::listed_starts(row_counts, row_list, &mut starts[..k]);
+    windows::minutes::hide_listed(firsts, seconds, clock, &mut starts[..k]);
     let plan = updown::plan_add(
         heads,
         parents,
@@ -105,11 +111,13 @@ pub fn judge_remove(
     book_heads: &[u32],
     book_rows: &[u16],
     book_next: &[u32],
+    windows: &[u32],
     work: &mut [u32],
     ids: &[u32],
+    clock: u32,
 ) -> Verdict
-    requires { ⌜ SomeFree (tablesOf (now heads) (now parents) (now rows) (now counts) (now next) (now «book_heads») (now «book_rows») (now «book_next»)) (now work) ⌝ }
-    ensures { λ x. ⌜ ((h : Limits) (f g : ℕ) → CanFind (cutWorld (tablesOf (now (heads .entry)) (now (parents .entry)) (now (rows .entry)) (now (counts .entry)) (now (next .entry)) (now («book_heads» .entry)) (now («book_rows» .entry)) (now («book_next» .entry))) h f g) (now (work .entry)) → Judged (cutWorld (tablesOf (now (heads .entry)) (now (parents .entry)) (now (rows .entry)) (now (counts .entry)) (now (next .entry)) (now («book_heads» .entry)) (now («book_rows» .entry)) (now («book_next» .entry))) h f g) (removing (now (ids .entry))) (now (work .entry)) (now (work .exit)) x) ⌝ }
+    requires { ⌜ SomeFree (tablesOf (now heads) (now parents) (now rows) (now counts) (now next) (now «book_heads») (now «book_rows») (now «book_next») (now windows)) clock (now work) ⌝ }
+    ensures { λ x. ⌜ ((h : Limits) (f g : ℕ) → CanFind (cutWorld (tablesOf (now (heads .entry)) (now (parents .entry)) (now (rows .entry)) (now (counts .entry)) (now (next .entry)) (now («book_heads» .entry)) (now («book_rows» .entry)) (now («book_next» .entry)) (now (windows .entry))) h clock f g) (now (work .entry)) → Judged (cutWorld (tablesOf (now (heads .entry)) (now (parents .entry)) (now (rows .entry)) (now (counts .entry)) (now (next .entry)) (now («book_heads» .entry)) (now («book_rows» .entry)) (now («book_next» .entry)) (now (windows .entry))) h clock f g) (removing (now (ids .entry))) (now (work .entry)) (now (work .exit)) x) ⌝ }
 {
     let found = refusals::find_remove(book_heads, ids);
     if found.number != 0 {
@@ -118,6 +126,7 @@ pub fn judge_remove(
     let k = ids.len();
     let mut starts = [0u32; 64];
     filling::booked_starts(book_heads, book_rows, ids, &mut starts[..k]);
+    windows::minutes::hide_booked(windows, book_heads.len(), ids, clock, &mut starts[..k]);
     planned(updown::plan_remove(
         heads,
         parents,

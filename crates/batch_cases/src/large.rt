@@ -15,6 +15,7 @@ use crate::large_tables::Parents;
 use crate::large_tables::Report;
 use crate::large_tables::RowList;
 use crate::large_tables::Rows;
+use crate::large_tables::Windows;
 use crate::large_tables::Work;
 use crate::lines::title;
 use factor::Factor;
@@ -58,6 +59,7 @@ fn add_all(
     book_heads: &mut BookHeads,
     book_rows: &mut BookRows,
     book_next: &mut BookNext,
+    windows: &mut Windows,
     work: &mut Work,
     ids: &Ids,
     row_counts: &Ids,
@@ -75,6 +77,7 @@ fn add_all(
         book_heads,
         book_rows,
         book_next,
+        windows,
         work,
         f,
     );
@@ -88,12 +91,14 @@ fn add_all(
         book_heads,
         book_rows,
         book_next,
+        windows,
         work,
         &mut touched,
         &mut labels,
         ids,
         row_counts,
         row_list,
+        &[0; 64],
     );
     tell(changed, &touched, &labels);
     state(
@@ -106,6 +111,7 @@ fn add_all(
         book_heads,
         book_rows,
         book_next,
+        windows,
         work,
     );
     let after = changed.factor;
@@ -123,6 +129,7 @@ fn remove_all(
     book_heads: &mut BookHeads,
     book_rows: &mut BookRows,
     book_next: &mut BookNext,
+    windows: &mut Windows,
     work: &mut Work,
     ids: &Ids,
 ) {
@@ -138,6 +145,7 @@ fn remove_all(
         book_heads,
         book_rows,
         book_next,
+        windows,
         work,
         &mut touched,
         &mut labels,
@@ -154,6 +162,7 @@ fn remove_all(
         book_heads,
         book_rows,
         book_next,
+        windows,
         work,
     );
 }
@@ -168,6 +177,7 @@ fn all(
     book_heads: &mut BookHeads,
     book_rows: &mut BookRows,
     book_next: &mut BookNext,
+    windows: &mut Windows,
     work: &mut Work,
     ids: &Ids,
     row_counts: &Ids,
@@ -183,6 +193,7 @@ fn all(
         book_heads,
         book_rows,
         book_next,
+        windows,
         work,
         ids,
         row_counts,
@@ -199,6 +210,7 @@ fn all(
         book_heads,
         book_rows,
         book_next,
+        windows,
         work,
         ids,
         row_counts,
@@ -215,6 +227,7 @@ fn all(
         book_heads,
         book_rows,
         book_next,
+        windows,
         work,
     );
     title(b"all removed");
@@ -228,6 +241,7 @@ fn all(
         book_heads,
         book_rows,
         book_next,
+        windows,
         work,
         ids,
     );
@@ -245,6 +259,7 @@ pub fn run() {
     let mut book_heads = [9u32; 64];
     let mut book_rows = [9u16; 16384];
     let mut book_next = [9u32; 16384];
+    let mut windows = [9u32; 128];
     let mut work = [7u32; 312384];
     all(
         &mut heads,
@@ -255,6 +270,7 @@ pub fn run() {
         &mut book_heads,
         &mut book_rows,
         &mut book_next,
+        &mut windows,
         &mut work,
         &ids,
         &[256; 64],

@@ -7,6 +7,7 @@ use crate::large_tables::Heads;
 use crate::large_tables::Next;
 use crate::large_tables::Parents;
 use crate::large_tables::Rows;
+use crate::large_tables::Windows;
 use crate::large_tables::Work;
 use crate::lines;
 use factor::Factor;
@@ -22,6 +23,7 @@ fn columns_of(
     book_heads: &BookHeads,
     book_rows: &BookRows,
     book_next: &BookNext,
+    windows: &Windows,
     work: &mut Work,
     i: u32,
 ) {
@@ -39,6 +41,7 @@ fn columns_of(
         book_heads,
         book_rows,
         book_next,
+        windows,
         work,
         &mut list,
         i,
@@ -61,6 +64,7 @@ fn common(
     book_heads: &BookHeads,
     book_rows: &BookRows,
     book_next: &BookNext,
+    windows: &Windows,
     work: &mut Work,
     row_list: &[u32],
 ) {
@@ -75,6 +79,7 @@ fn common(
         book_heads,
         book_rows,
         book_next,
+        windows,
         work,
         row_list,
     ));
@@ -92,6 +97,7 @@ fn paths(
     book_heads: &BookHeads,
     book_rows: &BookRows,
     book_next: &BookNext,
+    windows: &Windows,
     work: &mut Work,
 ) {
     common(
@@ -104,6 +110,7 @@ fn paths(
         book_heads,
         book_rows,
         book_next,
+        windows,
         work,
         &[390, 10, 1290],
     );
@@ -117,6 +124,7 @@ fn paths(
         book_heads,
         book_rows,
         book_next,
+        windows,
         work,
         &[10, 11],
     );
@@ -133,6 +141,7 @@ pub fn about_rows(
     book_heads: &BookHeads,
     book_rows: &BookRows,
     book_next: &BookNext,
+    windows: &Windows,
     work: &mut Work,
 ) {
     columns_of(
@@ -145,6 +154,7 @@ pub fn about_rows(
         book_heads,
         book_rows,
         book_next,
+        windows,
         work,
         3850,
     );
@@ -158,6 +168,7 @@ pub fn about_rows(
         book_heads,
         book_rows,
         book_next,
+        windows,
         work,
     );
 }

@@ -9,6 +9,7 @@ use crate::large_tables::Next;
 use crate::large_tables::Parents;
 use crate::large_tables::Report;
 use crate::large_tables::Rows;
+use crate::large_tables::Windows;
 use crate::large_tables::Work;
 use crate::lines;
 use changes::Changed;
@@ -96,6 +97,7 @@ pub fn state(
     book_heads: &BookHeads,
     book_rows: &BookRows,
     book_next: &BookNext,
+    windows: &Windows,
     work: &mut Work,
 ) {
     io::write_all(1, b"check");
@@ -109,6 +111,7 @@ pub fn state(
         book_heads,
         book_rows,
         book_next,
+        windows,
         work,
     ));
     io::write_all(1, b"; fresh");
@@ -129,6 +132,7 @@ fn lengths(
     book_heads: &BookHeads,
     book_rows: &BookRows,
     book_next: &BookNext,
+    windows: &Windows,
     work: &mut Work,
     j: u32,
 ) {
@@ -146,6 +150,7 @@ fn lengths(
         book_heads,
         book_rows,
         book_next,
+        windows,
         work,
         &mut list,
         j,
@@ -160,6 +165,7 @@ fn lengths(
         book_heads,
         book_rows,
         book_next,
+        windows,
         work,
         &mut list,
         j,
@@ -178,6 +184,7 @@ fn next_row(
     book_heads: &BookHeads,
     book_rows: &BookRows,
     book_next: &BookNext,
+    windows: &Windows,
     work: &mut Work,
     i: u32,
     j: u32,
@@ -193,6 +200,7 @@ fn next_row(
         book_heads,
         book_rows,
         book_next,
+        windows,
         work,
         i,
         j,
@@ -216,6 +224,7 @@ pub fn ask(
     book_heads: &BookHeads,
     book_rows: &BookRows,
     book_next: &BookNext,
+    windows: &Windows,
     work: &mut Work,
 ) {
     lengths(
@@ -228,6 +237,7 @@ pub fn ask(
         book_heads,
         book_rows,
         book_next,
+        windows,
         work,
         10,
     );
@@ -241,6 +251,7 @@ pub fn ask(
         book_heads,
         book_rows,
         book_next,
+        windows,
         work,
     );
     let mut k: usize = 0;
@@ -255,6 +266,7 @@ pub fn ask(
             book_heads,
             book_rows,
             book_next,
+            windows,
             work,
             ROWS[k],
             COLUMNS[k],

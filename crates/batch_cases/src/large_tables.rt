@@ -20,10 +20,12 @@ pub type BookRows = [u16; 16384];
 
 pub type BookNext = [u32; 16384];
 
+pub type Windows = [u32; 128];
+
 pub type Work = [u32; 312384];
 // Touched columns or labels.
 pub type Report = [u16; 4096];
-// Ids, or a count for each.
+// Ids, or a count or a minute for each.
 pub type Ids = [u32; 64];
 // The rows of all columns.
 pub type RowList = [u32; 16384];
@@ -38,6 +40,7 @@ pub fn open(
     book_heads: &mut BookHeads,
     book_rows: &mut BookRows,
     book_next: &mut BookNext,
+    windows: &mut Windows,
     work: &mut Work,
     f: u32,
 ) -> Factor {
@@ -57,6 +60,7 @@ pub fn open(
         book_heads,
         book_rows,
         book_next,
+        windows,
         work,
     );
     let Opening::Opened(record) = opening else {
@@ -70,11 +74,13 @@ pub fn open(
             grade2: 0,
             grade3: 0,
             grade4: 0,
+            clock: 0,
         };
     };
     record
 }
 
+// Adds a batch; one list has its first and its second minutes.
 pub fn add(
     record: Factor,
     heads: &Heads,
@@ -85,12 +91,14 @@ pub fn add(
     book_heads: &mut BookHeads,
     book_rows: &mut BookRows,
     book_next: &mut BookNext,
+    windows: &mut Windows,
     work: &mut Work,
     touched: &mut Report,
     labels: &mut Report,
     ids: &Ids,
     row_counts: &Ids,
     row_list: &RowList,
+    minutes: &Ids,
 ) -> Changed {
     changes::add(
         record,
@@ -102,12 +110,15 @@ pub fn add(
         book_heads,
         book_rows,
         book_next,
+        windows,
         work,
         touched,
         labels,
         ids,
         row_counts,
         row_list,
+        minutes,
+        minutes,
     )
 }
 
@@ -121,6 +132,7 @@ pub fn remove(
     book_heads: &mut BookHeads,
     book_rows: &mut BookRows,
     book_next: &mut BookNext,
+    windows: &mut Windows,
     work: &mut Work,
     touched: &mut Report,
     labels: &mut Report,
@@ -136,6 +148,7 @@ pub fn remove(
         book_heads,
         book_rows,
         book_next,
+        windows,
         work,
         touched,
         labels,
@@ -153,6 +166,7 @@ pub fn check(
     book_heads: &BookHeads,
     book_rows: &BookRows,
     book_next: &BookNext,
+    windows: &Windows,
     work: &mut Work,
 ) -> Reply {
     record.check(
@@ -164,6 +178,7 @@ pub fn check(
         book_heads,
         book_rows,
         book_next,
+        windows,
         work,
     )
 }
@@ -178,6 +193,7 @@ pub fn next_row(
     book_heads: &BookHeads,
     book_rows: &BookRows,
     book_next: &BookNext,
+    windows: &Windows,
     work: &mut Work,
     i: u32,
     j: u32,
@@ -191,6 +207,7 @@ pub fn next_row(
         book_heads,
         book_rows,
         book_next,
+        windows,
         work,
         Row(i),
         Row(j),
@@ -207,6 +224,7 @@ pub fn path(
     book_heads: &BookHeads,
     book_rows: &BookRows,
     book_next: &BookNext,
+    windows: &Windows,
     work: &mut Work,
     list: &mut [u32],
     j: u32,
@@ -220,6 +238,7 @@ pub fn path(
         book_heads,
         book_rows,
         book_next,
+        windows,
         work,
         list,
         Row(j),
@@ -237,6 +256,7 @@ pub fn column(
     book_heads: &BookHeads,
     book_rows: &BookRows,
     book_next: &BookNext,
+    windows: &Windows,
     work: &mut Work,
     list: &mut [u32],
     j: u32,
@@ -250,6 +270,7 @@ pub fn column(
         book_heads,
         book_rows,
         book_next,
+        windows,
         work,
         list,
         Row(j),
@@ -267,6 +288,7 @@ pub fn meets(
     book_heads: &BookHeads,
     book_rows: &BookRows,
     book_next: &BookNext,
+    windows: &Windows,
     work: &mut Work,
     list: &mut [u32],
     i: u32,
@@ -280,6 +302,7 @@ pub fn meets(
         book_heads,
         book_rows,
         book_next,
+        windows,
         work,
         list,
         Row(i),
@@ -297,6 +320,7 @@ pub fn common(
     book_heads: &BookHeads,
     book_rows: &BookRows,
     book_next: &BookNext,
+    windows: &Windows,
     work: &mut Work,
     row_list: &[u32],
 ) -> Reply {
@@ -309,6 +333,7 @@ pub fn common(
         book_heads,
         book_rows,
         book_next,
+        windows,
         work,
         row_list,
     )

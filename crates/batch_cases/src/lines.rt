@@ -90,6 +90,29 @@ pub fn tell(b: Batched) {
     end();
 }
 
+// Whether all places of a list hold 9.
+fn is_lent(list: &[u16; 64]) -> bool {
+    let mut k: usize = 0;
+    while k < 64 {
+        if list[k] != 9 {
+            return false;
+        }
+        k += 1;
+    }
+    true
+}
+
+// Whether both lists hold what they held before the call.
+pub fn tell_lent(b: Batched) {
+    let touched = b.touched;
+    let labels = b.labels;
+    if is_lent(&touched) & is_lent(&labels) {
+        io::write_all(1, b"lists as lent\n");
+    } else {
+        io::write_all(1, b"lists written\n");
+    }
+}
+
 fn refused(n: u32) {
     io::write_all(1, b" no");
     word(n);

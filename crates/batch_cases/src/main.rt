@@ -1,21 +1,22 @@
 // Batches through the factor's public entries, as lines: the document's instances, grades by other limits, batches whose paths merge, a refusal of each
-// number, questions, and 64 columns of 256 rows each in a factor of 4,096 rows. A batch gives `ok touched entries grade`, then its touched columns and labels,
-// or `no number position`.
+// number, questions, columns with windows as the clock goes, and 64 columns of 256 rows each in a factor of 4,096 rows. A batch or a change of the clock gives
+// `ok touched entries grade`, then its touched columns and labels, or `no number position`.
 mod large;
 mod large_rows;
 mod large_shown;
 mod large_tables;
 mod lines;
 mod refused;
-mod steps;
+mod shown;
+mod windowed;
 
 use case_tables::Host;
 use lines::title;
-use steps::add;
-use steps::open;
-use steps::open_with;
-use steps::remove;
-use steps::show;
+use shown::add;
+use shown::open;
+use shown::open_with;
+use shown::remove;
+use shown::show;
 
 // ---- instances
 
@@ -120,66 +121,66 @@ fn limits_removed() {
 
 // Paths and columns in full, in a list too short, from a place past it, and of no row; parents.
 fn asked(h: Host) {
-    steps::path(h, 0, 1);
-    steps::path(h, 3, 1);
-    steps::path(h, 4, 1);
-    steps::path(h, 7, 5);
-    steps::path(h, 0, 6);
-    steps::column(h, 0, 1);
-    steps::column(h, 1, 1);
-    steps::column(h, 2, 3);
-    steps::column(h, 6, 5);
-    steps::column(h, 0, 0);
-    steps::parent(h, 1);
-    steps::parent(h, 3);
-    steps::parent(h, 5);
-    steps::parent(h, 6);
+    shown::path(h, 0, 1);
+    shown::path(h, 3, 1);
+    shown::path(h, 4, 1);
+    shown::path(h, 7, 5);
+    shown::path(h, 0, 6);
+    shown::column(h, 0, 1);
+    shown::column(h, 1, 1);
+    shown::column(h, 2, 3);
+    shown::column(h, 6, 5);
+    shown::column(h, 0, 0);
+    shown::parent(h, 1);
+    shown::parent(h, 3);
+    shown::parent(h, 5);
+    shown::parent(h, 6);
 }
 
 // Rows that stand, absent ones with a later one, one below the diagonal, columns that end before, the row above the diagonal of each column but the last, and
 // rows and columns outside 1 to m.
 fn next_rows(h: Host) {
-    steps::next_row(h, 1, 1);
-    steps::next_row(h, 3, 1);
-    steps::next_row(h, 4, 1);
-    steps::next_row(h, 5, 5);
-    steps::next_row(h, 1, 3);
-    steps::next_row(h, 4, 2);
-    steps::next_row(h, 5, 1);
-    steps::next_row(h, 2, 1);
-    steps::next_row(h, 3, 2);
-    steps::next_row(h, 4, 3);
-    steps::next_row(h, 5, 4);
-    steps::next_row(h, 0, 5);
-    steps::next_row(h, 6, 1);
-    steps::next_row(h, 5, 6);
-    steps::next_row(h, 1, 0);
+    shown::next_row(h, 1, 1);
+    shown::next_row(h, 3, 1);
+    shown::next_row(h, 4, 1);
+    shown::next_row(h, 5, 5);
+    shown::next_row(h, 1, 3);
+    shown::next_row(h, 4, 2);
+    shown::next_row(h, 5, 1);
+    shown::next_row(h, 2, 1);
+    shown::next_row(h, 3, 2);
+    shown::next_row(h, 4, 3);
+    shown::next_row(h, 5, 4);
+    shown::next_row(h, 0, 5);
+    shown::next_row(h, 6, 1);
+    shown::next_row(h, 5, 6);
+    shown::next_row(h, 1, 0);
 }
 
 // The columns that meet each row, in full, in a list too short, from a place past it, and of no row.
 fn met(h: Host) {
-    steps::meets(h, 0, 1);
-    steps::meets(h, 1, 2);
-    steps::meets(h, 3, 3);
-    steps::meets(h, 2, 4);
-    steps::meets(h, 5, 5);
-    steps::meets(h, 4, 3);
-    steps::meets(h, 6, 5);
-    steps::meets(h, 7, 1);
-    steps::meets(h, 0, 0);
-    steps::meets(h, 7, 6);
+    shown::meets(h, 0, 1);
+    shown::meets(h, 1, 2);
+    shown::meets(h, 3, 3);
+    shown::meets(h, 2, 4);
+    shown::meets(h, 5, 5);
+    shown::meets(h, 4, 3);
+    shown::meets(h, 6, 5);
+    shown::meets(h, 7, 1);
+    shown::meets(h, 0, 0);
+    shown::meets(h, 7, 6);
 }
 
 // The smallest row on the paths of two rows, of three, of one, of one twice, of rows whose paths do not join, and with a row outside 1 to m.
 fn joined(h: Host) {
-    steps::common(h, &[1, 2]);
-    steps::common(h, &[1, 2, 4]);
-    steps::common(h, &[2]);
-    steps::common(h, &[2, 2]);
-    steps::common(h, &[4, 1]);
-    steps::common(h, &[1, 5]);
-    steps::common(h, &[0]);
-    steps::common(h, &[1, 5, 6]);
+    shown::common(h, &[1, 2]);
+    shown::common(h, &[1, 2, 4]);
+    shown::common(h, &[2]);
+    shown::common(h, &[2, 2]);
+    shown::common(h, &[4, 1]);
+    shown::common(h, &[1, 5]);
+    shown::common(h, &[0]);
+    shown::common(h, &[1, 5, 6]);
 }
 
 // 2 and 9: the listed example with its questions, a removal that repeats an id, rows 4 4, and every column removed.
@@ -210,7 +211,7 @@ fn staying() {
     show(both);
     let left = remove(both, &[2]);
     show(left);
-    if steps::second_record(left, 3) == steps::second_record(both, 3) {
+    if shown::second_record(left, 3) == shown::second_record(both, 3) {
         io::write_all(1, b"the same record\n");
     } else {
         io::write_all(1, b"another record\n");
@@ -246,5 +247,6 @@ fn main() {
     staying();
     merging();
     refused::all(listed());
+    windowed::all();
     large::run();
 }

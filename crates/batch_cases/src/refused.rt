@@ -1,12 +1,12 @@
 // Batches that are refused, by each number from 7 to 16, on the listed example of three columns: ids 1 to 3 are live, m is 5, n is 8. Openings
 // refused by 20; questions about the paths of some rows refused by 7.
 use crate::lines::title;
-use crate::steps::add;
-use crate::steps::common;
-use crate::steps::open;
-use crate::steps::open_with;
-use crate::steps::remove;
-use crate::steps::show;
+use crate::shown::add;
+use crate::shown::common;
+use crate::shown::open;
+use crate::shown::open_with;
+use crate::shown::remove;
+use crate::shown::show;
 use case_tables::Host;
 
 // 7: no column, more than 64, counts that keep no step.

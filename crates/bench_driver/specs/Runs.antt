@@ -1,4 +1,4 @@
--- What a run of batches leaves, and a run of questions. Assumes nothing: these are definitions.
+-- What a run of changes leaves, and a run of questions. Assumes nothing: these are definitions.
 use mathlib.Core.Path.{_≡_}
 use mathlib.Core.List.{List}
 use Prim.Native.Nat.{ℕ}
@@ -9,7 +9,7 @@ use Rattle.changes.specs.Batches.{CanChange}
 use Rattle.bench_driver.specs.declared.Ran.{Ran}
 use Rattle.bench_driver.specs.declared.asking.Asked.{Asked}
 
--- where nothing was refused another batch may follow
+-- where nothing was refused another change may follow
 abbrev pub Continues : Ran → Tables → (work touched labels : List ℕ) → Type 0
 Continues r t w a b = r .number ≡ 0 → CanChange (stateOf (r .factor)) t w a b
 

@@ -31,13 +31,14 @@ fn meets_each(
     book_heads: &[u32],
     book_rows: &[u16],
     book_next: &[u32],
+    windows: &[u32],
     work: &mut [u32],
     list: &mut [u32],
     row_list: &[u32],
 ) -> Asked
-    requires usable { ⌜ CanUse (stateOf factor) (tablesOf (now heads) (now parents) (now rows) (now counts) (now next) (now «book_heads») (now «book_rows») (now «book_next»)) (now work) ⌝ }
+    requires usable { ⌜ CanUse (stateOf factor) (tablesOf (now heads) (now parents) (now rows) (now counts) (now next) (now «book_heads») (now «book_rows») (now «book_next») (now windows)) (now work) ⌝ }
     requires few { ⌜ length (now «row_list») ≤ 1048576 ⌝ }
-    ensures { λ r. ⌜ CanUse (stateOf factor) (tablesOf (now (heads .entry)) (now (parents .entry)) (now (rows .entry)) (now (counts .entry)) (now (next .entry)) (now («book_heads» .entry)) (now («book_rows» .entry)) (now («book_next» .entry))) (now (work .exit)) ⌝ }
+    ensures { λ r. ⌜ CanUse (stateOf factor) (tablesOf (now (heads .entry)) (now (parents .entry)) (now (rows .entry)) (now (counts .entry)) (now (next .entry)) (now («book_heads» .entry)) (now («book_rows» .entry)) (now («book_next» .entry)) (now (windows .entry))) (now (work .exit)) ⌝ }
 {
     let mut done: usize = 0;
     let mut sum: u64 = 0;
@@ -52,6 +53,7 @@ fn meets_each(
             book_heads,
             book_rows,
             book_next,
+            windows,
             work,
             list,
             i,
@@ -87,11 +89,12 @@ pub extern "C" fn bench_meets(
     book_heads: &[u32],
     book_rows: &[u16],
     book_next: &[u32],
+    windows: &[u32],
     work: &mut [u32],
     list: &mut [u32],
     row_list: &[u32],
 ) -> Asked
-    ensures { λ r. ⌜ AsksOn r (stateOf factor) (tablesOf (now (heads .entry)) (now (parents .entry)) (now (rows .entry)) (now (counts .entry)) (now (next .entry)) (now («book_heads» .entry)) (now («book_rows» .entry)) (now («book_next» .entry))) (now (work .exit)) ⌝ }
+    ensures { λ r. ⌜ AsksOn r (stateOf factor) (tablesOf (now (heads .entry)) (now (parents .entry)) (now (rows .entry)) (now (counts .entry)) (now (next .entry)) (now («book_heads» .entry)) (now («book_rows» .entry)) (now («book_next» .entry)) (now (windows .entry))) (now (work .exit)) ⌝ }
 {
     let found = factor.check(
         heads,
@@ -102,6 +105,7 @@ pub extern "C" fn bench_meets(
         book_heads,
         book_rows,
         book_next,
+        windows,
         work,
     );
     let number = found.number;
@@ -129,6 +133,7 @@ pub extern "C" fn bench_meets(
         book_heads,
         book_rows,
         book_next,
+        windows,
         work,
         list,
         row_list,
@@ -146,10 +151,11 @@ fn common_each(
     book_heads: &[u32],
     book_rows: &[u16],
     book_next: &[u32],
+    windows: &[u32],
     row_list: &[u32],
     r: usize,
 ) -> Asked
-    requires usable { ⌜ Usable (stateOf factor) (tablesOf (now heads) (now parents) (now rows) (now counts) (now next) (now «book_heads») (now «book_rows») (now «book_next»)) ⌝ }
+    requires usable { ⌜ Usable (stateOf factor) (tablesOf (now heads) (now parents) (now rows) (now counts) (now next) (now «book_heads») (now «book_rows») (now «book_next») (now windows)) ⌝ }
     requires few { ⌜ length (now «row_list») ≤ 1048576 ⌝ }
     requires some { ⌜ 1 ≤ r ⌝ }
 {
@@ -167,6 +173,7 @@ fn common_each(
             book_heads,
             book_rows,
             book_next,
+            windows,
             &row_list[first..end],
         );
         let number = x.number;
@@ -197,11 +204,12 @@ pub extern "C" fn bench_common(
     book_heads: &[u32],
     book_rows: &[u16],
     book_next: &[u32],
+    windows: &[u32],
     work: &mut [u32],
     row_list: &[u32],
     r: usize,
 ) -> Asked
-    ensures { λ a. ⌜ AsksOn a (stateOf factor) (tablesOf (now (heads .entry)) (now (parents .entry)) (now (rows .entry)) (now (counts .entry)) (now (next .entry)) (now («book_heads» .entry)) (now («book_rows» .entry)) (now («book_next» .entry))) (now (work .exit)) ⌝ }
+    ensures { λ a. ⌜ AsksOn a (stateOf factor) (tablesOf (now (heads .entry)) (now (parents .entry)) (now (rows .entry)) (now (counts .entry)) (now (next .entry)) (now («book_heads» .entry)) (now («book_rows» .entry)) (now («book_next» .entry)) (now (windows .entry))) (now (work .exit)) ⌝ }
 {
     let found = factor.check(
         heads,
@@ -212,6 +220,7 @@ pub extern "C" fn bench_common(
         book_heads,
         book_rows,
         book_next,
+        windows,
         work,
     );
     let number = found.number;
@@ -246,6 +255,7 @@ pub extern "C" fn bench_common(
         book_heads,
         book_rows,
         book_next,
+        windows,
         row_list,
         r,
     )
@@ -262,9 +272,10 @@ fn next_each(
     book_heads: &[u32],
     book_rows: &[u16],
     book_next: &[u32],
+    windows: &[u32],
     row_list: &[u32],
 ) -> Asked
-    requires usable { ⌜ Usable (stateOf factor) (tablesOf (now heads) (now parents) (now rows) (now counts) (now next) (now «book_heads») (now «book_rows») (now «book_next»)) ⌝ }
+    requires usable { ⌜ Usable (stateOf factor) (tablesOf (now heads) (now parents) (now rows) (now counts) (now next) (now «book_heads») (now «book_rows») (now «book_next») (now windows)) ⌝ }
     requires few { ⌜ length (now «row_list») ≤ 1048576 ⌝ }
 {
     let mut first: usize = 0;
@@ -282,6 +293,7 @@ fn next_each(
             book_heads,
             book_rows,
             book_next,
+            windows,
             i,
             j,
         );
@@ -312,10 +324,11 @@ pub extern "C" fn bench_next(
     book_heads: &[u32],
     book_rows: &[u16],
     book_next: &[u32],
+    windows: &[u32],
     work: &mut [u32],
     row_list: &[u32],
 ) -> Asked
-    ensures { λ a. ⌜ AsksOn a (stateOf factor) (tablesOf (now (heads .entry)) (now (parents .entry)) (now (rows .entry)) (now (counts .entry)) (now (next .entry)) (now («book_heads» .entry)) (now («book_rows» .entry)) (now («book_next» .entry))) (now (work .exit)) ⌝ }
+    ensures { λ a. ⌜ AsksOn a (stateOf factor) (tablesOf (now (heads .entry)) (now (parents .entry)) (now (rows .entry)) (now (counts .entry)) (now (next .entry)) (now («book_heads» .entry)) (now («book_rows» .entry)) (now («book_next» .entry)) (now (windows .entry))) (now (work .exit)) ⌝ }
 {
     let found = factor.check(
         heads,
@@ -326,6 +339,7 @@ pub extern "C" fn bench_next(
         book_heads,
         book_rows,
         book_next,
+        windows,
         work,
     );
     let number = found.number;
@@ -353,6 +367,7 @@ pub extern "C" fn bench_next(
         book_heads,
         book_rows,
         book_next,
+        windows,
         row_list,
     )
 }

@@ -1,5 +1,6 @@
-// Batches one after another through the unchecked entries, as a proved caller runs them, and in asking.rt questions, for the benchmark alone: the tables are
-// read through once, then each batch costs only what it touches. No part of the product's interface.
+// Batches one after another through the unchecked entries, as a proved caller runs them, in setting.rt clock changes and in asking.rt questions, for the
+// benchmark alone: the tables are read through once, then each batch costs only what it touches. The batches have no windows. No part of the product's
+// interface.
 ghost use mathlib.Core.Path.{_≡_};
 ghost use Rattle.tables.specs.Tables.{tablesOf};
 ghost use Rattle.factor.specs.Entries.{stateOf};
@@ -8,16 +9,81 @@ ghost use Rattle.bench_driver.specs.Runs.{Continues};
 
 mod asking;
 mod plan;
+mod setting;
 
 use changes::Changed;
 use factor::Factor;
 
-// How a run ended: the number that refused a batch or 0, the batches done, and the record after them.
+// How a run of batches or clock changes ended: the number that refused one or 0, how many are done, and the record after them.
 #[repr(C)]
 pub struct Ran {
     pub number: u32,
     pub done: u32,
     pub factor: Factor,
+}
+
+// The answer to a batch that is too large, or whose parts the lists do not have.
+fn refused(factor: Factor) -> Changed
+    ensures { λ r. ⌜ r .factor ≡ factor ⌝ }
+{
+    Changed {
+        number: 7,
+        position: 0,
+        touched: 0,
+        entries: 0,
+        grade: 0,
+        factor,
+    }
+}
+
+// Adds a batch without windows, or number 7 where it has more ids than any batch may: then nothing changes.
+fn add_plain(
+    factor: Factor,
+    heads: &[u32],
+    parents: &mut [u16],
+    rows: &mut [u16],
+    counts: &mut [u16],
+    next: &mut [u32],
+    book_heads: &mut [u32],
+    book_rows: &mut [u16],
+    book_next: &mut [u32],
+    windows: &mut [u32],
+    work: &mut [u32],
+    touched: &mut [u16],
+    labels: &mut [u16],
+    ids: &[u32],
+    row_counts: &[u32],
+    row_list: &[u32],
+) -> Changed
+    requires { ⌜ CanChange (stateOf factor) (tablesOf (now heads) (now parents) (now rows) (now counts) (now next) (now «book_heads») (now «book_rows») (now «book_next») (now windows)) (now work) (now touched) (now labels) ⌝ }
+    ensures { λ r. ⌜ CanChange (stateOf (r .factor)) (tablesOf (now (heads .entry)) (now (parents .exit)) (now (rows .exit)) (now (counts .exit)) (now (next .exit)) (now («book_heads» .exit)) (now («book_rows» .exit)) (now («book_next» .exit)) (now (windows .exit))) (now (work .exit)) (now (touched .exit)) (now (labels .exit)) ⌝ }
+{
+    let count = ids.len();
+    if 64 < count {
+        return refused(factor);
+    }
+    let firsts = [0u32; 64];
+    let seconds = [0u32; 64];
+    changes::add_unchecked(
+        factor,
+        heads,
+        parents,
+        rows,
+        counts,
+        next,
+        book_heads,
+        book_rows,
+        book_next,
+        windows,
+        work,
+        touched,
+        labels,
+        ids,
+        row_counts,
+        row_list,
+        &firsts[..count],
+        &seconds[..count],
+    )
 }
 
 // Adds or removes one batch.
@@ -31,6 +97,7 @@ fn change(
     book_heads: &mut [u32],
     book_rows: &mut [u16],
     book_next: &mut [u32],
+    windows: &mut [u32],
     work: &mut [u32],
     touched: &mut [u16],
     labels: &mut [u16],
@@ -39,11 +106,11 @@ fn change(
     row_list: &[u32],
     adds: bool,
 ) -> Changed
-    requires { ⌜ CanChange (stateOf factor) (tablesOf (now heads) (now parents) (now rows) (now counts) (now next) (now «book_heads») (now «book_rows») (now «book_next»)) (now work) (now touched) (now labels) ⌝ }
-    ensures { λ r. ⌜ CanChange (stateOf (r .factor)) (tablesOf (now (heads .entry)) (now (parents .exit)) (now (rows .exit)) (now (counts .exit)) (now (next .exit)) (now («book_heads» .exit)) (now («book_rows» .exit)) (now («book_next» .exit))) (now (work .exit)) (now (touched .exit)) (now (labels .exit)) ⌝ }
+    requires { ⌜ CanChange (stateOf factor) (tablesOf (now heads) (now parents) (now rows) (now counts) (now next) (now «book_heads») (now «book_rows») (now «book_next») (now windows)) (now work) (now touched) (now labels) ⌝ }
+    ensures { λ r. ⌜ CanChange (stateOf (r .factor)) (tablesOf (now (heads .entry)) (now (parents .exit)) (now (rows .exit)) (now (counts .exit)) (now (next .exit)) (now («book_heads» .exit)) (now («book_rows» .exit)) (now («book_next» .exit)) (now (windows .exit))) (now (work .exit)) (now (touched .exit)) (now (labels .exit)) ⌝ }
 {
     if adds {
-        return changes::add_unchecked(
+        return add_plain(
             factor,
             heads,
             parents,
@@ -53,6 +120,7 @@ fn change(
             book_heads,
             book_rows,
             book_next,
+            windows,
             work,
             touched,
             labels,
@@ -71,25 +139,12 @@ fn change(
         book_heads,
         book_rows,
         book_next,
+        windows,
         work,
         touched,
         labels,
         ids,
     )
-}
-
-// The answer to a batch whose parts the lists do not have.
-fn refused(factor: Factor) -> Changed
-    ensures { λ r. ⌜ r .factor ≡ factor ⌝ }
-{
-    Changed {
-        number: 7,
-        position: 0,
-        touched: 0,
-        entries: 0,
-        grade: 0,
-        factor,
-    }
 }
 
 // The batch b of the plan, or number 7 where the lists do not have its parts: then nothing changes.
@@ -103,6 +158,7 @@ fn step(
     book_heads: &mut [u32],
     book_rows: &mut [u16],
     book_next: &mut [u32],
+    windows: &mut [u32],
     work: &mut [u32],
     touched: &mut [u16],
     labels: &mut [u16],
@@ -112,8 +168,8 @@ fn step(
     row_list: &[u32],
     b: u32,
 ) -> Changed
-    requires { ⌜ CanChange (stateOf factor) (tablesOf (now heads) (now parents) (now rows) (now counts) (now next) (now «book_heads») (now «book_rows») (now «book_next»)) (now work) (now touched) (now labels) ⌝ }
-    ensures { λ r. ⌜ CanChange (stateOf (r .factor)) (tablesOf (now (heads .entry)) (now (parents .exit)) (now (rows .exit)) (now (counts .exit)) (now (next .exit)) (now («book_heads» .exit)) (now («book_rows» .exit)) (now («book_next» .exit))) (now (work .exit)) (now (touched .exit)) (now (labels .exit)) ⌝ }
+    requires { ⌜ CanChange (stateOf factor) (tablesOf (now heads) (now parents) (now rows) (now counts) (now next) (now «book_heads») (now «book_rows») (now «book_next») (now windows)) (now work) (now touched) (now labels) ⌝ }
+    ensures { λ r. ⌜ CanChange (stateOf (r .factor)) (tablesOf (now (heads .entry)) (now (parents .exit)) (now (rows .exit)) (now (counts .exit)) (now (next .exit)) (now («book_heads» .exit)) (now («book_rows» .exit)) (now («book_next» .exit)) (now (windows .exit))) (now (work .exit)) (now (touched .exit)) (now (labels .exit)) ⌝ }
 {
     let p = plan::planned(plan, b, ids.len(), row_counts.len(), row_list.len());
     if !p.ids_in {
@@ -141,6 +197,7 @@ fn step(
         book_heads,
         book_rows,
         book_next,
+        windows,
         work,
         touched,
         labels,
@@ -162,6 +219,7 @@ fn run(
     book_heads: &mut [u32],
     book_rows: &mut [u16],
     book_next: &mut [u32],
+    windows: &mut [u32],
     work: &mut [u32],
     touched: &mut [u16],
     labels: &mut [u16],
@@ -170,8 +228,8 @@ fn run(
     row_counts: &[u32],
     row_list: &[u32],
 ) -> Ran
-    requires { ⌜ CanChange (stateOf factor) (tablesOf (now heads) (now parents) (now rows) (now counts) (now next) (now «book_heads») (now «book_rows») (now «book_next»)) (now work) (now touched) (now labels) ⌝ }
-    ensures { λ r. ⌜ CanChange (stateOf (r .factor)) (tablesOf (now (heads .entry)) (now (parents .exit)) (now (rows .exit)) (now (counts .exit)) (now (next .exit)) (now («book_heads» .exit)) (now («book_rows» .exit)) (now («book_next» .exit))) (now (work .exit)) (now (touched .exit)) (now (labels .exit)) ⌝ }
+    requires { ⌜ CanChange (stateOf factor) (tablesOf (now heads) (now parents) (now rows) (now counts) (now next) (now «book_heads») (now «book_rows») (now «book_next») (now windows)) (now work) (now touched) (now labels) ⌝ }
+    ensures { λ r. ⌜ CanChange (stateOf (r .factor)) (tablesOf (now (heads .entry)) (now (parents .exit)) (now (rows .exit)) (now (counts .exit)) (now (next .exit)) (now («book_heads» .exit)) (now («book_rows» .exit)) (now («book_next» .exit)) (now (windows .exit))) (now (work .exit)) (now (touched .exit)) (now (labels .exit)) ⌝ }
 {
     let batches = plan::batches(plan);
     let mut after = factor;
@@ -187,6 +245,7 @@ fn run(
             book_heads,
             book_rows,
             book_next,
+            windows,
             work,
             touched,
             labels,
@@ -225,6 +284,7 @@ pub extern "C" fn bench_run_batches(
     book_heads: &mut [u32],
     book_rows: &mut [u16],
     book_next: &mut [u32],
+    windows: &mut [u32],
     work: &mut [u32],
     touched: &mut [u16],
     labels: &mut [u16],
@@ -233,7 +293,7 @@ pub extern "C" fn bench_run_batches(
     row_counts: &[u32],
     row_list: &[u32],
 ) -> Ran
-    ensures { λ r. ⌜ Continues r (tablesOf (now (heads .entry)) (now (parents .exit)) (now (rows .exit)) (now (counts .exit)) (now (next .exit)) (now («book_heads» .exit)) (now («book_rows» .exit)) (now («book_next» .exit))) (now (work .exit)) (now (touched .exit)) (now (labels .exit)) ⌝ }
+    ensures { λ r. ⌜ Continues r (tablesOf (now (heads .entry)) (now (parents .exit)) (now (rows .exit)) (now (counts .exit)) (now (next .exit)) (now («book_heads» .exit)) (now («book_rows» .exit)) (now («book_next» .exit)) (now (windows .exit))) (now (work .exit)) (now (touched .exit)) (now (labels .exit)) ⌝ }
 {
     let found = factor.check(
         heads,
@@ -244,6 +304,7 @@ pub extern "C" fn bench_run_batches(
         book_heads,
         book_rows,
         book_next,
+        windows,
         work,
     );
     let number = found.number;
@@ -271,6 +332,7 @@ pub extern "C" fn bench_run_batches(
         book_heads,
         book_rows,
         book_next,
+        windows,
         work,
         touched,
         labels,

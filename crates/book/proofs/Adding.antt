@@ -13,7 +13,7 @@ use Rattle.lists.proofs.Tests.{eq-or-ne}
 use Rattle.lists.proofs.Times.{times-mid, times-append, UpTo}
 use Rattle.lists.proofs.Place.{put-length}
 use Rattle.lists.proofs.Rising.{rises-high}
-use Rattle.symbolic.specs.Columns.{Column}
+use Rattle.symbolic.specs.Columns.{Column, columnWith}
 use Rattle.pool.specs.Chains.{chain, Linked}
 use Rattle.pool.specs.Changes.{Has, Changed}
 use Rattle.pool.proofs.Chains.{After, linked-after, linked-in, linked-once, linked-some}
@@ -31,7 +31,7 @@ module _ {hs xs ns : List ℕ} {f id : ℕ} {list : List ℕ} (q : CanAdd (bookO
   before = sound-of (q .has .m) (bookOf hs xs ns f) (q .has .sound)
 
   fit : Fitting (q .has .m) list
-  fit = fitting (q .has .m) (record { id = id; rows = list }) (q .fits)
+  fit = fitting (q .has .m) (columnWith id list) (q .fits)
 
   free-linked : Linked ns f (chain ns f)
   free-linked = before .pool .unused
@@ -86,10 +86,10 @@ module _ {hs xs ns : List ℕ} {f id : ℕ} {list : List ℕ} (q : CanAdd (bookO
     others-after : (l : ℕ) → 1 ≤ l → l ≤ length hs → l ≢ id → ColumnStays (bookOf hs xs ns f) (bookOf (put hs id f) ys (put ns p 0) (at ns p)) l
     others-after = column-stays (before .pool) pool-after xs ys (λ x low n. rows-other x low (omega (arith, shared x)))
 
-    column-is : columnFor (bookOf (put hs id f) ys (put ns p 0) (at ns p)) id ≡ record { id = id; rows = list }
-    column-is = ap {B = Column} (λ rows. record { id = id; rows = rows }) column-after
+    column-is : columnFor (bookOf (put hs id f) ys (put ns p 0) (at ns p)) id ≡ columnWith id list
+    column-is = ap {B = Column} (λ rows. columnWith id rows) column-after
 
-    sound-after : (m : ℕ) → isSound m (bookOf hs xs ns f) ≡ true → columnFits m (record { id = id; rows = list }) ≡ true → isSound m (bookOf (put hs id f) ys (put ns p 0) (at ns p)) ≡ true
+    sound-after : (m : ℕ) → isSound m (bookOf hs xs ns f) ≡ true → columnFits m (columnWith id list) ≡ true → isSound m (bookOf (put hs id f) ys (put ns p 0) (at ns p)) ≡ true
     sound-after m e fits =
         let s : Sound m (bookOf hs xs ns f) = sound-of m (bookOf hs xs ns f) e in
         of-sound m (bookOf (put hs id f) ys (put ns p 0) (at ns p))

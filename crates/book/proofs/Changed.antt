@@ -8,7 +8,7 @@ use native.Mathlib.Omega.{arith}
 use lib.ListN.{length}
 use Rattle.lists.specs.Lists.{sumOf}
 use Rattle.lists.proofs.Sum.{sum-append}
-use Rattle.symbolic.specs.Columns.{Column}
+use Rattle.symbolic.specs.Columns.{Column, columnWith}
 use Rattle.symbolic.specs.Change.{without, Bag}
 use Rattle.pool.specs.Chains.{chain}
 use Rattle.book.specs.Book.{Book, columnsIn}
@@ -37,12 +37,12 @@ module _ {b after : Book} {id : ℕ} {rows : List ℕ} (q : CanAdd b id rows) (a
         same-column = λ l p h d. stays-column (a .others l p h d);
       }
 
-  added-sum : (f : Column → ℕ) → sumOf f (columnsIn after) ≡ sumOf f (columnsIn b) + f (record { id = id; rows = rows })
+  added-sum : (f : Column → ℕ) → sumOf f (columnsIn after) ≡ sumOf f (columnsIn b) + f (columnWith id rows)
   added-sum f = differ-sum added-differ f ∙ ap (λ (c : Column). sumOf f (columnsIn b) + f c) (a .column)
 
   -- the old columns and the new one
-  pub added-bag : Bag (columnsIn after) (columnsIn b ++ (record { id = id; rows = rows } ∷ []))
-  added-bag f = added-sum f ∙ sym (sum-one f (columnsIn b) (record { id = id; rows = rows }))
+  pub added-bag : Bag (columnsIn after) (columnsIn b ++ (columnWith id rows ∷ []))
+  added-bag f = added-sum f ∙ sym (sum-one f (columnsIn b) (columnWith id rows))
 
   -- so many free records less
   pub added-room : length (chain (after .next) (after .free)) + length rows ≡ length (chain (b .next) (b .free))

@@ -12,7 +12,7 @@ use lib.ListN.{length, take, drop}
 use lib.Seq.{split-at, take-suc}
 use Rattle.lists.specs.Lists.{at, put, times, valuesAt}
 use Rattle.lists.proofs.Place.{values-frame}
-use Rattle.symbolic.specs.Columns.{Column}
+use Rattle.symbolic.specs.Columns.{Column, columnWith}
 use Rattle.pool.specs.Chains.{chain}
 use Rattle.pool.specs.Whole.{Pool}
 use Rattle.pool.proofs.Chains.{linked-low}
@@ -54,7 +54,7 @@ column-stays {ns₀} {hs₀} {f₀} {k} {ns} {h} {f} p a rows₀ rows same l low
 
 module _ {b a : Book} {l : ℕ} (s : ColumnStays b a l) where
   pub stays-column : columnFor a l ≡ columnFor b l
-  stays-column = ap {B = Column} (λ rows. record { id = l; rows = rows }) (s .rows)
+  stays-column = ap {B = Column} (λ rows. columnWith l rows) (s .rows)
 
   pub stays-booked : isBooked (a .heads) l ≡ isBooked (b .heads) l
   stays-booked = ap (λ (h : ℕ). not (eqb h 0)) (s .head)

@@ -1,5 +1,5 @@
 -- The book of columns, as document 01's "Tables" has it: a head for each id, chains of row and next, a free chain.
--- Its contents as a list of columns, when it is sound, and what it means that a column stays. Later tables of the book enter here.
+-- Its contents as a list of columns, when it is sound, and what it means that a column stays. Windows stand beside it, in `windows`.
 -- Assumes nothing: these are definitions.
 use mathlib.Core.Path.{_≡_}
 use mathlib.Core.Bool.{Bool, _&&_, not}
@@ -8,7 +8,7 @@ use Prim.Native.Nat.{ℕ, zero, suc}
 use lib.Dec.{eqb}
 use lib.ListN.{length}
 use Rattle.lists.specs.Lists.{pick, isIn, all, at, valuesAt, rises, allZero}
-use Rattle.symbolic.specs.Columns.{Column, Register}
+use Rattle.symbolic.specs.Columns.{Column, columnWith}
 use Rattle.pool.specs.Chains.{chain}
 use Rattle.pool.specs.Whole.{isWhole}
 
@@ -31,7 +31,7 @@ tablesOf hs rs ns = bookOf hs rs ns 0
 abbrev pub Sized : Book → Type 0
 Sized b = length (b .rows) ≡ length (b .next)
 
--- "The book has a head for each id (0: not live)"
+-- "The book has a head for each id (0: not live)"; booked, as document 02 has it since windows
 abbrev pub isBooked : (heads : List ℕ) → (id : ℕ) → Bool
 isBooked hs i = not (eqb (at hs i) 0)
 
@@ -39,9 +39,9 @@ isBooked hs i = not (eqb (at hs i) 0)
 abbrev pub recordsUnder : Book → (id : ℕ) → List ℕ
 recordsUnder b i = chain (b .next) (at (b .heads) i)
 
--- the column of an id
+-- the column of an id: its rows; windows are not in the book's tables
 abbrev pub columnFor : Book → (id : ℕ) → Column
-columnFor b i = record { id = i; rows = valuesAt (b .rows) (recordsUnder b i) }
+columnFor b i = columnWith i (valuesAt (b .rows) (recordsUnder b i))
 
 -- the columns of the booked ids, of so many ids from one on
 unfoldable pub columnsFrom : Book → (id : ℕ) → ℕ → List Column
@@ -51,10 +51,6 @@ columnsFrom b i (suc n) = pick (isBooked (b .heads) i) (columnFor b i ∷ column
 -- THE BOOK as a list of columns, by rising id
 abbrev pub columnsIn : Book → List Column
 columnsIn b = columnsFrom b 1 (length (b .heads))
-
--- the register that a book holds, for rows 1 to m
-abbrev pub registerIn : (m : ℕ) → Book → Register
-registerIn m b = record { m = m; columns = columnsIn b }
 
 -- "book rows are within 1 to m, rise strictly, and are at most 256 a column"; a booked column has at least one
 abbrev pub columnFits : (m : ℕ) → Column → Bool

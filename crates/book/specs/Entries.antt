@@ -8,7 +8,7 @@ use mathlib.Core.List.{List}
 use Prim.Native.Nat.{ℕ, _≤_, _<_}
 use lib.ListN.{length, replicate}
 use Rattle.lists.specs.Lists.{at}
-use Rattle.symbolic.specs.Columns.{smallest}
+use Rattle.symbolic.specs.Columns.{columnWith, smallest}
 use Rattle.pool.specs.Chains.{chain}
 use Rattle.pool.specs.Opening.{openedNexts, freeHead}
 use Rattle.book.specs.Book.{Book, bookOf, tablesOf, Sized, isBooked, columnFor, columnFits, isSound, ColumnStays}
@@ -29,7 +29,7 @@ pub record HasId (b : Book) (id : ℕ) : Type 0 where
 pub record CanAdd (b : Book) (id : ℕ) (rows : List ℕ) : Type 0 where
   pub has : HasId b id
   pub absent : isBooked (b .heads) id ≡ false
-  pub fits : columnFits (has .m) (record { id = id; rows = rows }) ≡ true
+  pub fits : columnFits (has .m) (columnWith id rows) ≡ true
   pub narrow : has .m < 65536
   pub room : length rows ≤ length (chain (b .next) (b .free))
 
@@ -38,9 +38,9 @@ pub record Added (b : Book) (id : ℕ) (rows : List ℕ) (after : Book) : Type 0
   pub sized : Sized after
   pub same-heads : length (after .heads) ≡ length (b .heads)
   pub same-records : length (after .next) ≡ length (b .next)
-  pub sound : (m : ℕ) → isSound m b ≡ true → columnFits m (record { id = id; rows = rows }) ≡ true → isSound m after ≡ true
+  pub sound : (m : ℕ) → isSound m b ≡ true → columnFits m (columnWith id rows) ≡ true → isSound m after ≡ true
   pub booked : isBooked (after .heads) id ≡ true
-  pub column : columnFor after id ≡ record { id = id; rows = rows }
+  pub column : columnFor after id ≡ columnWith id rows
   pub others : (l : ℕ) → 1 ≤ l → l ≤ length (b .heads) → l ≢ id → ColumnStays b after l
 
 -- REMOVE: a booked id

@@ -3,36 +3,35 @@
 -- a column that is not touched is the same before and after (`untouched-same`), and the entries of an addition are the sizes after it, those of a removal
 -- the sizes before it (`adding-entries`, `removing-entries`). Assumes nothing.
 use mathlib.Core.Path.{_≡_, refl, sym, ap, _∙_, subst}
-use mathlib.Core.Logic.{inl, inr}
-use mathlib.Core.Bool.{Bool, true, false, true≢false}
+use mathlib.Core.Bool.{Bool, true, false, _||_, true≢false}
 use mathlib.Core.List.{List, _++_, append-nil}
 use Prim.Native.Nat.{ℕ, _≤_}
 use lib.ListN.{length}
 use Rattle.lists.specs.Lists.{all, among, noRepeats, sumOf, rises}
 use Rattle.lists.proofs.Tests.{refute}
-use Rattle.lists.proofs.Member.{mem-left, mem-right, mem-either, all-at, all-make}
-use Rattle.symbolic.specs.Columns.{Column, Register, live}
+use Rattle.lists.proofs.Member.{mem-left, mem-right, all-at, all-make}
+use Rattle.symbolic.specs.Columns.{Column, withRows, Register, live}
 use Rattle.symbolic.specs.Factor.{FactorColumn, factorOf, factorFor, columnAt}
-use Rattle.symbolic.specs.Batch.{isTouched, touched, exchanged, sizeSumOf, entriesOf}
+use Rattle.symbolic.specs.Batch.{isTouched, touched, isExchanged, exchanged, sizeSumOf, entriesOf}
 use Rattle.symbolic.specs.Change.{idsOf, without, columnsOf, added, removed, Bag}
 use Rattle.symbolic.proofs.Build.{factor-length}
 use Rattle.symbolic.proofs.Bags.{bag-mem}
-use Rattle.symbolic.proofs.Live.{live-adding, live-removing}
-use Rattle.symbolic.proofs.Exchange.{exchanged-entering, exchanged-leaving, exchanged-rises}
-use Rattle.symbolic.proofs.Theorems.{locality, order-free, removal-splits, touched-is, addition-entries, removal-entries}
+use Rattle.symbolic.proofs.Live.{rows-bag, live-adding, live-removing, live-leaving, live-entering}
+use Rattle.symbolic.proofs.Exchange.{exchanged-entering, exchanged-leaving, exchanged-is, exchanged-rises}
+use Rattle.symbolic.proofs.Theorems.{locality, order-free, removal-splits, rowless-factor, addition-entries, removal-entries}
 use Rattle.book.specs.Book.{columnFits}
 use Rattle.tables.specs.Tables.{Sizes}
-use Rattle.calls.specs.Refusals.{isAccepted, batchOf}
-use Rattle.calls.specs.Calls.{Change, adding, removing}
+use Rattle.calls.specs.Refusals.{isAccepted, linesOf}
+use Rattle.calls.specs.Calls.{Change, adding, removing, setting}
 use Rattle.calls.specs.Changes.{Effect, effect, IsExchange, touchedBy, entriesBy}
-use Rattle.calls.proofs.Refusals.{add-facts, RemoveFits, remove-facts}
+use Rattle.calls.proofs.Refusals.{RemoveFits, remove-facts}
 
 -- ---- what a change touches
 
 module _ (r : Register) where
   -- "in the tree after the call when adding"
-  pub touched-adding : (is ns rs : List ℕ) → touchedBy r (adding is ns rs) ≡ touched (factorFor (added r (batchOf is ns rs))) (effect r (adding is ns rs) .enter)
-  touched-adding is ns rs = exchanged-entering (factorFor r) (factorFor (added r (batchOf is ns rs))) (effect r (adding is ns rs) .enter)
+  pub touched-adding : (is ns rs ps qs : List ℕ) → touchedBy r (adding is ns rs ps qs) ≡ touched (factorFor (added r (linesOf is ns rs ps qs))) (effect r (adding is ns rs ps qs) .enter)
+  touched-adding is ns rs ps qs = exchanged-entering (factorFor r) (factorFor (added r (linesOf is ns rs ps qs))) (effect r (adding is ns rs ps qs) .enter)
 
   -- "before it when removing"
   pub touched-removing : (is : List ℕ) → touchedBy r (removing is) ≡ touched (factorFor r) (effect r (removing is) .leave)
@@ -42,8 +41,9 @@ module _ (r : Register) where
 
   -- no change alters m
   pub rows-stay : (c : Change) → effect r c .register .m ≡ r .m
-  rows-stay (adding is ns rs) = refl
+  rows-stay (adding is ns rs ps qs) = refl
   rows-stay (removing is) = refl
+  rows-stay (setting t) = refl
 
   pub touched-rise : (c : Change) → rises 1 (r .m) (touchedBy r c) ≡ true
   touched-rise c =
@@ -54,9 +54,6 @@ module _ (r : Register) where
 -- ---- lists of columns that pass a test
 
 module _ {A : Type 0} (f : A → Bool) where
-  pub all-append : (xs ys : List A) → all f xs ≡ true → all f ys ≡ true → all f (xs ++ ys) ≡ true
-  all-append xs ys h k = all-make f (xs ++ ys) (λ x m. elim (mem-either xs m) [ inl n ↦ all-at f n h | inr n ↦ all-at f n k ])
-
   pub append-all : (xs ys : List A) → all f (xs ++ ys) ≡ true → (all f xs ≡ true) × (all f ys ≡ true)
   append-all xs ys h = (all-make f xs (λ x m. all-at f (mem-left ys m) h), all-make f ys (λ x m. all-at f (mem-right xs m) h))
 
@@ -80,62 +77,84 @@ pub removal-live : (l : Sizes) (r : Register) (is : List ℕ) → noRepeats (ids
     Bag (live r) (effect r (removing is) .stay ++ effect r (removing is) .leave)
 removal-live l r is u f = live-removing r is (columnsOf is (r .columns)) (removal-bag l r is u f)
 
+-- ---- lists of columns that are the same
+
+same-bag : {cs ds : List Column} → cs ≡ ds → Bag cs ds
+same-bag e f = ap (λ (cs : List Column). sumOf f cs) e
+
+-- but for their order and for columns with no row: the factor is the same
+pub but-rows : (m : ℕ) (cs ds : List Column) → Bag (withRows cs) (withRows ds) → factorOf m cs ≡ factorOf m ds
+but-rows m cs ds b = rowless-factor m cs ∙ order-free m (withRows cs) (withRows ds) b ∙ sym (rowless-factor m ds)
+
 -- ---- an accepted change
 
 -- it is an exchange
 pub effect-exchanges : (l : Sizes) (r : Register) → noRepeats (idsOf (r .columns)) ≡ true → (c : Change) → isAccepted (effect r c .refusal l) ≡ true →
     IsExchange r (effect r c)
-effect-exchanges l r u (adding is ns rs) h =
+effect-exchanges l r u (adding is ns rs ps qs) h =
+    let B : List Column = linesOf is ns rs ps qs in
     record {
-      before = λ f. ap (λ (cs : List Column). sumOf f cs) (sym (append-nil (live r)));
-      after = λ f. ap (λ (cs : List Column). sumOf f cs) (live-adding r (batchOf is ns rs));
+      before = same-bag (ap withRows (sym (append-nil (live r))));
+      after = same-bag (ap withRows (live-adding r B));
     }
 effect-exchanges l r u (removing is) h =
+    let S : List Column = effect r (removing is) .stay in
+    let L : List Column = effect r (removing is) .leave in
     record {
-      before = removal-live l r is u (remove-facts l r is h);
-      after = λ f. ap (λ (cs : List Column). sumOf f cs) (sym (append-nil (live (removed r is))));
+      before = rows-bag (live r) (S ++ L) (removal-live l r is u (remove-facts l r is h));
+      after = same-bag (ap withRows (sym (append-nil S)));
     }
+effect-exchanges l r u (setting t) h = record { before = live-leaving r t; after = live-entering r t }
 
--- a column that the report leaves out is on no path
-untouched : (m : ℕ) (cs batch : List Column) (j : ℕ) → 1 ≤ j → j ≤ m → among j (touched (factorOf m cs) batch) ≡ false → isTouched (factorOf m cs) batch j ≡ false
-untouched m cs batch j a b h =
-    refute (isTouched (factorOf m cs) batch j) (λ e. true≢false (sym (touched-is m cs batch j .1 (a, b, e)) ∙ h))
+-- the factors before and after an exchange
+module _ {r : Register} {x : Effect} (e : IsExchange r x) where
+  pub exchange-before : factorFor r ≡ factorOf (r .m) (x .stay ++ x .leave)
+  exchange-before = but-rows (r .m) (live r) (x .stay ++ x .leave) (e .before)
+
+  pub exchange-after : factorFor (x .register) ≡ factorOf (x .register .m) (x .stay ++ x .enter)
+  exchange-after = but-rows (x .register .m) (live (x .register)) (x .stay ++ x .enter) (e .after)
 
 -- the factor of the register after an addition, and of the one before a removal, with the batch at its end
-pub addition-factor : (r : Register) (is ns rs : List ℕ) →
-    factorFor (added r (batchOf is ns rs)) ≡ factorOf (r .m) (effect r (adding is ns rs) .stay ++ effect r (adding is ns rs) .enter)
-addition-factor r is ns rs = ap (λ (cs : List Column). factorOf (r .m) cs) (live-adding r (batchOf is ns rs))
+pub addition-factor : (r : Register) (is ns rs ps qs : List ℕ) →
+    factorFor (added r (linesOf is ns rs ps qs)) ≡ factorOf (r .m) (effect r (adding is ns rs ps qs) .stay ++ effect r (adding is ns rs ps qs) .enter)
+addition-factor r is ns rs ps qs = ap (λ (cs : List Column). factorOf (r .m) cs) (live-adding r (linesOf is ns rs ps qs))
 
 pub removal-factor : (l : Sizes) (r : Register) (is : List ℕ) → noRepeats (idsOf (r .columns)) ≡ true → RemoveFits l r is →
     factorFor r ≡ factorOf (r .m) (effect r (removing is) .stay ++ effect r (removing is) .leave)
 removal-factor l r is u f = order-free (r .m) (live r) (effect r (removing is) .stay ++ effect r (removing is) .leave) (removal-live l r is u f)
 
+or-neither : (x y : Bool) → (x || y) ≡ false → (x ≡ false) × (y ≡ false)
+or-neither true y h = absurd (true≢false h)
+or-neither false y h = (refl, h)
+
 -- "alters no column off its paths", of the definition itself
 module _ (l : Sizes) (r : Register) (u : noRepeats (idsOf (r .columns)) ≡ true) (j : ℕ) (a : 1 ≤ j) (b : j ≤ r .m) where
   pub untouched-same : (c : Change) → isAccepted (effect r c .refusal l) ≡ true → among j (touchedBy r c) ≡ false →
       columnAt (factorFor (effect r c .register)) j ≡ columnAt (factorFor r) j
-  untouched-same (adding is ns rs) h t =
-      let W : List Column = effect r (adding is ns rs) .enter in
-      let e : factorFor (added r (batchOf is ns rs)) ≡ factorOf (r .m) (live r ++ W) = addition-factor r is ns rs in
-      let q : among j (touched (factorFor (added r (batchOf is ns rs))) W) ≡ false = ap (λ (js : List ℕ). among j js) (sym (touched-adding r is ns rs)) ∙ t in
-      ap (λ (fs : List FactorColumn). columnAt fs j) e ∙
-      sym (locality (r .m) (live r) W j a b (untouched (r .m) (live r ++ W) W j a b (ap (λ (fs : List FactorColumn). among j (touched fs W)) (sym e) ∙ q)))
-  untouched-same (removing is) h t =
-      let R : List Column = effect r (removing is) .stay in
-      let W : List Column = effect r (removing is) .leave in
-      let e : factorFor r ≡ factorOf (r .m) (R ++ W) = removal-factor l r is u (remove-facts l r is h) in
-      let q : among j (touched (factorFor r) W) ≡ false = ap (λ (js : List ℕ). among j js) (sym (touched-removing r is)) ∙ t in
-      locality (r .m) R W j a b (untouched (r .m) (R ++ W) W j a b (ap (λ (fs : List FactorColumn). among j (touched fs W)) (sym e) ∙ q)) ∙
-      ap (λ (fs : List FactorColumn). columnAt fs j) (sym e)
+  untouched-same c h t =
+      let x : Effect = effect r c in
+      let e : IsExchange r x = effect-exchanges l r u c h in
+      let S : List Column = x .stay in
+      let F : factorFor r ≡ factorOf (r .m) (S ++ x .leave) = exchange-before e in
+      let G : factorFor (x .register) ≡ factorOf (r .m) (S ++ x .enter) = exchange-after e ∙ ap (λ (m : ℕ). factorOf m (S ++ x .enter)) (rows-stay r c) in
+      let off : isExchanged (factorOf (r .m) (S ++ x .leave)) (factorOf (r .m) (S ++ x .enter)) (x .leave) (x .enter) j ≡ false =
+      refute (isExchanged (factorOf (r .m) (S ++ x .leave)) (factorOf (r .m) (S ++ x .enter)) (x .leave) (x .enter) j) (λ z.
+      true≢false (sym (exchanged-is (r .m) (S ++ x .leave) (S ++ x .enter) (x .leave) (x .enter) j .1 (a, b, z)) ∙
+      ap (λ (fs : List FactorColumn). among j (exchanged fs (factorOf (r .m) (S ++ x .enter)) (x .leave) (x .enter))) (sym F) ∙
+      ap (λ (fs : List FactorColumn). among j (exchanged (factorFor r) fs (x .leave) (x .enter))) (sym G) ∙ t)) in
+      let q : (isTouched (factorOf (r .m) (S ++ x .leave)) (x .leave) j ≡ false) × (isTouched (factorOf (r .m) (S ++ x .enter)) (x .enter) j ≡ false) =
+      or-neither (isTouched (factorOf (r .m) (S ++ x .leave)) (x .leave) j) (isTouched (factorOf (r .m) (S ++ x .enter)) (x .enter) j) off in
+      ap (λ (fs : List FactorColumn). columnAt fs j) G ∙ sym (locality (r .m) S (x .enter) j a b (q .1)) ∙ locality (r .m) S (x .leave) j a b (q .0) ∙
+      ap (λ (fs : List FactorColumn). columnAt fs j) (sym F)
 
 -- ---- entries
 
-pub adding-entries : (r : Register) (is ns rs : List ℕ) →
-    entriesBy r (adding is ns rs) ≡ sizeSumOf (factorFor (effect r (adding is ns rs) .register)) (touchedBy r (adding is ns rs))
-adding-entries r is ns rs =
-    let js : List ℕ = touchedBy r (adding is ns rs) in
-    subst (λ (fs : List FactorColumn). entriesOf (factorFor r) fs js ≡ sizeSumOf fs js) (sym (addition-factor r is ns rs))
-    (addition-entries (r .m) (live r) (effect r (adding is ns rs) .enter) js)
+pub adding-entries : (r : Register) (is ns rs ps qs : List ℕ) →
+    entriesBy r (adding is ns rs ps qs) ≡ sizeSumOf (factorFor (effect r (adding is ns rs ps qs) .register)) (touchedBy r (adding is ns rs ps qs))
+adding-entries r is ns rs ps qs =
+    let js : List ℕ = touchedBy r (adding is ns rs ps qs) in
+    subst (λ (fs : List FactorColumn). entriesOf (factorFor r) fs js ≡ sizeSumOf fs js) (sym (addition-factor r is ns rs ps qs))
+    (addition-entries (r .m) (live r) (effect r (adding is ns rs ps qs) .enter) js)
 
 pub removing-entries : (l : Sizes) (r : Register) (is : List ℕ) → noRepeats (idsOf (r .columns)) ≡ true → isAccepted (effect r (removing is) .refusal l) ≡ true →
     entriesBy r (removing is) ≡ sizeSumOf (factorFor r) (touchedBy r (removing is))

@@ -1,10 +1,10 @@
 -- Ordered choices of refusals: `orElse` and `unless` taken apart and put together, that an accepted choice is number 0 at position 0 (`Whole`), and
--- within which numbers a choice lies (`NumberIn`). Refusals.antt and Numbers.antt apply them group by group.
+-- which numbers a choice can have (`NumberOf`). Refusals.antt and Numbers.antt apply them group by group.
 -- Assumes nothing.
 use mathlib.Core.Path.{_≡_, refl, sym, _∙_}
 use mathlib.Core.Logic.{_⊎_, inl, inr}
 use mathlib.Core.Bool.{Bool, true, false, false≢true}
-use Prim.Native.Nat.{ℕ, _≤_}
+use Prim.Native.Nat.{ℕ}
 use lib.Dec.{eqb}
 use Rattle.lists.proofs.Tests.{cases}
 use Rattle.calls.specs.Refusals.{Refusal, refusal, accepted, isAccepted, orElse, unless}
@@ -50,18 +50,19 @@ unless-whole false n p q h = absurd (false≢true (sym q ∙ h))
 pub or-whole : (x y : Refusal) → Whole y → Whole (orElse x y)
 or-whole x y f h = let t : (isAccepted x ≡ true) × (isAccepted y ≡ true) = or-both x y h in or-second x y (t .0) ∙ f (t .1)
 
--- ---- within which numbers
+-- ---- which numbers
 
-abbrev pub NumberIn : (low high : ℕ) → Refusal → Type 0
-NumberIn a b x = (x .number ≡ 0) ⊎ ((a ≤ x .number) × (x .number ≤ b))
+-- no number, or one of these
+abbrev pub NumberOf : (ℕ → Type 0) → Refusal → Type 0
+NumberOf P x = (x .number ≡ 0) ⊎ P (x .number)
 
-module _ (a b : ℕ) where
-  pub number-none : NumberIn a b accepted
+module _ (P : ℕ → Type 0) where
+  pub number-none : NumberOf P accepted
   number-none = inl refl
 
-  pub number-unless : (z : Bool) (n p : ℕ) → a ≤ n → n ≤ b → NumberIn a b (unless z n p)
-  number-unless true n p h k = inl refl
-  number-unless false n p h k = inr (h, k)
+  pub number-unless : (z : Bool) (n p : ℕ) → P n → NumberOf P (unless z n p)
+  number-unless true n p h = inl refl
+  number-unless false n p h = inr h
 
-  pub number-or : (x y : Refusal) → NumberIn a b x → NumberIn a b y → NumberIn a b (orElse x y)
+  pub number-or : (x y : Refusal) → NumberOf P x → NumberOf P y → NumberOf P (orElse x y)
   number-or x y f g = elim (cases (isAccepted x)) [ inl e ↦ rw e g | inr e ↦ rw e f ]

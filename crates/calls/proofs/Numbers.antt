@@ -1,26 +1,26 @@
 -- The number of a whole call: what is known once 1 to 5 and 20 are passed (`early-facts`), that sizes in range leave 5 alone to all but openings
--- (`early-number`) and that 6 is none of these (`early-other`), that 7 to 18 are the call's own (`call-number`), what an accepted call has found (`accepted-found`), and that on sound tables the number needs no look at their contents
--- (`sound-number`). Assumes nothing.
+-- (`early-number`) and that 6 is none of these (`early-other`), that 7 to 18 and 21 are the call's own (`call-number`), what an accepted call has found
+-- (`accepted-found`), and that on sound tables the number needs no look at their contents (`sound-number`). Assumes nothing.
 use mathlib.Core.Path.{_≡_, refl, sym, ap, _∙_, subst}
 use mathlib.Core.Logic.{inl, inr, _≢_}
 use mathlib.Core.Bool.{Bool, true, false, _&&_, _||_, not, true≢false}
 use mathlib.Core.List.{List, [], _∷_}
-use Prim.Native.Nat.{ℕ, suc, _+_, _<_}
+use Prim.Native.Nat.{ℕ, suc, _+_, _≤_}
 use native.Mathlib.Omega.{arith}
 use lib.Dec.{ltb, leb, eqb}
-use lib.ListN.{length, take, drop}
+use lib.ListN.{length, getD, take, drop}
 use Rattle.lists.specs.Lists.{isIn, all, among}
-use Rattle.lists.proofs.Tests.{cases, or-right}
-use Rattle.symbolic.specs.Columns.{Register}
+use Rattle.lists.proofs.Tests.{or-right}
+use Rattle.symbolic.specs.Columns.{isWindow, Register}
 use Rattle.symbolic.specs.Factor.{factorFor, sizeSum}
-use Rattle.symbolic.specs.Change.{added}
+use Rattle.symbolic.specs.Change.{added, clocked}
 use Rattle.tables.specs.Tables.{Tables, Sizes, State, longEnough, registerOf, isSound}
-use Rattle.calls.specs.Refusals.{Refusal, accepted, isAccepted, orElse, unless, bounds, sizesRefusal, workFor, shortRefusal, batchOf, inRegister, rowsRefusal, columnsRefusal, rowSum, roomRefusal, idsRefusal, rowRefusal, roomFor}
-use Rattle.calls.specs.Calls.{Change, adding, removing, Question, askNextRow, askParent, askPath, askColumn, askMeets, askCommon, Entry, opening, changing, checking, asking, Call, isOpening, sizesAfter, keepsRule}
+use Rattle.calls.specs.Refusals.{Refusal, accepted, isAccepted, orElse, unless, bounds, sizesRefusal, workFor, shortRefusal, linesOf, inRegister, rowsRefusal, columnsRefusal, rowSum, roomRefusal, keepStep, idsRefusal, rowRefusal, roomFor}
+use Rattle.calls.specs.Calls.{Change, adding, removing, setting, Question, askNextRow, askParent, askPath, askColumn, askMeets, askCommon, Entry, opening, changing, checking, asking, Call, isOpening, sizesAfter, keepsRule}
 use Rattle.calls.specs.Changes.{effect}
 use Rattle.calls.specs.Questions.{response}
 use Rattle.calls.specs.Numbers.{hasLists, callEarly, soundRefusal, ownRefusal, callRefusal, refusalOf}
-use Rattle.calls.proofs.Choices.{or-both, or-first, or-second, unless-holds, unless-true, NumberIn, number-none, number-unless, number-or}
+use Rattle.calls.proofs.Choices.{or-both, or-second, unless-holds, unless-true, NumberOf, number-none, number-unless, number-or}
 use Rattle.calls.proofs.Refusals.{HasRoom, early-passed}
 
 -- ---- 1 to 5
@@ -52,13 +52,13 @@ rule-kept (changing c) o = refl
 rule-kept checking o = refl
 rule-kept (asking q p) o = refl
 
-short-number : (l : Sizes) (t : Tables) (w : List ℕ) (z : Bool) → NumberIn 5 5 (orElse (shortRefusal l t w) (unless z 5 0))
-short-number l t w z =
-    number-or 5 5 (shortRefusal l t w) (unless z 5 0) (number-unless 5 5 (longEnough l t && leb (workFor l) (length w)) 5 0 (omega arith) (omega arith))
-    (number-unless 5 5 z 5 0 (omega arith) (omega arith))
+short-number : (P : ℕ → Type 0) → P 5 → (l : Sizes) (t : Tables) (w : List ℕ) (z : Bool) → NumberOf P (orElse (shortRefusal l t w) (unless z 5 0))
+short-number P h l t w z =
+    number-or P (shortRefusal l t w) (unless z 5 0) (number-unless P (longEnough l t && leb (workFor l) (length w)) 5 0 h) (number-unless P z 5 0 h)
 
 -- with sizes in range, all but an opening can give only 5 here
-pub early-number : (l : Sizes) (t : Tables) → sizesRefusal bounds l ≡ accepted → (k : Call) → isOpening (k .entry) ≡ false → NumberIn 5 5 (callEarly l t k)
+pub early-number : (l : Sizes) (t : Tables) → sizesRefusal bounds l ≡ accepted → (k : Call) → isOpening (k .entry) ≡ false →
+    NumberOf (λ n. n ≡ 5) (callEarly l t k)
 early-number l t e k o =
     let j : Sizes = sizesAfter l (k .entry) in
     let w : List ℕ = k .lent .work in
@@ -66,125 +66,125 @@ early-number l t e k o =
     let f : sizesRefusal bounds j ≡ accepted = subst (λ (i : Sizes). sizesRefusal bounds i ≡ accepted) (sym (sizes-stay l (k .entry) o)) e in
     let y : Refusal = orElse (shortRefusal j t w) (unless z 5 0) in
     let q : orElse (unless (keepsRule (k .entry)) 20 0) y ≡ y = ap (λ (g : Bool). orElse (unless g 20 0) y) (rule-kept (k .entry) o) in
-    subst (λ (x : Refusal). NumberIn 5 5 x) (sym (or-second (sizesRefusal bounds j) (orElse (unless (keepsRule (k .entry)) 20 0) y) (ap isAccepted f) ∙ q))
-    (short-number j t w z)
+    subst (λ (x : Refusal). NumberOf (λ n. n ≡ 5) x) (sym (or-second (sizesRefusal bounds j) (orElse (unless (keepsRule (k .entry)) 20 0) y) (ap isAccepted f) ∙ q))
+    (short-number (λ n. n ≡ 5) refl j t w z)
 
-sizes-number : (l : Sizes) → NumberIn 1 5 (sizesRefusal bounds l)
-sizes-number l =
+-- a number other than 6
+abbrev Other : ℕ → Type 0
+Other n = n ≢ 6
+
+sizes-other : (l : Sizes) → NumberOf Other (sizesRefusal bounds l)
+sizes-other l =
     let x : Refusal = unless (isIn 1 4096 (l .m)) 1 0 in
     let y : Refusal = unless (isIn 1 16384 (l .n)) 2 0 in
     let z : Refusal = unless (isIn (l .m) 1048576 (l .f)) 3 0 in
     let w : Refusal = unless (isIn 1 262144 (l .c)) 4 0 in
-    number-or 1 5 x (orElse y (orElse z w)) (number-unless 1 5 (isIn 1 4096 (l .m)) 1 0 (omega arith) (omega arith))
-    (number-or 1 5 y (orElse z w) (number-unless 1 5 (isIn 1 16384 (l .n)) 2 0 (omega arith) (omega arith))
-    (number-or 1 5 z w (number-unless 1 5 (isIn (l .m) 1048576 (l .f)) 3 0 (omega arith) (omega arith))
-    (number-unless 1 5 (isIn 1 262144 (l .c)) 4 0 (omega arith) (omega arith))))
+    number-or Other x (orElse y (orElse z w)) (number-unless Other (isIn 1 4096 (l .m)) 1 0 (omega arith))
+    (number-or Other y (orElse z w) (number-unless Other (isIn 1 16384 (l .n)) 2 0 (omega arith))
+    (number-or Other z w (number-unless Other (isIn (l .m) 1048576 (l .f)) 3 0 (omega arith)) (number-unless Other (isIn 1 262144 (l .c)) 4 0 (omega arith))))
 
 -- what comes before the contents are read is not 6
 pub early-other : (l : Sizes) (t : Tables) (k : Call) → callEarly l t k .number ≢ 6
 early-other l t k =
     let j : Sizes = sizesAfter l (k .entry) in
-    let y : Refusal = orElse (shortRefusal j t (k .lent .work)) (unless (hasLists j (k .entry) (k .lent)) 5 0) in
+    let z : Bool = hasLists j (k .entry) (k .lent) in
+    let y : Refusal = orElse (shortRefusal j t (k .lent .work)) (unless z 5 0) in
     let g : Bool = keepsRule (k .entry) in
-    apart (sizesRefusal bounds j) (orElse (unless g 20 0) y) (below 1 5 (sizesRefusal bounds j) (omega arith) (sizes-number j))
-    (apart (unless g 20 0) y (limits g) (below 5 5 y (omega arith) (short-number j t (k .lent .work) (hasLists j (k .entry) (k .lent)))))
-  where
-    below : (a b : ℕ) (x : Refusal) → b < 6 → NumberIn a b x → x .number ≢ 6
-    below a b x l h e = elim h [ inl q ↦ omega arith | inr q ↦ omega arith ]
+    let h : NumberOf Other (callEarly l t k) =
+    number-or Other (sizesRefusal bounds j) (orElse (unless g 20 0) y) (sizes-other j)
+    (number-or Other (unless g 20 0) y (number-unless Other g 20 0 (omega arith)) (short-number Other (omega arith) j t (k .lent .work) z)) in
+    elim h [ inl e ↦ λ q. omega arith | inr d ↦ d ]
 
-    limits : (g : Bool) → unless g 20 0 .number ≢ 6
-    limits true e = omega arith
-    limits false e = omega arith
+-- ---- 7 to 18 and 21
 
-    apart : (x y : Refusal) → x .number ≢ 6 → y .number ≢ 6 → orElse x y .number ≢ 6
-    apart x y p q e =
-        elim (cases (isAccepted x)) [
-          | inl a ↦ q (sym (ap (λ (r : Refusal). r .number) (or-second x y a)) ∙ e)
-          | inr a ↦ p (sym (ap (λ (r : Refusal). r .number) (or-first x y a)) ∙ e)
-        ]
+-- the numbers that a call's own checks give
+abbrev pub OwnNumber : ℕ → Type 0
+OwnNumber n = (7 ≤ n) × (n ≤ 21) × (n ≢ 19) × (n ≢ 20)
 
--- ---- 7 to 18
-
-rows-number : (m p a : ℕ) (is : List ℕ) → NumberIn 7 18 (rowsRefusal m p a is)
+rows-number : (m p a : ℕ) (is : List ℕ) → NumberOf OwnNumber (rowsRefusal m p a is)
 unfolding rowsRefusal
-rows-number m p a [] = number-none 7 18
+rows-number m p a [] = number-none OwnNumber
 rows-number m p a (i ∷ is) =
-    number-or 7 18 (unless (isIn 1 m i) 13 p) (orElse (unless (ltb a i) 14 p) (rowsRefusal m p i is))
-    (number-unless 7 18 (isIn 1 m i) 13 p (omega arith) (omega arith))
-    (number-or 7 18 (unless (ltb a i) 14 p) (rowsRefusal m p i is) (number-unless 7 18 (ltb a i) 14 p (omega arith) (omega arith)) (rows-number m p i is))
+    number-or OwnNumber (unless (isIn 1 m i) 13 p) (orElse (unless (ltb a i) 14 p) (rowsRefusal m p i is))
+    (number-unless OwnNumber (isIn 1 m i) 13 p (omega arith))
+    (number-or OwnNumber (unless (ltb a i) 14 p) (rowsRefusal m p i is) (number-unless OwnNumber (ltb a i) 14 p (omega arith)) (rows-number m p i is))
 
-columns-number : (r : Register) (n p : ℕ) (bs is ns rs : List ℕ) → NumberIn 7 18 (columnsRefusal r n p bs is ns rs)
+columns-number : (r : Register) (n p : ℕ) (bs is ns rs ps qs : List ℕ) → NumberOf OwnNumber (columnsRefusal r n p bs is ns rs ps qs)
 unfolding columnsRefusal
-columns-number r n p bs [] ns rs = number-unless 7 18 (eqb (length rs) 0) 12 0 (omega arith) (omega arith)
-columns-number r n p bs (i ∷ is) [] rs = inr (omega arith)
-columns-number r n p bs (i ∷ is) (k ∷ ns) rs =
+columns-number r n p bs [] ns rs ps qs = number-unless OwnNumber (eqb (length rs) 0) 12 0 (omega arith)
+columns-number r n p bs (i ∷ is) [] rs ps qs = inr (omega arith)
+columns-number r n p bs (i ∷ is) (k ∷ ns) rs ps qs =
     let a : Refusal = unless (isIn 1 n i) 8 p in
     let b : Refusal = unless (not (among i bs)) 9 p in
     let c : Refusal = unless (not (inRegister r i)) 10 p in
     let d : Refusal = unless (isIn 1 256 k && leb k (length rs)) 12 p in
     let e : Refusal = rowsRefusal (r .m) p 0 (take k rs) in
-    let f : Refusal = columnsRefusal r n (suc p) (i ∷ bs) is ns (drop k rs) in
-    number-or 7 18 a (orElse b (orElse c (orElse d (orElse e f)))) (number-unless 7 18 (isIn 1 n i) 8 p (omega arith) (omega arith))
-    (number-or 7 18 b (orElse c (orElse d (orElse e f))) (number-unless 7 18 (not (among i bs)) 9 p (omega arith) (omega arith))
-    (number-or 7 18 c (orElse d (orElse e f)) (number-unless 7 18 (not (inRegister r i)) 10 p (omega arith) (omega arith))
-    (number-or 7 18 d (orElse e f) (number-unless 7 18 (isIn 1 256 k && leb k (length rs)) 12 p (omega arith) (omega arith))
-    (number-or 7 18 e f (rows-number (r .m) p 0 (take k rs)) (columns-number r n (suc p) (i ∷ bs) is ns (drop k rs))))))
+    let f : Refusal = unless (isWindow (getD ps 0 0) (getD qs 0 0)) 21 p in
+    let g : Refusal = columnsRefusal r n (suc p) (i ∷ bs) is ns (drop k rs) (drop 1 ps) (drop 1 qs) in
+    let D : Refusal = orElse d (orElse e (orElse f g)) in
+    number-or OwnNumber a (orElse b (orElse c D)) (number-unless OwnNumber (isIn 1 n i) 8 p (omega arith))
+    (number-or OwnNumber b (orElse c D) (number-unless OwnNumber (not (among i bs)) 9 p (omega arith))
+    (number-or OwnNumber c D (number-unless OwnNumber (not (inRegister r i)) 10 p (omega arith))
+    (number-or OwnNumber d (orElse e (orElse f g)) (number-unless OwnNumber (isIn 1 256 k && leb k (length rs)) 12 p (omega arith))
+    (number-or OwnNumber e (orElse f g) (rows-number (r .m) p 0 (take k rs))
+    (number-or OwnNumber f g (number-unless OwnNumber (isWindow (getD ps 0 0) (getD qs 0 0)) 21 p (omega arith))
+    (columns-number r n (suc p) (i ∷ bs) is ns (drop k rs) (drop 1 ps) (drop 1 qs)))))))
 
-room-number : (l : Sizes) (r : Register) → NumberIn 7 18 (roomRefusal l r)
+room-number : (l : Sizes) (r : Register) → NumberOf OwnNumber (roomRefusal l r)
 room-number l r =
-    number-or 7 18 (unless (leb (rowSum (r .columns)) (l .c)) 15 0) (unless (leb (sizeSum (factorFor r)) (l .f)) 16 0)
-    (number-unless 7 18 (leb (rowSum (r .columns)) (l .c)) 15 0 (omega arith) (omega arith))
-    (number-unless 7 18 (leb (sizeSum (factorFor r)) (l .f)) 16 0 (omega arith) (omega arith))
+    number-or OwnNumber (unless (leb (rowSum (r .columns)) (l .c)) 15 0) (unless (leb (sizeSum (factorFor r)) (l .f)) 16 0)
+    (number-unless OwnNumber (leb (rowSum (r .columns)) (l .c)) 15 0 (omega arith))
+    (number-unless OwnNumber (leb (sizeSum (factorFor r)) (l .f)) 16 0 (omega arith))
 
-ids-number : (r : Register) (n p : ℕ) (bs is : List ℕ) → NumberIn 7 18 (idsRefusal r n p bs is)
+ids-number : (r : Register) (n p : ℕ) (bs is : List ℕ) → NumberOf OwnNumber (idsRefusal r n p bs is)
 unfolding idsRefusal
-ids-number r n p bs [] = number-none 7 18
+ids-number r n p bs [] = number-none OwnNumber
 ids-number r n p bs (i ∷ is) =
     let a : Refusal = unless (isIn 1 n i) 8 p in
     let b : Refusal = unless (not (among i bs)) 9 p in
     let c : Refusal = unless (inRegister r i) 11 p in
     let d : Refusal = idsRefusal r n (suc p) (i ∷ bs) is in
-    number-or 7 18 a (orElse b (orElse c d)) (number-unless 7 18 (isIn 1 n i) 8 p (omega arith) (omega arith))
-    (number-or 7 18 b (orElse c d) (number-unless 7 18 (not (among i bs)) 9 p (omega arith) (omega arith))
-    (number-or 7 18 c d (number-unless 7 18 (inRegister r i) 11 p (omega arith) (omega arith)) (ids-number r n (suc p) (i ∷ bs) is)))
+    number-or OwnNumber a (orElse b (orElse c d)) (number-unless OwnNumber (isIn 1 n i) 8 p (omega arith))
+    (number-or OwnNumber b (orElse c d) (number-unless OwnNumber (not (among i bs)) 9 p (omega arith))
+    (number-or OwnNumber c d (number-unless OwnNumber (inRegister r i) 11 p (omega arith)) (ids-number r n (suc p) (i ∷ bs) is)))
 
-row-number : (m i : ℕ) → NumberIn 7 18 (rowRefusal m i)
-row-number m i = number-unless 7 18 (isIn 1 m i) 17 0 (omega arith) (omega arith)
+row-number : (m i : ℕ) → NumberOf OwnNumber (rowRefusal m i)
+row-number m i = number-unless OwnNumber (isIn 1 m i) 17 0 (omega arith)
 
-place-number : (xs : List ℕ) (p n : ℕ) → NumberIn 7 18 (roomFor xs p n)
-place-number xs p n = number-unless 7 18 (leb (p + n) (length xs)) 18 0 (omega arith) (omega arith)
+place-number : (xs : List ℕ) (p n : ℕ) → NumberOf OwnNumber (roomFor xs p n)
+place-number xs p n = number-unless OwnNumber (leb (p + n) (length xs)) 18 0 (omega arith)
 
 -- each change
-change-number : (l : Sizes) (r : Register) (c : Change) → NumberIn 7 18 (effect r c .refusal l)
-change-number l r (adding is ns rs) =
-    let x : Refusal = unless (isIn 1 64 (length is) && eqb (length ns) (length is)) 7 0 in
-    let y : Refusal = columnsRefusal r (l .n) 1 [] is ns rs in
-    let z : Refusal = roomRefusal l (added r (batchOf is ns rs)) in
-    number-or 7 18 x (orElse y z) (number-unless 7 18 (isIn 1 64 (length is) && eqb (length ns) (length is)) 7 0 (omega arith) (omega arith))
-    (number-or 7 18 y z (columns-number r (l .n) 1 [] is ns rs) (room-number l (added r (batchOf is ns rs))))
+change-number : (l : Sizes) (r : Register) (c : Change) → NumberOf OwnNumber (effect r c .refusal l)
+change-number l r (adding is ns rs ps qs) =
+    let y : Refusal = columnsRefusal r (l .n) 1 [] is ns rs ps qs in
+    let z : Refusal = roomRefusal l (added r (linesOf is ns rs ps qs)) in
+    number-or OwnNumber (unless (keepStep is ns ps qs) 7 0) (orElse y z) (number-unless OwnNumber (keepStep is ns ps qs) 7 0 (omega arith))
+    (number-or OwnNumber y z (columns-number r (l .n) 1 [] is ns rs ps qs) (room-number l (added r (linesOf is ns rs ps qs))))
 change-number l r (removing is) =
-    number-or 7 18 (unless (isIn 1 64 (length is)) 7 0) (idsRefusal r (l .n) 1 [] is)
-    (number-unless 7 18 (isIn 1 64 (length is)) 7 0 (omega arith) (omega arith)) (ids-number r (l .n) 1 [] is)
+    number-or OwnNumber (unless (isIn 1 64 (length is)) 7 0) (idsRefusal r (l .n) 1 [] is) (number-unless OwnNumber (isIn 1 64 (length is)) 7 0 (omega arith))
+    (ids-number r (l .n) 1 [] is)
+change-number l r (setting t) = number-unless OwnNumber (leb (sizeSum (factorFor (clocked r t))) (l .f)) 16 0 (omega arith)
 
 -- each question
-question-number : (r : Register) (q : Question) → NumberIn 7 18 (response r q .refusal)
-question-number r (askNextRow i j) = number-or 7 18 (rowRefusal (r .m) i) (rowRefusal (r .m) j) (row-number (r .m) i) (row-number (r .m) j)
+question-number : (r : Register) (q : Question) → NumberOf OwnNumber (response r q .refusal)
+question-number r (askNextRow i j) = number-or OwnNumber (rowRefusal (r .m) i) (rowRefusal (r .m) j) (row-number (r .m) i) (row-number (r .m) j)
 question-number r (askParent j) = row-number (r .m) j
 question-number r (askPath j) = row-number (r .m) j
 question-number r (askColumn j) = row-number (r .m) j
 question-number r (askMeets i) = row-number (r .m) i
 question-number r (askCommon is) =
-    number-or 7 18 (unless (isIn 1 64 (length is)) 7 0) (unless (all (isIn 1 (r .m)) is) 17 0) (number-unless 7 18 (isIn 1 64 (length is)) 7 0 (omega arith) (omega arith))
-    (number-unless 7 18 (all (isIn 1 (r .m)) is) 17 0 (omega arith) (omega arith))
+    number-or OwnNumber (unless (isIn 1 64 (length is)) 7 0) (unless (all (isIn 1 (r .m)) is) 17 0) (number-unless OwnNumber (isIn 1 64 (length is)) 7 0 (omega arith))
+    (number-unless OwnNumber (all (isIn 1 (r .m)) is) 17 0 (omega arith))
 
-own-number : (l : Sizes) (r : Register) (e : Entry) (xs : List ℕ) → NumberIn 7 18 (ownRefusal l r e xs)
-own-number l r (opening k g) xs = number-none 7 18
+own-number : (l : Sizes) (r : Register) (e : Entry) (xs : List ℕ) → NumberOf OwnNumber (ownRefusal l r e xs)
+own-number l r (opening k g) xs = number-none OwnNumber
 own-number l r (changing c) xs = change-number l r c
-own-number l r checking xs = number-none 7 18
+own-number l r checking xs = number-none OwnNumber
 own-number l r (asking q p) xs =
-    number-or 7 18 (response r q .refusal) (roomFor xs p (length (response r q .list))) (question-number r q) (place-number xs p (length (response r q .list)))
+    number-or OwnNumber (response r q .refusal) (roomFor xs p (length (response r q .list))) (question-number r q) (place-number xs p (length (response r q .list)))
 
-pub call-number : (l : Sizes) (r : Register) (k : Call) → NumberIn 7 18 (callRefusal l r k)
+pub call-number : (l : Sizes) (r : Register) (k : Call) → NumberOf OwnNumber (callRefusal l r k)
 call-number l r k = own-number l r (k .entry) (k .lent .list)
 
 -- ---- 6

@@ -3,7 +3,7 @@
 -- register by time, so every theorem about the two passes here. Assumes nothing.
 use mathlib.Core.Path.{_≡_, refl, sym, ap, _∙_, subst}
 use mathlib.Core.Logic.{inl, inr, _≢_}
-use mathlib.Core.Bool.{true, false, _||_, true≢false}
+use mathlib.Core.Bool.{Bool, true, false, _||_, true≢false}
 use mathlib.Core.List.{List, [], _∷_, _++_}
 use Prim.Native.Nat.{ℕ, suc, _+_, _≤_}
 use native.Mathlib.Omega.{arith}
@@ -11,26 +11,27 @@ use lib.ListN.{length, drop}
 use borrow.Author.Tests.{eq-eqb, ne-eqb}
 use Rattle.lists.specs.Lists.{one, Mem, first, later, among, noRepeats, times, over, writtenAt}
 use Rattle.lists.proofs.Tests.{cases, eq-or-ne, zero-or-pos, both-ways, or-right}
-use Rattle.lists.proofs.Member.{among-mem}
+use Rattle.lists.proofs.Member.{among-mem, any-find, any-has}
 use Rattle.lists.proofs.Sum.{sum-append}
 use Rattle.lists.proofs.Times.{among-some, mem-times, once-of, of-once}
-use Rattle.symbolic.specs.Columns.{Column, Register, liveOf, live}
+use Rattle.symbolic.specs.Columns.{Column, columnWith, onlyAt, countedBy, Register, liveOf, live}
 use Rattle.symbolic.specs.Factor.{FactorColumn, factorOf, factorFor}
-use Rattle.symbolic.specs.Batch.{exchanged, labelOf, entriesOf}
+use Rattle.symbolic.specs.Batch.{passes, isTouched, isExchanged, exchanged, labelOf, entriesOf}
 use Rattle.symbolic.specs.Grades.{Limits, gradeOf}
-use Rattle.symbolic.specs.Change.{idsOf, without, columnOf, columnsOf, added, Bag}
+use Rattle.symbolic.specs.Change.{idsOf, without, columnOf, columnsOf, added, clocked, Bag}
 use Rattle.symbolic.proofs.Bags.{bag-append, bag-mem, bag-without, without-le, ids-times, hasId, column-of}
 use Rattle.symbolic.proofs.Bags as bags
 use Rattle.symbolic.proofs.Theorems.{order-free}
-use Rattle.symbolic.proofs.Live.{live-same, live-order}
+use Rattle.symbolic.proofs.Live.{counted-bag, live-same, live-order}
+use Rattle.symbolic.proofs.Passing.{passing-same}
 use Rattle.tables.specs.Tables.{Sizes}
-use Rattle.calls.specs.Refusals.{isAccepted, orElse, batchOf, inRegister, columnsRefusal, roomRefusal, idsRefusal, roomFor}
-use Rattle.calls.specs.Calls.{Change, adding, removing, Question, askNextRow, askParent, askPath, askColumn, askMeets, askCommon, Entry, opening, changing, checking, asking, Call}
+use Rattle.calls.specs.Refusals.{isAccepted, orElse, linesOf, inRegister, columnsRefusal, roomRefusal, idsRefusal, roomFor}
+use Rattle.calls.specs.Calls.{Change, adding, removing, setting, Question, askNextRow, askParent, askPath, askColumn, askMeets, askCommon, Entry, opening, changing, checking, asking, Call}
 use Rattle.calls.specs.Changes.{Effect, effect, touchedBy, labelled, labelsBy, entriesBy}
 use Rattle.calls.specs.Questions.{Response, response}
 use Rattle.calls.specs.Numbers.{ownRefusal, callRefusal}
 use Rattle.calls.specs.Steps.{Result, resultOf, acceptedBy, listsAfter}
-use Rattle.calls.proofs.Refusals.{ColumnsFit, add-facts}
+use Rattle.calls.proofs.Refusals.{ColumnsFit, lines-ids, add-facts}
 use Rattle.calls.proofs.Changes.{rows-stay}
 
 -- ---- the column of an id
@@ -46,7 +47,7 @@ id-find i (c ∷ cs) h =
     ]
 
 -- one that does not has the column with no row
-pub column-none : (i : ℕ) (cs : List Column) → among i (idsOf cs) ≡ false → columnOf i cs ≡ record { id = i; rows = [] }
+pub column-none : (i : ℕ) (cs : List Column) → among i (idsOf cs) ≡ false → columnOf i cs ≡ columnWith i []
 unfolding idsOf among columnOf
 column-none i [] h = refl
 column-none i (c ∷ cs) h =
@@ -83,34 +84,35 @@ module _ (cs ds : List Column) (b : Bag cs ds) where
 
 -- ---- two registers with the same columns
 
-module _ (r s : Register) (e : r .m ≡ s .m) (b : Bag (r .columns) (s .columns)) where
+module _ (r s : Register) (e : r .m ≡ s .m) (k : r .clock ≡ s .clock) (b : Bag (r .columns) (s .columns)) where
   pub bag-booked : (i : ℕ) → inRegister r i ≡ inRegister s i
   bag-booked i = bag-among (r .columns) (s .columns) b i
 
   pub bag-factor : factorFor r ≡ factorFor s
-  bag-factor = ap (λ (m : ℕ). factorOf m (live r)) e ∙ order-free (s .m) (live r) (live s) (live-order r s b)
+  bag-factor = ap (λ (m : ℕ). factorOf m (live r)) e ∙ order-free (s .m) (live r) (live s) (live-order r s k b)
 
   -- ---- the register after a change
 
   pub bag-rows : (c : Change) → effect r c .register .m ≡ effect s c .register .m
   bag-rows c = rows-stay r c ∙ e ∙ sym (rows-stay s c)
 
-  pub bag-after : (c : Change) → Bag (effect r c .register .columns) (effect s c .register .columns)
-  bag-after (adding is ns rs) f = bag-append (r .columns) (s .columns) (batchOf is ns rs) b f
-  bag-after (removing is) f = bag-without is (r .columns) (s .columns) b f
+  pub bag-clock : (c : Change) → effect r c .register .clock ≡ effect s c .register .clock
+  bag-clock (adding is ns rs ps qs) = k
+  bag-clock (removing is) = k
+  bag-clock (setting t) = refl
 
-  pub bag-factor-after : (c : Change) → factorFor (effect r c .register) ≡ factorFor (effect s c .register)
-  bag-factor-after c =
-      ap (λ (m : ℕ). factorOf m (live (effect r c .register))) (bag-rows c) ∙
-      order-free (effect s c .register .m) (live (effect r c .register)) (live (effect s c .register)) (live-order (effect r c .register) (effect s c .register) (bag-after c))
+  pub bag-after : (c : Change) → Bag (effect r c .register .columns) (effect s c .register .columns)
+  bag-after (adding is ns rs ps qs) f = bag-append (r .columns) (s .columns) (linesOf is ns rs ps qs) b f
+  bag-after (removing is) f = bag-without is (r .columns) (s .columns) b f
+  bag-after (setting t) f = b f
 
   -- ---- numbers
 
-  columns-number : (n p : ℕ) (bs is ns rs : List ℕ) → columnsRefusal r n p bs is ns rs ≡ columnsRefusal s n p bs is ns rs
+  columns-number : (n p : ℕ) (bs is ns rs ps qs : List ℕ) → columnsRefusal r n p bs is ns rs ps qs ≡ columnsRefusal s n p bs is ns rs ps qs
   unfolding columnsRefusal
-  columns-number n p bs [] ns rs = refl
-  columns-number n p bs (i ∷ is) [] rs = refl
-  columns-number n p bs (i ∷ is) (k ∷ ns) rs = rw (columns-number n (suc p) (i ∷ bs) is ns (drop k rs), bag-booked i, e)
+  columns-number n p bs [] ns rs ps qs = refl
+  columns-number n p bs (i ∷ is) [] rs ps qs = refl
+  columns-number n p bs (i ∷ is) (k ∷ ns) rs ps qs = rw (columns-number n (suc p) (i ∷ bs) is ns (drop k rs) (drop 1 ps) (drop 1 qs), bag-booked i, e)
 
   ids-number : (n p : ℕ) (bs is : List ℕ) → idsRefusal r n p bs is ≡ idsRefusal s n p bs is
   unfolding idsRefusal
@@ -118,31 +120,42 @@ module _ (r s : Register) (e : r .m ≡ s .m) (b : Bag (r .columns) (s .columns)
   ids-number n p bs (i ∷ is) = rw (ids-number n (suc p) (i ∷ bs) is, bag-booked i)
 
 -- 15 and 16
-pub bag-room : (l : Sizes) (r s : Register) → r .m ≡ s .m → Bag (r .columns) (s .columns) → roomRefusal l r ≡ roomRefusal l s
-bag-room l r s e b = rw (b (λ c. length (c .rows)), bag-factor r s e b)
+pub bag-room : (l : Sizes) (r s : Register) → r .m ≡ s .m → r .clock ≡ s .clock → Bag (r .columns) (s .columns) → roomRefusal l r ≡ roomRefusal l s
+bag-room l r s e k b = rw (b (λ c. length (c .rows)), bag-factor r s e k b)
 
-module _ (r s : Register) (e : r .m ≡ s .m) (b : Bag (r .columns) (s .columns)) where
-  -- 7 to 16
+-- columns in another order touch the same
+bag-touch : (fs : List FactorColumn) (cs ds : List Column) → Bag cs ds → (j : ℕ) → isTouched fs cs j ≡ isTouched fs ds j
+bag-touch fs cs ds b j =
+    both-ways (isTouched fs cs j) (isTouched fs ds j) (λ h. found ds cs (λ f. sym (b f)) h) (λ h. found cs ds b h)
+  where
+    found : (xs ys : List Column) → Bag xs ys → isTouched fs ys j ≡ true → isTouched fs xs j ≡ true
+    found xs ys d h =
+        let t : (c : Column) × Mem c ys × (passes fs j c ≡ true) = any-find (passes fs j) ys h in any-has (passes fs j) (bag-mem xs ys d (t .1)) (t .2)
+
+module _ (r s : Register) (e : r .m ≡ s .m) (k : r .clock ≡ s .clock) (b : Bag (r .columns) (s .columns)) where
+  pub bag-factor-after : (c : Change) → factorFor (effect r c .register) ≡ factorFor (effect s c .register)
+  bag-factor-after c = bag-factor (effect r c .register) (effect s c .register) (bag-rows r s e k b c) (bag-clock r s e k b c) (bag-after r s e k b c)
+
+  -- 7 to 16 and 21
   change-refusal : (l : Sizes) (c : Change) → effect r c .refusal l ≡ effect s c .refusal l
-  change-refusal l (adding is ns rs) =
-      rw (
-        columns-number r s e b (l .n) 1 [] is ns rs,
-        bag-room l (added r (batchOf is ns rs)) (added s (batchOf is ns rs)) e (bag-append (r .columns) (s .columns) (batchOf is ns rs) b),
-      )
-  change-refusal l (removing is) = rw (ids-number r s e b (l .n) 1 [] is)
+  change-refusal l (adding is ns rs ps qs) =
+      let B : List Column = linesOf is ns rs ps qs in
+      rw (columns-number r s e k b (l .n) 1 [] is ns rs ps qs, bag-room l (added r B) (added s B) e k (bag-append (r .columns) (s .columns) B b))
+  change-refusal l (removing is) = rw (ids-number r s e k b (l .n) 1 [] is)
+  change-refusal l (setting t) = rw (bag-factor (clocked r t) (clocked s t) e refl b)
 
   -- a question's whole response
   pub bag-response : (q : Question) → response r q ≡ response s q
-  bag-response (askNextRow i j) = rw (bag-factor r s e b, e)
-  bag-response (askParent j) = rw (bag-factor r s e b, e)
-  bag-response (askPath j) = rw (bag-factor r s e b, e)
-  bag-response (askColumn j) = rw (bag-factor r s e b, e)
-  bag-response (askMeets i) = rw (bag-factor r s e b, e)
-  bag-response (askCommon is) = rw (bag-factor r s e b, e)
+  bag-response (askNextRow i j) = rw (bag-factor r s e k b, e)
+  bag-response (askParent j) = rw (bag-factor r s e k b, e)
+  bag-response (askPath j) = rw (bag-factor r s e k b, e)
+  bag-response (askColumn j) = rw (bag-factor r s e k b, e)
+  bag-response (askMeets i) = rw (bag-factor r s e k b, e)
+  bag-response (askCommon is) = rw (bag-factor r s e k b, e)
 
-  -- 7 to 18
-  pub bag-number : (l : Sizes) (k : Call) → callRefusal l r k ≡ callRefusal l s k
-  bag-number l k = own (k .entry) (k .lent .list)
+  -- 7 to 18 and 21
+  pub bag-number : (l : Sizes) (c : Call) → callRefusal l r c ≡ callRefusal l s c
+  bag-number l c = own (c .entry) (c .lent .list)
     where
       own : (i : Entry) (xs : List ℕ) → ownRefusal l r i xs ≡ ownRefusal l s i xs
       own (opening j g) xs = refl
@@ -153,31 +166,42 @@ module _ (r s : Register) (e : r .m ≡ s .m) (b : Bag (r .columns) (s .columns)
   -- ---- reports, of registers with distinct ids
 
   module _ (u : noRepeats (idsOf (r .columns)) ≡ true) where
-    -- which columns leave and enter, under which labels and ids
+    -- what leaves and enters touches the same, under the same labels and ids
     record SameEffect (x y : Effect) : Type 0 where
-      leave : x .leave ≡ y .leave
-      enter : x .enter ≡ y .enter
+      touches : (fs gs : List FactorColumn) (j : ℕ) → isExchanged fs gs (x .leave) (x .enter) j ≡ isExchanged fs gs (y .leave) (y .enter) j
       label : x .label ≡ y .label
       ids : x .ids ≡ y .ids
 
     bag-effect : (c : Change) → SameEffect (effect r c) (effect s c)
-    bag-effect (adding is ns rs) =
-        let W : List Column = batchOf is ns rs in
-        let q : liveOf (added r W) W ≡ liveOf (added s W) W = live-same (added r W) (added s W) W in
+    bag-effect (adding is ns rs ps qs) =
+        let W : List Column = linesOf is ns rs ps qs in
+        let q : liveOf (added r W) W ≡ liveOf (added s W) W = live-same (added r W) (added s W) k W in
         record {
-          leave = refl;
-          enter = q;
-          label = ap (λ (fs : List FactorColumn). labelOf fs (effect r (adding is ns rs) .enter)) (bag-factor-after r s e b (adding is ns rs)) ∙
-              ap (λ (cs : List Column). labelOf (factorFor (added s (batchOf is ns rs))) cs) q;
+          touches = λ fs gs j. ap (λ (cs : List Column). isExchanged fs gs [] cs j) q;
+          label = ap (λ (fs : List FactorColumn). labelOf fs (effect r (adding is ns rs ps qs) .enter)) (bag-factor-after (adding is ns rs ps qs)) ∙
+              ap (λ (cs : List Column). labelOf (factorFor (added s W)) cs) q;
           ids = refl;
         }
     bag-effect (removing is) =
         let q : liveOf r (columnsOf is (r .columns)) ≡ liveOf s (columnsOf is (s .columns)) =
-        ap (liveOf r) (bag-columns (r .columns) (s .columns) b u is) ∙ live-same r s (columnsOf is (s .columns)) in
+        ap (liveOf r) (bag-columns (r .columns) (s .columns) b u is) ∙ live-same r s k (columnsOf is (s .columns)) in
         record {
-          leave = q;
-          enter = refl;
-          label = ap (λ (fs : List FactorColumn). labelOf fs (effect r (removing is) .leave)) (bag-factor r s e b) ∙ ap (λ (cs : List Column). labelOf (factorFor s) cs) q;
+          touches = λ fs gs j. ap (λ (cs : List Column). isExchanged fs gs cs [] j) q;
+          label = ap (λ (fs : List FactorColumn). labelOf fs (effect r (removing is) .leave)) (bag-factor r s e k b) ∙ ap (λ (cs : List Column). labelOf (factorFor s) cs) q;
+          ids = refl;
+        }
+    bag-effect (setting t) =
+        let L : ℕ → List Column → List Column = λ o cs. countedBy (onlyAt o t) cs in
+        let E : ℕ → List Column → List Column = λ o cs. countedBy (onlyAt t o) cs in
+        record {
+          touches = λ fs gs j.
+              ap (λ (z : Bool). z || isTouched gs (E (r .clock) (r .columns)) j)
+              (bag-touch fs (L (r .clock) (r .columns)) (L (r .clock) (s .columns)) (counted-bag (onlyAt (r .clock) t) (r .columns) (s .columns) b) j ∙
+              ap (λ (o : ℕ). isTouched fs (L o (s .columns)) j) k) ∙
+              ap (λ (z : Bool). isTouched fs (L (s .clock) (s .columns)) j || z)
+              (bag-touch gs (E (r .clock) (r .columns)) (E (r .clock) (s .columns)) (counted-bag (onlyAt t (r .clock)) (r .columns) (s .columns) b) j ∙
+              ap (λ (o : ℕ). isTouched gs (E o (s .columns)) j) k);
+          label = refl;
           ids = refl;
         }
 
@@ -186,18 +210,20 @@ module _ (r s : Register) (e : r .m ≡ s .m) (b : Bag (r .columns) (s .columns)
 
     pub bag-touched : (c : Change) → touchedBy r c ≡ touchedBy s c
     bag-touched c =
-        ap (λ (fs : List FactorColumn). exchanged fs (factorFor (effect r c .register)) (effect r c .leave) (effect r c .enter)) (bag-factor r s e b) ∙
-        ap (λ (fs : List FactorColumn). exchanged (factorFor s) fs (effect r c .leave) (effect r c .enter)) (bag-factor-after r s e b c) ∙
-        ap (λ (cs : List Column). exchanged (factorFor s) (factorFor (effect s c .register)) cs (effect r c .enter)) (bag-effect c .leave) ∙
-        ap (λ (cs : List Column). exchanged (factorFor s) (factorFor (effect s c .register)) (effect s c .leave) cs) (bag-effect c .enter)
+        let x : Effect = effect r c in
+        let y : Effect = effect s c in
+        ap (λ (fs : List FactorColumn). exchanged fs (factorFor (x .register)) (x .leave) (x .enter)) (bag-factor r s e k b) ∙
+        ap (λ (fs : List FactorColumn). exchanged (factorFor s) fs (x .leave) (x .enter)) (bag-factor-after c) ∙
+        passing-same (isExchanged (factorFor s) (factorFor (y .register)) (x .leave) (x .enter)) (isExchanged (factorFor s) (factorFor (y .register)) (y .leave) (y .enter))
+        (λ j. bag-effect c .touches (factorFor s) (factorFor (y .register)) j) 1 (length (factorFor (y .register)))
 
     pub bag-labels : (c : Change) → labelsBy r c ≡ labelsBy s c
     bag-labels c = ap (λ (f : ℕ → ℕ). labelled f (touchedBy r c)) (bag-effect c .label) ∙ ap (λ (js : List ℕ). labelled (effect s c .label) js) (bag-touched c)
 
     pub bag-entries : (c : Change) → entriesBy r c ≡ entriesBy s c
     bag-entries c =
-        ap (λ (fs : List FactorColumn). entriesOf fs (factorFor (effect r c .register)) (touchedBy r c)) (bag-factor r s e b) ∙
-        ap (λ (fs : List FactorColumn). entriesOf (factorFor s) fs (touchedBy r c)) (bag-factor-after r s e b c) ∙
+        ap (λ (fs : List FactorColumn). entriesOf fs (factorFor (effect r c .register)) (touchedBy r c)) (bag-factor r s e k b) ∙
+        ap (λ (fs : List FactorColumn). entriesOf (factorFor s) fs (touchedBy r c)) (bag-factor-after c) ∙
         ap (λ (js : List ℕ). entriesOf (factorFor s) (factorFor (effect s c .register)) js) (bag-touched c)
 
     -- ---- answers and lists
@@ -214,20 +240,20 @@ module _ (r s : Register) (e : r .m ≡ s .m) (b : Bag (r .columns) (s .columns)
     bag-answer g i =
         ap (λ (x : Result). record { number = 0; position = 0; touched = length (x .touched); entries = x .entries; grade = gradeOf g (x .entries); row = x .row; value = x .value }) (bag-result i)
 
-    pub bag-lists : (k : Call) (v : List ℕ) → listsAfter r k v ≡ listsAfter s k v
-    bag-lists k v =
-        ap (λ (x : Result). record { work = v; touched = over (x .touched) (k .lent .touched); labels = over (x .labels) (k .lent .labels); list = writtenAt (x .place) (x .list) (k .lent .list) })
-        (bag-result (k .entry))
+    pub bag-lists : (d : Call) (v : List ℕ) → listsAfter r d v ≡ listsAfter s d v
+    bag-lists d v =
+        ap (λ (x : Result). record { work = v; touched = over (x .touched) (d .lent .touched); labels = over (x .labels) (d .lent .labels); list = writtenAt (x .place) (x .list) (d .lent .list) })
+        (bag-result (d .entry))
 
 -- ---- ids stay distinct
 
 pub once-after : (l : Sizes) (r : Register) (c : Change) → noRepeats (idsOf (r .columns)) ≡ true → isAccepted (effect r c .refusal l) ≡ true →
     noRepeats (idsOf (effect r c .register .columns)) ≡ true
 unfolding idsOf noRepeats
-once-after l r (adding is ns rs) u h =
-    let f : ColumnsFit r (l .n) [] is ns rs = add-facts l r is ns rs h .columns in
-    let B : List Column = batchOf is ns rs in
-    of-once (idsOf (r .columns ++ B)) (λ i. fewer r is B i (f .ids) (f .apart i) (once-of (idsOf (r .columns)) u i))
+once-after l r (adding is ns rs ps qs) u h =
+    let f : ColumnsFit r (l .n) [] is ns rs ps qs = add-facts l r is ns rs ps qs h .columns in
+    let B : List Column = linesOf is ns rs ps qs in
+    of-once (idsOf (r .columns ++ B)) (λ i. fewer r is B i (lines-ids f) (f .apart i) (once-of (idsOf (r .columns)) u i))
   where
     fewer : (r : Register) (is : List ℕ) (B : List Column) (i : ℕ) → idsOf B ≡ is → times i is + one (among i [] || inRegister r i) ≤ 1 → times i (idsOf (r .columns)) ≤ 1 →
         times i (idsOf (r .columns ++ B)) ≤ 1
@@ -244,3 +270,4 @@ once-after l r (adding is ns rs) u h =
 once-after l r (removing is) u h =
     of-once (idsOf (without is (r .columns))) (λ i.
     omega (arith, once-of (idsOf (r .columns)) u i, ids-times i (without is (r .columns)), ids-times i (r .columns), without-le is (r .columns) (λ c. one (hasId i c))))
+once-after l r (setting t) u h = u

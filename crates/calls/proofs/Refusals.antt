@@ -1,25 +1,27 @@
--- What an accepted call has met, group by group: sizes in range (`InRange`), tables and lists long enough, an addition's columns (`ColumnsFit`, `AddFits`),
--- a removal's ids (`IdsFit`, `RemoveFits`), a question's rows and room. Numbers.antt has the numbers that the groups give.
+-- What an accepted call has met, group by group: sizes in range (`InRange`), tables and lists long enough, an addition's lists (`InStep`) and columns
+-- (`ColumnsFit`, `AddFits`), a removal's ids (`IdsFit`, `RemoveFits`), the room of a clock change, a question's rows and room. Numbers.antt has the numbers that
+-- the groups give.
 -- Assumes nothing.
 use mathlib.Core.Path.{_≡_, refl, sym, ap, _∙_}
 use mathlib.Core.Logic.{inl, inr}
 use mathlib.Core.Bool.{Bool, true, false, _&&_, _||_, not}
 use mathlib.Core.List.{List, [], _∷_, _++_}
-use Prim.Native.Nat.{ℕ, suc, _+_, _≤_, _<_}
+use Prim.Native.Nat.{ℕ, zero, suc, _+_, _≤_, _<_}
 use native.Mathlib.Omega.{arith}
 use lib.Dec.{ltb, leb, eqb}
-use lib.ListN.{length, take, drop, length-drop}
+use lib.ListN.{length, getD, take, drop, length-drop}
 use lib.Seq.{length-take-le}
 use borrow.Author.Tests.{ltb-true, leb-true, le-leb, eqb-true, eq-eqb, ne-eqb, not-true}
 use Rattle.lists.specs.Lists.{one, isIn, Mem, all, among, noRepeats, times, sumOf, rises}
 use Rattle.lists.proofs.Tests.{eq-or-ne, and-both, both-and, in-range, range-in, one-le, or-right, refute}
 use Rattle.lists.proofs.Times.{times-nil, times-self, times-other, mem-times, of-once}
-use Rattle.symbolic.specs.Columns.{Register}
+use Rattle.symbolic.specs.Columns.{isWindow, Register}
 use Rattle.symbolic.specs.Factor.{factorFor, sizeSum}
-use Rattle.symbolic.specs.Change.{idsOf, added}
+use Rattle.symbolic.specs.Change.{idsOf, added, clocked}
+use Rattle.symbolic.proofs.Minutes.{minutes-ids}
 use Rattle.book.specs.Book.{columnFits}
 use Rattle.tables.specs.Tables.{Tables, Sizes, longEnough}
-use Rattle.calls.specs.Refusals.{Refusal, accepted, isAccepted, orElse, unless, bounds, sizesRefusal, workFor, shortRefusal, listsLong, earlyRefusal, batchOf, inRegister, rowsRefusal, columnsRefusal, rowSum, roomRefusal, addRefusal, idsRefusal, removeRefusal, rowRefusal, roomFor}
+use Rattle.calls.specs.Refusals.{Refusal, accepted, isAccepted, orElse, unless, bounds, sizesRefusal, workFor, shortRefusal, listsLong, earlyRefusal, batchOf, linesOf, inRegister, rowsRefusal, columnsRefusal, rowSum, roomRefusal, keepStep, addRefusal, idsRefusal, removeRefusal, clockRefusal, rowRefusal, roomFor}
 use Rattle.calls.proofs.Choices.{or-both, unless-holds, Whole, unless-whole, or-whole}
 
 -- ---- 1 to 4: sizes
@@ -94,7 +96,7 @@ early-passed l g t w z h =
     let v : (isAccepted (shortRefusal l t w) ≡ true) × (isAccepted (unless z 5 0) ≡ true) = or-both (shortRefusal l t w) (unless z 5 0) (x .1) in
     (sizes-whole l (u .0), unless-holds g 20 0 refl (x .0), short-facts l t w (v .0), unless-holds z 5 0 refl (v .1))
 
--- ---- 7 to 16: an addition
+-- ---- 7 to 16 and 21: an addition
 
 -- rows that pass 13 and 14 rise from above a, within m
 pub rows-rise : (m p a : ℕ) (is : List ℕ) → isAccepted (rowsRefusal m p a is) ≡ true → rises (suc a) m is ≡ true
@@ -109,12 +111,13 @@ rows-rise m p a (i ∷ is) h =
     both-and (both-and (le-leb (suc a) i l) (le-leb i m (r .1))) (rows-rise m p i is (u .1))
 
 -- the columns of an accepted batch, where the ids before are bs
-pub record ColumnsFit (r : Register) (n : ℕ) (bs is ns rs : List ℕ) : Type 0 where
+pub record ColumnsFit (r : Register) (n : ℕ) (bs is ns rs ps qs : List ℕ) : Type 0 where
   pub ids : idsOf (batchOf is ns rs) ≡ is
   pub apart : (x : ℕ) → times x is + one (among x bs || inRegister r x) ≤ 1
   pub named : all (isIn 1 n) is ≡ true
   pub fits : all (columnFits (r .m)) (batchOf is ns rs) ≡ true
   pub used : rowSum (batchOf is ns rs) ≡ length rs
+  pub windows : (k : ℕ) → k < length is → isWindow (getD ps k 0) (getD qs k 0) ≡ true
 
 -- an id that was not met before, and those after it
 apart-step : (bs is : List ℕ) (z : ℕ → Bool) (i : ℕ) → among i bs ≡ false → z i ≡ false → ((x : ℕ) → times x is + one (among x (i ∷ bs) || z x) ≤ 1) →
@@ -126,30 +129,47 @@ apart-step bs is z i u v h x =
       | inr q ↦ omega (arith, times-other x i is q, rw (ne-eqb x i q) at (h x))
     ]
 
-pub columns-facts : (r : Register) (n p : ℕ) (bs is ns rs : List ℕ) → isAccepted (columnsRefusal r n p bs is ns rs) ≡ true → ColumnsFit r n bs is ns rs
+-- the window at a position, and those after it
+windows-step : (ps qs : List ℕ) (n : ℕ) → isWindow (getD ps 0 0) (getD qs 0 0) ≡ true →
+    ((k : ℕ) → k < n → isWindow (getD (drop 1 ps) k 0) (getD (drop 1 qs) k 0) ≡ true) → (k : ℕ) → k < suc n → isWindow (getD ps k 0) (getD qs k 0) ≡ true
+windows-step ps qs n w h zero l = w
+windows-step ps qs n w h (suc k) l =
+    ap (λ (a : ℕ). isWindow a (getD qs (suc k) 0)) (sym (next ps k)) ∙ ap (λ (b : ℕ). isWindow (getD (drop 1 ps) k 0) b) (sym (next qs k)) ∙ h k (omega arith)
+  where
+    next : (xs : List ℕ) (k : ℕ) → getD (drop 1 xs) k 0 ≡ getD xs (suc k) 0
+    next [] k = refl
+    next (x ∷ xs) k = refl
+
+pub columns-facts : (r : Register) (n p : ℕ) (bs is ns rs ps qs : List ℕ) → isAccepted (columnsRefusal r n p bs is ns rs ps qs) ≡ true →
+    ColumnsFit r n bs is ns rs ps qs
 unfolding columnsRefusal batchOf idsOf all sumOf
-columns-facts r n p bs [] ns rs h =
+columns-facts r n p bs [] ns rs ps qs h =
     record {
       ids = refl;
       apart = λ x. omega (arith, times-nil x, one-le (among x bs || inRegister r x));
       named = refl;
       fits = refl;
       used = sym (eqb-true (length rs) 0 (unless-holds (eqb (length rs) 0) 12 0 refl h));
+      windows = λ k l. absurd (omega arith);
     }
-columns-facts r n p bs (i ∷ is) [] rs h = absurd (omega (arith, eqb-true 7 0 h))
-columns-facts r n p bs (i ∷ is) (k ∷ ns) rs h =
+columns-facts r n p bs (i ∷ is) [] rs ps qs h = absurd (omega (arith, eqb-true 7 0 h))
+columns-facts r n p bs (i ∷ is) (k ∷ ns) rs ps qs h =
     let a : Refusal = unless (isIn 1 n i) 8 p in
     let b : Refusal = unless (not (among i bs)) 9 p in
     let c : Refusal = unless (not (inRegister r i)) 10 p in
     let d : Refusal = unless (isIn 1 256 k && leb k (length rs)) 12 p in
     let e : Refusal = rowsRefusal (r .m) p 0 (take k rs) in
-    let f : Refusal = columnsRefusal r n (suc p) (i ∷ bs) is ns (drop k rs) in
-    let t : (isAccepted a ≡ true) × (isAccepted (orElse b (orElse c (orElse d (orElse e f)))) ≡ true) = or-both a (orElse b (orElse c (orElse d (orElse e f)))) h in
-    let u : (isAccepted b ≡ true) × (isAccepted (orElse c (orElse d (orElse e f))) ≡ true) = or-both b (orElse c (orElse d (orElse e f))) (t .1) in
-    let v : (isAccepted c ≡ true) × (isAccepted (orElse d (orElse e f)) ≡ true) = or-both c (orElse d (orElse e f)) (u .1) in
-    let w : (isAccepted d ≡ true) × (isAccepted (orElse e f) ≡ true) = or-both d (orElse e f) (v .1) in
-    let x : (isAccepted e ≡ true) × (isAccepted f ≡ true) = or-both e f (w .1) in
-    let rest : ColumnsFit r n (i ∷ bs) is ns (drop k rs) = columns-facts r n (suc p) (i ∷ bs) is ns (drop k rs) (x .1) in
+    let f : Refusal = unless (isWindow (getD ps 0 0) (getD qs 0 0)) 21 p in
+    let g : Refusal = columnsRefusal r n (suc p) (i ∷ bs) is ns (drop k rs) (drop 1 ps) (drop 1 qs) in
+    let D : Refusal = orElse d (orElse e (orElse f g)) in
+    let t : (isAccepted a ≡ true) × (isAccepted (orElse b (orElse c D)) ≡ true) = or-both a (orElse b (orElse c D)) h in
+    let u : (isAccepted b ≡ true) × (isAccepted (orElse c D) ≡ true) = or-both b (orElse c D) (t .1) in
+    let v : (isAccepted c ≡ true) × (isAccepted D ≡ true) = or-both c D (u .1) in
+    let w : (isAccepted d ≡ true) × (isAccepted (orElse e (orElse f g)) ≡ true) = or-both d (orElse e (orElse f g)) (v .1) in
+    let x : (isAccepted e ≡ true) × (isAccepted (orElse f g) ≡ true) = or-both e (orElse f g) (w .1) in
+    let y : (isAccepted f ≡ true) × (isAccepted g ≡ true) = or-both f g (x .1) in
+    let rest : ColumnsFit r n (i ∷ bs) is ns (drop k rs) (drop 1 ps) (drop 1 qs) =
+    columns-facts r n (suc p) (i ∷ bs) is ns (drop k rs) (drop 1 ps) (drop 1 qs) (y .1) in
     let s : (isIn 1 256 k ≡ true) × (leb k (length rs) ≡ true) =
     and-both (isIn 1 256 k) (leb k (length rs)) (unless-holds (isIn 1 256 k && leb k (length rs)) 12 p refl (w .0)) in
     let l : length (take k rs) ≡ k = length-take-le k rs (leb-true k (length rs) (s .1)) in
@@ -160,46 +180,71 @@ columns-facts r n p bs (i ∷ is) (k ∷ ns) rs h =
       named = both-and (unless-holds (isIn 1 n i) 8 p refl (t .0)) (rest .named);
       fits = both-and (both-and (rows-rise (r .m) p 0 (take k rs) (x .0)) (ap (λ (z : ℕ). isIn 1 256 z) l ∙ s .0)) (rest .fits);
       used = omega (arith, l, rest .used, length-drop k rs, leb-true k (length rs) (s .1));
+      windows = windows-step ps qs (length is) (unless-holds (isWindow (getD ps 0 0) (getD qs 0 0)) 21 p refl (y .0)) (rest .windows);
     }
 
 -- none of the ids comes twice, and none is booked
-pub columns-once : {r : Register} {n : ℕ} {is ns rs : List ℕ} → ColumnsFit r n [] is ns rs → noRepeats is ≡ true
+pub columns-once : {r : Register} {n : ℕ} {is ns rs ps qs : List ℕ} → ColumnsFit r n [] is ns rs ps qs → noRepeats is ≡ true
 columns-once {is = is} f = of-once is (λ x. omega (arith, f .apart x))
 
-pub columns-new : {r : Register} {n : ℕ} {is ns rs : List ℕ} → ColumnsFit r n [] is ns rs → {x : ℕ} → Mem x is → inRegister r x ≡ false
+pub columns-new : {r : Register} {n : ℕ} {is ns rs ps qs : List ℕ} → ColumnsFit r n [] is ns rs ps qs → {x : ℕ} → Mem x is → inRegister r x ≡ false
 columns-new {r} f {x} m =
     refute (inRegister r x) (λ e. absurd (omega (arith, f .apart x, mem-times m, ap one (or-right (among x []) (inRegister r x) e))))
+
+-- the columns with their windows: under the same ids, with the same rows
+module _ {r : Register} {n : ℕ} {bs is ns rs ps qs : List ℕ} (f : ColumnsFit r n bs is ns rs ps qs) where
+  pub lines-ids : idsOf (linesOf is ns rs ps qs) ≡ is
+  lines-ids = minutes-ids ps qs (batchOf is ns rs) ∙ f .ids
 
 -- "no number is given unless its condition holds": just enough room is enough. Nothing cites it but edits that give 15 or 16 one early
 pub room-enough : (l : Sizes) (r : Register) → rowSum (r .columns) ≤ l .c → sizeSum (factorFor r) ≤ l .f → roomRefusal l r ≡ accepted
 room-enough l r h k = rw (le-leb (rowSum (r .columns)) (l .c) h, le-leb (sizeSum (factorFor r)) (l .f) k) refl
 
-pub record AddFits (l : Sizes) (r : Register) (ids counts rows : List ℕ) : Type 0 where
+-- 1 to 64 ids, and the lists that keep step with them
+pub record InStep (ids counts firsts seconds : List ℕ) : Type 0 where
   pub some : 1 ≤ length ids
   pub few : length ids ≤ 64
   pub counted : length counts ≡ length ids
-  pub columns : ColumnsFit r (l .n) [] ids counts rows
-  pub book-room : rowSum (r .columns ++ batchOf ids counts rows) ≤ l .c
-  pub factor-room : sizeSum (factorFor (added r (batchOf ids counts rows))) ≤ l .f
+  pub firsts-length : length firsts ≡ length ids
+  pub seconds-length : length seconds ≡ length ids
 
-pub add-facts : (l : Sizes) (r : Register) (is ns rs : List ℕ) → isAccepted (addRefusal l r is ns rs) ≡ true → AddFits l r is ns rs
-add-facts l r is ns rs h =
-    let A : Register = added r (batchOf is ns rs) in
-    let x : Refusal = unless (isIn 1 64 (length is) && eqb (length ns) (length is)) 7 0 in
-    let y : Refusal = columnsRefusal r (l .n) 1 [] is ns rs in
+pub step-facts : (is ns ps qs : List ℕ) → keepStep is ns ps qs ≡ true → InStep is ns ps qs
+step-facts is ns ps qs h =
+    let a : Bool = isIn 1 64 (length is) in
+    let b : Bool = eqb (length ns) (length is) in
+    let c : Bool = eqb (length ps) (length is) in
+    let d : Bool = eqb (length qs) (length is) in
+    let t : (a ≡ true) × ((b && (c && d)) ≡ true) = and-both a (b && (c && d)) h in
+    let u : (b ≡ true) × ((c && d) ≡ true) = and-both b (c && d) (t .1) in
+    let v : (c ≡ true) × (d ≡ true) = and-both c d (u .1) in
+    let w : (1 ≤ length is) × (length is ≤ 64) = in-range 1 64 (length is) (t .0) in
+    record {
+      some = w .0;
+      few = w .1;
+      counted = eqb-true (length ns) (length is) (u .0);
+      firsts-length = eqb-true (length ps) (length is) (v .0);
+      seconds-length = eqb-true (length qs) (length is) (v .1);
+    }
+
+pub record AddFits (l : Sizes) (r : Register) (ids counts rows firsts seconds : List ℕ) : Type 0 where
+  pub step : InStep ids counts firsts seconds
+  pub columns : ColumnsFit r (l .n) [] ids counts rows firsts seconds
+  pub book-room : rowSum (r .columns ++ linesOf ids counts rows firsts seconds) ≤ l .c
+  pub factor-room : sizeSum (factorFor (added r (linesOf ids counts rows firsts seconds))) ≤ l .f
+
+pub add-facts : (l : Sizes) (r : Register) (is ns rs ps qs : List ℕ) → isAccepted (addRefusal l r is ns rs ps qs) ≡ true → AddFits l r is ns rs ps qs
+add-facts l r is ns rs ps qs h =
+    let A : Register = added r (linesOf is ns rs ps qs) in
+    let x : Refusal = unless (keepStep is ns ps qs) 7 0 in
+    let y : Refusal = columnsRefusal r (l .n) 1 [] is ns rs ps qs in
     let z : Refusal = roomRefusal l A in
     let t : (isAccepted x ≡ true) × (isAccepted (orElse y z) ≡ true) = or-both x (orElse y z) h in
     let u : (isAccepted y ≡ true) × (isAccepted z ≡ true) = or-both y z (t .1) in
-    let s : (isIn 1 64 (length is) ≡ true) × (eqb (length ns) (length is) ≡ true) =
-    and-both (isIn 1 64 (length is)) (eqb (length ns) (length is)) (unless-holds (isIn 1 64 (length is) && eqb (length ns) (length is)) 7 0 refl (t .0)) in
-    let b : (1 ≤ length is) × (length is ≤ 64) = in-range 1 64 (length is) (s .0) in
     let v : (isAccepted (unless (leb (rowSum (A .columns)) (l .c)) 15 0) ≡ true) × (isAccepted (unless (leb (sizeSum (factorFor A)) (l .f)) 16 0) ≡ true) =
     or-both (unless (leb (rowSum (A .columns)) (l .c)) 15 0) (unless (leb (sizeSum (factorFor A)) (l .f)) 16 0) (u .1) in
     record {
-      some = b .0;
-      few = b .1;
-      counted = eqb-true (length ns) (length is) (s .1);
-      columns = columns-facts r (l .n) 1 [] is ns rs (u .0);
+      step = step-facts is ns ps qs (unless-holds (keepStep is ns ps qs) 7 0 refl (t .0));
+      columns = columns-facts r (l .n) 1 [] is ns rs ps qs (u .0);
       book-room = leb-true (rowSum (A .columns)) (l .c) (unless-holds (leb (rowSum (A .columns)) (l .c)) 15 0 refl (v .0));
       factor-room = leb-true (sizeSum (factorFor A)) (l .f) (unless-holds (leb (sizeSum (factorFor A)) (l .f)) 16 0 refl (v .1));
     }
@@ -245,6 +290,13 @@ remove-facts l r is h =
     let b : (1 ≤ length is) × (length is ≤ 64) = in-range 1 64 (length is) (unless-holds (isIn 1 64 (length is)) 7 0 refl (t .0)) in
     let f : IdsFit r (l .n) [] is = ids-facts r (l .n) 1 [] is (t .1) in
     record { some = b .0; few = b .1; once = of-once is (λ i. omega (arith, f .apart i)); named = f .named; live = f .live }
+
+-- ---- 16: a clock change
+
+module _ (l : Sizes) (r : Register) (t : ℕ) where
+  -- those that leave are gone by then, and just enough room is enough here too
+  pub clock-enough : sizeSum (factorFor (clocked r t)) ≤ l .f → clockRefusal l r t ≡ accepted
+  clock-enough h = rw (le-leb (sizeSum (factorFor (clocked r t))) (l .f) h) refl
 
 -- ---- 17 and 18: questions
 

@@ -11,10 +11,12 @@ use Rattle.tables.specs.Tables.{Sizes}
 
 -- ---- which entry
 
--- "Add: a list of ids, a list of row counts, and the rows of all columns one after another. Remove: a list of ids."
+-- "Add: a list of ids, a list of row counts, and the rows of all columns one after another. Remove: a list of ids."; document 02: an addition's first and second
+-- minutes, by position, and "Setting the clock, forward or back"
 pub data Change : Type 0 where
-  adding : (ids rowCounts rows : List ℕ) → Change
+  adding : (ids rowCounts rows firsts seconds : List ℕ) → Change
   removing : (ids : List ℕ) → Change
+  setting : (minute : ℕ) → Change
 
 -- "Parent of j. Path of j. Column j"; document 02: the next row of a column from a row on, in place of "Multiplicity of row i in column j"; the columns
 -- that meet a row, the common row of some rows
@@ -68,6 +70,12 @@ abbrev pub callOf : Entry → Lent → Call
 callOf e x = record { entry = e; lent = x }
 
 -- ---- by kind
+
+-- a change is a batch: columns added or removed
+abbrev pub isBatch : Change → Bool
+isBatch (adding is ns rs ps qs) = true
+isBatch (removing is) = true
+isBatch (setting t) = false
 
 -- an entry is an opening
 abbrev pub isOpening : Entry → Bool

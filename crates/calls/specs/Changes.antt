@@ -1,21 +1,21 @@
 -- What a change does, from the register alone: whether it is refused, which columns that count leave, enter and stay, the labels, the ids whose booked columns it
 -- may alter, and the register after it. All that it reports follows: the touched columns, their labels and the entries; Steps.antt reads the grade
 -- from the entries and the factor's limits.
--- Every change is an exchange: of the live columns some leave and others enter; an addition lets none leave, a removal lets none enter.
+-- Every change is an exchange: of the live columns some leave and others enter; an addition lets none leave, a removal lets none enter, the clock may do both.
 -- Assumes nothing: these are definitions.
 use mathlib.Core.List.{List, [], _∷_, _++_}
 use Prim.Native.Nat.{ℕ}
-use Rattle.symbolic.specs.Columns.{Column, Register, liveOf, live}
+use Rattle.symbolic.specs.Columns.{Column, withRows, onlyAt, atBoth, countedBy, Register, liveOf, live}
 use Rattle.symbolic.specs.Factor.{factorFor}
 use Rattle.symbolic.specs.Batch.{exchanged, labelOf, entriesOf}
-use Rattle.symbolic.specs.Change.{columnsOf, added, removed, Bag}
+use Rattle.symbolic.specs.Change.{columnsOf, added, removed, clocked, Bag}
 use Rattle.tables.specs.Tables.{Sizes}
-use Rattle.calls.specs.Refusals.{Refusal, batchOf, addRefusal, removeRefusal}
-use Rattle.calls.specs.Calls.{Change, adding, removing, Entry, opening, changing, checking, asking}
+use Rattle.calls.specs.Refusals.{Refusal, linesOf, addRefusal, removeRefusal, clockRefusal}
+use Rattle.calls.specs.Calls.{Change, adding, removing, setting, Entry, opening, changing, checking, asking}
 
 -- a change of a register
 pub record Effect : Type 0 where
-  -- 7 to 16, by the sizes
+  -- 7 to 16 and 21, by the sizes
   pub refusal : Sizes → Refusal
   -- the columns that count and leave, enter, stay
   pub leave : List Column
@@ -28,18 +28,19 @@ pub record Effect : Type 0 where
   -- the register after it
   pub register : Register
 
--- EACH CHANGE: "each id enters with as many of the rows not yet used as its count says"; "every id in the batch leaves". Labels are read "in the tree after
--- the call when adding, before it when removing"
+-- EACH CHANGE: "each id enters with as many of the rows not yet used as its count says"; "every id in the batch leaves"; "Setting the clock .. takes out columns
+-- that fall outside, then lets in those that begin to count". Labels are read "in the tree after the call when adding, before it when removing"; of a clock change
+-- they are 0
 abbrev pub effect : Register → Change → Effect
-effect r (adding is ns rs) =
+effect r (adding is ns rs ps qs) =
     record {
-      refusal = λ l. addRefusal l r is ns rs;
+      refusal = λ l. addRefusal l r is ns rs ps qs;
       leave = [];
-      enter = liveOf (added r (batchOf is ns rs)) (batchOf is ns rs);
+      enter = liveOf (added r (linesOf is ns rs ps qs)) (linesOf is ns rs ps qs);
       stay = live r;
-      label = labelOf (factorFor (added r (batchOf is ns rs))) (liveOf (added r (batchOf is ns rs)) (batchOf is ns rs));
+      label = labelOf (factorFor (added r (linesOf is ns rs ps qs))) (liveOf (added r (linesOf is ns rs ps qs)) (linesOf is ns rs ps qs));
       ids = is;
-      register = added r (batchOf is ns rs);
+      register = added r (linesOf is ns rs ps qs);
     }
 effect r (removing is) =
     record {
@@ -51,11 +52,22 @@ effect r (removing is) =
       ids = is;
       register = removed r is;
     }
+effect r (setting t) =
+    record {
+      refusal = λ l. clockRefusal l r t;
+      leave = countedBy (onlyAt (r .clock) t) (r .columns);
+      enter = countedBy (onlyAt t (r .clock)) (r .columns);
+      stay = countedBy (atBoth (r .clock) t) (r .columns);
+      label = λ j. 0;
+      ids = [];
+      register = clocked r t;
+    }
 
--- an exchange: the live columns before it are those that stay and those that leave, after it those that stay and those that enter, but for their order
+-- an exchange: the live columns before it are those that stay and those that leave, after it those that stay and those that enter, but for their order and for
+-- columns with no row, which neither factor nor paths see
 pub record IsExchange (r : Register) (x : Effect) : Type 0 where
-  pub before : Bag (live r) (x .stay ++ x .leave)
-  pub after : Bag (live (x .register)) (x .stay ++ x .enter)
+  pub before : Bag (withRows (live r)) (withRows (x .stay ++ x .leave))
+  pub after : Bag (withRows (live (x .register))) (withRows (x .stay ++ x .enter))
 
 -- ---- what it reports
 
@@ -78,9 +90,9 @@ entriesBy r c = entriesOf (factorFor r) (factorFor (effect r c .register)) (touc
 
 -- ---- the plain register
 
--- the register after an accepted call: "Accepted opening: the new m, no column"; "a check or a question: nothing changes"
+-- the register after an accepted call: "Accepted opening: the new m, no column", at minute 0; "a check or a question: nothing changes"
 abbrev pub registerAfter : Register → Entry → Register
-registerAfter r (opening l g) = record { m = l .m; columns = [] }
+registerAfter r (opening l g) = record { m = l .m; clock = 0; columns = [] }
 registerAfter r (changing c) = effect r c .register
 registerAfter r checking = r
 registerAfter r (asking q p) = r

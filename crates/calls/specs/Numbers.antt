@@ -32,7 +32,7 @@ soundRefusal s t e = unless (isOpening e || isSound s t) 6 0
 abbrev pub askRefusal : Register → Question → (place : ℕ) → (list : List ℕ) → Refusal
 askRefusal r q p xs = orElse (response r q .refusal) (roomFor xs p (length (response r q .list)))
 
--- 7 to 18, by the register; list: the one lent to a question
+-- 7 to 18 and 21, by the register; list: the one lent to a question
 abbrev pub ownRefusal : Sizes → Register → Entry → (list : List ℕ) → Refusal
 ownRefusal l r (opening k g) xs = accepted
 ownRefusal l r (changing c) xs = effect r c .refusal l

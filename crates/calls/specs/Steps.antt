@@ -13,9 +13,9 @@ use Rattle.symbolic.specs.Grades.{Limits, limitsFor, gradeOf}
 use Rattle.symbolic.specs.Change.{Bag}
 use Rattle.workspace.specs.Regions.{zeroFirst}
 use Rattle.book.specs.Book as book
-use Rattle.tables.specs.Tables.{Tables, Sizes, State, storedIn, bookIn, registerOf, isSound}
+use Rattle.tables.specs.Tables.{Tables, Sizes, State, storedIn, bookIn, windowsIn, registerOf, isSound}
 use Rattle.tables.specs.Opening.{openedState, openedTables}
-use Rattle.tables.specs.Stays.{ColumnStays, EntriesStay, TailsStay}
+use Rattle.tables.specs.Stays.{ColumnStays, EntriesStay, MinutesStay, TailsStay}
 use Rattle.calls.specs.Refusals.{Refusal, isAccepted, workFor}
 use Rattle.calls.specs.Calls.{Change, Entry, opening, changing, checking, asking, Lent, withWork, Call, withDefault, sizesAfter}
 use Rattle.calls.specs.Changes.{effect, touchedBy, labelsBy, entriesBy}
@@ -24,7 +24,7 @@ use Rattle.calls.specs.Numbers.{callEarly, refusalOf}
 
 -- ---- the numbers that a call answers; one that a call does not have is 0
 
--- the number and position of a call, a batch's touched columns, entries and grade, a question's row and value
+-- the number and position of a call, a change's touched columns, entries and grade, a question's row and value
 pub record Answer : Type 0 where
   pub number : ℕ
   pub position : ℕ
@@ -107,15 +107,25 @@ pub record World : Type 0 where
   pub state : State
   pub tables : Tables
 
--- the register that the book of a world holds
+-- the register that book and windows of a world hold at its clock
 abbrev pub bookedIn : World → Register
 bookedIn u = registerOf (u .state) (u .tables)
+
+-- the book's tables, its free head and the windows are as before
+pub record SameBook (before after : World) : Type 0 where
+  pub heads : after .tables .bookHeads ≡ before .tables .bookHeads
+  pub rows : after .tables .bookRows ≡ before .tables .bookRows
+  pub next : after .tables .bookNext ≡ before .tables .bookNext
+  pub windows : after .tables .windows ≡ before .tables .windows
+  pub free : after .state .bookFree ≡ before .state .bookFree
 
 -- what an accepted change leaves: "a pattern entry that stays keeps its record and .. the tables are sound afterwards"
 pub record Exchanged (before : World) (c : Change) (after : World) : Type 0 where
   pub sizes : after .state .sizes ≡ before .state .sizes
   -- "The limits stay with the factor until it is opened anew"
   pub limits : after .state .limits ≡ before .state .limits
+  -- a batch leaves the clock, a clock change sets it
+  pub clock : after .state .clock ≡ effect (bookedIn before) c .register .clock
   pub sound : isSound (after .state) (after .tables) ≡ true
   -- the book's columns are those of the register after the change
   pub columns : Bag (bookedIn after .columns) (effect (bookedIn before) c .register .columns)
@@ -129,6 +139,11 @@ pub record Exchanged (before : World) (c : Change) (after : World) : Type 0 wher
   -- the booked column of every other id stays
   pub book : (i : ℕ) → 1 ≤ i → i ≤ before .state .sizes .n → among i (effect (bookedIn before) c .ids) ≡ false →
       book.ColumnStays (bookIn (before .state) (before .tables)) (bookIn (after .state) (after .tables)) i
+  -- and so do the minutes of every other id
+  pub minutes : (i : ℕ) → 1 ≤ i → i ≤ before .state .sizes .n → among i (effect (bookedIn before) c .ids) ≡ false →
+      MinutesStay (before .state .sizes .n) (windowsIn (before .state) (before .tables)) (windowsIn (after .state) (after .tables)) i
+  -- a change that books and removes nothing leaves the book's tables as they are
+  pub still : effect (bookedIn before) c .ids ≡ [] → SameBook before after
   pub tails : TailsStay (before .state .sizes) (before .tables) (after .tables)
 
 -- record and tables after an accepted call

@@ -1,5 +1,6 @@
 // A factor of at most 64 rows with its tables, held by value: each public entry of the factor on them, for programs that run cases. The work table is
-// made anew for each call and holds no zeros before it. In meeting.rt are the questions about rows.
+// made anew for each call and holds no zeros before it. In changing.rt are additions, removals and the clock, in meeting.rt the questions about rows.
+pub mod changing;
 pub mod meeting;
 
 ghost use Prim.Native.Nat.{_≤_};
@@ -10,7 +11,7 @@ use factor::Opening;
 use questions::Found;
 use questions::Reply;
 
-// Tables for m 64, n 256, F 2,080 and C 2,048, and the record. It stands last: a search for a table's length
+// Tables for m 64, n 256, F 2,080 and C 2,048, and the record, with the clock. It stands last: a search for a table's length
 // does not get past its fields.
 pub struct Host {
     pub heads: [u32; 64],
@@ -21,6 +22,7 @@ pub struct Host {
     pub book_heads: [u32; 256],
     pub book_rows: [u16; 2048],
     pub book_next: [u32; 2048],
+    pub windows: [u32; 512],
     pub factor: Factor,
 }
 
@@ -30,7 +32,7 @@ pub struct Opened {
     pub host: Host,
 }
 
-// What a batch gives: its answer, the two lists, which hold 9 wherever it writes nothing, and the host after it.
+// What a change gives: its answer, the two lists, which hold 9 wherever it writes nothing, and the host after it.
 pub struct Batched {
     pub changed: Changed,
     pub touched: [u16; 64],
@@ -49,6 +51,7 @@ pub fn unopened() -> Host {
         book_heads: [9; 256],
         book_rows: [9; 2048],
         book_next: [9; 2048],
+        windows: [9; 512],
         factor: Factor {
             m: 0,
             n: 0,
@@ -59,6 +62,7 @@ pub fn unopened() -> Host {
             grade2: 0,
             grade3: 0,
             grade4: 0,
+            clock: 0,
         },
     }
 }
@@ -71,7 +75,7 @@ pub fn row_count(host: Host) -> u32
     if 64 < record.m { 64 } else { record.m }
 }
 
-// ---- opening and batches
+// ---- opening
 
 // Opens. After a refused opening the record from before it serves on.
 pub fn open(
@@ -92,6 +96,7 @@ pub fn open(
     let mut book_heads = host.book_heads;
     let mut book_rows = host.book_rows;
     let mut book_next = host.book_next;
+    let mut windows = host.windows;
     let mut work = [7u32; 12160];
     let opening = Factor::open(
         m,
@@ -109,6 +114,7 @@ pub fn open(
         &mut book_heads,
         &mut book_rows,
         &mut book_next,
+        &mut windows,
         &mut work,
     );
     let mut number = 0;
@@ -126,109 +132,10 @@ pub fn open(
         book_heads,
         book_rows,
         book_next,
+        windows,
         factor,
     };
     Opened { number, host }
-}
-
-// Adds a batch.
-pub fn add(host: Host, ids: &[u32], row_counts: &[u32], row_list: &[u32]) -> Batched {
-    let heads = host.heads;
-    let mut parents = host.parents;
-    let mut rows = host.rows;
-    let mut counts = host.counts;
-    let mut next = host.next;
-    let mut book_heads = host.book_heads;
-    let mut book_rows = host.book_rows;
-    let mut book_next = host.book_next;
-    let mut work = [7u32; 12160];
-    let mut touched = [9u16; 64];
-    let mut labels = [9u16; 64];
-    let record = host.factor;
-    let changed = changes::add(
-        record,
-        &heads,
-        &mut parents,
-        &mut rows,
-        &mut counts,
-        &mut next,
-        &mut book_heads,
-        &mut book_rows,
-        &mut book_next,
-        &mut work,
-        &mut touched,
-        &mut labels,
-        ids,
-        row_counts,
-        row_list,
-    );
-    let factor = changed.factor;
-    let host = Host {
-        heads,
-        parents,
-        rows,
-        counts,
-        next,
-        book_heads,
-        book_rows,
-        book_next,
-        factor,
-    };
-    Batched {
-        changed,
-        touched,
-        labels,
-        host,
-    }
-}
-
-// Removes a batch.
-pub fn remove(host: Host, ids: &[u32]) -> Batched {
-    let heads = host.heads;
-    let mut parents = host.parents;
-    let mut rows = host.rows;
-    let mut counts = host.counts;
-    let mut next = host.next;
-    let mut book_heads = host.book_heads;
-    let mut book_rows = host.book_rows;
-    let mut book_next = host.book_next;
-    let mut work = [7u32; 12160];
-    let mut touched = [9u16; 64];
-    let mut labels = [9u16; 64];
-    let record = host.factor;
-    let changed = changes::remove(
-        record,
-        &heads,
-        &mut parents,
-        &mut rows,
-        &mut counts,
-        &mut next,
-        &mut book_heads,
-        &mut book_rows,
-        &mut book_next,
-        &mut work,
-        &mut touched,
-        &mut labels,
-        ids,
-    );
-    let factor = changed.factor;
-    let host = Host {
-        heads,
-        parents,
-        rows,
-        counts,
-        next,
-        book_heads,
-        book_rows,
-        book_next,
-        factor,
-    };
-    Batched {
-        changed,
-        touched,
-        labels,
-        host,
-    }
 }
 
 // ---- the check and questions
@@ -243,6 +150,7 @@ pub fn check(host: Host) -> Reply {
     let book_heads = host.book_heads;
     let book_rows = host.book_rows;
     let book_next = host.book_next;
+    let windows = host.windows;
     let mut work = [7u32; 12160];
     let record = host.factor;
     record.check(
@@ -254,6 +162,7 @@ pub fn check(host: Host) -> Reply {
         &book_heads,
         &book_rows,
         &book_next,
+        &windows,
         &mut work,
     )
 }
@@ -268,6 +177,7 @@ pub fn next_row(host: Host, i: u32, j: u32) -> Found {
     let book_heads = host.book_heads;
     let book_rows = host.book_rows;
     let book_next = host.book_next;
+    let windows = host.windows;
     let mut work = [7u32; 12160];
     let record = host.factor;
     record.next_row(
@@ -279,6 +189,7 @@ pub fn next_row(host: Host, i: u32, j: u32) -> Found {
         &book_heads,
         &book_rows,
         &book_next,
+        &windows,
         &mut work,
         Row(i),
         Row(j),
@@ -295,6 +206,7 @@ pub fn parent(host: Host, j: u32) -> Reply {
     let book_heads = host.book_heads;
     let book_rows = host.book_rows;
     let book_next = host.book_next;
+    let windows = host.windows;
     let mut work = [7u32; 12160];
     let record = host.factor;
     record.parent(
@@ -306,6 +218,7 @@ pub fn parent(host: Host, j: u32) -> Reply {
         &book_heads,
         &book_rows,
         &book_next,
+        &windows,
         &mut work,
         Row(j),
     )
@@ -321,6 +234,7 @@ pub fn path(host: Host, list: &mut [u32], j: u32, place: usize) -> Reply {
     let book_heads = host.book_heads;
     let book_rows = host.book_rows;
     let book_next = host.book_next;
+    let windows = host.windows;
     let mut work = [7u32; 12160];
     let record = host.factor;
     record.path(
@@ -332,6 +246,7 @@ pub fn path(host: Host, list: &mut [u32], j: u32, place: usize) -> Reply {
         &book_heads,
         &book_rows,
         &book_next,
+        &windows,
         &mut work,
         list,
         Row(j),
@@ -349,6 +264,7 @@ pub fn column(host: Host, list: &mut [u32], j: u32, place: usize) -> Reply {
     let book_heads = host.book_heads;
     let book_rows = host.book_rows;
     let book_next = host.book_next;
+    let windows = host.windows;
     let mut work = [7u32; 12160];
     let record = host.factor;
     record.column(
@@ -360,6 +276,7 @@ pub fn column(host: Host, list: &mut [u32], j: u32, place: usize) -> Reply {
         &book_heads,
         &book_rows,
         &book_next,
+        &windows,
         &mut work,
         list,
         Row(j),

@@ -21,6 +21,7 @@ pub fn meets(host: Host, list: &mut [u32], i: u32, place: usize) -> Asked {
     let book_heads = host.book_heads;
     let book_rows = host.book_rows;
     let book_next = host.book_next;
+    let windows = host.windows;
     let mut work = [7u32; 12160];
     let factor = host.factor;
     let reply = factor.meets(
@@ -32,6 +33,7 @@ pub fn meets(host: Host, list: &mut [u32], i: u32, place: usize) -> Asked {
         &book_heads,
         &book_rows,
         &book_next,
+        &windows,
         &mut work,
         list,
         Row(i),
@@ -50,6 +52,7 @@ pub fn common(host: Host, row_list: &[u32]) -> Asked {
     let book_heads = host.book_heads;
     let book_rows = host.book_rows;
     let book_next = host.book_next;
+    let windows = host.windows;
     let mut work = [7u32; 12160];
     let factor = host.factor;
     let reply = factor.common(
@@ -61,6 +64,7 @@ pub fn common(host: Host, row_list: &[u32]) -> Asked {
         &book_heads,
         &book_rows,
         &book_next,
+        &windows,
         &mut work,
         row_list,
     );

@@ -11,8 +11,8 @@ use Rattle.calls.specs.Refusals.{isAccepted, listsLong, earlyRefusal}
 use Rattle.calls.specs.Calls.{Change, changing, Lent, reportLists, withWork, Call, callOf}
 use Rattle.calls.specs.Steps.{Answer, World, Transition}
 use Rattle.calls.proofs.Refusals.{lists-facts, early-passed}
-use Rattle.batch.specs.Outcome.{BatchStep}
-use Rattle.batch.proofs.Whole.{change-whole}
+use Rattle.steps.specs.Outcome.{ChangeStep}
+use Rattle.steps.proofs.Whole.{change-whole}
 use Rattle.factor.specs.Entries.{stateOf, worldOf}
 use Rattle.factor.specs.Admission.{Admitted}
 use Rattle.changes.specs.Batches.{CanChange, changedAnswer}
@@ -46,12 +46,12 @@ module _ (s : State) (t : Tables) (w a b : List ℕ) {y : Bool} (e : y ≡ not (
     pub admitted-can : CanChange s t w′ a b
     admitted-can = record { can-use = admitted-use m d; touched-long = lists-long .0; labels-long = lists-long .1 }
 
-    pub changed-whole : (c : Change) (z : Answer) (x : Lent) (v : World) → BatchStep (record { state = s; tables = t }) c (reportLists w′ a b) z x v →
+    pub changed-whole : (c : Change) (z : Answer) (x : Lent) (v : World) → ChangeStep (record { state = s; tables = t }) c (reportLists w′ a b) z x v →
         Transition (record { state = s; tables = t }) (callOf (changing c) (reportLists w a b)) z x v
     changed-whole c z x v o =
         let u : World = record { state = s; tables = t } in
         change-whole u c (reportLists w a b) (ap (λ (q : Bool). isAccepted (earlyRefusal l true t w q)) long-is ∙ admitted-early m d) (admitted-usable m d .sound) z x v
-        (subst (λ (q : List ℕ). BatchStep u c (reportLists q a b) z x v) (admitted-work m d) o)
+        (subst (λ (q : List ℕ). ChangeStep u c (reportLists q a b) z x v) (admitted-work m d) o)
 
 -- ---- refused by 1 to 6
 

@@ -1,5 +1,5 @@
--- A batch of the factor: what its unchecked twin asks, and the answer with the record after it. The contract of the checked entry is `Transition` of its call,
--- that of the unchecked one `BatchStep`: 1 to 6 are passed by its premise. Assumes nothing: these are definitions.
+-- A change of the factor: what its unchecked twin asks, and the answer with the record after it. The contract of the checked entry is `Transition` of its call,
+-- that of the unchecked one `ChangeStep`: 1 to 6 are passed by its premise. Assumes nothing: these are definitions.
 use mathlib.Core.List.{List}
 use Prim.Native.Nat.{ℕ, _≤_}
 use lib.ListN.{length}
@@ -14,6 +14,6 @@ pub record CanChange (s : State) (t : Tables) (work touched labels : List ℕ) :
   pub touched-long : s .sizes .m ≤ length touched
   pub labels-long : s .sizes .m ≤ length labels
 
--- the numbers of a batch's answer, without the record
+-- the numbers of a change's answer, without the record
 abbrev pub changedAnswer : Changed → Answer
 changedAnswer x = record { number = x .number; position = x .position; touched = x .touched; entries = x .entries; grade = x .grade; row = 0; value = 0 }

@@ -1,12 +1,12 @@
 // Fixed histories: the listed example with its refusals and questions, the removal in which an entry stays, paths that merge, batches of 64 columns, and F
 // by default.
 ghost use Prim.Native.Nat.{_≤_};
-use crate::asked;
-use crate::pair::Pair;
-use crate::pair::add;
-use crate::pair::open;
-use crate::pair::remove;
-use crate::rows;
+use pairs::asked;
+use pairs::pair::Pair;
+use pairs::pair::add;
+use pairs::pair::open;
+use pairs::pair::remove;
+use pairs::rows;
 
 // Calls before any opening are refused by 1; then openings are refused by 1 to 5.
 fn unopened(p: Pair) -> Pair {

@@ -1,13 +1,13 @@
 // Fixed histories with limits of the grades: batches that they grade, openings that 20 refuses, limits that serve on, and records with unsound ones.
-use crate::asked;
-use crate::pair::Pair;
-use crate::pair::Three;
-use crate::pair::add;
-use crate::pair::open;
-use crate::pair::open_with;
-use crate::pair::overwrite;
-use crate::pair::remove;
-use crate::rows;
+use pairs::asked;
+use pairs::pair::Pair;
+use pairs::pair::Three;
+use pairs::pair::add;
+use pairs::pair::open;
+use pairs::pair::open_with;
+use pairs::pair::overwrite;
+use pairs::pair::remove;
+use pairs::rows;
 
 // ---- batches
 

@@ -1,17 +1,12 @@
 // Runs fixed and random histories of calls on the factor's public entries and on the second implementation, and compares after each call everything that it
-// answers, and after each opening or batch every column. It prints a line for whatever differs, then how many calls it ran.
-mod asked;
-mod draw;
+// answers, and after each opening or batch all that the tables hold. No column has a window, and the clock stays at 0. It prints a line for whatever differs, then how many
+// calls it ran.
 mod fixed;
-mod kept;
 mod limits;
-mod meeting;
-mod next_row;
-mod pair;
 mod random;
-mod rows;
-mod same;
-mod tally;
+
+use pairs::pair;
+use pairs::tally;
 
 fn main() {
     let mut p = fixed::all(pair::unopened());

@@ -1,6 +1,6 @@
--- What a proved caller of the unchecked batches needs: an accepted opening leaves tables that a batch may change (`opened-can`), a refused one leaves
--- everything (`refused-number`, `refused-tables`, `refused-work`), a batch leaves tables that the next may change (`change-can`), and its step is that of the whole call
--- (`change-step`). Assumes nothing.
+-- What a proved caller of the unchecked changes needs: an accepted opening leaves tables that a change may follow on (`opened-can`), a refused one leaves
+-- everything (`refused-number`, `refused-tables`, `refused-work`), a change, by a batch or by the clock, leaves tables that the next may follow on (`change-can`), and its
+-- step is that of the whole call (`change-step`). Assumes nothing.
 use mathlib.Core.Path.{_≡_, refl, sym, ap, _∙_, subst}
 use mathlib.Core.Logic.{_⊎_, inl, inr, _≢_}
 use mathlib.Core.Bool.{Bool, true, false, true≢false}
@@ -28,8 +28,8 @@ use Rattle.calls.proofs.Choices.{or-both, or-second, both-or}
 use Rattle.calls.proofs.Refusals.{InRange, sizes-facts}
 use Rattle.calls.proofs.Numbers.{Ready, early-facts}
 use Rattle.calls.proofs.Steps.{Accepted, Refused, step-cases, step-taken, refused-some}
-use Rattle.batch.specs.Outcome.{BatchOutcome, BatchStep}
-use Rattle.batch.proofs.Whole.{change-whole}
+use Rattle.steps.specs.Outcome.{ChangeOutcome, ChangeStep}
+use Rattle.steps.proofs.Whole.{change-whole}
 use Rattle.factor.specs.Entries.{stateOf, openingAnswer, stateAfter, OpenStep}
 use Rattle.factor.specs.Admission.{Usable}
 use Rattle.factor.specs.declared.Factor.{Factor}
@@ -93,7 +93,7 @@ module _ (l : Sizes) (g : Limits) (t : Tables) (w : List ℕ) where
   -- a refused opening has a number, and leaves tables and work table: the record before it could be any
   module _ (n : ℕ) (t′ : Tables) (w′ : List ℕ) (o : OpenStep l g t w (answers.Refused n) t′ w′) where
     abbrev any : ℕ → State
-    any i = record { sizes = l; limits = g; free = i; bookFree = 0 }
+    any i = record { sizes = l; limits = g; free = i; bookFree = 0; clock = 0 }
 
     step : (i : ℕ) → (Accepted (record { state = any i; tables = t }) (callOf (opening l g) (workOnly w)) (openingAnswer (answers.Refused n)) (workOnly w′) (record { state = any i; tables = t′ })) ⊎
         (Refused (record { state = any i; tables = t }) (callOf (opening l g) (workOnly w)) (openingAnswer (answers.Refused n)) (workOnly w′) (record { state = any i; tables = t′ }))
@@ -128,12 +128,12 @@ module _ (l : Sizes) (g : Limits) (t : Tables) (w : List ℕ) where
           | inr e ↦ ap (λ (y : Lent). y .work) (refused-as .lists) ∙ ap (λ (q : Bool). pick q (zeroFirst (workFor (withDefault l)) w) w) e
         ]
 
--- ---- a batch
+-- ---- a change
 
 module _ {s : State} {t : Tables} {w a b : List ℕ} (can : CanChange s t w a b) where
   -- 1 to 5 are passed
-  batch-early : isAccepted (earlyRefusal (s .sizes) true t w (listsLong (s .sizes .m) a b)) ≡ true
-  batch-early =
+  change-early : isAccepted (earlyRefusal (s .sizes) true t w (listsLong (s .sizes .m) a b)) ≡ true
+  change-early =
       let l : Sizes = s .sizes in
       both-or (sizesRefusal bounds l) (orElse (shortRefusal l t w) (unless (listsLong (l .m) a b) 5 0)) (ap isAccepted (can .can-use .usable .sizes))
       (both-or (shortRefusal l t w) (unless (listsLong (l .m) a b) 5 0) (rw (can .can-use .usable .long, le-leb _ _ (can .can-use .room)) refl)
@@ -142,13 +142,13 @@ module _ {s : State} {t : Tables} {w a b : List ℕ} (can : CanChange s t w a b)
   first : w ≡ zeroFirst (workFor (s .sizes)) w
   first = sym (first-same (workFor (s .sizes)) w (can .can-use .room) (can .can-use .zero))
 
-  pub change-step : (c : Change) (z : Answer) (x : Lent) (v : World) → BatchStep (record { state = s; tables = t }) c (reportLists w a b) z x v →
+  pub change-step : (c : Change) (z : Answer) (x : Lent) (v : World) → ChangeStep (record { state = s; tables = t }) c (reportLists w a b) z x v →
       Transition (record { state = s; tables = t }) (callOf (changing c) (reportLists w a b)) z x v
   change-step c z x v o =
-      change-whole (record { state = s; tables = t }) c (reportLists w a b) batch-early (can .can-use .usable .sound) z x v
-      (subst (λ (q : List ℕ). BatchStep (record { state = s; tables = t }) c (reportLists q a b) z x v) first o)
+      change-whole (record { state = s; tables = t }) c (reportLists w a b) change-early (can .can-use .usable .sound) z x v
+      (subst (λ (q : List ℕ). ChangeStep (record { state = s; tables = t }) c (reportLists q a b) z x v) first o)
 
-  -- the lists keep their lengths, so the next batch may follow
+  -- the lists keep their lengths, so the next change may follow
   module _ (w′ a′ b′ : List ℕ) (v : World) (p : length a′ ≡ length a) (q : length b′ ≡ length b) where
     same-can : w′ ≡ w → v .state .sizes ≡ s .sizes → longEnough (s .sizes) (v .tables) ≡ true → isSound (v .state) (v .tables) ≡ true →
         CanChange (v .state) (v .tables) w′ a′ b′
@@ -172,11 +172,11 @@ module _ {s : State} {t : Tables} {w a b : List ℕ} (can : CanChange s t w a b)
         same-can e (ap (λ (y : World). y .state .sizes) f) (ap (λ (y : World). longEnough (s .sizes) (y .tables)) f ∙ can .can-use .usable .long)
         (ap (λ (y : World). isSound (y .state) (y .tables)) f ∙ can .can-use .usable .sound)
 
-    change-by : (c : Change) (z : Answer) (n : Bool) → BatchOutcome n (record { state = s; tables = t }) c (reportLists w a b) z (reportLists w′ a′ b′) v →
+    change-by : (c : Change) (z : Answer) (n : Bool) → ChangeOutcome n (record { state = s; tables = t }) c (reportLists w a b) z (reportLists w′ a′ b′) v →
         CanChange (v .state) (v .tables) w′ a′ b′
     change-by c z true o = exchanged-can c (ap (λ (y : Lent). y .work) (o .1)) (o .2)
     change-by c z false o = left-can (ap (λ (y : Lent). y .work) (o .1)) (o .2)
 
-    pub change-can : (c : Change) (z : Answer) → BatchStep (record { state = s; tables = t }) c (reportLists w a b) z (reportLists w′ a′ b′) v →
+    pub change-can : (c : Change) (z : Answer) → ChangeStep (record { state = s; tables = t }) c (reportLists w a b) z (reportLists w′ a′ b′) v →
         CanChange (v .state) (v .tables) w′ a′ b′
     change-can c z o = change-by c z (isAccepted (effect (registerOf s t) c .refusal (s .sizes))) o

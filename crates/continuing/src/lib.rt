@@ -1,1 +1,1 @@
-// No code. What a caller proves who uses the unchecked batches: after an opening and after each batch the next may follow, and each is the step of its whole call.
+// No code. What a caller proves who uses the unchecked changes: after an opening and after each batch or clock change the next may follow, and each is the step of its whole call.

@@ -1,5 +1,5 @@
 -- Lists by a value in two regions of the work table: they are those of proofs/Numbers.antt, and one number put at a front makes them those of one
--- number more (link-listed) and leaves the rest of the table (link-only). Then the loop that lists the ids by smallest row. Assumes nothing.
+-- number more (link-listed) and leaves the rest of the table (link-only). Then the loop that lists the ids by where they start. Assumes nothing.
 use mathlib.Core.Path.{_≡_, refl, sym, ap, subst, _∙_}
 use mathlib.Core.Logic.{inl, inr, _≢_}
 use mathlib.Core.List.{List}
@@ -14,8 +14,7 @@ use Rattle.lists.proofs.Tests.{eq-or-ne}
 use Rattle.workspace.specs.Regions.{cell, region, Outside, IsZero}
 use Rattle.workspace.proofs.Regions.{region-length, region-cell, store-region, store-leaves-region}
 use Rattle.book.specs.Book.{tablesOf}
-use Rattle.book.specs.Entries.{HasHead, StartsAt}
-use Rattle.counting.specs.Counting.{linkedIn, CanLink, ListedIn, OnlyTwo, startIn, CanList, Listed}
+use Rattle.counting.specs.Counting.{linkedIn, CanLink, ListedIn, OnlyTwo, startAt, CanStart, StartsInside, CanList, Listed}
 use Rattle.counting.proofs.Numbers.{Lists, lists-start, lists-skip, lists-more}
 
 -- ---- the table as two lists
@@ -85,23 +84,32 @@ listed-start w a m b l f long z =
     lists-listed w a m b l f 0 long (lists-start (region w b l) (region w a m) f
     (λ v p q. region-cell w a m (v - 1) (omega (arith, region-length w a m long)) ∙ z (v - 1) (omega (arith, region-length w a m long))))
 
--- ---- the ids by their smallest rows
+-- ---- the ids by where they start at a minute
 
-pub record Linking (heads rows work₀ : List ℕ) (a m b : ℕ) (work : List ℕ) (i : ℕ) : Type 0 where
+pub record Linking (heads rows windows work₀ : List ℕ) (minute a m b : ℕ) (work : List ℕ) (i : ℕ) : Type 0 where
   pub high : i ≤ length heads
   pub only : OnlyTwo a m b (length heads) work₀ work
-  pub lists : (next : List ℕ) → length rows ≡ length next → ListedIn work a m b (length heads) (startIn (tablesOf heads rows next)) i
+  pub lists : (next : List ℕ) → length rows ≡ length next → ListedIn work a m b (length heads) (startAt (tablesOf heads rows next) windows minute) i
 
-module _ {heads rows w₀ : List ℕ} {a m b : ℕ} (pre : CanList heads rows w₀ a m b) where
-  pub linking-start : Linking heads rows w₀ a m b w₀ 0
+module _ {heads rows windows w₀ : List ℕ} {minute a m b : ℕ} (pre : CanList heads rows windows w₀ minute a m b) where
+  pub linking-start : Linking heads rows windows w₀ minute a m b w₀ 0
   linking-start =
-      record { high = omega arith; only = two-refl; lists = λ next z. listed-start w₀ a m b (length heads) (startIn (tablesOf heads rows next)) (omega (arith, pre .apart, pre .long)) (pre .empty) }
+      record {
+        high = omega arith;
+        only = two-refl;
+        lists = λ next z. listed-start w₀ a m b (length heads) (startAt (tablesOf heads rows next) windows minute) (omega (arith, pre .apart, pre .long)) (pre .empty);
+      }
 
-  module _ {w : List ℕ} {i : ℕ} (s : Linking heads rows w₀ a m b w i) where
-    pub linking-has : i < length heads → HasHead heads rows (i + 1)
-    linking-has h = record { low = omega arith; high = omega arith; within = pre .heads-in (i + 1) (omega arith) (omega arith) }
+  module _ {w : List ℕ} {i : ℕ} (s : Linking heads rows windows w₀ minute a m b w i) where
+    pub linking-has : i < length heads → CanStart heads rows windows (i + 1)
+    linking-has h =
+        record {
+          has = record { low = omega arith; high = omega arith; within = pre .heads-in (i + 1) (omega arith) (omega arith) };
+          few = pre .few;
+          windows-long = pre .windows-long;
+        }
 
-    pub linking-can : (v : ℕ) → i < length heads → StartsAt heads rows (i + 1) v → CanLink w a b v (i + 1)
+    pub linking-can : (v : ℕ) → i < length heads → StartsInside heads rows windows minute (i + 1) v → CanLink w a b v (i + 1)
     linking-can v h e =
         record {
           low = omega arith;
@@ -109,18 +117,19 @@ module _ {heads rows w₀ : List ℕ} {a m b : ℕ} (pre : CanList heads rows w�
           next-in = omega (arith, pre .long, s .only .same-length);
         }
 
-    pub linking-next : (v : ℕ) {x : List ℕ} → i < length heads → StartsAt heads rows (i + 1) v → x ≡ linkedIn w a b v (i + 1) → Linking heads rows w₀ a m b x (i + 1)
+    pub linking-next : (v : ℕ) {x : List ℕ} → i < length heads → StartsInside heads rows windows minute (i + 1) v → x ≡ linkedIn w a b v (i + 1) →
+        Linking heads rows windows w₀ minute a m b x (i + 1)
     linking-next v h e y =
         let q : v ≤ m = omega (arith, e (pre .next) (pre .sized), pre .rows-in (i + 1) (omega arith) (omega arith)) in
         rw y (record {
           high = omega arith;
           only = two-trans (s .only) (link-only w a m b (length heads) v (i + 1) (omega arith) (omega arith) q);
           lists = λ next z.
-              link-listed w a m b (length heads) (startIn (tablesOf heads rows next)) i v (i + 1) (pre .apart) (omega (arith, pre .long, s .only .same-length)) (add-one i) (omega arith) (sym (e next z)) q
-              (s .lists next z);
+              link-listed w a m b (length heads) (startAt (tablesOf heads rows next) windows minute) i v (i + 1) (pre .apart) (omega (arith, pre .long, s .only .same-length)) (add-one i) (omega arith)
+              (sym (e next z)) q (s .lists next z);
         })
 
-    pub linking-end : length heads ≤ i → Listed heads rows w₀ w a m b
+    pub linking-end : length heads ≤ i → Listed heads rows windows w₀ w minute a m b
     linking-end h =
         let e : i ≡ length heads = omega (arith, s .high) in
-        record { only = s .only; lists = λ next z. subst (ListedIn w a m b (length heads) (startIn (tablesOf heads rows next))) e (s .lists next z) }
+        record { only = s .only; lists = λ next z. subst (ListedIn w a m b (length heads) (startAt (tablesOf heads rows next) windows minute)) e (s .lists next z) }

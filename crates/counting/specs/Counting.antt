@@ -2,7 +2,7 @@
 -- Laws: proofs/Numbers.antt, proofs/Tallies.antt. Assumes nothing: these are definitions.
 use mathlib.Core.Path.{_≡_}
 use mathlib.Core.List.{List, [], _∷_, _++_}
-use Prim.Native.Nat.{ℕ, zero, suc, _+_, _-_, _≤_, _<_}
+use Prim.Native.Nat.{ℕ, zero, suc, _+_, _*_, _-_, _≤_, _<_}
 use lib.Dec.{eqb}
 use lib.ListN.{length, getD, set}
 use Rattle.lists.specs.Lists.{pick, at, sumOf}
@@ -10,6 +10,8 @@ use Rattle.workspace.specs.Regions.{cell, region, Outside, IsZero}
 use Rattle.pool.specs.Chains.{Linked}
 use Rattle.symbolic.specs.Columns.{smallest}
 use Rattle.book.specs.Book.{Book, tablesOf, columnFor}
+use Rattle.book.specs.Entries.{HasHead}
+use Rattle.windows.specs.Windows.{countsAt}
 
 -- ---- numbers by a value
 
@@ -52,21 +54,38 @@ pub record OnlyTwo (a n b l : ℕ) (before after : List ℕ) : Type 0 where
 abbrev pub startIn : Book → (id : ℕ) → ℕ
 startIn b i = smallest (columnFor b i)
 
--- ids to be listed by smallest row; nexts are not read, any that suit will do
-pub record CanList (heads rows work : List ℕ) (a m b : ℕ) : Type 0 where
+-- where it starts at a minute: nowhere, row 0, if it is outside its window
+abbrev pub startAt : Book → (windows : List ℕ) → (minute id : ℕ) → ℕ
+startAt b w t i = pick (countsAt w (length (b .heads)) t i) (startIn b i) 0
+
+-- an id whose head is read, and two minutes for each id
+pub record CanStart (heads rows windows : List ℕ) (id : ℕ) : Type 0 where
+  pub has : HasHead heads rows id
+  pub few : length heads ≤ 200000
+  pub windows-long : 2 * length heads ≤ length windows
+
+-- a row is where the column under an id starts at a minute, whatever the nexts
+abbrev pub StartsInside : (heads rows windows : List ℕ) → (minute id row : ℕ) → Type 0
+StartsInside hs rs w t i r = (next : List ℕ) → length rs ≡ length next → r ≡ startAt (tablesOf hs rs next) w t i
+
+-- ids to be listed by where they start; nexts are not read, any that suit will do
+pub record CanList (heads rows windows work : List ℕ) (minute a m b : ℕ) : Type 0 where
   pub next : List ℕ
   pub sized : length rows ≡ length next
-  pub few : length heads < 4294967295
+  -- of ids: a loose bound above document 01's 16,384
+  pub few : length heads ≤ 200000
+  pub windows-long : 2 * length heads ≤ length windows
   pub heads-in : (i : ℕ) → 1 ≤ i → i ≤ length heads → at heads i ≤ length rows
-  pub rows-in : (i : ℕ) → 1 ≤ i → i ≤ length heads → startIn (tablesOf heads rows next) i ≤ m
+  pub rows-in : (i : ℕ) → 1 ≤ i → i ≤ length heads → startAt (tablesOf heads rows next) windows minute i ≤ m
   pub apart : a + m ≤ b
   pub long : b + length heads ≤ length work
   pub empty : IsZero work a m
 
--- each row of 1 to m has the list of the ids whose column starts there, and only the two regions of these lists changed
-pub record Listed (heads rows work₀ work : List ℕ) (a m b : ℕ) : Type 0 where
+-- each row of 1 to m has the list of the ids whose column starts there at a minute, and only the two regions of these lists changed
+pub record Listed (heads rows windows work₀ work : List ℕ) (minute a m b : ℕ) : Type 0 where
   pub only : OnlyTwo a m b (length heads) work₀ work
-  pub lists : (next : List ℕ) → length rows ≡ length next → ListedIn work a m b (length heads) (startIn (tablesOf heads rows next)) (length heads)
+  pub lists : (next : List ℕ) → length rows ≡ length next →
+      ListedIn work a m b (length heads) (startAt (tablesOf heads rows next) windows minute) (length heads)
 
 -- ---- counting rows that stand in the work table, whose first places are the counters
 

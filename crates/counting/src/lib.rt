@@ -1,4 +1,4 @@
-// Counting what the definition gives for a column of L, in the work table: the booked ids listed by smallest row, the children of a column listed, and the
+// Counting what the definition gives for a column of L, in the work table: the booked ids that count at a minute listed by smallest row, the children of a column listed, and the
 // rows that the diagonal, the children and the columns that start there bring, one more in the counter of each. The counters are the first m places;
 // each function that counts gives how many of them left 0, so that its caller knows the length of the column's chain before it walks it.
 ghost use mathlib.Core.Path.{_≡_};
@@ -6,7 +6,16 @@ ghost use Prim.Native.Nat.{_+_, _-_, _*_, _<_};
 ghost use lib.ListN.{length};
 ghost use Rattle.workspace.specs.Regions.{region};
 ghost use Rattle.book.specs.Tally.{tallied, filled, bookRows};
-ghost use Rattle.counting.specs.Counting.{linkedIn, CanLink, CanList, Listed, gathered, CanTally};
+ghost use Rattle.counting.specs.Counting.{
+  linkedIn,
+  CanLink,
+  CanStart,
+  StartsInside,
+  CanList,
+  Listed,
+  gathered,
+  CanTally,
+};
 ghost use Rattle.counting.specs.Given.{
   Counted,
   childrenIn,
@@ -35,22 +44,36 @@ pub fn link(work: &mut [u32], a: usize, b: usize, row: Row, i: u32)
     work[h] = i;
 }
 
-// Lists the booked ids by their smallest rows, which are 1 to m.
+// The row where the column of an id starts at a minute: its smallest, or 0 where it has none or is outside its window.
+fn start_at(book_heads: &[u32], book_rows: &[u16], windows: &[u32], minute: u32, id: Id) -> Row
+    requires { ⌜ CanStart (now «book_heads») (now «book_rows») (now windows) (id .0) ⌝ }
+    ensures { λ r. ⌜ StartsInside (now («book_heads» .entry)) (now («book_rows» .entry)) (now (windows .entry)) minute (id .0) (r .0) ⌝ }
+{
+    let first = book::smallest_row(book_heads, book_rows, id);
+    if windows::counts_at(windows, book_heads.len(), minute, id) {
+        return first;
+    }
+    Row(0)
+}
+
+// Lists the booked ids that count at a minute by their smallest rows, which are 1 to m.
 pub fn link_columns(
     book_heads: &[u32],
     book_rows: &[u16],
+    windows: &[u32],
     work: &mut [u32],
+    minute: u32,
     a: usize,
     m: usize,
     b: usize,
 )
-    requires { ⌜ CanList (now «book_heads») (now «book_rows») (now work) a m b ⌝ }
-    ensures { λ _. ⌜ Listed (now («book_heads» .entry)) (now («book_rows» .entry)) (now (work .entry)) (now (work .exit)) a m b ⌝ }
+    requires { ⌜ CanList (now «book_heads») (now «book_rows») (now windows) (now work) minute a m b ⌝ }
+    ensures { λ _. ⌜ Listed (now («book_heads» .entry)) (now («book_rows» .entry)) (now (windows .entry)) (now (work .entry)) (now (work .exit)) minute a m b ⌝ }
 {
     let mut i: usize = 0;
     while i < book_heads.len() {
         let k = (i + 1) as u32;
-        let first = book::smallest_row(book_heads, book_rows, Id(k));
+        let first = start_at(book_heads, book_rows, windows, minute, Id(k));
         link(work, a, b, first, k);
         i += 1;
     }
@@ -96,7 +119,7 @@ fn tally_children(work: &mut [u32], m: usize, f: usize, j: Row) -> u32
     size
 }
 
-// Counts the rows of each book column whose smallest row is j. Gives how many counters left 0.
+// Counts the rows of each book column that is listed at row j. Gives how many counters left 0.
 fn tally_columns(
     book_heads: &[u32],
     book_rows: &[u16],

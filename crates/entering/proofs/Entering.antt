@@ -13,7 +13,7 @@ use Rattle.lists.specs.Lists.{Mem, all, among, noRepeats, sumOf}
 use Rattle.lists.proofs.Tests.{and-both}
 use Rattle.lists.proofs.Member.{place-mem, mem-among}
 use Rattle.lists.proofs.Sum.{sum-append}
-use Rattle.symbolic.specs.Columns.{Column}
+use Rattle.symbolic.specs.Columns.{Column, columnWith}
 use Rattle.symbolic.specs.Change.{Bag}
 use Rattle.book.specs.Book.{Book, columnsIn, columnFits, ColumnStays}
 use Rattle.book.specs.Entries.{CanAdd, Added}
@@ -44,9 +44,9 @@ later-distinct x xs d = and-both (not (among x xs)) (noRepeats xs) d .1
 -- ---- one column
 
 module _ {m : ℕ} {b : Book} {id : ℕ} {ids : List ℕ} {n : ℕ} {counts list : List ℕ} (can : CanEnter m b (id ∷ ids) (n ∷ counts) list) where
-  enter-fits : (columnFits m (record { id = id; rows = take n list }) ≡ true) × (all (columnFits m) (batchOf ids counts (drop n list)) ≡ true)
+  enter-fits : (columnFits m (columnWith id (take n list)) ≡ true) × (all (columnFits m) (batchOf ids counts (drop n list)) ≡ true)
   unfolding batchOf all
-  enter-fits = and-both (columnFits m (record { id = id; rows = take n list })) (all (columnFits m) (batchOf ids counts (drop n list))) (can .fits)
+  enter-fits = and-both (columnFits m (columnWith id (take n list))) (all (columnFits m) (batchOf ids counts (drop n list))) (can .fits)
 
   enter-total : total (n ∷ counts) ≡ n + total counts
   unfolding sumOf
@@ -89,7 +89,7 @@ module _ {m : ℕ} {b : Book} {id : ℕ} {ids : List ℕ} {n : ℕ} {counts list
     pub enter-bag : Bag (columnsIn after ++ batchOf ids counts (drop n list)) (columnsIn b ++ batchOf (id ∷ ids) (n ∷ counts) list)
     unfolding batchOf sumOf
     enter-bag f =
-        let c : Column = record { id = id; rows = take n list } in
+        let c : Column = columnWith id (take n list) in
         let rest : List Column = batchOf ids counts (drop n list) in
         omega
         (arith, added-bag enter-can a f, sum-append f (columnsIn after) rest, sum-append f (columnsIn b) (c ∷ rest), sum-append f (columnsIn b) (c ∷ []))

@@ -17,7 +17,7 @@ use groups::Entered;
 use pool::Rec;
 use workspace::PLAN;
 
-// Whether an exchange fits, the free head after it, and whether records were saved, that is whether somebody enters.
+// Whether an exchange fits, the free head after it, and whether records were saved, as they are where somebody enters.
 pub struct Outcome {
     pub fits: bool,
     pub free: Rec,

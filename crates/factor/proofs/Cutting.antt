@@ -14,8 +14,9 @@ use Rattle.workspace.specs.Layout.{workNeed}
 use Rattle.workspace.specs.Regions.{IsZero, OnlyIn, cleared, zeroFirst}
 use Rattle.workspace.proofs.Regions.{cleared-zero, cleared-only, cleared-unique, only-trans, only-wider, only-zero, zero-part, first-cleared}
 use Rattle.book.specs.Book as book
+use Rattle.windows.specs.Windowed.{registerIn, areSound as windowsSound}
 use Rattle.tables.specs.Stored.{Sized, isSoundFor}
-use Rattle.tables.specs.Tables.{Tables, Sizes, State, longEnough, storedIn, bookIn, registerOf, holdsSound, isSound}
+use Rattle.tables.specs.Tables.{Tables, Sizes, State, longEnough, storedIn, bookIn, windowsIn, registerOf, holdsSound, isSound}
 use Rattle.tables.proofs.Tables.{Long, long-facts, sound-stored}
 use Rattle.calls.specs.Refusals.{accepted, isAccepted, bounds, sizesRefusal, workFor}
 use Rattle.calls.proofs.Refusals.{InRange, sizes-facts}
@@ -36,6 +37,7 @@ pub record Cut (s : State) (t : Tables) : Type 0 where
   pub bookHeads : length (bookIn s t .heads) ≡ s .sizes .n
   pub bookRows : length (bookIn s t .rows) ≡ s .sizes .c
   pub bookNext : length (bookIn s t .next) ≡ s .sizes .c
+  pub windows : length (windowsIn s t) ≡ 2 * s .sizes .n
 
 pub cut : (s : State) (t : Tables) → longEnough (s .sizes) t ≡ true → Cut s t
 cut s t z =
@@ -49,6 +51,7 @@ cut s t z =
       bookHeads = length-take-le (s .sizes .n) (t .bookHeads) (h .bookHeads);
       bookRows = length-take-le (s .sizes .c) (t .bookRows) (h .bookRows);
       bookNext = length-take-le (s .sizes .c) (t .bookNext) (h .bookNext);
+      windows = length-take-le (2 * s .sizes .n) (t .windows) (h .windows);
     }
 
 cut-sized : {s : State} {t : Tables} → Cut s t → Sized (storedIn s t)
@@ -110,9 +113,12 @@ module _ (s : State) {t : Tables} {w : List ℕ} (r : HasPlaces (s .sizes) t w) 
   need-is = let c = lengths in omega arith
 
   -- what is read is what the tables hold
-  module _ {a : Bool} (e : a ≡ areSound (storedIn s t) (bookIn s t)) where
+  module _ {a : Bool} (e : a ≡ areSound (storedIn s t) (bookIn s t) (windowsIn s t) (s .clock)) where
     held-sound : a ≡ holdsSound s t
-    held-sound = e ∙ ap (λ (m : ℕ). book.isSound m (bookIn s t) && isSoundFor (live (book.registerIn m (bookIn s t))) (storedIn s t)) (lengths .heads)
+    held-sound =
+        e ∙
+        ap (λ (m : ℕ). book.isSound m (bookIn s t) && windowsSound (bookIn s t .heads) (windowsIn s t) && isSoundFor (live (registerIn m (s .clock) (bookIn s t) (windowsIn s t))) (storedIn s t))
+        (lengths .heads)
 
     -- unsound tables, whatever the limits
     pub read-unsound : a ≡ false → false ≡ isSound s t
@@ -142,13 +148,14 @@ module _ (s : State) {t : Tables} {w : List ℕ} (r : HasPlaces (s .sizes) t w) 
     long : length x ≡ length w
     long = front-only .same-length
 
-    pub can-read-through : CanReadThrough (storedIn s t) (bookIn s t) x
+    pub can-read-through : CanReadThrough (storedIn s t) (bookIn s t) (windowsIn s t) x
     can-read-through =
         let i : InRange (s .sizes) = in-range (s .sizes) (r .sizes) in
         let c : Cut s t = lengths in
         record {
           stored = cut-sized c;
           booked = c .bookRows ∙ sym (c .bookNext);
+          windows-long = omega (arith, c .bookHeads, c .windows);
           some = omega (arith, c .heads, i .m-low);
           m-bound = omega (arith, c .heads, i .m-high);
           n-bound = omega (arith, c .bookHeads, i .n-high);

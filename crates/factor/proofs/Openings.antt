@@ -89,15 +89,15 @@ module _ (m n f c : ℕ) (g : Limits) (t : Tables) (w : List ℕ) {r : ℕ} (by 
       allowed = sizes-facts given (ap isAccepted (open-writes .sizes)) .m-high
 
       pub open-done : {t′ : Tables} {w′ : List ℕ} {free bookFree : ℕ} → OpeningWritten given t w t′ w′ free bookFree →
-          OpenStep asked g t w (Opened (record { m = m; n = n; f = r; c = c; free = free; «book_free» = bookFree; grade2 = h .grade2; grade3 = h .grade3; grade4 = h .grade4 })) t′ w′
+          OpenStep asked g t w (Opened (record { m = m; n = n; f = r; c = c; free = free; «book_free» = bookFree; grade2 = h .grade2; grade3 = h .grade3; grade4 = h .grade4; clock = 0 })) t′ w′
       open-done {t′} {w′} {free} {bookFree} o s =
           let u : World = record { state = s; tables = t } in
           let l : Sizes = withDefault asked in
           let q : given ≡ l = given-is ∙ default-allowed m n f c allowed in
           let b : Bool = areLimits (limitsFor g) in
           let z : isAccepted (earlyRefusal l b t w true) ≡ true = ap isAccepted (sym open-early) ∙ passed in
-          let x : Factor = record { m = m; n = n; f = r; c = c; free = free; «book_free» = bookFree; grade2 = h .grade2; grade3 = h .grade3; grade4 = h .grade4 } in
-          let st : stateOf x ≡ openedState given (limitsFor g) = λ i. record { sizes = given; limits = limits i; free = o .free-is i; bookFree = o .book-free-is i } in
+          let x : Factor = record { m = m; n = n; f = r; c = c; free = free; «book_free» = bookFree; grade2 = h .grade2; grade3 = h .grade3; grade4 = h .grade4; clock = 0 } in
+          let st : stateOf x ≡ openedState given (limitsFor g) = λ i. record { sizes = given; limits = limits i; free = o .free-is i; bookFree = o .book-free-is i; clock = 0 } in
           accepted-step u (callOf (opening asked g) (workOnly w)) (openingAnswer (Opened x)) (workOnly w′) (record { state = stateOf x; tables = t′ })
           (record {
             number = ap (λ (y : Bool). isAccepted (pick y accepted (earlyRefusal l b t w true))) z;

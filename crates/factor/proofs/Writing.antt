@@ -1,8 +1,8 @@
 -- What an opening writes, from what each step ensures of the part that it was lent: a part's front with the places beyond is the list written over
--- (`prefix-over`); the tables of L, those of the book, and all of them. Assumes nothing.
+-- (`prefix-over`); the tables of L, those of the book, and all of them with the windows. Assumes nothing.
 use mathlib.Core.Path.{_≡_, refl, sym, ap, _∙_}
 use mathlib.Core.List.{List, _++_}
-use Prim.Native.Nat.{ℕ, _+_, _<_}
+use Prim.Native.Nat.{ℕ, _+_, _*_, _≤_, _<_}
 use native.Mathlib.Omega.{arith}
 use lib.ListN.{length, take, drop, replicate, length-replicate}
 use lib.Seq.{length-take-le}
@@ -114,11 +114,15 @@ module _ {l : Sizes} {t : Tables} {w : List ℕ} (a : HasPlaces l t w) where
         records-narrow = omega (arith, range .c-high);
       }
 
-  pub all-written : {hs ps rs cs ns bh br bn x : List ℕ} {free bookFree k : ℕ} →
+  -- the windows have two places for each id
+  pub hold-windows : 0 + 2 * l .n ≤ length (t .windows)
+  hold-windows = omega (arith, places .windows)
+
+  pub all-written : {hs ps rs cs ns bh br bn ws x : List ℕ} {free bookFree k : ℕ} →
       ColumnsWritten (l .m) (l .f) (t .heads) (t .parents) (t .rows) (t .counts) (t .next) hs ps rs cs ns free →
-      BookWritten (l .n) (l .c) (t .bookHeads) (t .bookRows) (t .bookNext) bh br bn bookFree → x ≡ cleared w 0 k → k ≡ workFor l →
-      OpeningWritten l t w (tablesOf hs ps rs cs ns bh br bn) x free bookFree
-  all-written p q e z =
+      BookWritten (l .n) (l .c) (t .bookHeads) (t .bookRows) (t .bookNext) bh br bn bookFree → ws ≡ cleared (t .windows) 0 (2 * l .n) →
+      x ≡ cleared w 0 k → k ≡ workFor l → OpeningWritten l t w (tablesOf hs ps rs cs ns bh br bn ws) x free bookFree
+  all-written p q v e z =
       record {
         tables = λ i. record {
           heads = p .heads-are i;
@@ -129,6 +133,7 @@ module _ {l : Sizes} {t : Tables} {w : List ℕ} (a : HasPlaces l t w) where
           bookHeads = q .heads-are i;
           bookRows = q .rows-are i;
           bookNext = q .next-is i;
+          windows = (v ∙ sym (first-cleared (2 * l .n) (t .windows) (places .windows))) i;
         };
         left = e ∙ ap (λ (n : ℕ). cleared w 0 n) z ∙ sym (first-cleared (workFor l) w (a .room));
         free-is = p .free-is;

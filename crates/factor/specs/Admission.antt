@@ -1,4 +1,4 @@
--- What is found before a call is answered: number 1 to 6, and the work table by then; when tables are usable without looking. A batch brings the test of
+-- What is found before a call is answered: number 1 to 6, and the work table by then; when tables are usable without looking. A change brings the test of
 -- its own lists, a question has none. Assumes nothing: these are definitions.
 use mathlib.Core.Path.{_≡_}
 use mathlib.Core.Bool.{Bool, true}
@@ -10,7 +10,7 @@ use Rattle.workspace.specs.Regions.{IsZero, zeroFirst}
 use Rattle.tables.specs.Tables.{Tables, Sizes, State, longEnough, isSound}
 use Rattle.calls.specs.Refusals.{Refusal, accepted, isAccepted, orElse, unless, bounds, sizesRefusal, workFor, earlyRefusal}
 
--- 1 to 6; lists: those of a batch are long enough
+-- 1 to 6; lists: those of a change are long enough
 abbrev pub admission : State → Tables → (work : List ℕ) → (lists : Bool) → Refusal
 admission s t w z = orElse (earlyRefusal (s .sizes) true t w z) (unless (isSound s t) 6 0)
 

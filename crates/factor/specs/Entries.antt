@@ -1,4 +1,4 @@
--- The public entries' records as the definitions of calls/ have them: the factor as sizes, limits and free heads, tables, answers. A contract is `Transition`
+-- The public entries' records as the definitions of calls/ have them: the factor as sizes, limits, free heads and clock, tables, answers. A contract is `Transition`
 -- of the entry's call over these, and nothing else. Assumes nothing: these are definitions.
 use mathlib.Core.List.{List}
 use Prim.Native.Nat.{ℕ}
@@ -10,10 +10,16 @@ use Rattle.factor.specs.declared.Factor.{Factor}
 use Rattle.factor.specs.declared.Opening.{Opening}
 use Rattle.factor.specs.declared.Opening.the-variants.{Opened, Refused}
 
--- the record of sizes, limits and free heads that a factor is
+-- the record of sizes, limits, free heads and clock that a factor is
 abbrev pub stateOf : Factor → State
 stateOf x =
-    record { sizes = sizesOf (x .m) (x .n) (x .f) (x .c); limits = limitsOf (x .grade2) (x .grade3) (x .grade4); free = x .free; bookFree = x .«book_free» }
+    record {
+      sizes = sizesOf (x .m) (x .n) (x .f) (x .c);
+      limits = limitsOf (x .grade2) (x .grade3) (x .grade4);
+      free = x .free;
+      bookFree = x .«book_free»;
+      clock = x .clock;
+    }
 
 -- a factor with the tables that are lent to its entries
 abbrev pub worldOf : Factor → Tables → World

@@ -1,4 +1,4 @@
--- What an opening writes, part by part: the tables of L, those of the book, all of them with the work table. tables/specs/Opening.antt has them as one.
+-- What an opening writes, part by part: the tables of L, those of the book, all of them with the windows and the work table. tables/specs/Opening.antt has them as one.
 -- Assumes nothing: these are definitions.
 use mathlib.Core.Path.{_≡_}
 use mathlib.Core.List.{List}

@@ -8,7 +8,7 @@ ghost use Rattle.factor.specs.Admission.{Admitted, HasPlaces};
 use crate::Factor;
 use pool::Rec;
 
-// The number 1 to 5 or 20 that a call is refused by, or 0; keeps_rule: an opening's limits do; lists: a batch's lists are long enough.
+// The number 1 to 5 or 20 that a call is refused by, or 0; keeps_rule: an opening's limits do; lists: a change's lists are long enough.
 pub fn early(
     factor: Factor,
     heads: &[u32],
@@ -19,11 +19,12 @@ pub fn early(
     book_heads: &[u32],
     book_rows: &[u16],
     book_next: &[u32],
+    windows: &[u32],
     work: &[u32],
     keeps_rule: bool,
     lists: bool,
 ) -> u32
-    ensures { λ r. ⌜ r ≡ earlyRefusal (sizesOf (factor .m) (factor .n) (factor .f) (factor .c)) «keeps_rule» (tablesOf (now (heads .entry)) (now (parents .entry)) (now (rows .entry)) (now (counts .entry)) (now (next .entry)) (now («book_heads» .entry)) (now («book_rows» .entry)) (now («book_next» .entry))) (now (work .entry)) lists .number ⌝ }
+    ensures { λ r. ⌜ r ≡ earlyRefusal (sizesOf (factor .m) (factor .n) (factor .f) (factor .c)) «keeps_rule» (tablesOf (now (heads .entry)) (now (parents .entry)) (now (rows .entry)) (now (counts .entry)) (now (next .entry)) (now («book_heads» .entry)) (now («book_rows» .entry)) (now («book_next» .entry)) (now (windows .entry))) (now (work .entry)) lists .number ⌝ }
 {
     let number = refusals::sizes(
         factor.m,
@@ -50,6 +51,7 @@ pub fn early(
         book_heads,
         book_rows,
         book_next,
+        windows,
         work,
         factor.m,
         factor.n,
@@ -64,7 +66,7 @@ pub fn early(
     5
 }
 
-// Whether the tables are sound and the limits keep the rule. The first W work places are zero afterwards.
+// Whether the tables are sound at the clock and the limits keep the rule. The first W work places are zero afterwards.
 fn read_through(
     factor: Factor,
     heads: &[u32],
@@ -75,10 +77,11 @@ fn read_through(
     book_heads: &[u32],
     book_rows: &[u16],
     book_next: &[u32],
+    windows: &[u32],
     work: &mut [u32],
 ) -> bool
-    requires { ⌜ HasPlaces (sizesOf (factor .m) (factor .n) (factor .f) (factor .c)) (tablesOf (now heads) (now parents) (now rows) (now counts) (now next) (now «book_heads») (now «book_rows») (now «book_next»)) (now work) ⌝ }
-    ensures answer { λ a. ⌜ a ≡ isSound (stateOf factor) (tablesOf (now (heads .entry)) (now (parents .entry)) (now (rows .entry)) (now (counts .entry)) (now (next .entry)) (now («book_heads» .entry)) (now («book_rows» .entry)) (now («book_next» .entry))) ⌝ }
+    requires { ⌜ HasPlaces (sizesOf (factor .m) (factor .n) (factor .f) (factor .c)) (tablesOf (now heads) (now parents) (now rows) (now counts) (now next) (now «book_heads») (now «book_rows») (now «book_next») (now windows)) (now work) ⌝ }
+    ensures answer { λ a. ⌜ a ≡ isSound (stateOf factor) (tablesOf (now (heads .entry)) (now (parents .entry)) (now (rows .entry)) (now (counts .entry)) (now (next .entry)) (now («book_heads» .entry)) (now («book_rows» .entry)) (now («book_next» .entry)) (now (windows .entry))) ⌝ }
     ensures work { λ a. ⌜ now (work .exit) ≡ zeroFirst (workFor (sizesOf (factor .m) (factor .n) (factor .f) (factor .c))) (now (work .entry)) ⌝ }
 {
     let m = factor.m as usize;
@@ -95,9 +98,11 @@ fn read_through(
         &book_heads[..n],
         &book_rows[..c],
         &book_next[..c],
+        &windows[..2 * n],
         work,
         Rec(factor.free),
         Rec(factor.book_free),
+        factor.clock,
     );
     workspace::clear(
         work,
@@ -121,10 +126,11 @@ pub fn admit(
     book_heads: &[u32],
     book_rows: &[u16],
     book_next: &[u32],
+    windows: &[u32],
     work: &mut [u32],
     lists: bool,
 ) -> u32
-    ensures { λ r. ⌜ Admitted (stateOf factor) (tablesOf (now (heads .entry)) (now (parents .entry)) (now (rows .entry)) (now (counts .entry)) (now (next .entry)) (now («book_heads» .entry)) (now («book_rows» .entry)) (now («book_next» .entry))) (now (work .entry)) lists r (now (work .exit)) ⌝ }
+    ensures { λ r. ⌜ Admitted (stateOf factor) (tablesOf (now (heads .entry)) (now (parents .entry)) (now (rows .entry)) (now (counts .entry)) (now (next .entry)) (now («book_heads» .entry)) (now («book_rows» .entry)) (now («book_next» .entry)) (now (windows .entry))) (now (work .entry)) lists r (now (work .exit)) ⌝ }
 {
     let number = early(
         factor,
@@ -136,6 +142,7 @@ pub fn admit(
         book_heads,
         book_rows,
         book_next,
+        windows,
         work,
         true,
         lists,
@@ -153,6 +160,7 @@ pub fn admit(
         book_heads,
         book_rows,
         book_next,
+        windows,
         work,
     ) {
         return 0;

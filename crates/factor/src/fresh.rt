@@ -1,4 +1,4 @@
-// What an accepted opening writes, within the sizes: the tables of L, those of the book, and zeros in the work table.
+// What an accepted opening writes, within the sizes: the tables of L, those of the book, and zeros in the windows and the work table.
 ghost use Rattle.tables.specs.Tables.{sizesOf, tablesOf};
 ghost use Rattle.factor.specs.Admission.{HasPlaces};
 ghost use Rattle.factor.specs.Written.{HoldColumns, ColumnsWritten, HoldBook, BookWritten, OpeningWritten};
@@ -17,17 +17,19 @@ pub fn write(
     book_heads: &mut [u32],
     book_rows: &mut [u16],
     book_next: &mut [u32],
+    windows: &mut [u32],
     work: &mut [u32],
     m: u32,
     n: u32,
     f: u32,
     c: u32,
 ) -> Heads
-    requires { ⌜ HasPlaces (sizesOf m n f c) (tablesOf (now heads) (now parents) (now rows) (now counts) (now next) (now «book_heads») (now «book_rows») (now «book_next»)) (now work) ⌝ }
-    ensures { λ r. ⌜ OpeningWritten (sizesOf m n f c) (tablesOf (now (heads .entry)) (now (parents .entry)) (now (rows .entry)) (now (counts .entry)) (now (next .entry)) (now («book_heads» .entry)) (now («book_rows» .entry)) (now («book_next» .entry))) (now (work .entry)) (tablesOf (now (heads .exit)) (now (parents .exit)) (now (rows .exit)) (now (counts .exit)) (now (next .exit)) (now («book_heads» .exit)) (now («book_rows» .exit)) (now («book_next» .exit))) (now (work .exit)) (r .0 .0) (r .1 .0) ⌝ }
+    requires { ⌜ HasPlaces (sizesOf m n f c) (tablesOf (now heads) (now parents) (now rows) (now counts) (now next) (now «book_heads») (now «book_rows») (now «book_next») (now windows)) (now work) ⌝ }
+    ensures { λ r. ⌜ OpeningWritten (sizesOf m n f c) (tablesOf (now (heads .entry)) (now (parents .entry)) (now (rows .entry)) (now (counts .entry)) (now (next .entry)) (now («book_heads» .entry)) (now («book_rows» .entry)) (now («book_next» .entry)) (now (windows .entry))) (now (work .entry)) (tablesOf (now (heads .exit)) (now (parents .exit)) (now (rows .exit)) (now (counts .exit)) (now (next .exit)) (now («book_heads» .exit)) (now («book_rows» .exit)) (now («book_next» .exit)) (now (windows .exit))) (now (work .exit)) (r .0 .0) (r .1 .0) ⌝ }
 {
     let free = write_columns(heads, parents, rows, counts, next, m, f);
     let book_free = write_book(book_heads, book_rows, book_next, n, c);
+    workspace::clear(windows, 0, 2 * n as usize);
     workspace::clear(work, 0, workspace::work_need(m, n, f, c));
     Heads(free, book_free)
 }

@@ -1,4 +1,4 @@
-// A factor's record, and the public entries that open it, check its tables and answer questions, two of these in meeting.rt; `changes` has those that add and remove.
+// A factor's record, and the public entries that open it, check its tables and answer questions, two of these in meeting.rt; `changes` has those that add, remove and set the clock.
 // Each refuses unusable input by number and fixes everything lent; an opening writes all tables, the others none but the work table. admission.rt finds numbers 1 to 6
 // and 20, for `changes` too. A caller that has proved its tables sound uses the unchecked twins of unchecked.rt.
 ghost use Rattle.symbolic.specs.Grades.{limitsOf};
@@ -19,7 +19,7 @@ use book::Row;
 use questions::Found;
 use questions::Reply;
 
-// The record of sizes, free heads and limits: from so many entries on a grade is 2, 3 and 4.
+// The record of sizes, free heads, limits and clock: from so many entries on a grade is 2, 3 and 4; the clock is the minute at which the factor stands.
 #[repr(C)]
 pub struct Factor {
     pub m: u32,
@@ -31,6 +31,7 @@ pub struct Factor {
     pub grade2: u32,
     pub grade3: u32,
     pub grade4: u32,
+    pub clock: u32,
 }
 
 // What an opening answers.
@@ -49,7 +50,7 @@ impl Factor {
     // The largest C.
     pub const MOST_BOOKED: u32 = 262144;
 
-    // A fresh factor: writes all tables. F = 0 means as many records as `refusals::default_records` says. From grade2, grade3 and grade4 entries on a grade is 2, 3
+    // A fresh factor at minute 0: writes all tables. F = 0 means as many records as `refusals::default_records` says. From grade2, grade3 and grade4 entries on a grade is 2, 3
     // and 4: the first is at least 2, each above the one before, or 20 refuses the opening; three zeros mean 256, 4,096 and 65,536.
     pub fn open(
         m: u32,
@@ -67,9 +68,10 @@ impl Factor {
         book_heads: &mut [u32],
         book_rows: &mut [u16],
         book_next: &mut [u32],
+        windows: &mut [u32],
         work: &mut [u32],
     ) -> Opening
-        ensures { λ r. ⌜ OpenStep (sizesOf m n f c) (limitsOf grade2 grade3 grade4) (tablesOf (now (heads .entry)) (now (parents .entry)) (now (rows .entry)) (now (counts .entry)) (now (next .entry)) (now («book_heads» .entry)) (now («book_rows» .entry)) (now («book_next» .entry))) (now (work .entry)) r (tablesOf (now (heads .exit)) (now (parents .exit)) (now (rows .exit)) (now (counts .exit)) (now (next .exit)) (now («book_heads» .exit)) (now («book_rows» .exit)) (now («book_next» .exit))) (now (work .exit)) ⌝ }
+        ensures { λ r. ⌜ OpenStep (sizesOf m n f c) (limitsOf grade2 grade3 grade4) (tablesOf (now (heads .entry)) (now (parents .entry)) (now (rows .entry)) (now (counts .entry)) (now (next .entry)) (now («book_heads» .entry)) (now («book_rows» .entry)) (now («book_next» .entry)) (now (windows .entry))) (now (work .entry)) r (tablesOf (now (heads .exit)) (now (parents .exit)) (now (rows .exit)) (now (counts .exit)) (now (next .exit)) (now («book_heads» .exit)) (now («book_rows» .exit)) (now («book_next» .exit)) (now (windows .exit))) (now (work .exit)) ⌝ }
     {
         let records = refusals::default_records(m, f);
         let limits = refusals::limits::default_limits(grade2, grade3, grade4);
@@ -83,6 +85,7 @@ impl Factor {
             grade2: limits.grade2,
             grade3: limits.grade3,
             grade4: limits.grade4,
+            clock: 0,
         };
         let keeps_rule = refusals::limits::are_limits(asked.grade2, asked.grade3, asked.grade4);
         let number = admission::early(
@@ -95,6 +98,7 @@ impl Factor {
             book_heads,
             book_rows,
             book_next,
+            windows,
             work,
             keeps_rule,
             true,
@@ -111,6 +115,7 @@ impl Factor {
             book_heads,
             book_rows,
             book_next,
+            windows,
             work,
             m,
             n,
@@ -127,6 +132,7 @@ impl Factor {
             grade2: asked.grade2,
             grade3: asked.grade3,
             grade4: asked.grade4,
+            clock: 0,
         })
     }
 
@@ -141,9 +147,10 @@ impl Factor {
         book_heads: &[u32],
         book_rows: &[u16],
         book_next: &[u32],
+        windows: &[u32],
         work: &mut [u32],
     ) -> Reply
-        ensures { λ r. ⌜ Transition (worldOf self (tablesOf (now (heads .entry)) (now (parents .entry)) (now (rows .entry)) (now (counts .entry)) (now (next .entry)) (now («book_heads» .entry)) (now («book_rows» .entry)) (now («book_next» .entry)))) (callOf checking (workOnly (now (work .entry)))) (replyOf r) (workOnly (now (work .exit))) (worldOf self (tablesOf (now (heads .entry)) (now (parents .entry)) (now (rows .entry)) (now (counts .entry)) (now (next .entry)) (now («book_heads» .entry)) (now («book_rows» .entry)) (now («book_next» .entry)))) ⌝ }
+        ensures { λ r. ⌜ Transition (worldOf self (tablesOf (now (heads .entry)) (now (parents .entry)) (now (rows .entry)) (now (counts .entry)) (now (next .entry)) (now («book_heads» .entry)) (now («book_rows» .entry)) (now («book_next» .entry)) (now (windows .entry)))) (callOf checking (workOnly (now (work .entry)))) (replyOf r) (workOnly (now (work .exit))) (worldOf self (tablesOf (now (heads .entry)) (now (parents .entry)) (now (rows .entry)) (now (counts .entry)) (now (next .entry)) (now («book_heads» .entry)) (now («book_rows» .entry)) (now («book_next» .entry)) (now (windows .entry)))) ⌝ }
     {
         let number = admission::admit(
             self,
@@ -155,6 +162,7 @@ impl Factor {
             book_heads,
             book_rows,
             book_next,
+            windows,
             work,
             true,
         );
@@ -172,11 +180,12 @@ impl Factor {
         book_heads: &[u32],
         book_rows: &[u16],
         book_next: &[u32],
+        windows: &[u32],
         work: &mut [u32],
         i: Row,
         j: Row,
     ) -> Found
-        ensures { λ r. ⌜ Transition (worldOf self (tablesOf (now (heads .entry)) (now (parents .entry)) (now (rows .entry)) (now (counts .entry)) (now (next .entry)) (now («book_heads» .entry)) (now («book_rows» .entry)) (now («book_next» .entry)))) (callOf (asking (askNextRow (i .0) (j .0)) 0) (workOnly (now (work .entry)))) (foundOf r) (workOnly (now (work .exit))) (worldOf self (tablesOf (now (heads .entry)) (now (parents .entry)) (now (rows .entry)) (now (counts .entry)) (now (next .entry)) (now («book_heads» .entry)) (now («book_rows» .entry)) (now («book_next» .entry)))) ⌝ }
+        ensures { λ r. ⌜ Transition (worldOf self (tablesOf (now (heads .entry)) (now (parents .entry)) (now (rows .entry)) (now (counts .entry)) (now (next .entry)) (now («book_heads» .entry)) (now («book_rows» .entry)) (now («book_next» .entry)) (now (windows .entry)))) (callOf (asking (askNextRow (i .0) (j .0)) 0) (workOnly (now (work .entry)))) (foundOf r) (workOnly (now (work .exit))) (worldOf self (tablesOf (now (heads .entry)) (now (parents .entry)) (now (rows .entry)) (now (counts .entry)) (now (next .entry)) (now («book_heads» .entry)) (now («book_rows» .entry)) (now («book_next» .entry)) (now (windows .entry)))) ⌝ }
     {
         let number = admission::admit(
             self,
@@ -188,6 +197,7 @@ impl Factor {
             book_heads,
             book_rows,
             book_next,
+            windows,
             work,
             true,
         );
@@ -207,6 +217,7 @@ impl Factor {
             book_heads,
             book_rows,
             book_next,
+            windows,
             i,
             j,
         )
@@ -223,10 +234,11 @@ impl Factor {
         book_heads: &[u32],
         book_rows: &[u16],
         book_next: &[u32],
+        windows: &[u32],
         work: &mut [u32],
         j: Row,
     ) -> Reply
-        ensures { λ r. ⌜ Transition (worldOf self (tablesOf (now (heads .entry)) (now (parents .entry)) (now (rows .entry)) (now (counts .entry)) (now (next .entry)) (now («book_heads» .entry)) (now («book_rows» .entry)) (now («book_next» .entry)))) (callOf (asking (askParent (j .0)) 0) (workOnly (now (work .entry)))) (replyOf r) (workOnly (now (work .exit))) (worldOf self (tablesOf (now (heads .entry)) (now (parents .entry)) (now (rows .entry)) (now (counts .entry)) (now (next .entry)) (now («book_heads» .entry)) (now («book_rows» .entry)) (now («book_next» .entry)))) ⌝ }
+        ensures { λ r. ⌜ Transition (worldOf self (tablesOf (now (heads .entry)) (now (parents .entry)) (now (rows .entry)) (now (counts .entry)) (now (next .entry)) (now («book_heads» .entry)) (now («book_rows» .entry)) (now («book_next» .entry)) (now (windows .entry)))) (callOf (asking (askParent (j .0)) 0) (workOnly (now (work .entry)))) (replyOf r) (workOnly (now (work .exit))) (worldOf self (tablesOf (now (heads .entry)) (now (parents .entry)) (now (rows .entry)) (now (counts .entry)) (now (next .entry)) (now («book_heads» .entry)) (now («book_rows» .entry)) (now («book_next» .entry)) (now (windows .entry)))) ⌝ }
     {
         let number = admission::admit(
             self,
@@ -238,6 +250,7 @@ impl Factor {
             book_heads,
             book_rows,
             book_next,
+            windows,
             work,
             true,
         );
@@ -253,6 +266,7 @@ impl Factor {
             book_heads,
             book_rows,
             book_next,
+            windows,
             j,
         )
     }
@@ -268,12 +282,13 @@ impl Factor {
         book_heads: &[u32],
         book_rows: &[u16],
         book_next: &[u32],
+        windows: &[u32],
         work: &mut [u32],
         list: &mut [u32],
         j: Row,
         place: usize,
     ) -> Reply
-        ensures { λ r. ⌜ Transition (worldOf self (tablesOf (now (heads .entry)) (now (parents .entry)) (now (rows .entry)) (now (counts .entry)) (now (next .entry)) (now («book_heads» .entry)) (now («book_rows» .entry)) (now («book_next» .entry)))) (callOf (asking (askPath (j .0)) place) (workAndList (now (work .entry)) (now (list .entry)))) (replyOf r) (workAndList (now (work .exit)) (now (list .exit))) (worldOf self (tablesOf (now (heads .entry)) (now (parents .entry)) (now (rows .entry)) (now (counts .entry)) (now (next .entry)) (now («book_heads» .entry)) (now («book_rows» .entry)) (now («book_next» .entry)))) ⌝ }
+        ensures { λ r. ⌜ Transition (worldOf self (tablesOf (now (heads .entry)) (now (parents .entry)) (now (rows .entry)) (now (counts .entry)) (now (next .entry)) (now («book_heads» .entry)) (now («book_rows» .entry)) (now («book_next» .entry)) (now (windows .entry)))) (callOf (asking (askPath (j .0)) place) (workAndList (now (work .entry)) (now (list .entry)))) (replyOf r) (workAndList (now (work .exit)) (now (list .exit))) (worldOf self (tablesOf (now (heads .entry)) (now (parents .entry)) (now (rows .entry)) (now (counts .entry)) (now (next .entry)) (now («book_heads» .entry)) (now («book_rows» .entry)) (now («book_next» .entry)) (now (windows .entry)))) ⌝ }
     {
         let number = admission::admit(
             self,
@@ -285,6 +300,7 @@ impl Factor {
             book_heads,
             book_rows,
             book_next,
+            windows,
             work,
             true,
         );
@@ -300,6 +316,7 @@ impl Factor {
             book_heads,
             book_rows,
             book_next,
+            windows,
             list,
             j,
             place,
@@ -317,12 +334,13 @@ impl Factor {
         book_heads: &[u32],
         book_rows: &[u16],
         book_next: &[u32],
+        windows: &[u32],
         work: &mut [u32],
         list: &mut [u32],
         j: Row,
         place: usize,
     ) -> Reply
-        ensures { λ r. ⌜ Transition (worldOf self (tablesOf (now (heads .entry)) (now (parents .entry)) (now (rows .entry)) (now (counts .entry)) (now (next .entry)) (now («book_heads» .entry)) (now («book_rows» .entry)) (now («book_next» .entry)))) (callOf (asking (askColumn (j .0)) place) (workAndList (now (work .entry)) (now (list .entry)))) (replyOf r) (workAndList (now (work .exit)) (now (list .exit))) (worldOf self (tablesOf (now (heads .entry)) (now (parents .entry)) (now (rows .entry)) (now (counts .entry)) (now (next .entry)) (now («book_heads» .entry)) (now («book_rows» .entry)) (now («book_next» .entry)))) ⌝ }
+        ensures { λ r. ⌜ Transition (worldOf self (tablesOf (now (heads .entry)) (now (parents .entry)) (now (rows .entry)) (now (counts .entry)) (now (next .entry)) (now («book_heads» .entry)) (now («book_rows» .entry)) (now («book_next» .entry)) (now (windows .entry)))) (callOf (asking (askColumn (j .0)) place) (workAndList (now (work .entry)) (now (list .entry)))) (replyOf r) (workAndList (now (work .exit)) (now (list .exit))) (worldOf self (tablesOf (now (heads .entry)) (now (parents .entry)) (now (rows .entry)) (now (counts .entry)) (now (next .entry)) (now («book_heads» .entry)) (now («book_rows» .entry)) (now («book_next» .entry)) (now (windows .entry)))) ⌝ }
     {
         let number = admission::admit(
             self,
@@ -334,6 +352,7 @@ impl Factor {
             book_heads,
             book_rows,
             book_next,
+            windows,
             work,
             true,
         );
@@ -349,6 +368,7 @@ impl Factor {
             book_heads,
             book_rows,
             book_next,
+            windows,
             list,
             j,
             place,

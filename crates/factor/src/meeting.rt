@@ -23,12 +23,13 @@ impl Factor {
         book_heads: &[u32],
         book_rows: &[u16],
         book_next: &[u32],
+        windows: &[u32],
         work: &mut [u32],
         list: &mut [u32],
         i: Row,
         place: usize,
     ) -> Reply
-        ensures { λ r. ⌜ Transition (worldOf self (tablesOf (now (heads .entry)) (now (parents .entry)) (now (rows .entry)) (now (counts .entry)) (now (next .entry)) (now («book_heads» .entry)) (now («book_rows» .entry)) (now («book_next» .entry)))) (callOf (asking (askMeets (i .0)) place) (workAndList (now (work .entry)) (now (list .entry)))) (replyOf r) (workAndList (now (work .exit)) (now (list .exit))) (worldOf self (tablesOf (now (heads .entry)) (now (parents .entry)) (now (rows .entry)) (now (counts .entry)) (now (next .entry)) (now («book_heads» .entry)) (now («book_rows» .entry)) (now («book_next» .entry)))) ⌝ }
+        ensures { λ r. ⌜ Transition (worldOf self (tablesOf (now (heads .entry)) (now (parents .entry)) (now (rows .entry)) (now (counts .entry)) (now (next .entry)) (now («book_heads» .entry)) (now («book_rows» .entry)) (now («book_next» .entry)) (now (windows .entry)))) (callOf (asking (askMeets (i .0)) place) (workAndList (now (work .entry)) (now (list .entry)))) (replyOf r) (workAndList (now (work .exit)) (now (list .exit))) (worldOf self (tablesOf (now (heads .entry)) (now (parents .entry)) (now (rows .entry)) (now (counts .entry)) (now (next .entry)) (now («book_heads» .entry)) (now («book_rows» .entry)) (now («book_next» .entry)) (now (windows .entry)))) ⌝ }
     {
         let number = admission::admit(
             self,
@@ -40,6 +41,7 @@ impl Factor {
             book_heads,
             book_rows,
             book_next,
+            windows,
             work,
             true,
         );
@@ -55,6 +57,7 @@ impl Factor {
             book_heads,
             book_rows,
             book_next,
+            windows,
             work,
             list,
             i,
@@ -73,10 +76,11 @@ impl Factor {
         book_heads: &[u32],
         book_rows: &[u16],
         book_next: &[u32],
+        windows: &[u32],
         work: &mut [u32],
         row_list: &[u32],
     ) -> Reply
-        ensures { λ r. ⌜ Transition (worldOf self (tablesOf (now (heads .entry)) (now (parents .entry)) (now (rows .entry)) (now (counts .entry)) (now (next .entry)) (now («book_heads» .entry)) (now («book_rows» .entry)) (now («book_next» .entry)))) (callOf (asking (askCommon (now («row_list» .entry))) 0) (workOnly (now (work .entry)))) (replyOf r) (workOnly (now (work .exit))) (worldOf self (tablesOf (now (heads .entry)) (now (parents .entry)) (now (rows .entry)) (now (counts .entry)) (now (next .entry)) (now («book_heads» .entry)) (now («book_rows» .entry)) (now («book_next» .entry)))) ⌝ }
+        ensures { λ r. ⌜ Transition (worldOf self (tablesOf (now (heads .entry)) (now (parents .entry)) (now (rows .entry)) (now (counts .entry)) (now (next .entry)) (now («book_heads» .entry)) (now («book_rows» .entry)) (now («book_next» .entry)) (now (windows .entry)))) (callOf (asking (askCommon (now («row_list» .entry))) 0) (workOnly (now (work .entry)))) (replyOf r) (workOnly (now (work .exit))) (worldOf self (tablesOf (now (heads .entry)) (now (parents .entry)) (now (rows .entry)) (now (counts .entry)) (now (next .entry)) (now («book_heads» .entry)) (now («book_rows» .entry)) (now («book_next» .entry)) (now (windows .entry)))) ⌝ }
     {
         let number = admission::admit(
             self,
@@ -88,6 +92,7 @@ impl Factor {
             book_heads,
             book_rows,
             book_next,
+            windows,
             work,
             true,
         );
@@ -103,6 +108,7 @@ impl Factor {
             book_heads,
             book_rows,
             book_next,
+            windows,
             row_list,
         )
     }

@@ -24,11 +24,12 @@ impl Factor {
         book_heads: &[u32],
         book_rows: &[u16],
         book_next: &[u32],
+        windows: &[u32],
         i: Row,
         j: Row,
     ) -> Found
-        requires { ⌜ Usable (stateOf self) (tablesOf (now heads) (now parents) (now rows) (now counts) (now next) (now «book_heads») (now «book_rows») (now «book_next»)) ⌝ }
-        ensures { λ a. ⌜ foundOf a ≡ replied (registerOf (stateOf self) (tablesOf (now (heads .entry)) (now (parents .entry)) (now (rows .entry)) (now (counts .entry)) (now (next .entry)) (now («book_heads» .entry)) (now («book_rows» .entry)) (now («book_next» .entry)))) (askNextRow (i .0) (j .0)) ⌝ }
+        requires { ⌜ Usable (stateOf self) (tablesOf (now heads) (now parents) (now rows) (now counts) (now next) (now «book_heads») (now «book_rows») (now «book_next») (now windows)) ⌝ }
+        ensures { λ a. ⌜ foundOf a ≡ replied (registerOf (stateOf self) (tablesOf (now (heads .entry)) (now (parents .entry)) (now (rows .entry)) (now (counts .entry)) (now (next .entry)) (now («book_heads» .entry)) (now («book_rows» .entry)) (now («book_next» .entry)) (now (windows .entry)))) (askNextRow (i .0) (j .0)) ⌝ }
     {
         let m = self.m as usize;
         let f = self.f as usize;
@@ -46,10 +47,11 @@ impl Factor {
         book_heads: &[u32],
         book_rows: &[u16],
         book_next: &[u32],
+        windows: &[u32],
         j: Row,
     ) -> Reply
-        requires { ⌜ Usable (stateOf self) (tablesOf (now heads) (now parents) (now rows) (now counts) (now next) (now «book_heads») (now «book_rows») (now «book_next»)) ⌝ }
-        ensures { λ a. ⌜ replyOf a ≡ replied (registerOf (stateOf self) (tablesOf (now (heads .entry)) (now (parents .entry)) (now (rows .entry)) (now (counts .entry)) (now (next .entry)) (now («book_heads» .entry)) (now («book_rows» .entry)) (now («book_next» .entry)))) (askParent (j .0)) ⌝ }
+        requires { ⌜ Usable (stateOf self) (tablesOf (now heads) (now parents) (now rows) (now counts) (now next) (now «book_heads») (now «book_rows») (now «book_next») (now windows)) ⌝ }
+        ensures { λ a. ⌜ replyOf a ≡ replied (registerOf (stateOf self) (tablesOf (now (heads .entry)) (now (parents .entry)) (now (rows .entry)) (now (counts .entry)) (now (next .entry)) (now («book_heads» .entry)) (now («book_rows» .entry)) (now («book_next» .entry)) (now (windows .entry)))) (askParent (j .0)) ⌝ }
     {
         let m = self.m as usize;
         questions::parent(&parents[..m], j)
@@ -66,13 +68,14 @@ impl Factor {
         book_heads: &[u32],
         book_rows: &[u16],
         book_next: &[u32],
+        windows: &[u32],
         list: &mut [u32],
         j: Row,
         place: usize,
     ) -> Reply
-        requires { ⌜ Usable (stateOf self) (tablesOf (now heads) (now parents) (now rows) (now counts) (now next) (now «book_heads») (now «book_rows») (now «book_next»)) ⌝ }
-        ensures reply { λ a. ⌜ replyOf a ≡ repliedTo (registerOf (stateOf self) (tablesOf (now (heads .entry)) (now (parents .entry)) (now (rows .entry)) (now (counts .entry)) (now (next .entry)) (now («book_heads» .entry)) (now («book_rows» .entry)) (now («book_next» .entry)))) (askPath (j .0)) place (now (list .entry)) ⌝ }
-        ensures written { λ a. ⌜ now (list .exit) ≡ listLeft (registerOf (stateOf self) (tablesOf (now (heads .entry)) (now (parents .entry)) (now (rows .entry)) (now (counts .entry)) (now (next .entry)) (now («book_heads» .entry)) (now («book_rows» .entry)) (now («book_next» .entry)))) (askPath (j .0)) place (now (list .entry)) ⌝ }
+        requires { ⌜ Usable (stateOf self) (tablesOf (now heads) (now parents) (now rows) (now counts) (now next) (now «book_heads») (now «book_rows») (now «book_next») (now windows)) ⌝ }
+        ensures reply { λ a. ⌜ replyOf a ≡ repliedTo (registerOf (stateOf self) (tablesOf (now (heads .entry)) (now (parents .entry)) (now (rows .entry)) (now (counts .entry)) (now (next .entry)) (now («book_heads» .entry)) (now («book_rows» .entry)) (now («book_next» .entry)) (now (windows .entry)))) (askPath (j .0)) place (now (list .entry)) ⌝ }
+        ensures written { λ a. ⌜ now (list .exit) ≡ listLeft (registerOf (stateOf self) (tablesOf (now (heads .entry)) (now (parents .entry)) (now (rows .entry)) (now (counts .entry)) (now (next .entry)) (now («book_heads» .entry)) (now («book_rows» .entry)) (now («book_next» .entry)) (now (windows .entry)))) (askPath (j .0)) place (now (list .entry)) ⌝ }
     {
         let m = self.m as usize;
         questions::path(&parents[..m], list, j, place)
@@ -89,13 +92,14 @@ impl Factor {
         book_heads: &[u32],
         book_rows: &[u16],
         book_next: &[u32],
+        windows: &[u32],
         list: &mut [u32],
         j: Row,
         place: usize,
     ) -> Reply
-        requires { ⌜ Usable (stateOf self) (tablesOf (now heads) (now parents) (now rows) (now counts) (now next) (now «book_heads») (now «book_rows») (now «book_next»)) ⌝ }
-        ensures reply { λ a. ⌜ replyOf a ≡ repliedTo (registerOf (stateOf self) (tablesOf (now (heads .entry)) (now (parents .entry)) (now (rows .entry)) (now (counts .entry)) (now (next .entry)) (now («book_heads» .entry)) (now («book_rows» .entry)) (now («book_next» .entry)))) (askColumn (j .0)) place (now (list .entry)) ⌝ }
-        ensures written { λ a. ⌜ now (list .exit) ≡ listLeft (registerOf (stateOf self) (tablesOf (now (heads .entry)) (now (parents .entry)) (now (rows .entry)) (now (counts .entry)) (now (next .entry)) (now («book_heads» .entry)) (now («book_rows» .entry)) (now («book_next» .entry)))) (askColumn (j .0)) place (now (list .entry)) ⌝ }
+        requires { ⌜ Usable (stateOf self) (tablesOf (now heads) (now parents) (now rows) (now counts) (now next) (now «book_heads») (now «book_rows») (now «book_next») (now windows)) ⌝ }
+        ensures reply { λ a. ⌜ replyOf a ≡ repliedTo (registerOf (stateOf self) (tablesOf (now (heads .entry)) (now (parents .entry)) (now (rows .entry)) (now (counts .entry)) (now (next .entry)) (now («book_heads» .entry)) (now («book_rows» .entry)) (now («book_next» .entry)) (now (windows .entry)))) (askColumn (j .0)) place (now (list .entry)) ⌝ }
+        ensures written { λ a. ⌜ now (list .exit) ≡ listLeft (registerOf (stateOf self) (tablesOf (now (heads .entry)) (now (parents .entry)) (now (rows .entry)) (now (counts .entry)) (now (next .entry)) (now («book_heads» .entry)) (now («book_rows» .entry)) (now («book_next» .entry)) (now (windows .entry)))) (askColumn (j .0)) place (now (list .entry)) ⌝ }
     {
         let m = self.m as usize;
         let f = self.f as usize;
@@ -121,14 +125,15 @@ impl Factor {
         book_heads: &[u32],
         book_rows: &[u16],
         book_next: &[u32],
+        windows: &[u32],
         work: &mut [u32],
         list: &mut [u32],
         i: Row,
         place: usize,
     ) -> Reply
-        requires { ⌜ CanUse (stateOf self) (tablesOf (now heads) (now parents) (now rows) (now counts) (now next) (now «book_heads») (now «book_rows») (now «book_next»)) (now work) ⌝ }
-        ensures reply { λ a. ⌜ replyOf a ≡ repliedTo (registerOf (stateOf self) (tablesOf (now (heads .entry)) (now (parents .entry)) (now (rows .entry)) (now (counts .entry)) (now (next .entry)) (now («book_heads» .entry)) (now («book_rows» .entry)) (now («book_next» .entry)))) (askMeets (i .0)) place (now (list .entry)) ⌝ }
-        ensures written { λ a. ⌜ now (list .exit) ≡ listLeft (registerOf (stateOf self) (tablesOf (now (heads .entry)) (now (parents .entry)) (now (rows .entry)) (now (counts .entry)) (now (next .entry)) (now («book_heads» .entry)) (now («book_rows» .entry)) (now («book_next» .entry)))) (askMeets (i .0)) place (now (list .entry)) ⌝ }
+        requires { ⌜ CanUse (stateOf self) (tablesOf (now heads) (now parents) (now rows) (now counts) (now next) (now «book_heads») (now «book_rows») (now «book_next») (now windows)) (now work) ⌝ }
+        ensures reply { λ a. ⌜ replyOf a ≡ repliedTo (registerOf (stateOf self) (tablesOf (now (heads .entry)) (now (parents .entry)) (now (rows .entry)) (now (counts .entry)) (now (next .entry)) (now («book_heads» .entry)) (now («book_rows» .entry)) (now («book_next» .entry)) (now (windows .entry)))) (askMeets (i .0)) place (now (list .entry)) ⌝ }
+        ensures written { λ a. ⌜ now (list .exit) ≡ listLeft (registerOf (stateOf self) (tablesOf (now (heads .entry)) (now (parents .entry)) (now (rows .entry)) (now (counts .entry)) (now (next .entry)) (now («book_heads» .entry)) (now («book_rows» .entry)) (now («book_next» .entry)) (now (windows .entry)))) (askMeets (i .0)) place (now (list .entry)) ⌝ }
         ensures kept { λ a. ⌜ now (work .exit) ≡ now (work .entry) ⌝ }
     {
         let m = self.m as usize;
@@ -157,10 +162,11 @@ impl Factor {
         book_heads: &[u32],
         book_rows: &[u16],
         book_next: &[u32],
+        windows: &[u32],
         row_list: &[u32],
     ) -> Reply
-        requires { ⌜ Usable (stateOf self) (tablesOf (now heads) (now parents) (now rows) (now counts) (now next) (now «book_heads») (now «book_rows») (now «book_next»)) ⌝ }
-        ensures { λ a. ⌜ replyOf a ≡ replied (registerOf (stateOf self) (tablesOf (now (heads .entry)) (now (parents .entry)) (now (rows .entry)) (now (counts .entry)) (now (next .entry)) (now («book_heads» .entry)) (now («book_rows» .entry)) (now («book_next» .entry)))) (askCommon (now («row_list» .entry))) ⌝ }
+        requires { ⌜ Usable (stateOf self) (tablesOf (now heads) (now parents) (now rows) (now counts) (now next) (now «book_heads») (now «book_rows») (now «book_next») (now windows)) ⌝ }
+        ensures { λ a. ⌜ replyOf a ≡ replied (registerOf (stateOf self) (tablesOf (now (heads .entry)) (now (parents .entry)) (now (rows .entry)) (now (counts .entry)) (now (next .entry)) (now («book_heads» .entry)) (now («book_rows» .entry)) (now («book_next» .entry)) (now (windows .entry)))) (askCommon (now («row_list» .entry))) ⌝ }
     {
         let m = self.m as usize;
         questions::ancestors::common(&parents[..m], row_list)

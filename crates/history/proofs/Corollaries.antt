@@ -37,10 +37,11 @@ keeps-of {p} {v} i =
     let k : Consistent p v = inv-consistent i in
     record {
       sound = i .sound;
+      clock = k .clock;
       columns = k .columns;
       means = k .stored;
       chains = subst (λ (m : ℕ). (x j : ℕ) → 1 ≤ j → j < x → x ≤ m → Stands v x j ↔ ChainTo m (live (p .register)) x j) (sym (i .rows)) (k .chains);
-      refusals = λ c. ap (λ (l : Sizes). callRefusal l (bookedIn v) c) (i .sizes) ∙ bag-number (bookedIn v) (p .register) (inv-rows i) (i .bag) (p .sizes) c;
+      refusals = λ c. ap (λ (l : Sizes). callRefusal l (bookedIn v) c) (i .sizes) ∙ bag-number (bookedIn v) (p .register) (inv-rows i) (i .clock) (i .bag) (p .sizes) c;
     }
 
 pub keeps-pattern : KeepsPattern

@@ -48,9 +48,9 @@ module _ (l : Sizes) (r : Register) (c : Change) (u v : World) (once : noRepeats
   larger-held : entriesBy r c ≡ sumOf (λ j. max (heldSize u j) (heldSize v j)) (touchedBy r c)
   larger-held = sum-ext _ _ (touchedBy r c) (λ j n i. max (size-before j n i) (size-after j n i))
 
-  after-held : (is ns rs : List ℕ) → c ≡ adding is ns rs → entriesBy r c ≡ sumOf (heldSize v) (touchedBy r c)
-  after-held is ns rs q =
-      subst (λ (c : Change). entriesBy r c ≡ sizeSumOf (factorFor (effect r c .register)) (touchedBy r c)) (sym q) (adding-entries r is ns rs) ∙
+  after-held : (is ns rs ps qs : List ℕ) → c ≡ adding is ns rs ps qs → entriesBy r c ≡ sumOf (heldSize v) (touchedBy r c)
+  after-held is ns rs ps qs q =
+      subst (λ (c : Change). entriesBy r c ≡ sizeSumOf (factorFor (effect r c .register)) (touchedBy r c)) (sym q) (adding-entries r is ns rs ps qs) ∙
       sum-ext _ _ (touchedBy r c) size-after
 
   before-held : (is : List ℕ) → c ≡ removing is → entriesBy r c ≡ sumOf (heldSize u) (touchedBy r c)
@@ -62,6 +62,6 @@ module _ (l : Sizes) (r : Register) (c : Change) (u v : World) (once : noRepeats
   counts-held e t n =
       record {
         larger = n ∙ larger-held ∙ ap (λ (js : List ℕ). sumOf (λ j. max (heldSize u j) (heldSize v j)) js) (sym t);
-        after-adding = λ is ns rs q. n ∙ after-held is ns rs q ∙ ap (λ (js : List ℕ). sumOf (heldSize v) js) (sym t);
+        after-adding = λ is ns rs ps qs q. n ∙ after-held is ns rs ps qs q ∙ ap (λ (js : List ℕ). sumOf (heldSize v) js) (sym t);
         before-removing = λ is q. n ∙ before-held is q ∙ ap (λ (js : List ℕ). sumOf (heldSize u) js) (sym t);
       }

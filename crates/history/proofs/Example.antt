@@ -1,10 +1,11 @@
--- The listed example, step by step, on the worlds of ExampleWorlds.antt: the event of each call, the transitions and the run, all by computing.
+-- The listed example, step by step, on the worlds of ExampleWorlds.antt: the event of each call, the transitions and the run, all by computing. ExampleClock.antt has
+-- the calls with windows and the clock.
 -- Assumes nothing.
 use mathlib.Core.Path.{refl}
 use mathlib.Core.List.{List, [], _∷_}
 use Prim.Native.Nat.{ℕ}
 use Rattle.lists.specs.Lists.{all, any, among, noRepeats, allZero, same, sumOf, valuesAt, rises, upFrom, pairsOf}
-use Rattle.symbolic.specs.Columns.{startingWith, liveOf}
+use Rattle.symbolic.specs.Columns.{startingWith, countedBy, withMinutes, liveOf}
 use Rattle.symbolic.specs.Factor.{childrenWith, countsFrom, firstAbove, buildFrom, patternFrom, nonZero, pathFrom, sizeSum}
 use Rattle.symbolic.specs.Batch.{passing, labelFrom}
 use Rattle.symbolic.specs.NextRow.{firstFrom}
@@ -13,6 +14,7 @@ use Rattle.symbolic.specs.Grades.{Limits, limitsOf, oldLimits}
 use Rattle.pool.specs.Chains.{chainFrom, lastOf}
 use Rattle.pool.specs.Whole.{chains}
 use Rattle.book.specs.Book.{columnsFrom}
+use Rattle.windows.specs.Windowed.{windowed}
 use Rattle.tables.specs.Stored.{holdsFrom}
 use Rattle.tables.specs.Tables.{Sizes}
 use Rattle.calls.specs.Refusals.{batchOf, rowsRefusal, columnsRefusal, idsRefusal}
@@ -22,6 +24,7 @@ use Rattle.calls.specs.Steps.{Answer, Transition}
 use Rattle.history.specs.Runs.{Event, Run, Begun, Plain}
 use Rattle.history.specs.Example.{askedSizes, workLent, listLent, add, change, ask, askFrom, openWith, answered, valuedAt, valued, workLeft, lastSizes, eventCalls, eventAnswers, eventTouched, eventLabels, eventWork, eventLists, shownFrom}
 use Rattle.history.specs.Statements.{ConcreteRun}
+use Rattle.history.proofs.ExampleClock.{timed, booked, both, atThree, atFive, left, atZero, opening, early, dormant, refused, toThree, toFive, toNine, dropped, toZero, sound, opening-step, early-step, dormant-step, refused-step, to-three-step, to-five-step, to-nine-step, dropped-step, to-zero-step, sound-step}
 use Rattle.history.proofs.ExampleWorlds.{world0, world1, world2, world3, world4, world5, world6, fresh, full, first-exchanged, second-exchanged, third-exchanged, removal-exchanged, returned-exchanged, filled-exchanged, emptied-exchanged, refilled-exchanged}
 
 -- ---- the run
@@ -141,10 +144,10 @@ abbrev refilled : Event
 refilled = graded (add 1 (1 ∷ 2 ∷ [])) 3 1
 
 abbrev plain1 : Plain
-plain1 = record { sizes = askedSizes; limits = oldLimits; register = record { m = 5; columns = [] } }
+plain1 = record { sizes = askedSizes; limits = oldLimits; register = record { m = 5; clock = 0; columns = [] } }
 
 opened-begun : Begun world1 plain1
-unfolding all any among noRepeats allZero same sumOf valuesAt rises upFrom startingWith liveOf childrenWith countsFrom firstAbove buildFrom patternFrom nonZero pathFrom sizeSum passing labelFrom labelled idsOf chainFrom lastOf chains columnsFrom holdsFrom batchOf rowsRefusal columnsRefusal
+unfolding all any among noRepeats allZero same sumOf valuesAt rises upFrom startingWith countedBy liveOf childrenWith countsFrom firstAbove buildFrom patternFrom nonZero pathFrom sizeSum passing labelFrom labelled idsOf chainFrom lastOf chains columnsFrom windowed holdsFrom withMinutes batchOf rowsRefusal columnsRefusal
 opened-begun =
     record {
       before = world0;
@@ -159,87 +162,87 @@ opened-begun =
     }
 
 first-step : Transition world1 (first .call) (first .answer) (first .left) world2
-unfolding all any among noRepeats allZero same sumOf valuesAt rises upFrom startingWith liveOf childrenWith countsFrom firstAbove buildFrom patternFrom nonZero pathFrom sizeSum passing labelFrom labelled idsOf chainFrom lastOf chains columnsFrom holdsFrom batchOf rowsRefusal columnsRefusal
+unfolding all any among noRepeats allZero same sumOf valuesAt rises upFrom startingWith countedBy liveOf childrenWith countsFrom firstAbove buildFrom patternFrom nonZero pathFrom sizeSum passing labelFrom labelled idsOf chainFrom lastOf chains columnsFrom windowed holdsFrom withMinutes batchOf rowsRefusal columnsRefusal
 first-step = (refl, refl, first-exchanged)
 
 again-step : Transition world2 (again .call) (again .answer) (again .left) world2
-unfolding all any among noRepeats allZero same sumOf valuesAt rises upFrom startingWith liveOf childrenWith countsFrom firstAbove buildFrom patternFrom nonZero pathFrom sizeSum passing labelFrom labelled idsOf chainFrom lastOf chains columnsFrom holdsFrom batchOf rowsRefusal columnsRefusal
+unfolding all any among noRepeats allZero same sumOf valuesAt rises upFrom startingWith countedBy liveOf childrenWith countsFrom firstAbove buildFrom patternFrom nonZero pathFrom sizeSum passing labelFrom labelled idsOf chainFrom lastOf chains columnsFrom windowed holdsFrom withMinutes batchOf rowsRefusal columnsRefusal
 again-step = (refl, refl, refl)
 
 second-step : Transition world2 (second .call) (second .answer) (second .left) world3
-unfolding all any among noRepeats allZero same sumOf valuesAt rises upFrom startingWith liveOf childrenWith countsFrom firstAbove buildFrom patternFrom nonZero pathFrom sizeSum passing labelFrom labelled idsOf chainFrom lastOf chains columnsFrom holdsFrom batchOf rowsRefusal columnsRefusal
+unfolding all any among noRepeats allZero same sumOf valuesAt rises upFrom startingWith countedBy liveOf childrenWith countsFrom firstAbove buildFrom patternFrom nonZero pathFrom sizeSum passing labelFrom labelled idsOf chainFrom lastOf chains columnsFrom windowed holdsFrom withMinutes batchOf rowsRefusal columnsRefusal
 second-step = (refl, refl, second-exchanged)
 
 third-step : Transition world3 (third .call) (third .answer) (third .left) world4
-unfolding all any among noRepeats allZero same sumOf valuesAt rises upFrom startingWith liveOf childrenWith countsFrom firstAbove buildFrom patternFrom nonZero pathFrom sizeSum passing labelFrom labelled idsOf chainFrom lastOf chains columnsFrom holdsFrom batchOf rowsRefusal columnsRefusal
+unfolding all any among noRepeats allZero same sumOf valuesAt rises upFrom startingWith countedBy liveOf childrenWith countsFrom firstAbove buildFrom patternFrom nonZero pathFrom sizeSum passing labelFrom labelled idsOf chainFrom lastOf chains columnsFrom windowed holdsFrom withMinutes batchOf rowsRefusal columnsRefusal
 third-step = (refl, refl, third-exchanged)
 
 checked-step : Transition world4 (checked .call) (checked .answer) (checked .left) world4
-unfolding all any among noRepeats allZero same sumOf valuesAt rises upFrom startingWith liveOf childrenWith countsFrom firstAbove buildFrom patternFrom nonZero pathFrom sizeSum passing labelFrom labelled idsOf chainFrom lastOf chains columnsFrom holdsFrom batchOf rowsRefusal columnsRefusal
+unfolding all any among noRepeats allZero same sumOf valuesAt rises upFrom startingWith countedBy liveOf childrenWith countsFrom firstAbove buildFrom patternFrom nonZero pathFrom sizeSum passing labelFrom labelled idsOf chainFrom lastOf chains columnsFrom windowed holdsFrom withMinutes batchOf rowsRefusal columnsRefusal
 checked-step = (refl, refl, refl)
 
 path-step : Transition world4 (path .call) (path .answer) (path .left) world4
-unfolding all any among noRepeats allZero same sumOf valuesAt rises upFrom startingWith liveOf childrenWith countsFrom firstAbove buildFrom patternFrom nonZero pathFrom sizeSum passing labelFrom labelled idsOf chainFrom lastOf chains columnsFrom holdsFrom batchOf rowsRefusal columnsRefusal
+unfolding all any among noRepeats allZero same sumOf valuesAt rises upFrom startingWith countedBy liveOf childrenWith countsFrom firstAbove buildFrom patternFrom nonZero pathFrom sizeSum passing labelFrom labelled idsOf chainFrom lastOf chains columnsFrom windowed holdsFrom withMinutes batchOf rowsRefusal columnsRefusal
 path-step = (refl, refl, refl)
 
 column-step : Transition world4 (column .call) (column .answer) (column .left) world4
-unfolding all any among noRepeats allZero same sumOf valuesAt rises upFrom startingWith liveOf childrenWith countsFrom firstAbove buildFrom patternFrom nonZero pathFrom sizeSum passing labelFrom labelled idsOf chainFrom lastOf chains columnsFrom holdsFrom batchOf rowsRefusal columnsRefusal pairsOf
+unfolding all any among noRepeats allZero same sumOf valuesAt rises upFrom startingWith countedBy liveOf childrenWith countsFrom firstAbove buildFrom patternFrom nonZero pathFrom sizeSum passing labelFrom labelled idsOf chainFrom lastOf chains columnsFrom windowed holdsFrom withMinutes batchOf rowsRefusal columnsRefusal pairsOf
 column-step = (refl, refl, refl)
 
 walk1-step : Transition world4 (walk1 .call) (walk1 .answer) (walk1 .left) world4
-unfolding all any among noRepeats allZero same sumOf valuesAt rises upFrom startingWith liveOf childrenWith countsFrom firstAbove buildFrom patternFrom nonZero pathFrom sizeSum passing labelFrom labelled idsOf chainFrom lastOf chains columnsFrom holdsFrom batchOf rowsRefusal columnsRefusal firstFrom
+unfolding all any among noRepeats allZero same sumOf valuesAt rises upFrom startingWith countedBy liveOf childrenWith countsFrom firstAbove buildFrom patternFrom nonZero pathFrom sizeSum passing labelFrom labelled idsOf chainFrom lastOf chains columnsFrom windowed holdsFrom withMinutes batchOf rowsRefusal columnsRefusal firstFrom
 walk1-step = (refl, refl, refl)
 
 walk2-step : Transition world4 (walk2 .call) (walk2 .answer) (walk2 .left) world4
-unfolding all any among noRepeats allZero same sumOf valuesAt rises upFrom startingWith liveOf childrenWith countsFrom firstAbove buildFrom patternFrom nonZero pathFrom sizeSum passing labelFrom labelled idsOf chainFrom lastOf chains columnsFrom holdsFrom batchOf rowsRefusal columnsRefusal firstFrom
+unfolding all any among noRepeats allZero same sumOf valuesAt rises upFrom startingWith countedBy liveOf childrenWith countsFrom firstAbove buildFrom patternFrom nonZero pathFrom sizeSum passing labelFrom labelled idsOf chainFrom lastOf chains columnsFrom windowed holdsFrom withMinutes batchOf rowsRefusal columnsRefusal firstFrom
 walk2-step = (refl, refl, refl)
 
 walk3-step : Transition world4 (walk3 .call) (walk3 .answer) (walk3 .left) world4
-unfolding all any among noRepeats allZero same sumOf valuesAt rises upFrom startingWith liveOf childrenWith countsFrom firstAbove buildFrom patternFrom nonZero pathFrom sizeSum passing labelFrom labelled idsOf chainFrom lastOf chains columnsFrom holdsFrom batchOf rowsRefusal columnsRefusal firstFrom
+unfolding all any among noRepeats allZero same sumOf valuesAt rises upFrom startingWith countedBy liveOf childrenWith countsFrom firstAbove buildFrom patternFrom nonZero pathFrom sizeSum passing labelFrom labelled idsOf chainFrom lastOf chains columnsFrom windowed holdsFrom withMinutes batchOf rowsRefusal columnsRefusal firstFrom
 walk3-step = (refl, refl, refl)
 
 walk4-step : Transition world4 (walk4 .call) (walk4 .answer) (walk4 .left) world4
-unfolding all any among noRepeats allZero same sumOf valuesAt rises upFrom startingWith liveOf childrenWith countsFrom firstAbove buildFrom patternFrom nonZero pathFrom sizeSum passing labelFrom labelled idsOf chainFrom lastOf chains columnsFrom holdsFrom batchOf rowsRefusal columnsRefusal firstFrom
+unfolding all any among noRepeats allZero same sumOf valuesAt rises upFrom startingWith countedBy liveOf childrenWith countsFrom firstAbove buildFrom patternFrom nonZero pathFrom sizeSum passing labelFrom labelled idsOf chainFrom lastOf chains columnsFrom windowed holdsFrom withMinutes batchOf rowsRefusal columnsRefusal firstFrom
 walk4-step = (refl, refl, refl)
 
 beyond-step : Transition world4 (beyond .call) (beyond .answer) (beyond .left) world4
-unfolding all any among noRepeats allZero same sumOf valuesAt rises upFrom startingWith liveOf childrenWith countsFrom firstAbove buildFrom patternFrom nonZero pathFrom sizeSum passing labelFrom labelled idsOf chainFrom lastOf chains columnsFrom holdsFrom batchOf rowsRefusal columnsRefusal
+unfolding all any among noRepeats allZero same sumOf valuesAt rises upFrom startingWith countedBy liveOf childrenWith countsFrom firstAbove buildFrom patternFrom nonZero pathFrom sizeSum passing labelFrom labelled idsOf chainFrom lastOf chains columnsFrom windowed holdsFrom withMinutes batchOf rowsRefusal columnsRefusal
 beyond-step = (refl, refl, refl)
 
 parent-step : Transition world4 (parent .call) (parent .answer) (parent .left) world4
-unfolding all any among noRepeats allZero same sumOf valuesAt rises upFrom startingWith liveOf childrenWith countsFrom firstAbove buildFrom patternFrom nonZero pathFrom sizeSum passing labelFrom labelled idsOf chainFrom lastOf chains columnsFrom holdsFrom batchOf rowsRefusal columnsRefusal
+unfolding all any among noRepeats allZero same sumOf valuesAt rises upFrom startingWith countedBy liveOf childrenWith countsFrom firstAbove buildFrom patternFrom nonZero pathFrom sizeSum passing labelFrom labelled idsOf chainFrom lastOf chains columnsFrom windowed holdsFrom withMinutes batchOf rowsRefusal columnsRefusal
 parent-step = (refl, refl, refl)
 
 meets-step : Transition world4 (meets .call) (meets .answer) (meets .left) world4
-unfolding all any among noRepeats allZero same sumOf valuesAt rises upFrom startingWith liveOf childrenWith countsFrom firstAbove buildFrom patternFrom nonZero pathFrom sizeSum passing labelFrom labelled idsOf chainFrom lastOf chains columnsFrom holdsFrom batchOf rowsRefusal columnsRefusal
+unfolding all any among noRepeats allZero same sumOf valuesAt rises upFrom startingWith countedBy liveOf childrenWith countsFrom firstAbove buildFrom patternFrom nonZero pathFrom sizeSum passing labelFrom labelled idsOf chainFrom lastOf chains columnsFrom windowed holdsFrom withMinutes batchOf rowsRefusal columnsRefusal
 meets-step = (refl, refl, refl)
 
 joined-step : Transition world4 (joined .call) (joined .answer) (joined .left) world4
-unfolding all any among noRepeats allZero same sumOf valuesAt rises upFrom startingWith liveOf childrenWith countsFrom firstAbove buildFrom patternFrom nonZero pathFrom sizeSum passing labelFrom labelled idsOf chainFrom lastOf chains columnsFrom holdsFrom batchOf rowsRefusal columnsRefusal
+unfolding all any among noRepeats allZero same sumOf valuesAt rises upFrom startingWith countedBy liveOf childrenWith countsFrom firstAbove buildFrom patternFrom nonZero pathFrom sizeSum passing labelFrom labelled idsOf chainFrom lastOf chains columnsFrom windowed holdsFrom withMinutes batchOf rowsRefusal columnsRefusal
 joined-step = (refl, refl, refl)
 
 apart-step : Transition world4 (apart .call) (apart .answer) (apart .left) world4
-unfolding all any among noRepeats allZero same sumOf valuesAt rises upFrom startingWith liveOf childrenWith countsFrom firstAbove buildFrom patternFrom nonZero pathFrom sizeSum passing labelFrom labelled idsOf chainFrom lastOf chains columnsFrom holdsFrom batchOf rowsRefusal columnsRefusal
+unfolding all any among noRepeats allZero same sumOf valuesAt rises upFrom startingWith countedBy liveOf childrenWith countsFrom firstAbove buildFrom patternFrom nonZero pathFrom sizeSum passing labelFrom labelled idsOf chainFrom lastOf chains columnsFrom windowed holdsFrom withMinutes batchOf rowsRefusal columnsRefusal
 apart-step = (refl, refl, refl)
 
 none-named-step : Transition world4 (noneNamed .call) (noneNamed .answer) (noneNamed .left) world4
-unfolding all any among noRepeats allZero same sumOf valuesAt rises upFrom startingWith liveOf childrenWith countsFrom firstAbove buildFrom patternFrom nonZero pathFrom sizeSum passing labelFrom labelled idsOf chainFrom lastOf chains columnsFrom holdsFrom batchOf rowsRefusal columnsRefusal
+unfolding all any among noRepeats allZero same sumOf valuesAt rises upFrom startingWith countedBy liveOf childrenWith countsFrom firstAbove buildFrom patternFrom nonZero pathFrom sizeSum passing labelFrom labelled idsOf chainFrom lastOf chains columnsFrom windowed holdsFrom withMinutes batchOf rowsRefusal columnsRefusal
 none-named-step = (refl, refl, refl)
 
 outside-step : Transition world4 (outside .call) (outside .answer) (outside .left) world4
-unfolding all any among noRepeats allZero same sumOf valuesAt rises upFrom startingWith liveOf childrenWith countsFrom firstAbove buildFrom patternFrom nonZero pathFrom sizeSum passing labelFrom labelled idsOf chainFrom lastOf chains columnsFrom holdsFrom batchOf rowsRefusal columnsRefusal
+unfolding all any among noRepeats allZero same sumOf valuesAt rises upFrom startingWith countedBy liveOf childrenWith countsFrom firstAbove buildFrom patternFrom nonZero pathFrom sizeSum passing labelFrom labelled idsOf chainFrom lastOf chains columnsFrom windowed holdsFrom withMinutes batchOf rowsRefusal columnsRefusal
 outside-step = (refl, refl, refl)
 
 no-room-step : Transition world4 (noRoom .call) (noRoom .answer) (noRoom .left) world4
-unfolding all any among noRepeats allZero same sumOf valuesAt rises upFrom startingWith liveOf childrenWith countsFrom firstAbove buildFrom patternFrom nonZero pathFrom sizeSum passing labelFrom labelled idsOf chainFrom lastOf chains columnsFrom holdsFrom batchOf rowsRefusal columnsRefusal
+unfolding all any among noRepeats allZero same sumOf valuesAt rises upFrom startingWith countedBy liveOf childrenWith countsFrom firstAbove buildFrom patternFrom nonZero pathFrom sizeSum passing labelFrom labelled idsOf chainFrom lastOf chains columnsFrom windowed holdsFrom withMinutes batchOf rowsRefusal columnsRefusal
 no-room-step = (refl, refl, refl)
 
 removal-step : Transition world4 (removal .call) (removal .answer) (removal .left) world5
-unfolding all any among noRepeats allZero same sumOf valuesAt rises upFrom startingWith liveOf childrenWith countsFrom firstAbove buildFrom patternFrom nonZero pathFrom sizeSum passing labelFrom labelled idsOf chainFrom lastOf chains columnsFrom holdsFrom batchOf rowsRefusal columnsRefusal idsRefusal without columnOf columnsOf
+unfolding all any among noRepeats allZero same sumOf valuesAt rises upFrom startingWith countedBy liveOf childrenWith countsFrom firstAbove buildFrom patternFrom nonZero pathFrom sizeSum passing labelFrom labelled idsOf chainFrom lastOf chains columnsFrom windowed holdsFrom withMinutes batchOf rowsRefusal columnsRefusal idsRefusal without columnOf columnsOf
 removal-step = (refl, refl, removal-exchanged)
 
 no-rows-step : Transition world5 (noRows .call) (noRows .answer) (noRows .left) world5
-unfolding all any among noRepeats allZero same sumOf valuesAt rises upFrom startingWith liveOf childrenWith countsFrom firstAbove buildFrom patternFrom nonZero pathFrom sizeSum passing labelFrom labelled idsOf chainFrom lastOf chains columnsFrom holdsFrom batchOf rowsRefusal columnsRefusal
+unfolding all any among noRepeats allZero same sumOf valuesAt rises upFrom startingWith countedBy liveOf childrenWith countsFrom firstAbove buildFrom patternFrom nonZero pathFrom sizeSum passing labelFrom labelled idsOf chainFrom lastOf chains columnsFrom windowed holdsFrom withMinutes batchOf rowsRefusal columnsRefusal
 no-rows-step = (refl, refl, refl)
 
 no-limits-step : Transition world5 (noLimits .call) (noLimits .answer) (noLimits .left) world5
@@ -249,27 +252,27 @@ left-at-0-step : Transition world5 (leftAt0 .call) (leftAt0 .answer) (leftAt0 .l
 left-at-0-step = (refl, refl, refl)
 
 returned-step : Transition world5 (returned .call) (returned .answer) (returned .left) world6
-unfolding all any among noRepeats allZero same sumOf valuesAt rises upFrom startingWith liveOf childrenWith countsFrom firstAbove buildFrom patternFrom nonZero pathFrom sizeSum passing labelFrom labelled idsOf chainFrom lastOf chains columnsFrom holdsFrom batchOf rowsRefusal columnsRefusal
+unfolding all any among noRepeats allZero same sumOf valuesAt rises upFrom startingWith countedBy liveOf childrenWith countsFrom firstAbove buildFrom patternFrom nonZero pathFrom sizeSum passing labelFrom labelled idsOf chainFrom lastOf chains columnsFrom windowed holdsFrom withMinutes batchOf rowsRefusal columnsRefusal
 returned-step = (refl, refl, returned-exchanged)
 
 two-rows-step : Transition world6 (twoRows .call) (twoRows .answer) (twoRows .left) (fresh (limitsOf 2 3 4))
-unfolding all any among noRepeats allZero same sumOf valuesAt rises upFrom startingWith liveOf childrenWith countsFrom firstAbove buildFrom patternFrom nonZero pathFrom sizeSum passing labelFrom labelled idsOf chainFrom lastOf chains columnsFrom holdsFrom batchOf rowsRefusal columnsRefusal
+unfolding all any among noRepeats allZero same sumOf valuesAt rises upFrom startingWith countedBy liveOf childrenWith countsFrom firstAbove buildFrom patternFrom nonZero pathFrom sizeSum passing labelFrom labelled idsOf chainFrom lastOf chains columnsFrom windowed holdsFrom withMinutes batchOf rowsRefusal columnsRefusal
 two-rows-step = (refl, refl, (refl, refl))
 
 filled-step : Transition (fresh (limitsOf 2 3 4)) (filled .call) (filled .answer) (filled .left) (full (limitsOf 2 3 4))
-unfolding all any among noRepeats allZero same sumOf valuesAt rises upFrom startingWith liveOf childrenWith countsFrom firstAbove buildFrom patternFrom nonZero pathFrom sizeSum passing labelFrom labelled idsOf chainFrom lastOf chains columnsFrom holdsFrom batchOf rowsRefusal columnsRefusal
+unfolding all any among noRepeats allZero same sumOf valuesAt rises upFrom startingWith countedBy liveOf childrenWith countsFrom firstAbove buildFrom patternFrom nonZero pathFrom sizeSum passing labelFrom labelled idsOf chainFrom lastOf chains columnsFrom windowed holdsFrom withMinutes batchOf rowsRefusal columnsRefusal
 filled-step = (refl, refl, filled-exchanged)
 
 emptied-step : Transition (full (limitsOf 2 3 4)) (emptied .call) (emptied .answer) (emptied .left) (fresh (limitsOf 2 3 4))
-unfolding all any among noRepeats allZero same sumOf valuesAt rises upFrom startingWith liveOf childrenWith countsFrom firstAbove buildFrom patternFrom nonZero pathFrom sizeSum passing labelFrom labelled idsOf chainFrom lastOf chains columnsFrom holdsFrom batchOf rowsRefusal columnsRefusal idsRefusal without columnOf columnsOf
+unfolding all any among noRepeats allZero same sumOf valuesAt rises upFrom startingWith countedBy liveOf childrenWith countsFrom firstAbove buildFrom patternFrom nonZero pathFrom sizeSum passing labelFrom labelled idsOf chainFrom lastOf chains columnsFrom windowed holdsFrom withMinutes batchOf rowsRefusal columnsRefusal idsRefusal without columnOf columnsOf
 emptied-step = (refl, refl, emptied-exchanged)
 
 plain-two-step : Transition (fresh (limitsOf 2 3 4)) (plainTwo .call) (plainTwo .answer) (plainTwo .left) (fresh oldLimits)
-unfolding all any among noRepeats allZero same sumOf valuesAt rises upFrom startingWith liveOf childrenWith countsFrom firstAbove buildFrom patternFrom nonZero pathFrom sizeSum passing labelFrom labelled idsOf chainFrom lastOf chains columnsFrom holdsFrom batchOf rowsRefusal columnsRefusal
+unfolding all any among noRepeats allZero same sumOf valuesAt rises upFrom startingWith countedBy liveOf childrenWith countsFrom firstAbove buildFrom patternFrom nonZero pathFrom sizeSum passing labelFrom labelled idsOf chainFrom lastOf chains columnsFrom windowed holdsFrom withMinutes batchOf rowsRefusal columnsRefusal
 plain-two-step = (refl, refl, (refl, refl))
 
 refilled-step : Transition (fresh oldLimits) (refilled .call) (refilled .answer) (refilled .left) (full oldLimits)
-unfolding all any among noRepeats allZero same sumOf valuesAt rises upFrom startingWith liveOf childrenWith countsFrom firstAbove buildFrom patternFrom nonZero pathFrom sizeSum passing labelFrom labelled idsOf chainFrom lastOf chains columnsFrom holdsFrom batchOf rowsRefusal columnsRefusal
+unfolding all any among noRepeats allZero same sumOf valuesAt rises upFrom startingWith countedBy liveOf childrenWith countsFrom firstAbove buildFrom patternFrom nonZero pathFrom sizeSum passing labelFrom labelled idsOf chainFrom lastOf chains columnsFrom windowed holdsFrom withMinutes batchOf rowsRefusal columnsRefusal
 refilled-step = (refl, refl, refilled-exchanged)
 
 pub concrete-run : ConcreteRun
@@ -310,4 +313,24 @@ concrete-run =
       last-labels = refl;
       last-work = refl;
       last-shows = refl;
+      clock-events = opening ∷ early ∷ dormant ∷ refused ∷ toThree ∷ toFive ∷ toNine ∷ [];
+      at-five = atFive;
+      clock-run =
+          (timed, (opening-step, (booked, (early-step, (both, (dormant-step, (both, (refused-step, (atThree, (to-three-step, (atFive, (to-five-step, (atFive, (to-nine-step, refl))))))))))))));
+      clock-calls = refl;
+      clock-answers = refl;
+      clock-touched = refl;
+      clock-labels = refl;
+      clock-work = refl;
+      clock-stands = refl;
+      clock-shows = refl;
+      back-events = dropped ∷ toZero ∷ sound ∷ [];
+      at-zero = atZero;
+      back-run = (left, (dropped-step, (atZero, (to-zero-step, (atZero, (sound-step, refl))))));
+      back-calls = refl;
+      back-answers = refl;
+      back-touched = refl;
+      back-labels = refl;
+      back-stands = refl;
+      back-shows = refl;
     }

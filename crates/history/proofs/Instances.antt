@@ -3,17 +3,17 @@
 -- Assumes nothing.
 use mathlib.Core.Path.{refl}
 use Rattle.lists.specs.Lists.{all, any, among, sumOf, upFrom, pairsOf}
-use Rattle.symbolic.specs.Columns.{startingWith, liveOf}
+use Rattle.symbolic.specs.Columns.{startingWith, countedBy, withMinutes, liveOf}
 use Rattle.symbolic.specs.Factor.{childrenWith, countsFrom, firstAbove, buildFrom, patternFrom, nonZero, pathFrom, sizeSum}
 use Rattle.symbolic.specs.Batch.{passing, labelFrom}
 use Rattle.symbolic.specs.NextRow.{firstFrom}
 use Rattle.symbolic.specs.Change.{idsOf, without, columnOf, columnsOf}
 use Rattle.calls.specs.Refusals.{batchOf, rowsRefusal, columnsRefusal, idsRefusal}
 use Rattle.calls.specs.Changes.{labelled}
-use Rattle.history.specs.Instances.{StarredInstances, NinthInstance, LimitInstances, RecordInstances, MeetingInstances, NextInstances}
+use Rattle.history.specs.Instances.{StarredInstances, NinthInstance, LimitInstances, RecordInstances, MeetingInstances, NextInstances, WindowInstances}
 
 pub starred-instances : StarredInstances
-unfolding any among sumOf upFrom startingWith liveOf childrenWith countsFrom firstAbove buildFrom patternFrom nonZero pathFrom sizeSum passing labelFrom labelled idsOf without columnOf columnsOf batchOf rowsRefusal columnsRefusal pairsOf
+unfolding any among sumOf upFrom startingWith countedBy liveOf childrenWith countsFrom firstAbove buildFrom patternFrom nonZero pathFrom sizeSum passing labelFrom labelled idsOf without columnOf columnsOf withMinutes batchOf rowsRefusal columnsRefusal pairsOf
 starred-instances =
     record {
       fresh = (refl, refl);
@@ -45,11 +45,11 @@ starred-instances =
     }
 
 pub ninth-instance : NinthInstance
-unfolding among sumOf startingWith liveOf childrenWith countsFrom firstAbove buildFrom pathFrom idsOf without batchOf rowsRefusal columnsRefusal idsRefusal
+unfolding among sumOf startingWith countedBy liveOf childrenWith countsFrom firstAbove buildFrom pathFrom idsOf without withMinutes batchOf rowsRefusal columnsRefusal idsRefusal
 ninth-instance = record { emptied = refl; repeated = refl; equal-rows = refl; path = refl }
 
 pub limit-instances : LimitInstances
-unfolding any among sumOf upFrom startingWith liveOf childrenWith countsFrom firstAbove buildFrom patternFrom nonZero pathFrom sizeSum passing labelFrom labelled without columnOf columnsOf batchOf
+unfolding any among sumOf upFrom startingWith countedBy liveOf childrenWith countsFrom firstAbove buildFrom patternFrom nonZero pathFrom sizeSum passing labelFrom labelled without columnOf columnsOf withMinutes batchOf
 limit-instances =
     record {
       opening-000 = refl;
@@ -94,7 +94,7 @@ record-instances =
     }
 
 pub meeting-instances : MeetingInstances
-unfolding all among startingWith liveOf childrenWith countsFrom firstAbove buildFrom pathFrom passing batchOf
+unfolding all among startingWith countedBy liveOf childrenWith countsFrom firstAbove buildFrom pathFrom passing withMinutes batchOf
 meeting-instances =
     record {
       meets-1 = refl;
@@ -128,7 +128,7 @@ meeting-instances =
     }
 
 pub next-instances : NextInstances
-unfolding among startingWith liveOf childrenWith countsFrom firstAbove buildFrom patternFrom nonZero batchOf firstFrom
+unfolding among startingWith countedBy liveOf childrenWith countsFrom firstAbove buildFrom patternFrom nonZero withMinutes batchOf firstFrom
 next-instances =
     record {
       stands = refl;
@@ -144,4 +144,65 @@ next-instances =
       row-6 = refl;
       column-0 = refl;
       column-6 = refl;
+    }
+
+pub window-instances : WindowInstances
+unfolding all any among sumOf upFrom startingWith countedBy liveOf childrenWith countsFrom firstAbove buildFrom patternFrom nonZero pathFrom sizeSum passing labelFrom labelled idsOf without columnOf columnsOf withMinutes batchOf rowsRefusal columnsRefusal idsRefusal
+window-instances =
+    record {
+      none = refl;
+      from-0 = refl;
+      to-0 = refl;
+      empty = refl;
+      turned = refl;
+      one-minute = refl;
+      all-minutes = refl;
+      last-minute = refl;
+      beyond = refl;
+      order-13 = refl;
+      order-14 = refl;
+      order-21 = refl;
+      order-8 = refl;
+      order-12 = refl;
+      order-16 = refl;
+      firsts-short = refl;
+      seconds-short = refl;
+      minutes-none = refl;
+      at-4 = refl;
+      at-5 = refl;
+      at-8 = refl;
+      at-9 = refl;
+      always = λ t. refl;
+      at-0 = refl;
+      at-last = refl;
+      past-last = refl;
+      booked-none = refl;
+      booked-kept = refl;
+      booked-empty = refl;
+      free-none = refl;
+      free-kept = refl;
+      added-0 = refl;
+      removed-0 = refl;
+      clock-4 = refl;
+      clock-0 = refl;
+      clock-5 = refl;
+      batch-touched = refl;
+      batch-labels = refl;
+      batch-entries = refl;
+      again = refl;
+      removal = refl;
+      other = refl;
+      booked-rows = refl;
+      live-rows = refl;
+      clock-fits = refl;
+      clock-16 = refl;
+      together = refl;
+      in-turn = refl;
+      paths = refl;
+      zeros = refl;
+      larger = refl;
+      equal-touched = refl;
+      equal-entries = refl;
+      equal-factor = refl;
+      back = refl;
     }

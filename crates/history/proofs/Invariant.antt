@@ -1,4 +1,4 @@
--- What record, tables and plain register have in common between calls (`Inv`): sizes in range, the same limits, tables long enough and sound, and the same
+-- What record, tables and plain register have in common between calls (`Inv`): sizes in range, the same limits and clock, tables long enough and sound, and the same
 -- columns up to order, ids once. It gives `Consistent` (`inv-consistent`); an accepted opening sets it up (`inv-opened`), any accepted call has found it
 -- (`inv-found`), and Steps.antt shows that every call keeps it.
 -- Assumes nothing.
@@ -6,6 +6,7 @@ use mathlib.Core.Path.{_≡_, refl, sym, ap, _∙_, subst}
 use mathlib.Core.Bool.{true}
 use mathlib.Core.List.{List, []}
 use Prim.Native.Nat.{ℕ}
+use lib.ListN.{length}
 use Rattle.lists.specs.Lists.{all, noRepeats, sumOf}
 use Rattle.symbolic.specs.Columns.{Column, Register, live}
 use Rattle.symbolic.specs.Factor.{FactorColumn, factorOf, factorFor}
@@ -13,10 +14,11 @@ use Rattle.symbolic.specs.Change.{idsOf, Bag}
 use Rattle.symbolic.specs.Grades.{Limits, areLimits, limitsFor}
 use Rattle.symbolic.proofs.Bags.{bag-mem, bag-all}
 use Rattle.symbolic.proofs.Live.{live-fits}
-use Rattle.book.specs.Book.{columnFits}
+use Rattle.book.specs.Book.{Book, columnsIn, columnFits}
 use Rattle.book.proofs.Columns.{ids-distinct}
+use Rattle.windows.proofs.Windowed.{windowed-ids}
 use Rattle.tables.specs.Stored.{Stored, holdsFrom}
-use Rattle.tables.specs.Tables.{Tables, Sizes, longEnough, storedIn, bookIn, isSound}
+use Rattle.tables.specs.Tables.{Tables, Sizes, longEnough, storedIn, bookIn, windowsIn, isSound}
 use Rattle.tables.specs.Opening.{openedState, openedTables}
 use Rattle.tables.proofs.Stored.{stands-chain}
 use Rattle.tables.proofs.Tables.{sound-limits, sound-fits, sound-factor, fits-rows}
@@ -35,6 +37,7 @@ pub record Inv (p : Plain) (u : World) : Type 0 where
   pub in-range : sizesRefusal bounds (p .sizes) ≡ accepted
   pub sizes : u .state .sizes ≡ p .sizes
   pub limits : u .state .limits ≡ p .limits
+  pub clock : u .state .clock ≡ p .register .clock
   pub rows : p .register .m ≡ p .sizes .m
   pub long : longEnough (p .sizes) (u .tables) ≡ true
   pub sound : isSound (u .state) (u .tables) ≡ true
@@ -43,12 +46,14 @@ pub record Inv (p : Plain) (u : World) : Type 0 where
 
 -- the book's ids stand once, whatever the tables hold
 pub book-once : (u : World) → noRepeats (idsOf (bookedIn u .columns)) ≡ true
-book-once u = ids-distinct (bookIn (u .state) (u .tables))
+book-once u =
+    let b : Book = bookIn (u .state) (u .tables) in
+    ap noRepeats (windowed-ids (windowsIn (u .state) (u .tables)) (length (b .heads)) (columnsIn b)) ∙ ids-distinct b
 
 -- what an accepted call has found in any world: the world holds it of itself
 pub inv-found : (u : World) → Found (u .state) (u .tables) → Inv (plainOf u) u
 inv-found u f =
-    record { in-range = f .in-range; sizes = refl; limits = refl; rows = refl; long = f .long; sound = f .sound; bag = λ g. refl; once = book-once u }
+    record { in-range = f .in-range; sizes = refl; limits = refl; clock = refl; rows = refl; long = f .long; sound = f .sound; bag = λ g. refl; once = book-once u }
 
 -- ---- what it gives
 
@@ -63,7 +68,7 @@ module _ {p : Plain} {u : World} (i : Inv p u) where
   inv-numbers =
       let s : Stored = storedIn (u .state) (u .tables) in
       ap (λ (l : Sizes). holdsFrom s (factorFor (p .register)) 1 (l .m)) (sym (i .sizes)) ∙
-      ap (λ (fs : List FactorColumn). holdsFrom s fs 1 (u .state .sizes .m)) (sym (bag-factor (bookedIn u) (p .register) inv-rows (i .bag))) ∙
+      ap (λ (fs : List FactorColumn). holdsFrom s fs 1 (u .state .sizes .m)) (sym (bag-factor (bookedIn u) (p .register) inv-rows (i .clock) (i .bag))) ∙
       sound-factor (u .state) (u .tables) inv-long (i .sound)
 
   -- of the register's own m
@@ -86,6 +91,7 @@ module _ {p : Plain} {u : World} (i : Inv p u) where
         sizes = i .sizes;
         in-order = ap areLimits (sym (i .limits)) ∙ sound-limits (u .state) (u .tables) (i .sound);
         limits = i .limits;
+        clock = i .clock;
         rows = i .rows;
         long = i .long;
         sound = i .sound;
@@ -100,7 +106,7 @@ module _ {p : Plain} {u : World} (i : Inv p u) where
 -- ---- an accepted opening
 
 abbrev pub openedPlain : Sizes → Limits → Plain
-openedPlain l g = record { sizes = withDefault l; limits = limitsFor g; register = record { m = l .m; columns = [] } }
+openedPlain l g = record { sizes = withDefault l; limits = limitsFor g; register = record { m = l .m; clock = 0; columns = [] } }
 
 abbrev pub openedWorld : Sizes → Limits → Tables → World
 openedWorld l g t = record { state = openedState (withDefault l) (limitsFor g); tables = openedTables (withDefault l) t }
@@ -113,6 +119,7 @@ inv-opened l g k t w r =
       in-range = r .sizes;
       sizes = refl;
       limits = refl;
+      clock = refl;
       rows = refl;
       long = opened-long (withDefault l) t (f .f-low) (r .room .tables);
       sound = opened-sound (withDefault l) (limitsFor g) t (f .f-low) (r .limits);

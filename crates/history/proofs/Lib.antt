@@ -1,12 +1,14 @@
 pub mod Reports
 pub mod Invariant
 pub mod Counts
+pub mod Clock
 pub mod Steps
 pub mod Asking
 pub mod Walking
 pub mod Openings
 pub mod Theorems
 pub mod ExampleWorlds
+pub mod ExampleClock
 pub mod Example
 pub mod Instances
 pub mod Corollaries

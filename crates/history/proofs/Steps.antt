@@ -8,35 +8,52 @@ use mathlib.Core.List.{List, [], _∷_}
 use Prim.Native.Nat.{ℕ, _≤_}
 use native.Mathlib.Omega.{arith}
 use borrow.Author.Tests.{eq-eqb, ne-eqb}
-use lib.ListN.{length, take, drop}
+use lib.ListN.{length, take, drop, replicate, length-replicate}
 use lib.Seq.{take-at}
-use Rattle.lists.specs.Lists.{pick, Mem, among, rises, over}
+use Rattle.lists.specs.Lists.{pick, Mem, all, among, sumOf, rises, over}
 use Rattle.lists.proofs.Tests.{cases, refute}
 use Rattle.lists.proofs.Member.{among-mem}
+use Rattle.symbolic.specs.Columns.{Register}
+use Rattle.symbolic.specs.Factor.{FactorColumn, factorOf, factorFor}
+use Rattle.symbolic.specs.Batch.{entriesOf}
 use Rattle.symbolic.specs.Grades.{Limits, gradeOf}
-use Rattle.tables.specs.Tables.{Sizes}
-use Rattle.tables.specs.Stays.{TailsStay}
+use Rattle.book.specs.Book.{columnFits}
+use Rattle.tables.specs.Tables.{Sizes, storedIn, windowsIn}
+use Rattle.tables.specs.Stays.{EntriesStay, MinutesStay, TailsStay}
 use Rattle.tables.proofs.Tables.{tails-long}
 use Rattle.calls.specs.Refusals.{Refusal, isAccepted, orElse}
-use Rattle.calls.specs.Calls.{Change, Entry, opening, changing, checking, asking, Lent, Call, callOf, withWork, isOpening, sizesAfter, limitsAfter}
-use Rattle.calls.specs.Changes.{effect, touchedBy, registerAfter}
+use Rattle.calls.specs.Calls.{Change, setting, Entry, opening, changing, checking, asking, Lent, Call, callOf, withWork, isOpening, sizesAfter, limitsAfter}
+use Rattle.calls.specs.Changes.{effect, touchedBy, labelsBy, registerAfter}
 use Rattle.calls.specs.Numbers.{callEarly, callRefusal, refusalOf}
 use Rattle.calls.specs.Steps.{Answer, refusedBy, resultOf, acceptedBy, listsAfter, workAfter, World, bookedIn, Exchanged, AcceptedWorld, Transition}
 use Rattle.calls.proofs.Choices.{or-both, or-first, or-second}
 use Rattle.calls.proofs.Numbers.{early-facts, early-number, early-other, call-number, sound-number}
-use Rattle.calls.proofs.Order.{bag-after, bag-number, bag-ids, bag-touched, bag-entries, bag-answer, bag-lists, once-after}
+use Rattle.calls.proofs.Order.{bag-clock, bag-after, bag-number, bag-ids, bag-touched, bag-entries, bag-answer, bag-lists, once-after}
 use Rattle.calls.proofs.Steps.{Accepted, Refused, step-cases, taken-zero, refused-some, quiet-world, change-world}
 use Rattle.calls.proofs.Changes.{rows-stay, touched-rise, effect-exchanges}
 use Rattle.calls.proofs.Exchanges.{exchanged-keeps}
 use Rattle.history.specs.Runs.{Event, Run, Plain, plainNext, plainAfter}
-use Rattle.history.specs.Statements.{plainRefusal, OnPathOf, reported, ReportsJust, CountsJust, AltersJust, Justified}
+use Rattle.history.specs.Statements.{heldCount, heldParent, Consistent, plainRefusal, OnPathOf, reported, ReportsJust, CountsJust, AltersJust, SetsJust, Justified}
 use Rattle.history.proofs.Reports.{reports-exactly}
 use Rattle.history.proofs.Counts.{counts-held}
-use Rattle.history.proofs.Invariant.{Inv, book-once, inv-rows, inv-long, inv-holds, openedPlain, openedWorld, inv-opened}
+use Rattle.history.proofs.Clock.{batch-clock, stay-factor, path-only, only-path, zero-labels}
+use Rattle.history.proofs.Invariant.{Inv, book-once, inv-rows, inv-long, inv-holds, inv-fits, inv-consistent, openedPlain, openedWorld, inv-opened}
 
 -- the plain register after an accepted call
 abbrev taken : Plain → Entry → Plain
 taken p e = record { sizes = sizesAfter (p .sizes) e; limits = limitsAfter (p .limits) e; register = registerAfter (p .register) e }
+
+-- a call that touches nothing has no entry
+none-entries : (r : Register) (k : Entry) → length (resultOf r k .touched) ≡ 0 → resultOf r k .entries ≡ 0
+unfolding sumOf
+none-entries r (opening l g) h = refl
+none-entries r (changing c) h = ap (entriesOf (factorFor r) (factorFor (effect r c .register))) (empty (touchedBy r c) h)
+  where
+    empty : (js : List ℕ) → length js ≡ 0 → js ≡ []
+    empty [] h = refl
+    empty (j ∷ js) h = absurd (omega arith)
+none-entries r checking h = refl
+none-entries r (asking q p) h = refl
 
 module _ {p : Plain} {u : World} (i : Inv p u) where
   -- ---- the number
@@ -45,7 +62,7 @@ module _ {p : Plain} {u : World} (i : Inv p u) where
   number-plain k =
       sound-number (u .state) (u .tables) k (i .sound) ∙
       ap (λ (l : Sizes). orElse (callEarly l (u .tables) k) (callRefusal l (bookedIn u) k)) (i .sizes) ∙
-      ap (λ (y : Refusal). orElse (callEarly (p .sizes) (u .tables) k) y) (bag-number (bookedIn u) (p .register) (inv-rows i) (i .bag) (p .sizes) k)
+      ap (λ (y : Refusal). orElse (callEarly (p .sizes) (u .tables) k) y) (bag-number (bookedIn u) (p .register) (inv-rows i) (i .clock) (i .bag) (p .sizes) k)
 
   never-six : (k : Call) → plainRefusal p (u .tables) k .number ≢ 6
   never-six k h =
@@ -89,19 +106,27 @@ module _ {p : Plain} {u : World} (i : Inv p u) where
       ap (λ (y : Lent). y .touched) x ∙ ap (λ (k : Entry). over (resultOf (bookedIn u) k .touched) (e .call .lent .touched)) q in
       ap (λ (k : ℕ). take k (e .left .touched)) n ∙ ap (λ (ys : List ℕ). take (length js) ys) l ∙
       take-at js (drop (length js) (e .call .lent .touched)) (length js) refl ∙
-      bag-touched (bookedIn u) (p .register) (inv-rows i) (i .bag) (book-once u) c
+      bag-touched (bookedIn u) (p .register) (inv-rows i) (i .clock) (i .bag) (book-once u) c
 
   change-reports : (e : Event) (c : Change) → e .call .entry ≡ changing c → e .answer ≡ acceptedBy (u .state .limits) (bookedIn u) (e .call .entry) →
       e .left ≡ listsAfter (bookedIn u) (e .call) (workAfter (u .state .sizes) (u .tables) (e .call)) → ReportsJust p e c
   change-reports e c q a x =
       let r : reported e ≡ touchedBy (p .register) c = report-is e c q a x in
       record {
-        counted = ap length r ∙ ap length (sym (bag-touched (bookedIn u) (p .register) (inv-rows i) (i .bag) (book-once u) c)) ∙
+        counted = ap length r ∙ ap length (sym (bag-touched (bookedIn u) (p .register) (inv-rows i) (i .clock) (i .bag) (book-once u) c)) ∙
             sym (ap (λ (y : Answer). y .touched) a ∙ ap (λ (k : Entry). length (resultOf (bookedIn u) k .touched)) q);
         ascending = ap (λ (js : List ℕ). rises 1 (p .register .m) js) r ∙ touched-rise (p .register) c;
         exactly = λ M N P Q f g j b d. subst (λ (js : List ℕ). Mem j js ↔ (OnPathOf (p .register .m) P (effect (p .register) c .leave) j ⊎ OnPathOf (p .register .m) Q (effect (p .register) c .enter) j)) (sym r)
             (reports-exactly (p .register) c M N P Q f g j b d);
       }
+
+  among-plain : (c : Change) (d : ℕ) → among d (effect (bookedIn u) c .ids) ≡ among d (effect (p .register) c .ids)
+  among-plain c d = ap (λ (ks : List ℕ). among d ks) (bag-ids (bookedIn u) (p .register) (inv-rows i) (i .clock) (i .bag) (book-once u) c)
+
+  -- the factor of the columns that stay
+  stay-plain : (c : Change) → factorOf (u .state .sizes .m) (effect (bookedIn u) c .stay) ≡ factorOf (p .sizes .m) (effect (p .register) c .stay)
+  stay-plain c =
+      ap (λ (l : Sizes). factorOf (l .m) (effect (bookedIn u) c .stay)) (i .sizes) ∙ stay-factor (bookedIn u) (p .register) (i .clock) (i .bag) c (p .sizes .m)
 
   change-alters : {v : World} (e : Event) (c : Change) → reported e ≡ touchedBy (p .register) c → isAccepted (effect (p .register) c .refusal (p .sizes)) ≡ true →
       Exchanged u c v → AltersJust p u e c v
@@ -110,11 +135,16 @@ module _ {p : Plain} {u : World} (i : Inv p u) where
         exchange = effect-exchanges (p .sizes) (p .register) (i .once) c z;
         others = λ j a b t. x .others j a (subst (λ (l : Sizes). j ≤ l .m) (sym (i .sizes)) b)
             (refute (among j (touchedBy (bookedIn u) c)) (λ h. t (subst (λ (js : List ℕ). Mem j js) (sym r)
-            (subst (λ (js : List ℕ). Mem j js) (bag-touched (bookedIn u) (p .register) (inv-rows i) (i .bag) (book-once u) c) (among-mem j (touchedBy (bookedIn u) c) h)))));
-        entries = λ j a b. exchanged-keeps x (inv-long i) (i .sound) j a (subst (λ (l : Sizes). j ≤ l .m) (sym (i .sizes)) b);
+            (subst (λ (js : List ℕ). Mem j js) (bag-touched (bookedIn u) (p .register) (inv-rows i) (i .clock) (i .bag) (book-once u) c) (among-mem j (touchedBy (bookedIn u) c) h)))));
+        entries = λ j a b. subst (λ (fs : List FactorColumn). EntriesStay fs (storedIn (u .state) (u .tables)) (storedIn (v .state) (v .tables)) j) (stay-plain c)
+            (x .entries j a (subst (λ (l : Sizes). j ≤ l .m) (sym (i .sizes)) b));
+        keeps = λ k j a b. exchanged-keeps x k (inv-long i) (i .sound) j a (subst (λ (l : Sizes). j ≤ l .m) (sym (i .sizes)) b);
         ids = λ d a b t. x .book d a (subst (λ (l : Sizes). d ≤ l .n) (sym (i .sizes)) b)
-            (ap (λ (ks : List ℕ). among d ks) (bag-ids (bookedIn u) (p .register) (inv-rows i) (i .bag) (book-once u) c) ∙ t);
+            (among-plain c d ∙ t);
+        minutes = λ d a b t. subst (λ (l : Sizes). MinutesStay (l .n) (windowsIn (u .state) (u .tables)) (windowsIn (v .state) (v .tables)) d) (i .sizes)
+            (x .minutes d a (subst (λ (l : Sizes). d ≤ l .n) (sym (i .sizes)) b) (among-plain c d ∙ t));
         tails = subst (λ (l : Sizes). TailsStay l (u .tables) (v .tables)) (i .sizes) (x .tails);
+        clock = λ k. x .clock ∙ batch-clock (bookedIn u) c k;
       }
 
   -- `Inv` holds after an accepted change
@@ -124,10 +154,11 @@ module _ {p : Plain} {u : World} (i : Inv p u) where
         in-range = i .in-range;
         sizes = s .sizes ∙ i .sizes;
         limits = s .limits ∙ i .limits;
+        clock = s .clock ∙ bag-clock (bookedIn u) (p .register) (inv-rows i) (i .clock) (i .bag) c;
         rows = rows-stay (p .register) c ∙ i .rows;
         long = tails-long (p .sizes) (u .tables) (v .tables) (subst (λ (x : Sizes). TailsStay x (u .tables) (v .tables)) (i .sizes) (s .tails)) (i .long);
         sound = s .sound;
-        bag = λ g. s .columns g ∙ bag-after (bookedIn u) (p .register) (inv-rows i) (i .bag) c g;
+        bag = λ g. s .columns g ∙ bag-after (bookedIn u) (p .register) (inv-rows i) (i .clock) (i .bag) c g;
         once = once-after (p .sizes) (p .register) c (i .once) h;
       }
 
@@ -136,7 +167,49 @@ module _ {p : Plain} {u : World} (i : Inv p u) where
   change-counts {v} e c q a t h s =
       counts-held (p .sizes) (p .register) c u v (i .once) h (inv-holds i) (inv-holds (inv-change c h s)) e t
       (ap (λ (y : Answer). y .entries) a ∙ ap (λ (k : Entry). resultOf (bookedIn u) k .entries) q ∙
-      bag-entries (bookedIn u) (p .register) (inv-rows i) (i .bag) (book-once u) c)
+      bag-entries (bookedIn u) (p .register) (inv-rows i) (i .clock) (i .bag) (book-once u) c)
+
+  -- a clock change
+  labels-are : (e : Event) (t : ℕ) → e .call .entry ≡ changing (setting t) → e .answer ≡ acceptedBy (u .state .limits) (bookedIn u) (e .call .entry) →
+      e .left ≡ listsAfter (bookedIn u) (e .call) (workAfter (u .state .sizes) (u .tables) (e .call)) →
+      take (e .answer .touched) (e .left .labels) ≡ replicate (e .answer .touched) 0
+  labels-are e t q a x =
+      let js : List ℕ = touchedBy (bookedIn u) (setting t) in
+      let zs : List ℕ = labelsBy (bookedIn u) (setting t) in
+      let n : e .answer .touched ≡ length js = ap (λ (y : Answer). y .touched) a ∙ ap (λ (k : Entry). length (resultOf (bookedIn u) k .touched)) q in
+      let l : e .left .labels ≡ over zs (e .call .lent .labels) =
+      ap (λ (y : Lent). y .labels) x ∙ ap (λ (k : Entry). over (resultOf (bookedIn u) k .labels) (e .call .lent .labels)) q in
+      let m : length zs ≡ length js = ap length (zero-labels js) ∙ length-replicate (length js) 0 in
+      ap (λ (k : ℕ). take k (e .left .labels)) n ∙ ap (λ (ys : List ℕ). take (length js) ys) l ∙
+      take-at zs (drop (length zs) (e .call .lent .labels)) (length js) m ∙ zero-labels js ∙ ap (λ (k : ℕ). replicate k 0) (sym n)
+
+  change-sets : {v : World} (e : Event) (t : ℕ) → e .call .entry ≡ changing (setting t) → e .answer ≡ acceptedBy (u .state .limits) (bookedIn u) (e .call .entry) →
+      e .left ≡ listsAfter (bookedIn u) (e .call) (workAfter (u .state .sizes) (u .tables) (e .call)) → isAccepted (effect (p .register) (setting t) .refusal (p .sizes)) ≡ true →
+      Exchanged u (setting t) v → SetsJust p u e t v
+  change-sets {v} e t q a x z s =
+      let r : Register = p .register in
+      let fits : all (columnFits (r .m)) (r .columns) ≡ true = subst (λ (m : ℕ). all (columnFits m) (r .columns) ≡ true) (sym (i .rows)) (inv-fits i) in
+      let old : Consistent p u = inv-consistent i in
+      let new : Consistent (taken p (changing (setting t))) v = inv-consistent (inv-change (setting t) z s) in
+      let exactly : (j : ℕ) → 1 ≤ j → j ≤ p .sizes .m → Mem j (reported e) ↔
+      (OnPathOf (r .m) (heldParent u) (effect r (setting t) .leave) j ⊎ OnPathOf (r .m) (heldParent v) (effect r (setting t) .enter) j) =
+      λ j b d. change-reports e (setting t) q a x .exactly (heldCount u) (heldCount v) (heldParent u) (heldParent v) (old .factor) (new .factor) j b
+      (subst (λ (m : ℕ). j ≤ m) (sym (i .rows)) d) in
+      record {
+        clock = s .clock;
+        book = s .still refl;
+        listed = λ j b d. (
+          λ k. elim (exactly j b d .0 k) [
+            | inl y ↦ inl (path-only (r .m) (heldParent u) (r .clock) t (r .columns) j y)
+            | inr y ↦ inr (path-only (r .m) (heldParent v) t (r .clock) (r .columns) j y)
+          ],
+          λ k. exactly j b d .1 (elim k [
+            | inl y ↦ inl (only-path (r .m) (heldParent u) (r .clock) t (r .columns) j fits y)
+            | inr y ↦ inr (only-path (r .m) (heldParent v) t (r .clock) (r .columns) j fits y)
+          ]),
+        );
+        labels = labels-are e t q a x;
+      }
 
   module _ {e : Event} {v : World} where
     accepted-justified : Accepted u (e .call) (e .answer) (e .left) v → Justified p u e v
@@ -148,18 +221,22 @@ module _ {p : Plain} {u : World} (i : Inv p u) where
         λ c h. subst (λ (j : Entry). isAccepted (callRefusal (p .sizes) (p .register) (callOf j (k .lent))) ≡ true) h
         (or-both (callEarly (p .sizes) (u .tables) k) (callRefusal (p .sizes) (p .register) k) z .1) in
         record {
-          answer = rw z (s .answer ∙ bag-answer (bookedIn u) (p .register) (inv-rows i) (i .bag) (book-once u) (u .state .limits) (k .entry) ∙
+          answer = rw z (s .answer ∙ bag-answer (bookedIn u) (p .register) (inv-rows i) (i .clock) (i .bag) (book-once u) (u .state .limits) (k .entry) ∙
               ap (λ (g : Limits). acceptedBy g (p .register) (k .entry)) (i .limits));
           never-unsound = λ h. omega arith;
           at-openings = λ o. inl n;
-          left = rw z (s .lists ∙ bag-lists (bookedIn u) (p .register) (inv-rows i) (i .bag) (book-once u) k (workAfter (u .state .sizes) (u .tables) k) ∙
+          left = rw z (s .lists ∙ bag-lists (bookedIn u) (p .register) (inv-rows i) (i .clock) (i .bag) (book-once u) k (workAfter (u .state .sizes) (u .tables) k) ∙
               ap (λ (w : List ℕ). listsAfter (p .register) k w) (work-plain k));
           graded = ap (λ (y : Answer). y .grade) (s .answer) ∙
               (λ j. gradeOf (i .limits j) (ap (λ (y : Answer). y .entries) (sym (s .answer)) j));
+          ungraded = λ h. let d : e .answer .entries ≡ 0 = ap (λ (y : Answer). y .entries) (s .answer) ∙
+              none-entries (bookedIn u) (k .entry) (sym (ap (λ (y : Answer). y .touched) (s .answer)) ∙ h) in
+              (d, ap (λ (y : Answer). y .grade) (s .answer) ∙ ap (gradeOf (u .state .limits)) (ap (λ (y : Answer). y .entries) (sym (s .answer)) ∙ d));
           unchanged = λ h. elim h [ inl q ↦ absurd (q n) | inr q ↦ quiet-world u (k .entry) v q (s .world) ];
           reports = λ q c h. change-reports e c h (s .answer) (s .lists);
           counts = λ q c h. change-counts e c h (s .answer) (report-is e c h (s .answer) (s .lists)) (own c h) (change-world h (s .world));
           alters = λ q c h. change-alters e c (report-is e c h (s .answer) (s .lists)) (own c h) (change-world h (s .world));
+          sets = λ q t h. change-sets e t h (s .answer) (s .lists) (own (setting t) h) (change-world h (s .world));
         }
 
     refused-justified : Refused u (e .call) (e .answer) (e .left) v → Justified p u e v
@@ -175,10 +252,12 @@ module _ {p : Plain} {u : World} (i : Inv p u) where
           at-openings = λ o. elim (from-five k o) [ inl h ↦ inl (q ∙ h) | inr h ↦ inr (omega arith, λ z. omega arith) ];
           left = rw z (s .lists ∙ ap (λ (w : List ℕ). withWork (k .lent) w) (work-plain k));
           graded = ap (λ (y : Answer). y .grade) a ∙ sym (ap (λ (y : Answer). gradeOf (p .limits) (y .entries)) a);
+          ungraded = λ h. (ap (λ (y : Answer). y .entries) a, ap (λ (y : Answer). y .grade) a);
           unchanged = λ h. s .world;
           reports = λ h c q. absurd (n h);
           counts = λ h c q. absurd (n h);
           alters = λ h c q. absurd (n h);
+          sets = λ h t q. absurd (n h);
         }
 
   -- ONE CALL

@@ -1,5 +1,5 @@
 -- The theorems about calls: a term of each statement of specs/Statements.antt but the example's. What is shown stands in Invariant.antt (what holds
--- between calls), Steps.antt (that each call keeps it, and answers by the register), Openings.antt (the factor records of an opening), Asking.antt and
+-- between calls), Steps.antt (that each call keeps it, and answers by the register), Clock.antt (windows and the clock), Openings.antt (the factor records of an opening), Asking.antt and
 -- Walking.antt (what an accepted question answers on any tables).
 -- Assumes nothing.
 use mathlib.Core.Path.{_≡_, refl, sym, subst}
@@ -15,11 +15,12 @@ use Rattle.calls.proofs.Choices.{or-both}
 use Rattle.calls.proofs.Numbers.{Ready, early-facts, Found, accepted-found}
 use Rattle.calls.proofs.Steps.{Accepted, step-taken, change-of}
 use Rattle.history.specs.Runs.{Run, Plain, plainAfter, Begun}
-use Rattle.history.specs.Statements.{Demand3, RunSplits, plainOf, AnySound, OpeningSound, DefaultNamed, DefaultInRange, DefaultShort, LeftAtZero, NamedKept, ZeroRefused, MeetsStand, CommonLies}
+use Rattle.history.specs.Statements.{Demand3, RunSplits, plainOf, AnySound, LiveIs, OpeningSound, DefaultNamed, DefaultInRange, DefaultShort, LeftAtZero, NamedKept, ZeroRefused, MeetsStand, CommonLies}
 use Rattle.history.proofs.Invariant.{Inv, inv-found, inv-consistent, openedPlain, openedWorld, inv-opened}
 use Rattle.history.proofs.Steps.{inv-justified, inv-step, inv-run}
 use Rattle.history.specs.NextRow.{NextTaken, NextStands, NextIsParent, WalkIsColumn, WalkStays, WalkEnds}
 use Rattle.history.proofs.Openings.{default-named as named, default-in-range as in-range, default-short as short, left-at-zero as left, named-kept as kept, zero-refused as refused}
+use Rattle.history.proofs.Clock.{live-means}
 use Rattle.history.proofs.Asking.{meets-filled, common-answered}
 use Rattle.history.proofs.Walking.{next-taken as taken, next-answered, parent-answered, walk-answered, walk-stays as stays, walk-ends as ends}
 
@@ -85,6 +86,11 @@ any-sound u e v s n b =
     let f : Found (u .state) (u .tables) = accepted-found (u .state) (u .tables) (e .call) (subst (λ (i : Entry). isOpening i ≡ false) (sym (change-of (e .call .entry) b .1)) refl) (t .number) in
     let i : Inv (plainOf u) u = inv-found u f in
     (inv-consistent i, inv-justified i e v s, inv-consistent (inv-step i e v s))
+
+-- ---- windows
+
+pub live-is : LiveIs
+live-is = live-means
 
 -- ---- the questions of a delivery run
 

@@ -21,9 +21,10 @@ use Rattle.calls.specs.Steps.{World, bookedIn, Transition}
 use Rattle.history.specs.Runs.{Event, Run, Plain, plainAfter, Begun}
 use Rattle.history.specs.Statements.{Stands}
 
--- sound tables that hold the register's columns and its factor, with the chains of rows, and the numbers of any next call
+-- sound tables that hold the register's columns and its factor at its clock, with the chains of rows, and the numbers of any next call
 pub record Keeps (p : Plain) (v : World) : Type 0 where
   pub sound : isSound (v .state) (v .tables) ≡ true
+  pub clock : v .state .clock ≡ p .register .clock
   pub columns : (c : Column) → Mem c (bookedIn v .columns) ↔ Mem c (p .register .columns)
   pub means : holdsFrom (storedIn (v .state) (v .tables)) (factorFor (p .register)) 1 (p .sizes .m) ≡ true
   pub chains : (i j : ℕ) → 1 ≤ j → j < i → i ≤ p .register .m → Stands v i j ↔ ChainTo (p .register .m) (live (p .register)) i j
@@ -33,7 +34,7 @@ pub record Keeps (p : Plain) (v : World) : Type 0 where
 abbrev pub KeepsPattern : Type 0
 KeepsPattern = (u : World) (p : Plain) (es : List Event) (v : World) → Begun u p → Run u es v → Keeps (plainAfter p es) v
 
--- a call that is neither an opening nor an accepted batch alters no factor column; an accepted batch alters only those it reports
+-- a call that is neither an opening nor an accepted change alters no factor column; an accepted change alters only those it reports
 abbrev pub AltersOnly : Type 0
 AltersOnly =
     (u : World) (p : Plain) (es : List Event) (v : World) (e : Event) (w : World) (j : ℕ) → Begun u p → Run u es v →

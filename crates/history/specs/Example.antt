@@ -1,6 +1,7 @@
 -- Document 01's listed example, as calls: "open 5 8 9 16", "add 1 1 3", "add 2 1 4", "add 3 2 3", with one more addition among them that is refused; then
 -- a check, every question, with refused ones among them, and the removal of 2, which is case 4 of the instances; then openings with limits, refused ones,
--- one of them with F = 0, after which the old ones grade on, and accepted ones; and what the listing shows of record and tables.
+-- one of them with F = 0, after which the old ones grade on, and accepted ones; then columns with windows and clock changes, forward and back, refused ones too; and
+-- what the listing shows of record and tables.
 -- Assumes nothing: these are definitions.
 use mathlib.Core.List.{List, [], _∷_, _++_}
 use Prim.Native.Nat.{ℕ, zero, suc, _-_}
@@ -9,7 +10,7 @@ use Rattle.lists.specs.Lists.{at, valuesAt, pairsOf}
 use Rattle.symbolic.specs.Grades.{Limits, limitsOf}
 use Rattle.tables.specs.Stored.{Stored, recordsOf}
 use Rattle.tables.specs.Tables.{Sizes, storedIn}
-use Rattle.calls.specs.Calls.{Change, adding, removing, Question, askNextRow, askParent, askPath, askColumn, askMeets, askCommon, opening, changing, checking, asking, workOnly, reportLists, workAndList, Call, callOf}
+use Rattle.calls.specs.Calls.{Change, adding, removing, setting, Question, askNextRow, askParent, askPath, askColumn, askMeets, askCommon, opening, changing, checking, asking, workOnly, reportLists, workAndList, Call, callOf}
 use Rattle.calls.specs.Steps.{Answer, World}
 use Rattle.history.specs.Runs.{Event}
 
@@ -25,9 +26,17 @@ workLent = replicate 1125 7
 abbrev pub listLent : List ℕ
 listLent = replicate 6 9
 
+-- an addition of columns with no window
+abbrev pub addAll : (ids counts rows : List ℕ) → Change
+addAll is ns rs = adding is ns rs (replicate (length is) 0) (replicate (length is) 0)
+
 -- "add id rows"
 abbrev pub add : (id : ℕ) → (rows : List ℕ) → Change
-add i rs = adding (i ∷ []) (length rs ∷ []) rs
+add i rs = addAll (i ∷ []) (length rs ∷ []) rs
+
+-- the same with a window
+abbrev pub addIn : (id : ℕ) → (rows : List ℕ) → (first second : ℕ) → Change
+addIn i rs a b = adding (i ∷ []) (length rs ∷ []) rs (a ∷ []) (b ∷ [])
 
 -- a change with its lists
 abbrev pub change : Change → Call
@@ -45,7 +54,7 @@ askFrom q p = callOf (asking q p) (workAndList workLent listLent)
 abbrev pub openWith : Sizes → Limits → Call
 openWith l g = callOf (opening l g) (workOnly workLent)
 
--- id 1 is live when it comes a second time
+-- id 1 is booked when it comes a second time
 abbrev pub listedCalls : List Call
 listedCalls = change (add 1 (1 ∷ 3 ∷ [])) ∷ change (add 1 (2 ∷ [])) ∷ change (add 2 (1 ∷ 4 ∷ [])) ∷ change (add 3 (2 ∷ 3 ∷ [])) ∷ []
 
@@ -70,6 +79,24 @@ lastCalls =
     openWith (record { m = 5; n = 8; f = 0; c = 16 }) (limitsOf 2 3 4) ∷ change (add 4 (1 ∷ 4 ∷ [])) ∷
     openWith lastSizes (limitsOf 2 3 4) ∷ change (add 1 (1 ∷ 2 ∷ [])) ∷ change (removing (1 ∷ [])) ∷ openWith lastSizes (limitsOf 0 0 0) ∷
     change (add 1 (1 ∷ 2 ∷ [])) ∷ []
+
+-- three rows, and one factor record beside their diagonals
+abbrev pub clockSizes : Sizes
+clockSizes = record { m = 3; n = 4; f = 4; c = 7 }
+
+-- {1,3} from minute 5 up to 9, and {1,2,3} from 9 up to 12
+abbrev pub addLater : Change
+addLater = adding (2 ∷ 3 ∷ []) (2 ∷ 3 ∷ []) (1 ∷ 3 ∷ 1 ∷ 2 ∷ 3 ∷ []) (5 ∷ 9 ∷ []) (9 ∷ 12 ∷ [])
+
+-- an opening; {1,2} from minute 0 up to 5, then the two later ones; a column whose window ends as it begins; the clock to minute 3, to 5 and to 9
+abbrev pub clockCalls : List Call
+clockCalls =
+    openWith clockSizes (limitsOf 0 0 0) ∷ change (addIn 1 (1 ∷ 2 ∷ []) 0 5) ∷ change addLater ∷ change (addIn 4 (2 ∷ []) 5 5) ∷ change (setting 3) ∷
+    change (setting 5) ∷ change (setting 9) ∷ []
+
+-- at minute 5 the removal of {1,2}, whose window is past; the clock back to 0; a check
+abbrev pub backCalls : List Call
+backCalls = change (removing (1 ∷ [])) ∷ change (setting 0) ∷ callOf checking (workOnly workLent) ∷ []
 
 -- number, position, touched columns, entries, grade
 abbrev pub answered : (number position touched entries grade : ℕ) → Answer
@@ -101,6 +128,16 @@ lastAnswers =
     answered 1 0 0 0 0 ∷ answered 20 0 0 0 0 ∷ answered 5 0 0 0 0 ∷ answered 0 0 3 6 1 ∷ answered 0 0 0 0 0 ∷ answered 0 0 2 3 3 ∷ answered 0 0 2 3 3 ∷ answered 0 0 0 0 0 ∷
     answered 0 0 2 3 1 ∷ []
 
+-- {1,2} touches two columns with three entries; the later ones touch nothing, grade 0; refused by 21; nobody moves at minute 3; at 5 {1,2} leaves and {1,3} enters,
+-- which touches three columns of 2, 1 and 1 entries; refused by 16 at minute 9
+abbrev pub clockAnswers : List Answer
+clockAnswers =
+    answered 0 0 0 0 0 ∷ answered 0 0 2 3 1 ∷ answered 0 0 0 0 0 ∷ answered 21 1 0 0 0 ∷ answered 0 0 0 0 0 ∷ answered 0 0 3 4 1 ∷ answered 16 0 0 0 0 ∷ []
+
+-- the removal touches nothing; {1,3} leaves two columns of 2 and 1 entries; sound
+abbrev pub backAnswers : List Answer
+backAnswers = answered 0 0 0 0 0 ∷ answered 0 0 2 3 1 ∷ answered 0 0 0 0 0 ∷ []
+
 -- the lists for touched columns that the listed calls leave
 abbrev pub listedTouched : List (List ℕ)
 listedTouched = (1 ∷ 3 ∷ 9 ∷ 9 ∷ 9 ∷ 9 ∷ []) ∷ listLent ∷ (1 ∷ 3 ∷ 4 ∷ 9 ∷ 9 ∷ 9 ∷ []) ∷ (2 ∷ 3 ∷ 4 ∷ 9 ∷ 9 ∷ 9 ∷ []) ∷ []
@@ -122,7 +159,7 @@ abbrev pub laterLists : List (List ℕ)
 laterLists =
     [] ∷ (9 ∷ 1 ∷ 3 ∷ 4 ∷ 9 ∷ 9 ∷ []) ∷ (1 ∷ 3 ∷ 3 ∷ 1 ∷ 4 ∷ 1 ∷ []) ∷ [] ∷ [] ∷ [] ∷ [] ∷ [] ∷ [] ∷ (9 ∷ 9 ∷ 1 ∷ 3 ∷ 4 ∷ 9 ∷ []) ∷ [] ∷ [] ∷ [] ∷ listLent ∷ listLent ∷ [] ∷ []
 
--- the work table that calls leave: its first W places zero, the rest as lent; as lent under 1, 20 and 5; W is 1,055 for two rows
+-- the work table that calls leave: its first W places zero, the rest as lent; as lent under 1, 20 and 5; W is 1,055 for two rows, 1,075 for three
 abbrev pub workLeft : (w : ℕ) → List ℕ
 workLeft w = replicate w 0 ++ replicate (1125 - w) 7
 
@@ -140,6 +177,22 @@ lastTouched =
 abbrev pub lastLabels : List (List ℕ)
 lastLabels =
     [] ∷ [] ∷ [] ∷ (1 ∷ 1 ∷ 1 ∷ 9 ∷ 9 ∷ 9 ∷ []) ∷ [] ∷ (1 ∷ 1 ∷ 9 ∷ 9 ∷ 9 ∷ 9 ∷ []) ∷ (1 ∷ 1 ∷ 9 ∷ 9 ∷ 9 ∷ 9 ∷ []) ∷ [] ∷ (1 ∷ 1 ∷ 9 ∷ 9 ∷ 9 ∷ 9 ∷ []) ∷ []
+
+-- the lists for touched columns that the calls with windows leave
+abbrev pub clockTouched : List (List ℕ)
+clockTouched = [] ∷ (1 ∷ 2 ∷ 9 ∷ 9 ∷ 9 ∷ 9 ∷ []) ∷ listLent ∷ listLent ∷ listLent ∷ (1 ∷ 2 ∷ 3 ∷ 9 ∷ 9 ∷ 9 ∷ []) ∷ listLent ∷ []
+
+-- the lists for labels: of clock changes 0
+abbrev pub clockLabels : List (List ℕ)
+clockLabels = [] ∷ (1 ∷ 1 ∷ 9 ∷ 9 ∷ 9 ∷ 9 ∷ []) ∷ listLent ∷ listLent ∷ listLent ∷ (0 ∷ 0 ∷ 0 ∷ 9 ∷ 9 ∷ 9 ∷ []) ∷ listLent ∷ []
+
+-- the lists for touched columns that the calls after them leave
+abbrev pub backTouched : List (List ℕ)
+backTouched = listLent ∷ (1 ∷ 3 ∷ 9 ∷ 9 ∷ 9 ∷ 9 ∷ []) ∷ [] ∷ []
+
+-- the lists for labels that these leave
+abbrev pub backLabels : List (List ℕ)
+backLabels = listLent ∷ (0 ∷ 0 ∷ 9 ∷ 9 ∷ 9 ∷ 9 ∷ []) ∷ [] ∷ []
 
 -- the calls of a run
 unfoldable pub eventCalls : List Event → List Call
@@ -192,3 +245,11 @@ laterListing = (1 ∷ 3 ∷ 1 ∷ 2 ∷ 3 ∷ 1 ∷ []) ∷ (2 ∷ 3 ∷ 2 ∷ 2
 -- and after the last addition
 abbrev pub lastListing : List (List ℕ)
 lastListing = (1 ∷ 2 ∷ 1 ∷ 2 ∷ 2 ∷ 1 ∷ []) ∷ (2 ∷ 0 ∷ 2 ∷ 2 ∷ []) ∷ []
+
+-- the listing at minute 5
+abbrev pub clockListing : List (List ℕ)
+clockListing = (1 ∷ 3 ∷ 1 ∷ 2 ∷ 3 ∷ 1 ∷ []) ∷ (2 ∷ 0 ∷ 2 ∷ 1 ∷ []) ∷ (3 ∷ 0 ∷ 3 ∷ 2 ∷ []) ∷ []
+
+-- the listing back at minute 0: no column counts
+abbrev pub backListing : List (List ℕ)
+backListing = (1 ∷ 0 ∷ 1 ∷ 1 ∷ []) ∷ (2 ∷ 0 ∷ 2 ∷ 1 ∷ []) ∷ (3 ∷ 0 ∷ 3 ∷ 1 ∷ []) ∷ []

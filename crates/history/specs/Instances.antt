@@ -1,23 +1,25 @@
 -- Document 01's instances as one table, over the definitions that the entries' contracts cite: effect, factorFor, acceptedBy, touchedBy, labelsBy,
--- entriesBy, gradeOf, pathList, columnList; then instances of document 02's limits, factor records and questions. proofs/Instances.antt has the terms, by computing.
+-- entriesBy, gradeOf, pathList, columnList; then instances of document 02's limits, factor records, questions, windows and clock changes. proofs/Instances.antt has the terms, by computing.
 -- Assumes nothing: these are definitions.
 use mathlib.Core.Path.{_≡_}
+use mathlib.Core.Bool.{true, false}
 use mathlib.Core.List.{List, [], _∷_}
 use Prim.Native.Nat.{ℕ}
 use lib.ListN.{replicate}
 use Rattle.lists.specs.Lists.{upFrom}
-use Rattle.symbolic.specs.Columns.{Register}
+use Rattle.symbolic.specs.Columns.{isInside, Register}
 use Rattle.symbolic.specs.Factor.{factorFor, parentOf}
 use Rattle.symbolic.specs.Grades.{Limits, limitsOf, oldLimits, gradeOf}
 use Rattle.symbolic.specs.Meeting.{commonOf}
+use Rattle.windows.specs.Windowed.{areSound}
 use Rattle.tables.specs.Tables.{Tables, Sizes, State, sizesOf, tablesOf}
 use Rattle.calls.specs.Refusals.{Refusal, refusal, accepted, workFor}
-use Rattle.calls.specs.Calls.{Change, adding, removing, askNextRow, askParent, askMeets, askCommon, opening, changing, checking, asking, callOf, workOnly, withDefault}
+use Rattle.calls.specs.Calls.{Change, adding, removing, setting, askNextRow, askParent, askMeets, askCommon, opening, changing, checking, asking, callOf, workOnly, withDefault}
 use Rattle.calls.specs.Changes.{effect, touchedBy, labelsBy, entriesBy, registerAfter}
 use Rattle.calls.specs.Questions.{pathList, columnList, meetsList}
 use Rattle.calls.specs.Numbers.{soundRefusal, askRefusal, refusalOf}
 use Rattle.calls.specs.Steps.{acceptedBy}
-use Rattle.history.specs.Example.{answered, valuedAt, valued}
+use Rattle.history.specs.Example.{addAll, add, addIn, answered, valuedAt, valued}
 
 -- ---- the changes: lent lists play no part here
 
@@ -27,7 +29,7 @@ sizesWith m f = record { m = m; n = 8; f = f; c = 64 }
 
 -- the register of an accepted opening
 abbrev pub opened : (m : ℕ) → Register
-opened m = registerAfter (record { m = 0; columns = [] }) (opening (sizesWith m 0) (limitsOf 0 0 0))
+opened m = registerAfter (record { m = 0; clock = 0; columns = [] }) (opening (sizesWith m 0) (limitsOf 0 0 0))
 
 -- the register after a change
 abbrev pub after : Register → Change → Register
@@ -40,24 +42,24 @@ refusalBy l r c = effect r c .refusal l
 -- "add 1 1 3", "add 2 1 4", "add 3 2 3", one after another
 abbrev pub listed : Register
 listed =
-    after (after (after (opened 5) (adding (1 ∷ []) (2 ∷ []) (1 ∷ 3 ∷ []))) (adding (2 ∷ []) (2 ∷ []) (1 ∷ 4 ∷ [])))
-    (adding (3 ∷ []) (2 ∷ []) (2 ∷ 3 ∷ []))
+    after (after (after (opened 5) (addAll (1 ∷ []) (2 ∷ []) (1 ∷ 3 ∷ []))) (addAll (2 ∷ []) (2 ∷ []) (1 ∷ 4 ∷ [])))
+    (addAll (3 ∷ []) (2 ∷ []) (2 ∷ 3 ∷ []))
 
 -- "The three columns as one batch"
 abbrev pub three : Change
-three = adding (1 ∷ 2 ∷ 3 ∷ []) (2 ∷ 2 ∷ 2 ∷ []) (1 ∷ 3 ∷ 1 ∷ 4 ∷ 2 ∷ 3 ∷ [])
+three = addAll (1 ∷ 2 ∷ 3 ∷ []) (2 ∷ 2 ∷ 2 ∷ []) (1 ∷ 3 ∷ 1 ∷ 4 ∷ 2 ∷ 3 ∷ [])
 
 -- "{1,3} twice under two ids, one removed"
 abbrev pub oneLeft : Register
-oneLeft = after (after (opened 3) (adding (4 ∷ 7 ∷ []) (2 ∷ 2 ∷ []) (1 ∷ 3 ∷ 1 ∷ 3 ∷ []))) (removing (7 ∷ []))
+oneLeft = after (after (opened 3) (addAll (4 ∷ 7 ∷ []) (2 ∷ 2 ∷ []) (1 ∷ 3 ∷ 1 ∷ 3 ∷ []))) (removing (7 ∷ []))
 
 -- {1, .., 22}, {23} and {24}: 253 + 1 + 1 entries
 abbrev pub entries255 : Change
-entries255 = adding (1 ∷ 2 ∷ 3 ∷ []) (22 ∷ 1 ∷ 1 ∷ []) (upFrom 1 24)
+entries255 = addAll (1 ∷ 2 ∷ 3 ∷ []) (22 ∷ 1 ∷ 1 ∷ []) (upFrom 1 24)
 
 -- {1, .., 22} and {23, 24}: 253 + 3 entries
 abbrev pub entries256 : Change
-entries256 = adding (1 ∷ 2 ∷ []) (22 ∷ 2 ∷ []) (upFrom 1 24)
+entries256 = addAll (1 ∷ 2 ∷ []) (22 ∷ 2 ∷ []) (upFrom 1 24)
 
 -- column j as the listing has it: its parent, then row and multiplicity, entry after entry
 abbrev pub ColumnIs : Register → (j parent : ℕ) → (entries : List ℕ) → Type 0
@@ -92,7 +94,7 @@ pub record StarredInstances : Type 0 where
   pub twice-1 : ColumnIs oneLeft 1 3 (1 ∷ 2 ∷ 3 ∷ 1 ∷ [])
   pub twice-3 : ColumnIs oneLeft 3 0 (3 ∷ 2 ∷ [])
   -- 6. "{5} alone: L_5 is 5:2"
-  pub alone : ColumnIs (after (opened 5) (adding (1 ∷ []) (1 ∷ []) (5 ∷ []))) 5 0 (5 ∷ 2 ∷ [])
+  pub alone : ColumnIs (after (opened 5) (addAll (1 ∷ []) (1 ∷ []) (5 ∷ []))) 5 0 (5 ∷ 2 ∷ [])
   -- 7. "Case 3 with F = 9 is accepted, with F = 8 refused by 16"
   pub room-9 : refusalBy (sizesWith 5 9) (opened 5) three ≡ accepted
   pub room-8 : refusalBy (sizesWith 5 8) (opened 5) three ≡ refusal 16 0
@@ -111,7 +113,7 @@ pub record NinthInstance : Type 0 where
   -- "Removing 3 3 in case 2: 9 at position 2"
   pub repeated : refusalBy (sizesWith 5 9) listed (removing (3 ∷ 3 ∷ [])) ≡ refusal 9 2
   -- "Rows 4 4: 14"
-  pub equal-rows : refusalBy (sizesWith 5 9) listed (adding (4 ∷ []) (2 ∷ []) (4 ∷ 4 ∷ [])) ≡ refusal 14 1
+  pub equal-rows : refusalBy (sizesWith 5 9) listed (addAll (4 ∷ []) (2 ∷ []) (4 ∷ 4 ∷ [])) ≡ refusal 14 1
   -- "Path of 1 in case 2: 1 3 4"
   pub path : pathList listed 1 ≡ 1 ∷ 3 ∷ 4 ∷ []
 
@@ -119,11 +121,11 @@ pub record NinthInstance : Type 0 where
 
 -- tables of no place, too short for any call
 abbrev pub noTables : Tables
-noTables = tablesOf [] [] [] [] [] [] [] []
+noTables = tablesOf [] [] [] [] [] [] [] [] []
 
 -- a record with given limits
 abbrev pub recordWith : Limits → State
-recordWith g = record { sizes = sizesWith 5 9; limits = g; free = 0; bookFree = 0 }
+recordWith g = record { sizes = sizesWith 5 9; limits = g; free = 0; bookFree = 0; clock = 0 }
 
 -- the number of an opening with given sizes and limits, where no table is long enough
 abbrev pub openingBy : Sizes → (grade2 grade3 grade4 : ℕ) → Refusal
@@ -163,7 +165,7 @@ pub record LimitInstances : Type 0 where
 
 -- tables for one row, one id and one book record, with places for some factor records
 abbrev pub tablesFor : (places : ℕ) → Tables
-tablesFor p = tablesOf (0 ∷ []) (0 ∷ []) (replicate p 0) (replicate p 0) (replicate p 0) (0 ∷ []) (0 ∷ []) (0 ∷ [])
+tablesFor p = tablesOf (0 ∷ []) (0 ∷ []) (replicate p 0) (replicate p 0) (replicate p 0) (0 ∷ []) (0 ∷ []) (0 ∷ []) (0 ∷ 0 ∷ [])
 
 -- a work table for some factor records
 abbrev pub workTable : (places : ℕ) → List ℕ
@@ -192,7 +194,7 @@ pub record RecordInstances : Type 0 where
   pub rows-4096 : openingBy (sizesOf 4096 1 0 1) 0 0 0 ≡ refusal 5 0
   -- in a record 0 is 3, though the tables have the default's places
   pub in-record :
-      refusalOf (record { sizes = sizesOf 1 1 0 1; limits = oldLimits; free = 0; bookFree = 0 }) (tablesFor 32) (callOf checking (workOnly (workTable 32))) ≡ refusal 3 0
+      refusalOf (record { sizes = sizesOf 1 1 0 1; limits = oldLimits; free = 0; bookFree = 0; clock = 0 }) (tablesFor 32) (callOf checking (workOnly (workTable 32))) ≡ refusal 3 0
 
 -- ---- the columns that meet a row, the common row of some rows
 
@@ -256,3 +258,96 @@ pub record NextInstances : Type 0 where
   pub row-6 : askRefusal listed (askNextRow 6 1) 0 [] ≡ refusal 17 0
   pub column-0 : askRefusal listed (askNextRow 1 0) 0 [] ≡ refusal 17 0
   pub column-6 : askRefusal listed (askNextRow 1 6) 0 [] ≡ refusal 17 0
+
+-- ---- windows and the clock
+
+-- the number of an addition of {1} under id 1 from one minute up to another
+abbrev pub windowBy : (first second : ℕ) → Refusal
+windowBy a b = refusalBy (sizesWith 5 9) (opened 5) (addIn 1 (1 ∷ []) a b)
+
+-- the number of an addition of two columns with a row each, where 8 ids and rows 1 to 5 are in range
+abbrev pub twoBy : (ids rows firsts seconds : List ℕ) → Refusal
+twoBy is rs ps qs = refusalBy (sizesWith 5 9) (opened 5) (adding is (1 ∷ 1 ∷ []) rs ps qs)
+
+-- {1,3} from minute 5 up to 9, at minute 0
+abbrev pub dormant : Register
+dormant = after (opened 5) (addIn 1 (1 ∷ 3 ∷ []) 5 9)
+
+-- "The three columns as one batch", the second of them from minute 5 up to 9
+abbrev pub twoOfThree : Change
+twoOfThree = adding (1 ∷ 2 ∷ 3 ∷ []) (2 ∷ 2 ∷ 2 ∷ []) (1 ∷ 3 ∷ 1 ∷ 4 ∷ 2 ∷ 3 ∷ []) (0 ∷ 5 ∷ 0 ∷ []) (0 ∷ 9 ∷ 0 ∷ [])
+
+-- some rows up to minute 5, others from then on, at minute 0
+abbrev pub relay : (leaving entering : List ℕ) → Register
+relay xs ys = after (after (opened 5) (addIn 1 xs 0 5)) (addIn 2 ys 5 9)
+
+-- windows that are refused, kept and unsound; what batches and clock changes touch by them
+pub record WindowInstances : Type 0 where
+  -- "A window other than 0 and 0 whose second minute is not later than its first gets 21"
+  pub none : windowBy 0 0 ≡ accepted
+  pub from-0 : windowBy 0 7 ≡ accepted
+  pub to-0 : windowBy 7 0 ≡ refusal 21 1
+  pub empty : windowBy 7 7 ≡ refusal 21 1
+  pub turned : windowBy 8 7 ≡ refusal 21 1
+  pub one-minute : windowBy 7 8 ≡ accepted
+  pub all-minutes : windowBy 0 4294967295 ≡ accepted
+  pub last-minute : windowBy 4294967294 4294967295 ≡ accepted
+  pub beyond : windowBy 4294967295 4294967295 ≡ refusal 21 1
+  -- "after the column's rows": 13 and 14 of a column come before its 21, that before 8 of the next, and all before 12 for rows left over and 16; 7 before all
+  pub order-13 : twoBy (1 ∷ 2 ∷ []) (6 ∷ 1 ∷ []) (7 ∷ 7 ∷ []) (7 ∷ 7 ∷ []) ≡ refusal 13 1
+  pub order-14 : refusalBy (sizesWith 5 9) (opened 5) (addIn 1 (4 ∷ 4 ∷ []) 7 7) ≡ refusal 14 1
+  pub order-21 : twoBy (1 ∷ 9 ∷ []) (1 ∷ 1 ∷ []) (7 ∷ 7 ∷ []) (7 ∷ 7 ∷ []) ≡ refusal 21 1
+  pub order-8 : twoBy (1 ∷ 9 ∷ []) (1 ∷ 1 ∷ []) (7 ∷ 7 ∷ []) (8 ∷ 7 ∷ []) ≡ refusal 8 2
+  pub order-12 : twoBy (1 ∷ 2 ∷ []) (1 ∷ 1 ∷ 1 ∷ []) (7 ∷ 7 ∷ []) (8 ∷ 7 ∷ []) ≡ refusal 21 2
+  pub order-16 : refusalBy (sizesWith 5 5) (opened 5) (addIn 1 (1 ∷ 3 ∷ []) 7 7) ≡ refusal 21 1
+  pub firsts-short : twoBy (1 ∷ 9 ∷ []) (6 ∷ 6 ∷ []) (7 ∷ []) (7 ∷ 7 ∷ []) ≡ refusal 7 0
+  pub seconds-short : twoBy (1 ∷ 9 ∷ []) (6 ∷ 6 ∷ []) (7 ∷ 7 ∷ []) (7 ∷ []) ≡ refusal 7 0
+  pub minutes-none : refusalBy (sizesWith 5 9) (opened 5) (adding (1 ∷ []) (1 ∷ []) (1 ∷ []) [] []) ≡ refusal 7 0
+  -- "it counts from the first minute up to, not including, the second. Minutes 0 and 0 mean none: it always counts"
+  pub at-4 : isInside 5 9 4 ≡ false
+  pub at-5 : isInside 5 9 5 ≡ true
+  pub at-8 : isInside 5 9 8 ≡ true
+  pub at-9 : isInside 5 9 9 ≡ false
+  pub always : (t : ℕ) → isInside 0 0 t ≡ true
+  pub at-0 : isInside 0 9 0 ≡ true
+  pub at-last : isInside 5 4294967295 4294967294 ≡ true
+  pub past-last : isInside 5 4294967295 4294967295 ≡ false
+  -- "In the tables it is unsound, as is anything but 0 that this .. keeps for an unbooked id": id 1 of one is booked, or not
+  pub booked-none : areSound (1 ∷ []) (0 ∷ 0 ∷ []) ≡ true
+  pub booked-kept : areSound (1 ∷ []) (7 ∷ 8 ∷ []) ≡ true
+  pub booked-empty : areSound (1 ∷ []) (7 ∷ 7 ∷ []) ≡ false
+  pub free-none : areSound (0 ∷ []) (0 ∷ 0 ∷ []) ≡ true
+  pub free-kept : areSound (0 ∷ []) (7 ∷ 8 ∷ []) ≡ false
+  -- "A call that touches nothing has grade 0": an addition and a removal of a column outside its window, a clock change that moves nobody, one to the same minute
+  pub added-0 : acceptedBy oldLimits (opened 5) (changing (addIn 1 (1 ∷ 3 ∷ []) 5 9)) ≡ answered 0 0 0 0 0
+  pub removed-0 : acceptedBy oldLimits dormant (changing (removing (1 ∷ []))) ≡ answered 0 0 0 0 0
+  pub clock-4 : acceptedBy oldLimits dormant (changing (setting 4)) ≡ answered 0 0 0 0 0
+  pub clock-0 : acceptedBy oldLimits dormant (changing (setting 0)) ≡ answered 0 0 0 0 0
+  pub clock-5 : acceptedBy oldLimits dormant (changing (setting 5)) ≡ answered 0 0 2 3 1
+  -- "A batch column outside its window has no path": it keeps its position, so the third column's label is 3
+  pub batch-touched : touchedBy (opened 5) twoOfThree ≡ 1 ∷ 2 ∷ 3 ∷ []
+  pub batch-labels : labelsBy (opened 5) twoOfThree ≡ 1 ∷ 3 ∷ 3 ∷ []
+  pub batch-entries : entriesBy (opened 5) twoOfThree ≡ 5
+  -- "the checks on ids read booked": 10 and 11, and 15 the booked rows; 16 by what is live
+  pub again : refusalBy (sizesWith 5 9) dormant (add 1 (2 ∷ [])) ≡ refusal 10 1
+  pub removal : refusalBy (sizesWith 5 9) dormant (removing (1 ∷ [])) ≡ accepted
+  pub other : refusalBy (sizesWith 5 9) dormant (removing (1 ∷ 2 ∷ [])) ≡ refusal 11 2
+  pub booked-rows : refusalBy (sizesOf 5 8 9 3) dormant (add 2 (1 ∷ 4 ∷ [])) ≡ refusal 15 0
+  pub live-rows : refusalBy (sizesWith 5 6) dormant (add 2 (1 ∷ 4 ∷ [])) ≡ accepted
+  -- "Limit 16 is checked on the final patterns, after a clock change too"
+  pub clock-fits : refusalBy (sizesWith 5 5) dormant (setting 4) ≡ accepted
+  pub clock-16 : refusalBy (sizesWith 5 5) dormant (setting 5) ≡ refusal 16 0
+  -- {1,4} does not fit beside {1,3}, and takes its place
+  pub together : refusalBy (sizesWith 5 6) (after (opened 5) (add 1 (1 ∷ 3 ∷ []))) (add 2 (1 ∷ 4 ∷ [])) ≡ refusal 16 0
+  pub in-turn : refusalBy (sizesWith 5 6) (relay (1 ∷ 3 ∷ []) (1 ∷ 4 ∷ [])) (setting 5) ≡ accepted
+  -- "the old paths of leavers and the new paths of entrants": 1 2 and 1 3
+  pub paths : touchedBy (relay (1 ∷ 2 ∷ []) (1 ∷ 3 ∷ [])) (setting 5) ≡ 1 ∷ 2 ∷ 3 ∷ []
+  pub zeros : labelsBy (relay (1 ∷ 2 ∷ []) (1 ∷ 3 ∷ [])) (setting 5) ≡ 0 ∷ 0 ∷ 0 ∷ []
+  -- "Entries take the larger of a column's sizes before and after": 2 1 1 1, then 1 1 2 1
+  pub larger : acceptedBy oldLimits (relay (1 ∷ 2 ∷ []) (3 ∷ 4 ∷ [])) (changing (setting 5)) ≡ answered 0 0 4 6 1
+  -- a leaver and an entrant with equal rows: their columns are listed and count, and the factor is the same; records may be others
+  pub equal-touched : touchedBy (relay (1 ∷ 3 ∷ []) (1 ∷ 3 ∷ [])) (setting 5) ≡ 1 ∷ 3 ∷ []
+  pub equal-entries : entriesBy (relay (1 ∷ 3 ∷ []) (1 ∷ 3 ∷ [])) (setting 5) ≡ 3
+  pub equal-factor : factorFor (after (relay (1 ∷ 3 ∷ []) (1 ∷ 3 ∷ [])) (setting 5)) ≡ factorFor (relay (1 ∷ 3 ∷ []) (1 ∷ 3 ∷ []))
+  -- "forward or back": the register is as it was
+  pub back : after (after (relay (1 ∷ 3 ∷ []) (1 ∷ 4 ∷ [])) (setting 5)) (setting 0) ≡ relay (1 ∷ 3 ∷ []) (1 ∷ 4 ∷ [])

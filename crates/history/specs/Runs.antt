@@ -3,7 +3,6 @@
 -- Assumes nothing: these are definitions.
 use mathlib.Core.Path.{_≡_}
 use mathlib.Core.List.{List, [], _∷_}
-use Prim.Native.Nat.{ℕ}
 use lib.Dec.{eqb}
 use Rattle.lists.specs.Lists.{pick}
 use Rattle.symbolic.specs.Columns.{Register}
@@ -41,7 +40,8 @@ unfoldable pub plainAfter : Plain → List Event → Plain
 plainAfter p [] = p
 plainAfter p (e ∷ es) = plainAfter (plainNext p e) es
 
--- "It starts just after an accepted opening of any sizes", and limits: u is what it left, "at first the opening's m and no column"
+-- "It starts just after an accepted opening of any sizes", and limits: u is what it left, "at first the opening's m and no column"; document 02: "An opened factor
+-- stands at minute 0"
 pub record Begun (u : World) (p : Plain) : Type 0 where
   pub before : World
   pub asked : Sizes
@@ -51,4 +51,4 @@ pub record Begun (u : World) (p : Plain) : Type 0 where
   pub left : Lent
   pub step : Transition before (callOf (opening asked limits) lent) answer left u
   pub taken : answer .number ≡ 0
-  pub plain : p ≡ record { sizes = withDefault asked; limits = limitsFor limits; register = record { m = asked .m; columns = [] } }
+  pub plain : p ≡ record { sizes = withDefault asked; limits = limitsFor limits; register = record { m = asked .m; clock = 0; columns = [] } }

@@ -4,30 +4,30 @@
 -- Assumes nothing: these are definitions.
 use mathlib.Core.Path.{_≡_}
 use mathlib.Core.Logic.{_⊎_, _≢_, _↔_}
-use mathlib.Core.Bool.{true, false, _||_}
+use mathlib.Core.Bool.{true, false, _&&_, _||_}
 use mathlib.Core.List.{List, [], _∷_, _++_}
 use Prim.Native.Nat.{ℕ, _+_, _*_, _≤_, _<_, max}
 use lib.Dec.{eqb}
-use lib.ListN.{length, take, drop}
-use Rattle.lists.specs.Lists.{pick, isIn, Mem, all, same, among, noRepeats, sumOf, at, valuesAt, rises}
-use Rattle.symbolic.specs.Columns.{Column, smallest, startingWith, Register, live}
+use lib.ListN.{length, take, drop, replicate}
+use Rattle.lists.specs.Lists.{pick, one, isIn, Mem, all, same, among, noRepeats, sumOf, at, valuesAt, rises}
+use Rattle.symbolic.specs.Columns.{Column, smallest, holds, startingWith, inWindow, Register, live}
 use Rattle.symbolic.specs.Definition.{IsFactor, OnPath}
-use Rattle.symbolic.specs.Factor.{factorFor}
-use Rattle.symbolic.specs.Chains.{ChainTo}
+use Rattle.symbolic.specs.Factor.{factorOf, factorFor}
+use Rattle.symbolic.specs.Chains.{share, ChainTo}
 use Rattle.symbolic.specs.Change.{idsOf}
 use Rattle.symbolic.specs.Grades.{Limits, limitsOf, areLimits, limitsFor, gradeOf}
 use Rattle.symbolic.specs.Meeting.{IsCommon}
 use Rattle.book.specs.Book as book
 use Rattle.tables.specs.Stored.{recordsOf, holdsFrom}
-use Rattle.tables.specs.Tables.{Tables, Sizes, sizesOf, longEnough, storedIn, bookIn, isSound}
-use Rattle.tables.specs.Stays.{ColumnStays, EntriesKeep, TailsStay}
+use Rattle.tables.specs.Tables.{Tables, Sizes, sizesOf, longEnough, storedIn, bookIn, windowsIn, isSound}
+use Rattle.tables.specs.Stays.{ColumnStays, EntriesKeep, EntriesStay, MinutesStay, TailsStay}
 use Rattle.calls.specs.Refusals.{Refusal, refusal, accepted, isAccepted, orElse, bounds, sizesRefusal, shortRefusal}
-use Rattle.calls.specs.Calls.{Change, adding, removing, askMeets, askCommon, opening, changing, asking, Lent, withWork, Call, callOf, isOpening, isChange, defaultRecords}
+use Rattle.calls.specs.Calls.{Change, adding, removing, setting, askMeets, askCommon, opening, changing, asking, Lent, withWork, Call, callOf, isBatch, isOpening, isChange, defaultRecords}
 use Rattle.calls.specs.Changes.{effect, IsExchange}
 use Rattle.calls.specs.Numbers.{callEarly, callRefusal}
-use Rattle.calls.specs.Steps.{Answer, refusedBy, acceptedBy, listsAfter, workAfter, World, bookedIn, Transition}
+use Rattle.calls.specs.Steps.{Answer, refusedBy, acceptedBy, listsAfter, workAfter, World, bookedIn, SameBook, Transition}
 use Rattle.history.specs.Runs.{Event, Run, Plain, plainAfter, Begun}
-use Rattle.history.specs.Example.{askedSizes, listedCalls, listedAnswers, listedTouched, listedLabels, laterCalls, laterAnswers, laterTouched, laterLabels, laterLists, lastCalls, lastAnswers, workLeft, lastWork, lastTouched, lastLabels, eventCalls, eventAnswers, eventTouched, eventLabels, eventWork, eventLists, shown, listing, laterListing, lastListing}
+use Rattle.history.specs.Example.{askedSizes, listedCalls, listedAnswers, listedTouched, listedLabels, laterCalls, laterAnswers, laterTouched, laterLabels, laterLists, lastCalls, lastAnswers, workLeft, lastWork, lastTouched, lastLabels, clockCalls, clockAnswers, clockTouched, clockLabels, backCalls, backAnswers, backTouched, backLabels, eventCalls, eventAnswers, eventTouched, eventLabels, eventWork, eventLists, shown, listing, laterListing, lastListing, clockListing, backListing}
 
 -- ---- what holds of record and tables against a plain register
 
@@ -67,16 +67,17 @@ IsFactorOf r M P = IsFactor (r .m) (λ j i. startingWith j i (live r)) M P
 
 -- what holds of record and tables after a list of calls, against the register by then
 pub record Consistent (p : Plain) (v : World) : Type 0 where
-  -- the sizes are in range and the limits keep the rule, the record has them, and the tables are long enough for them
+  -- the sizes are in range and the limits keep the rule, the record has them and the register's clock, and the tables are long enough for the sizes
   pub in-range : sizesRefusal bounds (p .sizes) ≡ accepted
   pub sizes : v .state .sizes ≡ p .sizes
   pub in-order : areLimits (p .limits) ≡ true
   pub limits : v .state .limits ≡ p .limits
+  pub clock : v .state .clock ≡ p .register .clock
   pub rows : p .register .m ≡ p .sizes .m
   pub long : longEnough (p .sizes) (v .tables) ≡ true
   -- demand 3: tables sound
   pub sound : isSound (v .state) (v .tables) ≡ true
-  -- demand 3: book = the plain register: the same columns, both ways, each id once
+  -- demand 3: book = the plain register: the same columns with the same rows and windows, both ways, each id once
   pub columns : (c : Column) → Mem c (bookedIn v .columns) ↔ Mem c (p .register .columns)
   pub book-once : noRepeats (idsOf (bookedIn v .columns)) ≡ true
   pub register-once : noRepeats (idsOf (p .register .columns)) ≡ true
@@ -84,7 +85,7 @@ pub record Consistent (p : Plain) (v : World) : Type 0 where
   pub factor : IsFactorOf (p .register) (heldCount v) (heldParent v)
   -- and as it is computed: chain j holds just the pattern's rows, rising, with their multiplicities
   pub stored : holdsFrom (storedIn (v .state) (v .tables)) (factorFor (p .register)) 1 (p .sizes .m) ≡ true
-  -- demand 3: row i in column j exactly if a chain of rows leads there
+  -- demand 3: row i in column j exactly if a chain of rows leads there, of rows that share columns live at the register's clock (`LiveIs`)
   pub chains : (i j : ℕ) → 1 ≤ j → j < i → i ≤ p .sizes .m → Stands v i j ↔ ChainTo (p .sizes .m) (live (p .register)) i j
 
 -- ---- what holds of one call against the plain register before it
@@ -101,8 +102,8 @@ OnPathOf m P cs j = (c : Column) × Mem c cs × (1 ≤ smallest c) × (smallest 
 abbrev pub reported : Event → List ℕ
 reported e = take (e .answer .touched) (e .left .touched)
 
--- demand 3: an accepted batch reports each once, ascending, exactly the columns on its paths: of those that leave in the tree before the call, of those that
--- enter in the tree after it, whatever parents P and Q meet the definition there
+-- demand 3: an accepted change reports each once, ascending, exactly the columns on its paths: of those that leave in the tree before the call, of those that
+-- enter in the tree after it, whatever parents P and Q meet the definition there; "A batch column outside its window has no path"
 pub record ReportsJust (p : Plain) (e : Event) (c : Change) : Type 0 where
   pub counted : length (reported e) ≡ e .answer .touched
   pub ascending : rises 1 (p .register .m) (reported e) ≡ true
@@ -112,10 +113,10 @@ pub record ReportsJust (p : Plain) (e : Event) (c : Change) : Type 0 where
 
 -- the entries that an accepted change answers, from the chains that the tables have before it (u) and after it (v)
 pub record CountsJust (u : World) (e : Event) (c : Change) (v : World) : Type 0 where
-  -- each reported column counts by the larger of its sizes before and after
+  -- document 02: "Entries take the larger of a column's sizes before and after"
   pub larger : e .answer .entries ≡ sumOf (λ j. max (heldSize u j) (heldSize v j)) (reported e)
   -- an addition: "the sum of the sizes of the touched columns' patterns after the call"
-  pub after-adding : (ids counts rows : List ℕ) → c ≡ adding ids counts rows → e .answer .entries ≡ sumOf (heldSize v) (reported e)
+  pub after-adding : (ids counts rows firsts seconds : List ℕ) → c ≡ adding ids counts rows firsts seconds → e .answer .entries ≡ sumOf (heldSize v) (reported e)
   -- document 02: "For a removal the entries become the sum of the touched columns' sizes before the call"
   pub before-removing : (ids : List ℕ) → c ≡ removing ids → e .answer .entries ≡ sumOf (heldSize u) (reported e)
 
@@ -123,15 +124,38 @@ pub record CountsJust (u : World) (e : Event) (c : Change) (v : World) : Type 0 
 pub record AltersJust (p : Plain) (u : World) (e : Event) (c : Change) (v : World) : Type 0 where
   -- of the live columns some leave, some stay and others enter
   pub exchange : IsExchange (p .register) (effect (p .register) c)
-  -- demand 3: each accepted batch alters no column off its paths, which are just the reported ones
+  -- demand 3: each accepted change alters no column off its paths, which are just the reported ones
   pub others : (j : ℕ) → 1 ≤ j → j ≤ p .sizes .m → (Mem j (reported e) → ⊥) →
       ColumnStays (storedIn (u .state) (u .tables)) (storedIn (v .state) (v .tables)) j
-  -- "An entry that stands in a column before and after a batch keeps its record"
-  pub entries : (j : ℕ) → 1 ≤ j → j ≤ p .sizes .m → EntriesKeep (storedIn (u .state) (u .tables)) (storedIn (v .state) (v .tables)) j
-  -- the book's column of every id that the batch does not name stays, and so do the places beyond the sizes
+  -- document 02: "An entry standing before, between and after keeps its record": between stands the factor of the columns that stay
+  pub entries : (j : ℕ) → 1 ≤ j → j ≤ p .sizes .m →
+      EntriesStay (factorOf (p .sizes .m) (effect (p .register) c .stay)) (storedIn (u .state) (u .tables)) (storedIn (v .state) (v .tables)) j
+  -- of a batch: "An entry that stands in a column before and after a batch keeps its record"
+  pub keeps : isBatch c ≡ true → (j : ℕ) → 1 ≤ j → j ≤ p .sizes .m → EntriesKeep (storedIn (u .state) (u .tables)) (storedIn (v .state) (v .tables)) j
+  -- the book's column and the minutes of every id that the change does not name stay, and so do the places beyond the sizes
   pub ids : (i : ℕ) → 1 ≤ i → i ≤ p .sizes .n → among i (effect (p .register) c .ids) ≡ false →
       book.ColumnStays (bookIn (u .state) (u .tables)) (bookIn (v .state) (v .tables)) i
+  pub minutes : (i : ℕ) → 1 ≤ i → i ≤ p .sizes .n → among i (effect (p .register) c .ids) ≡ false →
+      MinutesStay (p .sizes .n) (windowsIn (u .state) (u .tables)) (windowsIn (v .state) (v .tables)) i
   pub tails : TailsStay (p .sizes) (u .tables) (v .tables)
+  -- a batch leaves the clock
+  pub clock : isBatch c ≡ true → v .state .clock ≡ u .state .clock
+
+-- j lies on the path, by the parents that the tables hold, of a booked column that is inside its window at one minute and not at another
+abbrev pub OnPathOnly : World → Register → (minute other j : ℕ) → Type 0
+OnPathOnly v r t o j =
+    (c : Column) × Mem c (r .columns) × (inWindow t c ≡ true) × (inWindow o c ≡ false) × OnPath (heldParent v) (smallest c) j
+
+-- what an accepted clock change does beside that, from world u to world v
+pub record SetsJust (p : Plain) (u : World) (e : Event) (minute : ℕ) (v : World) : Type 0 where
+  -- the record has the minute, and nothing is booked or removed
+  pub clock : v .state .clock ≡ minute
+  pub book : SameBook u v
+  -- document 02: "only factor columns on the old paths of leavers and the new paths of entrants may be altered. These are listed with label 0", by the parents
+  -- that the tables hold before and after
+  pub listed : (j : ℕ) → 1 ≤ j → j ≤ p .sizes .m →
+      Mem j (reported e) ↔ (OnPathOnly u (p .register) (p .register .clock) minute j ⊎ OnPathOnly v (p .register) minute (p .register .clock) j)
+  pub labels : take (e .answer .touched) (e .left .labels) ≡ replicate (e .answer .touched) 0
 
 -- what holds of one call, from world u to world v, against the register before it
 pub record Justified (p : Plain) (u : World) (e : Event) (v : World) : Type 0 where
@@ -146,14 +170,16 @@ pub record Justified (p : Plain) (u : World) (e : Event) (v : World) : Type 0 wh
       pick (isAccepted (plainRefusal p (u .tables) (e .call)))
       (listsAfter (p .register) (e .call) (workAfter (p .sizes) (u .tables) (e .call)))
       (withWork (e .call .lent) (workAfter (p .sizes) (u .tables) (e .call)))
-  -- a refused call, a check or a question leaves record and tables
+  -- a refused call, a check or a question leaves record and tables, the clock too
   pub unchanged : (e .answer .number ≢ 0) ⊎ ((isChange (e .call .entry) || isOpening (e .call .entry)) ≡ false) → v ≡ u
-  -- "every grade is read from" the limits
+  -- "every grade is read from" the limits; "A call that touches nothing has grade 0"
   pub graded : e .answer .grade ≡ gradeOf (p .limits) (e .answer .entries)
+  pub ungraded : e .answer .touched ≡ 0 → (e .answer .entries ≡ 0) × (e .answer .grade ≡ 0)
   -- what an accepted change reports, counts and alters
   pub reports : e .answer .number ≡ 0 → (c : Change) → e .call .entry ≡ changing c → ReportsJust p e c
   pub counts : e .answer .number ≡ 0 → (c : Change) → e .call .entry ≡ changing c → CountsJust u e c v
   pub alters : e .answer .number ≡ 0 → (c : Change) → e .call .entry ≡ changing c → AltersJust p u e c v
+  pub sets : e .answer .number ≡ 0 → (minute : ℕ) → e .call .entry ≡ changing (setting minute) → SetsJust p u e minute v
 
 -- ---- DEMAND 3, one claim about a list of calls from an accepted opening, refused ones among them
 
@@ -177,12 +203,20 @@ RunSplits =
 abbrev pub plainOf : World → Plain
 plainOf u = record { sizes = u .state .sizes; limits = u .state .limits; register = bookedIn u }
 
--- "On sound tables that no such list has left, what demand 3 says of an accepted batch holds too, with what they hold in place of the register": an
--- accepted batch has passed 1 to 6, so that its tables are in range, long enough and sound is a conclusion here
+-- "On sound tables that no such list has left, what demand 3 says of an accepted batch holds too, with what they hold in place of the register", and so of a clock
+-- change: an accepted change has passed 1 to 6, so that its tables are in range, long enough and sound is a conclusion here
 abbrev pub AnySound : Type 0
 AnySound =
     (u : World) (e : Event) (v : World) → Transition u (e .call) (e .answer) (e .left) v → e .answer .number ≡ 0 → isChange (e .call .entry) ≡ true →
     Consistent (plainOf u) u × Justified (plainOf u) u e v × Consistent (plainAfter (plainOf u) (e ∷ [])) v
+
+-- "live means booked and inside its window at the factor's clock": which rows share a live column, for the chain rule, and how many live columns with smallest row
+-- j hold row i, for the multiplicities
+abbrev pub LiveIs : Type 0
+LiveIs =
+    (r : Register) (i j : ℕ) →
+    ((share (live r) i j ≡ true) ↔ ((c : Column) × Mem c (r .columns) × (inWindow (r .clock) c ≡ true) × (holds c i ≡ true) × (holds c j ≡ true))) ×
+    (startingWith j i (live r) ≡ sumOf (λ c. one (inWindow (r .clock) c && (eqb (smallest c) j && holds c i))) (r .columns))
 
 -- every accepted opening leaves sound tables
 abbrev pub OpeningSound : Type 0
@@ -280,7 +314,8 @@ CommonLies =
 
 -- ---- a run that is, so that nothing above is empty: the listed example, with a refused addition among the others; then a check, every question, refused
 -- ones too, and a removal; then openings with limits, refused ones, one of these with F = 0, and accepted ones, and batches graded by
--- them. (No run has a record with F = 0, which `ZeroRefused` is about: `in-record` of `RecordInstances` is one.)
+-- them; then columns with windows, clock changes that take a column out and let one in, move nobody, are refused and go back, and a removal of a column that
+-- does not count. (No run has a record with F = 0, which `ZeroRefused` is about: `in-record` of `RecordInstances` is one.)
 
 -- the run, with its calls, answers, lists and listings as Example.antt has them
 pub record ConcreteRun : Type 0 where
@@ -316,3 +351,22 @@ pub record ConcreteRun : Type 0 where
   pub last-labels : eventLabels last-events ≡ lastLabels
   pub last-work : eventWork last-events ≡ lastWork
   pub last-shows : shown reopened ≡ lastListing
+  pub clock-events : List Event
+  pub at-five : World
+  pub clock-run : Run reopened clock-events at-five
+  pub clock-calls : eventCalls clock-events ≡ clockCalls
+  pub clock-answers : eventAnswers clock-events ≡ clockAnswers
+  pub clock-touched : eventTouched clock-events ≡ clockTouched
+  pub clock-labels : eventLabels clock-events ≡ clockLabels
+  pub clock-work : all (λ w. same w (workLeft 1075)) (eventWork clock-events) ≡ true
+  pub clock-stands : at-five .state .clock ≡ 5
+  pub clock-shows : shown at-five ≡ clockListing
+  pub back-events : List Event
+  pub at-zero : World
+  pub back-run : Run at-five back-events at-zero
+  pub back-calls : eventCalls back-events ≡ backCalls
+  pub back-answers : eventAnswers back-events ≡ backAnswers
+  pub back-touched : eventTouched back-events ≡ backTouched
+  pub back-labels : eventLabels back-events ≡ backLabels
+  pub back-stands : at-zero .state .clock ≡ 0
+  pub back-shows : shown at-zero ≡ backListing

@@ -49,10 +49,10 @@ can-show x t w a b r p q =
 -- ---- add
 
 pub adds : (line : List ℕ) (u : Memory) (i n : ℕ) (rows : List ℕ) {out₀ out : List ℕ} {x : Printed} {v : Memory} → commandOf line ≡ Add i n → rows ≡ rowsOf line →
-    Answers (BatchAnswered u (adding (i ∷ []) (n ∷ []) rows)) out₀ out x v → Answers (Answered u line) out₀ out x v
+    Answers (BatchAnswered u (adding (i ∷ []) (n ∷ []) rows (0 ∷ []) (0 ∷ []))) out₀ out x v → Answers (Answered u line) out₀ out x v
 adds line u i n rows {out₀} {out} {x} {v} e f a =
     by-command line u e
-    (subst (λ (rs : List ℕ). Answers (BatchAnswered u (adding (i ∷ []) (n ∷ []) rs)) out₀ out x v) f a)
+    (subst (λ (rs : List ℕ). Answers (BatchAnswered u (adding (i ∷ []) (n ∷ []) rs (0 ∷ []) (0 ∷ []))) out₀ out x v) f a)
 
 -- ---- open
 

@@ -14,7 +14,7 @@ use Rattle.calls.specs.Refusals.{refusal, isAccepted}
 use Rattle.calls.specs.Calls.{Change, changing, reportLists, callOf}
 use Rattle.calls.specs.Steps.{Answer, refusedBy, World, Transition}
 use Rattle.calls.proofs.Steps.{refused-step}
-use Rattle.batch.specs.Outcome.{BatchStep}
+use Rattle.steps.specs.Outcome.{ChangeStep}
 use Rattle.factor.specs.Entries.{stateOf, worldOf}
 use Rattle.factor.specs.declared.Factor.{Factor}
 use Rattle.changes.specs.Batches.{CanChange, changedAnswer}
@@ -72,7 +72,7 @@ closed-changes x t w a b out₀ out end line e c =
 
 module _ (x : Factor) (t : Tables) (w a b : List ℕ) (can : CanChange (stateOf x) t w a b) (y : Changed) (t′ : Tables) (w′ a′ b′ out₀ out : List ℕ) (end : ℕ)
     (line : Written out₀ 0 (answerLine (changedAnswer y)) out end) (p : length a′ ≡ length a) (q : length b′ ≡ length b) where
-  pub open-changes : (c : Change) → BatchStep (worldOf x t) c (reportLists w a b) (changedAnswer y) (reportLists w′ a′ b′) (worldOf (y .factor) t′) →
+  pub open-changes : (c : Change) → ChangeStep (worldOf x t) c (reportLists w a b) (changedAnswer y) (reportLists w′ a′ b′) (worldOf (y .factor) t′) →
       Answers (BatchAnswered (memoryOf x t w a b) c) out₀ out (record { factor = y .factor; end = end }) (memoryOf (y .factor) t′ w′ a′ b′)
   open-changes c o =
       record {

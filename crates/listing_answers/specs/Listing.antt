@@ -44,6 +44,7 @@ pub record Lengths (u : Memory) : Type 0 where
   pub book-heads : length (u .world .tables .bookHeads) ≡ 256
   pub book-rows : length (u .world .tables .bookRows) ≡ 2048
   pub book-next : length (u .world .tables .bookNext) ≡ 2048
+  pub windows : length (u .world .tables .windows) ≡ 512
   pub work : length (u .work) ≡ 12032
   pub touched : length (u .touched) ≡ 64
   pub labels : length (u .labels) ≡ 64
@@ -74,10 +75,10 @@ pub record BatchAnswered (u : Memory) (c : Change) (bytes : List ℕ) (v : Memor
       Transition (u .world) (callOf (changing c) (reportLists (u .work) (u .touched) (u .labels))) answer (reportLists (v .work) (v .touched) (v .labels)) (v .world)
   pub printed : bytes ≡ answerLine answer
 
--- a command, with the rows of an add line
+-- a command, with the rows of an add line, whose column has no window
 abbrev pub CommandAnswered : Command → (rows : List ℕ) → Memory → (bytes : List ℕ) → Memory → Type 0
 CommandAnswered (Open m n f c) rs u bs v = OpenAnswered u (sizesOf m n f c) bs v
-CommandAnswered (Add i n) rs u bs v = BatchAnswered u (adding (i ∷ []) (n ∷ []) rs) bs v
+CommandAnswered (Add i n) rs u bs v = BatchAnswered u (adding (i ∷ []) (n ∷ []) rs (0 ∷ []) (0 ∷ [])) bs v
 CommandAnswered (Drop i) rs u bs v = BatchAnswered u (removing (i ∷ [])) bs v
 CommandAnswered Show rs u bs v = (bs ≡ shownBy (u .world)) × (v ≡ u)
 CommandAnswered Unknown rs u bs v = (bs ≡ noLine 19 0) × (v ≡ u)

@@ -53,6 +53,7 @@ pub fn open_line(
     book_heads: &mut [u32],
     book_rows: &mut [u16],
     book_next: &mut [u32],
+    windows: &mut [u32],
     work: &mut [u32],
     out: &mut [u8],
     m: u32,
@@ -61,7 +62,7 @@ pub fn open_line(
     c: u32,
 ) -> Printed
     requires { ⌜ 40 ≤ length (now out) ⌝ }
-    ensures { λ r. ⌜ OpenPrinted (sizesOf m n f c) (tablesOf (now (heads .entry)) (now (parents .entry)) (now (rows .entry)) (now (counts .entry)) (now (next .entry)) (now («book_heads» .entry)) (now («book_rows» .entry)) (now («book_next» .entry))) (now (work .entry)) factor (now (out .entry)) (tablesOf (now (heads .exit)) (now (parents .exit)) (now (rows .exit)) (now (counts .exit)) (now (next .exit)) (now («book_heads» .exit)) (now («book_rows» .exit)) (now («book_next» .exit))) (now (work .exit)) (now (out .exit)) r ⌝ }
+    ensures { λ r. ⌜ OpenPrinted (sizesOf m n f c) (tablesOf (now (heads .entry)) (now (parents .entry)) (now (rows .entry)) (now (counts .entry)) (now (next .entry)) (now («book_heads» .entry)) (now («book_rows» .entry)) (now («book_next» .entry)) (now (windows .entry))) (now (work .entry)) factor (now (out .entry)) (tablesOf (now (heads .exit)) (now (parents .exit)) (now (rows .exit)) (now (counts .exit)) (now (next .exit)) (now («book_heads» .exit)) (now («book_rows» .exit)) (now («book_next» .exit)) (now (windows .exit))) (now (work .exit)) (now (out .exit)) r ⌝ }
 {
     let opened = Factor::open(
         m,
@@ -79,12 +80,13 @@ pub fn open_line(
         book_heads,
         book_rows,
         book_next,
+        windows,
         work,
     );
     opened_line(out, factor, opened)
 }
 
-// Adds a column: an id with the rows at the front of the list.
+// Adds a column without a window: an id with the rows at the front of the list.
 pub fn add_line(
     factor: Factor,
     heads: &[u32],
@@ -95,6 +97,7 @@ pub fn add_line(
     book_heads: &mut [u32],
     book_rows: &mut [u16],
     book_next: &mut [u32],
+    windows: &mut [u32],
     work: &mut [u32],
     touched: &mut [u16],
     labels: &mut [u16],
@@ -105,8 +108,8 @@ pub fn add_line(
 ) -> Printed
     requires room { ⌜ 40 ≤ length (now out) ⌝ }
     requires listed { ⌜ count ≤ length (now list) ⌝ }
-    requires usable { ⌜ IsReady (memoryOf factor (tablesOf (now heads) (now parents) (now rows) (now counts) (now next) (now «book_heads») (now «book_rows») (now «book_next»)) (now work) (now touched) (now labels)) ⌝ }
-    ensures { λ r. ⌜ Answers (BatchAnswered (memoryOf factor (tablesOf (now (heads .entry)) (now (parents .entry)) (now (rows .entry)) (now (counts .entry)) (now (next .entry)) (now («book_heads» .entry)) (now («book_rows» .entry)) (now («book_next» .entry))) (now (work .entry)) (now (touched .entry)) (now (labels .entry))) (adding (id ∷ []) (count ∷ []) (take count (now (list .entry))))) (now (out .entry)) (now (out .exit)) r (memoryOf (r .factor) (tablesOf (now (heads .entry)) (now (parents .exit)) (now (rows .exit)) (now (counts .exit)) (now (next .exit)) (now («book_heads» .exit)) (now («book_rows» .exit)) (now («book_next» .exit))) (now (work .exit)) (now (touched .exit)) (now (labels .exit))) ⌝ }
+    requires usable { ⌜ IsReady (memoryOf factor (tablesOf (now heads) (now parents) (now rows) (now counts) (now next) (now «book_heads») (now «book_rows») (now «book_next») (now windows)) (now work) (now touched) (now labels)) ⌝ }
+    ensures { λ r. ⌜ Answers (BatchAnswered (memoryOf factor (tablesOf (now (heads .entry)) (now (parents .entry)) (now (rows .entry)) (now (counts .entry)) (now (next .entry)) (now («book_heads» .entry)) (now («book_rows» .entry)) (now («book_next» .entry)) (now (windows .entry))) (now (work .entry)) (now (touched .entry)) (now (labels .entry))) (adding (id ∷ []) (count ∷ []) (take count (now (list .entry))) (0 ∷ []) (0 ∷ []))) (now (out .entry)) (now (out .exit)) r (memoryOf (r .factor) (tablesOf (now (heads .entry)) (now (parents .exit)) (now (rows .exit)) (now (counts .exit)) (now (next .exit)) (now («book_heads» .exit)) (now («book_rows» .exit)) (now («book_next» .exit)) (now (windows .exit))) (now (work .exit)) (now (touched .exit)) (now (labels .exit))) ⌝ }
 {
     if factor.m == 0 {
         let end = text::no_line(out, 0, 1, 0);
@@ -114,6 +117,8 @@ pub fn add_line(
     }
     let ids = [id];
     let row_counts = [count];
+    let firsts = [0];
+    let seconds = [0];
     let most = count as usize;
     let x = changes::add_unchecked(
         factor,
@@ -125,12 +130,15 @@ pub fn add_line(
         book_heads,
         book_rows,
         book_next,
+        windows,
         work,
         touched,
         labels,
         &ids,
         &row_counts,
         &list[..most],
+        &firsts,
+        &seconds,
     );
     let after = x.factor;
     let end = changed_line(out, x);
@@ -148,6 +156,7 @@ pub fn drop_line(
     book_heads: &mut [u32],
     book_rows: &mut [u16],
     book_next: &mut [u32],
+    windows: &mut [u32],
     work: &mut [u32],
     touched: &mut [u16],
     labels: &mut [u16],
@@ -155,8 +164,8 @@ pub fn drop_line(
     id: u32,
 ) -> Printed
     requires room { ⌜ 40 ≤ length (now out) ⌝ }
-    requires usable { ⌜ IsReady (memoryOf factor (tablesOf (now heads) (now parents) (now rows) (now counts) (now next) (now «book_heads») (now «book_rows») (now «book_next»)) (now work) (now touched) (now labels)) ⌝ }
-    ensures { λ r. ⌜ Answers (BatchAnswered (memoryOf factor (tablesOf (now (heads .entry)) (now (parents .entry)) (now (rows .entry)) (now (counts .entry)) (now (next .entry)) (now («book_heads» .entry)) (now («book_rows» .entry)) (now («book_next» .entry))) (now (work .entry)) (now (touched .entry)) (now (labels .entry))) (removing (id ∷ []))) (now (out .entry)) (now (out .exit)) r (memoryOf (r .factor) (tablesOf (now (heads .entry)) (now (parents .exit)) (now (rows .exit)) (now (counts .exit)) (now (next .exit)) (now («book_heads» .exit)) (now («book_rows» .exit)) (now («book_next» .exit))) (now (work .exit)) (now (touched .exit)) (now (labels .exit))) ⌝ }
+    requires usable { ⌜ IsReady (memoryOf factor (tablesOf (now heads) (now parents) (now rows) (now counts) (now next) (now «book_heads») (now «book_rows») (now «book_next») (now windows)) (now work) (now touched) (now labels)) ⌝ }
+    ensures { λ r. ⌜ Answers (BatchAnswered (memoryOf factor (tablesOf (now (heads .entry)) (now (parents .entry)) (now (rows .entry)) (now (counts .entry)) (now (next .entry)) (now («book_heads» .entry)) (now («book_rows» .entry)) (now («book_next» .entry)) (now (windows .entry))) (now (work .entry)) (now (touched .entry)) (now (labels .entry))) (removing (id ∷ []))) (now (out .entry)) (now (out .exit)) r (memoryOf (r .factor) (tablesOf (now (heads .entry)) (now (parents .exit)) (now (rows .exit)) (now (counts .exit)) (now (next .exit)) (now («book_heads» .exit)) (now («book_rows» .exit)) (now («book_next» .exit)) (now (windows .exit))) (now (work .exit)) (now (touched .exit)) (now (labels .exit))) ⌝ }
 {
     if factor.m == 0 {
         let end = text::no_line(out, 0, 1, 0);
@@ -173,6 +182,7 @@ pub fn drop_line(
         book_heads,
         book_rows,
         book_next,
+        windows,
         work,
         touched,
         labels,

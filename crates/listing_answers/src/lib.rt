@@ -34,6 +34,7 @@ pub fn closed() -> Factor
         grade2: 0,
         grade3: 0,
         grade4: 0,
+        clock: 0,
     }
 }
 
@@ -48,6 +49,7 @@ pub fn answer(
     book_heads: &mut [u32],
     book_rows: &mut [u16],
     book_next: &mut [u32],
+    windows: &mut [u32],
     work: &mut [u32],
     touched: &mut [u16],
     labels: &mut [u16],
@@ -57,9 +59,9 @@ pub fn answer(
 ) -> Printed
     requires places { ⌜ 1000 ≤ length (now list) ⌝ }
     requires room { ⌜ 91520 ≤ length (now out) ⌝ }
-    requires ready { ⌜ Ready (memoryOf factor (tablesOf (now heads) (now parents) (now rows) (now counts) (now next) (now «book_heads») (now «book_rows») (now «book_next»)) (now work) (now touched) (now labels)) ⌝ }
-    ensures answered { λ r. ⌜ Answers (Answered (memoryOf factor (tablesOf (now (heads .entry)) (now (parents .entry)) (now (rows .entry)) (now (counts .entry)) (now (next .entry)) (now («book_heads» .entry)) (now («book_rows» .entry)) (now («book_next» .entry))) (now (work .entry)) (now (touched .entry)) (now (labels .entry))) (now (line .entry))) (now (out .entry)) (now (out .exit)) r (memoryOf (r .factor) (tablesOf (now (heads .exit)) (now (parents .exit)) (now (rows .exit)) (now (counts .exit)) (now (next .exit)) (now («book_heads» .exit)) (now («book_rows» .exit)) (now («book_next» .exit))) (now (work .exit)) (now (touched .exit)) (now (labels .exit))) ⌝ }
-    ensures ready { λ r. ⌜ Ready (memoryOf (r .factor) (tablesOf (now (heads .exit)) (now (parents .exit)) (now (rows .exit)) (now (counts .exit)) (now (next .exit)) (now («book_heads» .exit)) (now («book_rows» .exit)) (now («book_next» .exit))) (now (work .exit)) (now (touched .exit)) (now (labels .exit))) ⌝ }
+    requires ready { ⌜ Ready (memoryOf factor (tablesOf (now heads) (now parents) (now rows) (now counts) (now next) (now «book_heads») (now «book_rows») (now «book_next») (now windows)) (now work) (now touched) (now labels)) ⌝ }
+    ensures answered { λ r. ⌜ Answers (Answered (memoryOf factor (tablesOf (now (heads .entry)) (now (parents .entry)) (now (rows .entry)) (now (counts .entry)) (now (next .entry)) (now («book_heads» .entry)) (now («book_rows» .entry)) (now («book_next» .entry)) (now (windows .entry))) (now (work .entry)) (now (touched .entry)) (now (labels .entry))) (now (line .entry))) (now (out .entry)) (now (out .exit)) r (memoryOf (r .factor) (tablesOf (now (heads .exit)) (now (parents .exit)) (now (rows .exit)) (now (counts .exit)) (now (next .exit)) (now («book_heads» .exit)) (now («book_rows» .exit)) (now («book_next» .exit)) (now (windows .exit))) (now (work .exit)) (now (touched .exit)) (now (labels .exit))) ⌝ }
+    ensures ready { λ r. ⌜ Ready (memoryOf (r .factor) (tablesOf (now (heads .exit)) (now (parents .exit)) (now (rows .exit)) (now (counts .exit)) (now (next .exit)) (now («book_heads» .exit)) (now («book_rows» .exit)) (now («book_next» .exit)) (now (windows .exit))) (now (work .exit)) (now (touched .exit)) (now (labels .exit))) ⌝ }
 {
     let asked = command::parse(line, list);
     match asked {
@@ -73,6 +75,7 @@ pub fn answer(
             book_heads,
             book_rows,
             book_next,
+            windows,
             work,
             out,
             m,
@@ -90,6 +93,7 @@ pub fn answer(
             book_heads,
             book_rows,
             book_next,
+            windows,
             work,
             touched,
             labels,
@@ -108,6 +112,7 @@ pub fn answer(
             book_heads,
             book_rows,
             book_next,
+            windows,
             work,
             touched,
             labels,
@@ -125,6 +130,7 @@ pub fn answer(
                 book_heads,
                 book_rows,
                 book_next,
+                windows,
                 list,
                 out,
             );

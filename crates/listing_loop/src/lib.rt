@@ -30,6 +30,7 @@ fn answer_piece(
     book_heads: &mut [u32],
     book_rows: &mut [u16],
     book_next: &mut [u32],
+    windows: &mut [u32],
     work: &mut [u32],
     touched: &mut [u16],
     labels: &mut [u16],
@@ -42,12 +43,12 @@ fn answer_piece(
 ) -> Progress
     requires places { ⌜ 1000 ≤ length (now list) ⌝ }
     requires room { ⌜ 91520 ≤ length (now out) ⌝ }
-    requires ready { ⌜ Ready (memoryOf factor (tablesOf (now heads) (now parents) (now rows) (now counts) (now next) (now «book_heads») (now «book_rows») (now «book_next»)) (now work) (now touched) (now labels)) ⌝ }
+    requires ready { ⌜ Ready (memoryOf factor (tablesOf (now heads) (now parents) (now rows) (now counts) (now next) (now «book_heads») (now «book_rows») (now «book_next») (now windows)) (now work) (now touched) (now labels)) ⌝ }
     requires fits { ⌜ filled ≤ length (now line) ⌝ }
     requires whole { ⌜ length (now line) ≡ 2000 ⌝ }
-    ensures ready { λ r. ⌜ Ready (memoryOf (r .factor) (tablesOf (now (heads .exit)) (now (parents .exit)) (now (rows .exit)) (now (counts .exit)) (now (next .exit)) (now («book_heads» .exit)) (now («book_rows» .exit)) (now («book_next» .exit))) (now (work .exit)) (now (touched .exit)) (now (labels .exit))) ⌝ }
+    ensures ready { λ r. ⌜ Ready (memoryOf (r .factor) (tablesOf (now (heads .exit)) (now (parents .exit)) (now (rows .exit)) (now (counts .exit)) (now (next .exit)) (now («book_heads» .exit)) (now («book_rows» .exit)) (now («book_next» .exit)) (now (windows .exit))) (now (work .exit)) (now (touched .exit)) (now (labels .exit))) ⌝ }
     ensures fits { λ r. ⌜ r .filled ≤ length (now (line .entry)) ⌝ }
-    ensures answered { λ r. ⌜ PieceAnswered (now (piece .entry)) (now (line .entry)) filled streams (memoryOf factor (tablesOf (now (heads .entry)) (now (parents .entry)) (now (rows .entry)) (now (counts .entry)) (now (next .entry)) (now («book_heads» .entry)) (now («book_rows» .entry)) (now («book_next» .entry))) (now (work .entry)) (now (touched .entry)) (now (labels .entry))) (now (line .exit)) (r .filled) (r .streams) (memoryOf (r .factor) (tablesOf (now (heads .exit)) (now (parents .exit)) (now (rows .exit)) (now (counts .exit)) (now (next .exit)) (now («book_heads» .exit)) (now («book_rows» .exit)) (now («book_next» .exit))) (now (work .exit)) (now (touched .exit)) (now (labels .exit))) ⌝ }
+    ensures answered { λ r. ⌜ PieceAnswered (now (piece .entry)) (now (line .entry)) filled streams (memoryOf factor (tablesOf (now (heads .entry)) (now (parents .entry)) (now (rows .entry)) (now (counts .entry)) (now (next .entry)) (now («book_heads» .entry)) (now («book_rows» .entry)) (now («book_next» .entry)) (now (windows .entry))) (now (work .entry)) (now (touched .entry)) (now (labels .entry))) (now (line .exit)) (r .filled) (r .streams) (memoryOf (r .factor) (tablesOf (now (heads .exit)) (now (parents .exit)) (now (rows .exit)) (now (counts .exit)) (now (next .exit)) (now («book_heads» .exit)) (now («book_rows» .exit)) (now («book_next» .exit)) (now (windows .exit))) (now (work .exit)) (now (touched .exit)) (now (labels .exit))) ⌝ }
 {
     let mut current = factor;
     let mut held = filled;
@@ -67,6 +68,7 @@ fn answer_piece(
             book_heads,
             book_rows,
             book_next,
+            windows,
             work,
             touched,
             labels,
@@ -102,6 +104,7 @@ fn answer_pieces(
     book_heads: &mut [u32],
     book_rows: &mut [u16],
     book_next: &mut [u32],
+    windows: &mut [u32],
     work: &mut [u32],
     touched: &mut [u16],
     labels: &mut [u16],
@@ -113,11 +116,11 @@ fn answer_pieces(
 ) -> Progress
     requires places { ⌜ 1000 ≤ length (now list) ⌝ }
     requires room { ⌜ 91520 ≤ length (now out) ⌝ }
-    requires ready { ⌜ Ready (memoryOf factor (tablesOf (now heads) (now parents) (now rows) (now counts) (now next) (now «book_heads») (now «book_rows») (now «book_next»)) (now work) (now touched) (now labels)) ⌝ }
+    requires ready { ⌜ Ready (memoryOf factor (tablesOf (now heads) (now parents) (now rows) (now counts) (now next) (now «book_heads») (now «book_rows») (now «book_next») (now windows)) (now work) (now touched) (now labels)) ⌝ }
     requires whole { ⌜ length (now line) ≡ 2000 ⌝ }
-    ensures ready { λ r. ⌜ Ready (memoryOf (r .factor) (tablesOf (now (heads .exit)) (now (parents .exit)) (now (rows .exit)) (now (counts .exit)) (now (next .exit)) (now («book_heads» .exit)) (now («book_rows» .exit)) (now («book_next» .exit))) (now (work .exit)) (now (touched .exit)) (now (labels .exit))) ⌝ }
+    ensures ready { λ r. ⌜ Ready (memoryOf (r .factor) (tablesOf (now (heads .exit)) (now (parents .exit)) (now (rows .exit)) (now (counts .exit)) (now (next .exit)) (now («book_heads» .exit)) (now («book_rows» .exit)) (now («book_next» .exit)) (now (windows .exit))) (now (work .exit)) (now (touched .exit)) (now (labels .exit))) ⌝ }
     ensures fits { λ r. ⌜ r .filled ≤ length (now (line .entry)) ⌝ }
-    ensures answered { λ r. ⌜ InputAnswered (now (line .entry)) streams (memoryOf factor (tablesOf (now (heads .entry)) (now (parents .entry)) (now (rows .entry)) (now (counts .entry)) (now (next .entry)) (now («book_heads» .entry)) (now («book_rows» .entry)) (now («book_next» .entry))) (now (work .entry)) (now (touched .entry)) (now (labels .entry))) (now (line .exit)) (r .filled) (r .streams) (memoryOf (r .factor) (tablesOf (now (heads .exit)) (now (parents .exit)) (now (rows .exit)) (now (counts .exit)) (now (next .exit)) (now («book_heads» .exit)) (now («book_rows» .exit)) (now («book_next» .exit))) (now (work .exit)) (now (touched .exit)) (now (labels .exit))) ⌝ }
+    ensures answered { λ r. ⌜ InputAnswered (now (line .entry)) streams (memoryOf factor (tablesOf (now (heads .entry)) (now (parents .entry)) (now (rows .entry)) (now (counts .entry)) (now (next .entry)) (now («book_heads» .entry)) (now («book_rows» .entry)) (now («book_next» .entry)) (now (windows .entry))) (now (work .entry)) (now (touched .entry)) (now (labels .entry))) (now (line .exit)) (r .filled) (r .streams) (memoryOf (r .factor) (tablesOf (now (heads .exit)) (now (parents .exit)) (now (rows .exit)) (now (counts .exit)) (now (next .exit)) (now («book_heads» .exit)) (now («book_rows» .exit)) (now («book_next» .exit)) (now (windows .exit))) (now (work .exit)) (now (touched .exit)) (now (labels .exit))) ⌝ }
 {
     let mut current = factor;
     let mut held = 0;
@@ -145,6 +148,7 @@ fn answer_pieces(
             book_heads,
             book_rows,
             book_next,
+            windows,
             work,
             touched,
             labels,
@@ -177,6 +181,7 @@ fn serve(
     book_heads: &mut [u32],
     book_rows: &mut [u16],
     book_next: &mut [u32],
+    windows: &mut [u32],
     work: &mut [u32],
     touched: &mut [u16],
     labels: &mut [u16],
@@ -188,10 +193,10 @@ fn serve(
 ) -> Streams
     requires places { ⌜ 1000 ≤ length (now list) ⌝ }
     requires room { ⌜ 91520 ≤ length (now out) ⌝ }
-    requires ready { ⌜ Ready (memoryOf factor (tablesOf (now heads) (now parents) (now rows) (now counts) (now next) (now «book_heads») (now «book_rows») (now «book_next»)) (now work) (now touched) (now labels)) ⌝ }
+    requires ready { ⌜ Ready (memoryOf factor (tablesOf (now heads) (now parents) (now rows) (now counts) (now next) (now «book_heads») (now «book_rows») (now «book_next») (now windows)) (now work) (now touched) (now labels)) ⌝ }
     requires whole { ⌜ length (now line) ≡ 2000 ⌝ }
     requires fresh { ⌜ Passed streams [] [] ⌝ }
-    ensures { λ r. ⌜ AllAnswered (memoryOf factor (tablesOf (now (heads .entry)) (now (parents .entry)) (now (rows .entry)) (now (counts .entry)) (now (next .entry)) (now («book_heads» .entry)) (now («book_rows» .entry)) (now («book_next» .entry))) (now (work .entry)) (now (touched .entry)) (now (labels .entry))) r ⌝ }
+    ensures { λ r. ⌜ AllAnswered (memoryOf factor (tablesOf (now (heads .entry)) (now (parents .entry)) (now (rows .entry)) (now (counts .entry)) (now (next .entry)) (now («book_heads» .entry)) (now («book_rows» .entry)) (now («book_next» .entry)) (now (windows .entry))) (now (work .entry)) (now (touched .entry)) (now (labels .entry))) r ⌝ }
 {
     let progress = answer_pieces(
         factor,
@@ -203,6 +208,7 @@ fn serve(
         book_heads,
         book_rows,
         book_next,
+        windows,
         work,
         touched,
         labels,
@@ -228,6 +234,7 @@ fn serve(
         book_heads,
         book_rows,
         book_next,
+        windows,
         work,
         touched,
         labels,
@@ -254,6 +261,7 @@ pub fn run() -> Streams
     let mut book_heads = [0u32; 256];
     let mut book_rows = [0u16; 2048];
     let mut book_next = [0u32; 2048];
+    let mut windows = [0u32; 512];
     let mut work = [0u32; 12032];
     let mut touched = [0u16; 64];
     let mut labels = [0u16; 64];
@@ -271,6 +279,7 @@ pub fn run() -> Streams
         &mut book_heads,
         &mut book_rows,
         &mut book_next,
+        &mut windows,
         &mut work,
         &mut touched,
         &mut labels,

@@ -29,6 +29,7 @@ pub fn answer_line(
     book_heads: &mut [u32],
     book_rows: &mut [u16],
     book_next: &mut [u32],
+    windows: &mut [u32],
     work: &mut [u32],
     touched: &mut [u16],
     labels: &mut [u16],
@@ -39,9 +40,9 @@ pub fn answer_line(
 ) -> Printed
     requires places { ⌜ 1000 ≤ length (now list) ⌝ }
     requires room { ⌜ waiting + 91520 ≤ length (now out) ⌝ }
-    requires ready { ⌜ Ready (memoryOf factor (tablesOf (now heads) (now parents) (now rows) (now counts) (now next) (now «book_heads») (now «book_rows») (now «book_next»)) (now work) (now touched) (now labels)) ⌝ }
-    ensures ready { λ r. ⌜ Ready (memoryOf (r .factor) (tablesOf (now (heads .exit)) (now (parents .exit)) (now (rows .exit)) (now (counts .exit)) (now (next .exit)) (now («book_heads» .exit)) (now («book_rows» .exit)) (now («book_next» .exit))) (now (work .exit)) (now (touched .exit)) (now (labels .exit))) ⌝ }
-    ensures answered { λ r. ⌜ LineCollected (memoryOf factor (tablesOf (now (heads .entry)) (now (parents .entry)) (now (rows .entry)) (now (counts .entry)) (now (next .entry)) (now («book_heads» .entry)) (now («book_rows» .entry)) (now («book_next» .entry))) (now (work .entry)) (now (touched .entry)) (now (labels .entry))) (now (line .entry)) (now (out .entry)) waiting (now (out .exit)) (r .end) (memoryOf (r .factor) (tablesOf (now (heads .exit)) (now (parents .exit)) (now (rows .exit)) (now (counts .exit)) (now (next .exit)) (now («book_heads» .exit)) (now («book_rows» .exit)) (now («book_next» .exit))) (now (work .exit)) (now (touched .exit)) (now (labels .exit))) ⌝ }
+    requires ready { ⌜ Ready (memoryOf factor (tablesOf (now heads) (now parents) (now rows) (now counts) (now next) (now «book_heads») (now «book_rows») (now «book_next») (now windows)) (now work) (now touched) (now labels)) ⌝ }
+    ensures ready { λ r. ⌜ Ready (memoryOf (r .factor) (tablesOf (now (heads .exit)) (now (parents .exit)) (now (rows .exit)) (now (counts .exit)) (now (next .exit)) (now («book_heads» .exit)) (now («book_rows» .exit)) (now («book_next» .exit)) (now (windows .exit))) (now (work .exit)) (now (touched .exit)) (now (labels .exit))) ⌝ }
+    ensures answered { λ r. ⌜ LineCollected (memoryOf factor (tablesOf (now (heads .entry)) (now (parents .entry)) (now (rows .entry)) (now (counts .entry)) (now (next .entry)) (now («book_heads» .entry)) (now («book_rows» .entry)) (now («book_next» .entry)) (now (windows .entry))) (now (work .entry)) (now (touched .entry)) (now (labels .entry))) (now (line .entry)) (now (out .entry)) waiting (now (out .exit)) (r .end) (memoryOf (r .factor) (tablesOf (now (heads .exit)) (now (parents .exit)) (now (rows .exit)) (now (counts .exit)) (now (next .exit)) (now («book_heads» .exit)) (now («book_rows» .exit)) (now («book_next» .exit)) (now (windows .exit))) (now (work .exit)) (now (touched .exit)) (now (labels .exit))) ⌝ }
 {
     let x = listing_answers::answer(
         factor,
@@ -53,6 +54,7 @@ pub fn answer_line(
         book_heads,
         book_rows,
         book_next,
+        windows,
         work,
         touched,
         labels,
@@ -78,6 +80,7 @@ pub fn answer_next(
     book_heads: &mut [u32],
     book_rows: &mut [u16],
     book_next: &mut [u32],
+    windows: &mut [u32],
     work: &mut [u32],
     touched: &mut [u16],
     labels: &mut [u16],
@@ -91,15 +94,15 @@ pub fn answer_next(
 ) -> Turn
     requires places { ⌜ 1000 ≤ length (now list) ⌝ }
     requires room { ⌜ waiting + 91520 ≤ length (now out) ⌝ }
-    requires ready { ⌜ Ready (memoryOf factor (tablesOf (now heads) (now parents) (now rows) (now counts) (now next) (now «book_heads») (now «book_rows») (now «book_next»)) (now work) (now touched) (now labels)) ⌝ }
+    requires ready { ⌜ Ready (memoryOf factor (tablesOf (now heads) (now parents) (now rows) (now counts) (now next) (now «book_heads») (now «book_rows») (now «book_next») (now windows)) (now work) (now touched) (now labels)) ⌝ }
     requires fits { ⌜ filled ≤ length (now line) ⌝ }
     requires more { ⌜ place < length (now piece) ⌝ }
     requires whole { ⌜ length (now line) ≡ 2000 ⌝ }
-    ensures ready { λ r. ⌜ Ready (memoryOf (r .factor) (tablesOf (now (heads .exit)) (now (parents .exit)) (now (rows .exit)) (now (counts .exit)) (now (next .exit)) (now («book_heads» .exit)) (now («book_rows» .exit)) (now («book_next» .exit))) (now (work .exit)) (now (touched .exit)) (now (labels .exit))) ⌝ }
+    ensures ready { λ r. ⌜ Ready (memoryOf (r .factor) (tablesOf (now (heads .exit)) (now (parents .exit)) (now (rows .exit)) (now (counts .exit)) (now (next .exit)) (now («book_heads» .exit)) (now («book_rows» .exit)) (now («book_next» .exit)) (now (windows .exit))) (now (work .exit)) (now (touched .exit)) (now (labels .exit))) ⌝ }
     ensures fits { λ r. ⌜ r .filled ≤ length (now (line .entry)) ⌝ }
     ensures moves { λ r. ⌜ place < r .place ⌝ }
     ensures within { λ r. ⌜ r .place ≤ length (now (piece .entry)) ⌝ }
-    ensures collected { λ r. ⌜ Collected (take (r .place - place) (drop place (now (piece .entry)))) (now (line .entry)) filled (now (out .entry)) waiting (memoryOf factor (tablesOf (now (heads .entry)) (now (parents .entry)) (now (rows .entry)) (now (counts .entry)) (now (next .entry)) (now («book_heads» .entry)) (now («book_rows» .entry)) (now («book_next» .entry))) (now (work .entry)) (now (touched .entry)) (now (labels .entry))) (now (line .exit)) (r .filled) (now (out .exit)) (r .waiting) (memoryOf (r .factor) (tablesOf (now (heads .exit)) (now (parents .exit)) (now (rows .exit)) (now (counts .exit)) (now (next .exit)) (now («book_heads» .exit)) (now («book_rows» .exit)) (now («book_next» .exit))) (now (work .exit)) (now (touched .exit)) (now (labels .exit))) ⌝ }
+    ensures collected { λ r. ⌜ Collected (take (r .place - place) (drop place (now (piece .entry)))) (now (line .entry)) filled (now (out .entry)) waiting (memoryOf factor (tablesOf (now (heads .entry)) (now (parents .entry)) (now (rows .entry)) (now (counts .entry)) (now (next .entry)) (now («book_heads» .entry)) (now («book_rows» .entry)) (now («book_next» .entry)) (now (windows .entry))) (now (work .entry)) (now (touched .entry)) (now (labels .entry))) (now (line .exit)) (r .filled) (now (out .exit)) (r .waiting) (memoryOf (r .factor) (tablesOf (now (heads .exit)) (now (parents .exit)) (now (rows .exit)) (now (counts .exit)) (now (next .exit)) (now («book_heads» .exit)) (now («book_rows» .exit)) (now («book_next» .exit)) (now (windows .exit))) (now (work .exit)) (now (touched .exit)) (now (labels .exit))) ⌝ }
 {
     let taken = listing_lines::take_line(piece, line, place, filled);
     let end = taken.length;
@@ -114,6 +117,7 @@ pub fn answer_next(
             book_heads,
             book_rows,
             book_next,
+            windows,
             work,
             touched,
             labels,

@@ -41,7 +41,7 @@ shownBy u =
 
 -- "Before an accepted open the sizes are 0", as all other numbers of the record
 abbrev pub noState : State
-noState = record { sizes = sizesOf 0 0 0 0; limits = limitsOf 0 0 0; free = 0; bookFree = 0 }
+noState = record { sizes = sizesOf 0 0 0 0; limits = limitsOf 0 0 0; free = 0; bookFree = 0; clock = 0 }
 
 -- ---- what the functions ask and promise
 

@@ -34,13 +34,14 @@ fn show_column(
     book_heads: &[u32],
     book_rows: &[u16],
     book_next: &[u32],
+    windows: &[u32],
     list: &mut [u32],
     out: &mut [u8],
     j: u32,
     at: usize,
 ) -> usize
-    requires { ⌜ CanShow (stateOf factor) (tablesOf (now heads) (now parents) (now rows) (now counts) (now next) (now «book_heads») (now «book_rows») (now «book_next»)) (length (now list)) (length (now out)) j at ⌝ }
-    ensures { λ r. ⌜ LineWritten (stateOf factor) (tablesOf (now (heads .entry)) (now (parents .entry)) (now (rows .entry)) (now (counts .entry)) (now (next .entry)) (now («book_heads» .entry)) (now («book_rows» .entry)) (now («book_next» .entry))) (now (out .entry)) j at (now (out .exit)) r ⌝ }
+    requires { ⌜ CanShow (stateOf factor) (tablesOf (now heads) (now parents) (now rows) (now counts) (now next) (now «book_heads») (now «book_rows») (now «book_next») (now windows)) (length (now list)) (length (now out)) j at ⌝ }
+    ensures { λ r. ⌜ LineWritten (stateOf factor) (tablesOf (now (heads .entry)) (now (parents .entry)) (now (rows .entry)) (now (counts .entry)) (now (next .entry)) (now («book_heads» .entry)) (now («book_rows» .entry)) (now («book_next» .entry)) (now (windows .entry))) (now (out .entry)) j at (now (out .exit)) r ⌝ }
 {
     let parent = factor.parent_unchecked(
         heads,
@@ -51,6 +52,7 @@ fn show_column(
         book_heads,
         book_rows,
         book_next,
+        windows,
         Row(j),
     );
     let column = factor.column_unchecked(
@@ -62,6 +64,7 @@ fn show_column(
         book_heads,
         book_rows,
         book_next,
+        windows,
         list,
         Row(j),
         0,
@@ -82,11 +85,12 @@ pub fn show(
     book_heads: &[u32],
     book_rows: &[u16],
     book_next: &[u32],
+    windows: &[u32],
     list: &mut [u32],
     out: &mut [u8],
 ) -> usize
-    requires { ⌜ CanShowAll (stateOf factor) (tablesOf (now heads) (now parents) (now rows) (now counts) (now next) (now «book_heads») (now «book_rows») (now «book_next»)) (length (now list)) (length (now out)) ⌝ }
-    ensures { λ r. ⌜ Written (now (out .entry)) 0 (shownBy (worldOf factor (tablesOf (now (heads .entry)) (now (parents .entry)) (now (rows .entry)) (now (counts .entry)) (now (next .entry)) (now («book_heads» .entry)) (now («book_rows» .entry)) (now («book_next» .entry))))) (now (out .exit)) r ⌝ }
+    requires { ⌜ CanShowAll (stateOf factor) (tablesOf (now heads) (now parents) (now rows) (now counts) (now next) (now «book_heads») (now «book_rows») (now «book_next») (now windows)) (length (now list)) (length (now out)) ⌝ }
+    ensures { λ r. ⌜ Written (now (out .entry)) 0 (shownBy (worldOf factor (tablesOf (now (heads .entry)) (now (parents .entry)) (now (rows .entry)) (now (counts .entry)) (now (next .entry)) (now («book_heads» .entry)) (now («book_rows» .entry)) (now («book_next» .entry)) (now (windows .entry))))) (now (out .exit)) r ⌝ }
 {
     if factor.m == 0 {
         return text::no_line(out, 0, 1, 0);
@@ -106,6 +110,7 @@ pub fn show(
             book_heads,
             book_rows,
             book_next,
+            windows,
             list,
             out,
             j,

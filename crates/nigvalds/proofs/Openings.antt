@@ -22,7 +22,7 @@ use Rattle.nigvalds.specs.Crossing.{openedFrom, openingOf, OpenedStep}
 
 -- a record that an opening of these sizes does not give
 abbrev other : Sizes → State
-other l = record { sizes = l; limits = oldLimits; free = suc (openedState (withDefault l) oldLimits .free); bookFree = 0 }
+other l = record { sizes = l; limits = oldLimits; free = suc (openedState (withDefault l) oldLimits .free); bookFree = 0; clock = 0 }
 
 module _ (l : Sizes) (g : Limits) (t : Tables) (w : List ℕ) (t′ : Tables) (w′ : List ℕ) where
   -- refused with number 0 is neither accepted, since the record before it serves on, nor refused

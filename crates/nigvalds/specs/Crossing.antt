@@ -20,7 +20,7 @@ use Rattle.nigvalds.specs.declared.Read.{Read}
 
 -- a record of zeros
 abbrev pub noFactor : Factor
-noFactor = record { m = 0; n = 0; f = 0; c = 0; free = 0; «book_free» = 0; grade2 = 0; grade3 = 0; grade4 = 0 }
+noFactor = record { m = 0; n = 0; f = 0; c = 0; free = 0; «book_free» = 0; grade2 = 0; grade3 = 0; grade4 = 0; clock = 0 }
 
 -- the struct of an answer: accepted, number 0 and the record; refused, the number and a record of zeros
 abbrev pub openedFrom : Opening → Opened

@@ -47,6 +47,7 @@ fn opened_from(x: Opening) -> Opened
                 grade2: 0,
                 grade3: 0,
                 grade4: 0,
+                clock: 0,
             },
         },
     }
@@ -89,9 +90,10 @@ pub extern "C" fn nigvalds_open(
     book_heads: &mut [u32],
     book_rows: &mut [u16],
     book_next: &mut [u32],
+    windows: &mut [u32],
     work: &mut [u32],
 ) -> Opened
-    ensures { λ r. ⌜ OpenedStep (sizesOf m n f c) (limitsOf grade2 grade3 grade4) (tablesOf (now (heads .entry)) (now (parents .entry)) (now (rows .entry)) (now (counts .entry)) (now (next .entry)) (now («book_heads» .entry)) (now («book_rows» .entry)) (now («book_next» .entry))) (now (work .entry)) r (tablesOf (now (heads .exit)) (now (parents .exit)) (now (rows .exit)) (now (counts .exit)) (now (next .exit)) (now («book_heads» .exit)) (now («book_rows» .exit)) (now («book_next» .exit))) (now (work .exit)) ⌝ }
+    ensures { λ r. ⌜ OpenedStep (sizesOf m n f c) (limitsOf grade2 grade3 grade4) (tablesOf (now (heads .entry)) (now (parents .entry)) (now (rows .entry)) (now (counts .entry)) (now (next .entry)) (now («book_heads» .entry)) (now («book_rows» .entry)) (now («book_next» .entry)) (now (windows .entry))) (now (work .entry)) r (tablesOf (now (heads .exit)) (now (parents .exit)) (now (rows .exit)) (now (counts .exit)) (now (next .exit)) (now («book_heads» .exit)) (now («book_rows» .exit)) (now («book_next» .exit)) (now (windows .exit))) (now (work .exit)) ⌝ }
 {
     let x = Factor::open(
         m,
@@ -109,6 +111,7 @@ pub extern "C" fn nigvalds_open(
         book_heads,
         book_rows,
         book_next,
+        windows,
         work,
     );
     opened_from(x)

@@ -3,6 +3,7 @@ ghost use mathlib.Core.Path.{_≡_};
 ghost use Prim.Native.Nat.{_≤_};
 ghost use lib.ListN.{length};
 ghost use Rattle.reference.specs.Ranges.{IsRow, Served};
+use crate::Booked;
 use crate::Holds;
 use crate::Limits;
 use crate::Live;
@@ -18,7 +19,7 @@ use crate::tree;
 // Every id of the batch that the tables have enters, with as many of the rows not yet used as its count says.
 pub fn enter(
     holds: &mut Holds,
-    live: &mut Live,
+    booked: &mut Booked,
     ids: &[u32],
     counts: &[u32],
     rows: &[u32],
@@ -29,7 +30,7 @@ pub fn enter(
     let mut at = 0;
     let mut t = 0;
     while t < ids.len() {
-        at = enter_one(holds, live, rows, at, wide(counts[t]), wide(ids[t]), n);
+        at = enter_one(holds, booked, rows, at, wide(counts[t]), wide(ids[t]), n);
         t += 1;
     }
 }
@@ -37,7 +38,7 @@ pub fn enter(
 // One id enters, if the tables have it. It gives the place after its rows.
 fn enter_one(
     holds: &mut Holds,
-    live: &mut Live,
+    booked: &mut Booked,
     rows: &[u32],
     from: usize,
     count: usize,
@@ -52,22 +53,22 @@ fn enter_one(
     if n < i {
         return from;
     }
-    columns::enter(holds, live, rows, from, count, i)
+    columns::enter(holds, booked, rows, from, count, i)
 }
 
 // Every id of the batch that the tables have leaves.
-pub fn leave(live: &mut Live, ids: &[u32], n: usize)
+pub fn leave(booked: &mut Booked, ids: &[u32], n: usize)
     requires { ⌜ n ≤ 256 ⌝ }
 {
     let mut t = 0;
     while t < ids.len() {
-        leave_one(live, wide(ids[t]), n);
+        leave_one(booked, wide(ids[t]), n);
         t += 1;
     }
 }
 
 // One id leaves, if the tables have it.
-fn leave_one(live: &mut Live, i: usize, n: usize)
+fn leave_one(booked: &mut Booked, i: usize, n: usize)
     requires { ⌜ n ≤ 256 ⌝ }
 {
     if i < 1 {
@@ -76,7 +77,7 @@ fn leave_one(live: &mut Live, i: usize, n: usize)
     if n < i {
         return;
     }
-    columns::leave(live, i);
+    columns::leave(booked, i);
 }
 
 // ---- touched columns and labels
@@ -96,7 +97,7 @@ fn start(holds: &Holds, live: &Live, sizes: Sizes, i: usize) -> usize
 }
 
 // Labels the path of a row; 0 has none. It has at most m rows.
-fn label_path(pattern: &Square, label_of: &mut Rows, m: usize, from: usize, label: u16)
+pub fn label_path(pattern: &Square, label_of: &mut Rows, m: usize, from: usize, label: u16)
     requires { ⌜ (m ≤ 64) × (from ≤ 64) ⌝ }
 {
     let mut row = from;
@@ -112,7 +113,7 @@ fn label_path(pattern: &Square, label_of: &mut Rows, m: usize, from: usize, labe
 }
 
 // A label for each row, 0 if untouched: the largest position whose path passes through it, as later positions write over earlier ones.
-// The live columns are those that the batch is among, and the pattern is theirs.
+// The live columns are those that the batch is among, and the pattern is theirs. A column of the batch that is not live has no path and keeps its position.
 pub fn label(
     holds: &Holds,
     live: &Live,
@@ -132,15 +133,21 @@ pub fn label(
     }
 }
 
-// Writes the touched columns ascending, with their labels, and gives their number.
-pub fn report(touched: &mut Rows, labels: &mut Rows, label_of: &Rows, m: usize) -> usize
+// Writes the rows that are marked ascending, with their labels, and gives their number.
+pub fn report(
+    touched: &mut Rows,
+    labels: &mut Rows,
+    marked: &Rows,
+    label_of: &Rows,
+    m: usize,
+) -> usize
     requires { ⌜ m ≤ 64 ⌝ }
     ensures { λ r. ⌜ r ≤ 64 ⌝ }
 {
     let mut count = 0;
     let mut k = 0;
     while k < m {
-        if label_of[k] == 0 {
+        if marked[k] == 0 {
             k += 1;
         } else {
             touched[count] = k as u16 + 1;

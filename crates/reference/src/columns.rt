@@ -1,6 +1,8 @@
-// The columns of A: which ids are live, and which rows each holds. A mark is 1 for yes and 0 for no; those of an id that is not live mean nothing.
+// The columns of A: which ids are booked, and which rows each holds. A mark is 1 for yes and 0 for no; the rows of an id that is not booked mean nothing.
+// What reads columns is lent the marks of those that it is to look at: the live ones, or all that are booked.
 ghost use Prim.Native.Nat.{_*_, _≤_, _<_};
 ghost use Rattle.reference.specs.Ranges.{IsRow, IsId, Served};
+use crate::Booked;
 use crate::Holds;
 use crate::Live;
 
@@ -21,17 +23,17 @@ fn place(i: usize, j: usize) -> usize
     (i - 1) * 64 + (j - 1)
 }
 
-pub fn is_live(live: &Live, i: usize) -> bool
+pub fn is_marked(marks: &Live, i: usize) -> bool
     requires { ⌜ IsId i ⌝ }
 {
-    live[i - 1] == 1
+    marks[i - 1] == 1
 }
 
 // Whether id i is live and holds row j.
 pub fn has_row(holds: &Holds, live: &Live, i: usize, j: usize) -> bool
     requires { ⌜ IsId i × IsRow j ⌝ }
 {
-    if !is_live(live, i) {
+    if !is_marked(live, i) {
         return false;
     }
     holds[place(i, j)] == 1
@@ -68,29 +70,29 @@ pub fn smallest_row(holds: &Holds, live: &Live, m: usize, i: usize) -> usize
     0
 }
 
-// How many rows id i holds; 0 if it is not live.
-fn row_count(holds: &Holds, live: &Live, m: usize, i: usize) -> usize
+// How many rows id i holds; 0 if it is not booked.
+fn row_count(holds: &Holds, booked: &Booked, m: usize, i: usize) -> usize
     requires { ⌜ (m ≤ 64) × IsId i ⌝ }
     ensures { λ r. ⌜ r ≤ 64 ⌝ }
 {
     let mut count = 0;
     let mut j = 1;
     while j <= m {
-        count += one(has_row(holds, live, i, j));
+        count += one(has_row(holds, booked, i, j));
         j += 1;
     }
     count
 }
 
-// How many rows the book holds: the sum over the live columns.
-pub fn book_rows(holds: &Holds, live: &Live, m: usize, n: usize) -> usize
+// How many rows the book holds: the sum over the booked columns.
+pub fn book_rows(holds: &Holds, booked: &Booked, m: usize, n: usize) -> usize
     requires { ⌜ Served m n ⌝ }
     ensures { λ r. ⌜ r ≤ 16384 ⌝ }
 {
     let mut total = 0;
     let mut i = 1;
     while i <= n {
-        total += row_count(holds, live, m, i);
+        total += row_count(holds, booked, m, i);
         i += 1;
     }
     total
@@ -110,17 +112,17 @@ fn empty(holds: &mut Holds, i: usize)
 }
 
 // Id i leaves.
-pub fn leave(live: &mut Live, i: usize)
+pub fn leave(booked: &mut Booked, i: usize)
     requires { ⌜ IsId i ⌝ }
 {
-    live[i - 1] = 0;
+    booked[i - 1] = 0;
 }
 
 // Every id leaves.
-pub fn leave_all(live: &mut Live) {
+pub fn leave_all(booked: &mut Booked) {
     let mut i = 1;
     while i <= 256 {
-        leave(live, i);
+        leave(booked, i);
         i += 1;
     }
 }
@@ -145,7 +147,7 @@ pub fn wide(x: u32) -> usize {
 // Id i enters with `count` rows of the list, from place `from` onward. It gives the place after them.
 pub fn enter(
     holds: &mut Holds,
-    live: &mut Live,
+    booked: &mut Booked,
     rows: &[u32],
     from: usize,
     count: usize,
@@ -154,7 +156,7 @@ pub fn enter(
     requires { ⌜ IsId i ⌝ }
 {
     empty(holds, i);
-    live[i - 1] = 1;
+    booked[i - 1] = 1;
     let mut at = from;
     let mut taken = 0;
     while at < rows.len() {

@@ -1,23 +1,31 @@
-// The calls of the factor a second time, by brute force, for a program that runs histories on both and compares. Patterns come from the chain rule,
+// The calls of the factor a second time, by brute force, for programs that run histories on both and compare. Patterns come from the chain rule,
 // multiplicities from the words of the definition, refusals from the table's words. It shares no code and no definition with the product.
-// The tables serve 64 rows and 256 ids: id i holds row j if place (i - 1) * 64 + (j - 1) is 1, and row i is in L_j if place (j - 1) * 64 + (i - 1) is.
+// The tables serve 64 rows and 256 ids: id i holds row j if place (i - 1) * 64 + (j - 1) is 1, and row i is in L_j if place (j - 1) * 64 + (i - 1) is;
+// the minutes of id i stand at places 2 * i - 2 and 2 * i - 1. Which columns are live is found anew, from these minutes and the clock, whenever it is asked.
+pub mod adding;
 pub mod batch;
+pub mod clock;
 pub mod columns;
 pub mod meeting;
 pub mod pattern;
 pub mod questions;
 pub mod refusals;
+pub mod removing;
 pub mod tree;
+pub mod windows;
 
 ghost use mathlib.Core.Path.{_≡_};
 ghost use Prim.Native.Nat.{_≤_};
-ghost use lib.ListN.{length};
 ghost use Rattle.reference.specs.Ranges.{Served};
 
 // A mark for each id and row.
 pub type Holds = [u8; 16384];
-// A mark for each id.
+// A mark for each id, 1 if it is booked.
+pub type Booked = [u8; 256];
+// A mark for each id, 1 if it is booked and counts.
 pub type Live = [u8; 256];
+// Two minutes for each id.
+pub type Windows = [u32; 512];
 // A mark for each row.
 pub type Marks = [u8; 64];
 // A mark for each two rows.
@@ -75,7 +83,7 @@ pub struct Found {
     pub multiplicity: usize,
 }
 
-fn refused(number: usize, position: usize) -> Answer
+pub fn refused(number: usize, position: usize) -> Answer
     ensures { λ r. ⌜ r .touched ≡ 0 ⌝ }
 {
     Answer {
@@ -128,8 +136,14 @@ fn meant(asked: Sizes) -> Sizes {
     }
 }
 
-// Opens: no column is live. Refused by 1 to 4 and 20, and by 5 where these tables do not serve the sizes; then the sizes before serve on.
-pub fn open(live: &mut Live, before: Sizes, asked: Sizes) -> Opened
+// Opens: no column is booked, and the clock stands at 0. Refused by 1 to 4 and 20, and by 5 where these tables do not serve the sizes; then all is as before.
+pub fn open(
+    booked: &mut Booked,
+    windows: &mut Windows,
+    clock: &mut u32,
+    before: Sizes,
+    asked: Sizes,
+) -> Opened
     requires { ⌜ Served (before .m) (before .n) ⌝ }
     ensures { λ r. ⌜ Served (r .sizes .m) (r .sizes .n) ⌝ }
 {
@@ -153,12 +167,14 @@ pub fn open(live: &mut Live, before: Sizes, asked: Sizes) -> Opened
             sizes: before,
         };
     }
-    columns::leave_all(live);
+    columns::leave_all(booked);
+    windows::leave_all(windows);
+    *clock = 0;
     Opened { number: 0, sizes }
 }
 
 // The report of an accepted batch, of the pattern that its columns are live in: the one after an addition, the one before a removal.
-fn reported(
+pub fn reported(
     pattern: &Square,
     touched: &mut Rows,
     labels: &mut Rows,
@@ -168,7 +184,7 @@ fn reported(
     requires { ⌜ Served (sizes .m) (sizes .n) ⌝ }
     ensures { λ r. ⌜ r .touched ≤ 64 ⌝ }
 {
-    let count = batch::report(touched, labels, label_of, sizes.m);
+    let count = batch::report(touched, labels, label_of, label_of, sizes.m);
     let entries = batch::entries(pattern, label_of, sizes.m);
     Answer {
         number: 0,
@@ -179,128 +195,10 @@ fn reported(
     }
 }
 
-// The columns of an addition enter, and the pattern is written. Where the sum of all its sizes exceeds F they leave again, and it gives false.
-fn enters(
-    holds: &mut Holds,
-    live: &mut Live,
-    pattern: &mut Square,
-    ids: &[u32],
-    counts: &[u32],
-    rows: &[u32],
-    sizes: Sizes,
-) -> bool
-    requires { ⌜ Served (sizes .m) (sizes .n) × (length (now counts) ≡ length (now ids)) ⌝ }
+// The columns of a batch leave, with their minutes.
+pub fn leave(booked: &mut Booked, windows: &mut Windows, ids: &[u32], n: usize)
+    requires { ⌜ n ≤ 256 ⌝ }
 {
-    batch::enter(holds, live, ids, counts, rows, sizes.n);
-    pattern::fills(holds, live, pattern, sizes);
-    if sizes.f < tree::sum_of_sizes(pattern, sizes.m) {
-        batch::leave(live, ids, sizes.n);
-        return false;
-    }
-    true
-}
-
-// The report of an addition that entered.
-fn added(
-    holds: &Holds,
-    live: &Live,
-    pattern: &Square,
-    touched: &mut Rows,
-    labels: &mut Rows,
-    ids: &[u32],
-    sizes: Sizes,
-) -> Answer
-    requires { ⌜ Served (sizes .m) (sizes .n) × (length (now ids) ≤ 64) ⌝ }
-    ensures { λ r. ⌜ r .touched ≤ 64 ⌝ }
-{
-    let mut label_of = [0u16; 64];
-    batch::label(holds, live, pattern, &mut label_of, ids, sizes);
-    reported(pattern, touched, labels, &label_of, sizes)
-}
-
-// Adds a batch. Touched columns and labels are those of the tree after it.
-pub fn add(
-    holds: &mut Holds,
-    live: &mut Live,
-    touched: &mut Rows,
-    labels: &mut Rows,
-    ids: &[u32],
-    counts: &[u32],
-    rows: &[u32],
-    sizes: Sizes,
-) -> Answer
-    requires { ⌜ Served (sizes .m) (sizes .n) ⌝ }
-    ensures { λ r. ⌜ r .touched ≤ 64 ⌝ }
-{
-    let number = refusals::of_record(sizes);
-    if number != 0 {
-        return refused(number, 0);
-    }
-    if ids.len() < 1 {
-        return refused(7, 0);
-    }
-    if 64 < ids.len() {
-        return refused(7, 0);
-    }
-    if counts.len() != ids.len() {
-        return refused(7, 0);
-    }
-    let refusal = refusals::of_addition(holds, live, ids, counts, rows, sizes);
-    if refusal.number != 0 {
-        return refused(refusal.number, refusal.position);
-    }
-    let mut pattern = [0u8; 4096];
-    if !enters(holds, live, &mut pattern, ids, counts, rows, sizes) {
-        return refused(16, 0);
-    }
-    added(holds, live, &pattern, touched, labels, ids, sizes)
-}
-
-// The columns of a removal leave, with their report.
-fn removed(
-    holds: &Holds,
-    live: &mut Live,
-    touched: &mut Rows,
-    labels: &mut Rows,
-    ids: &[u32],
-    sizes: Sizes,
-) -> Answer
-    requires { ⌜ Served (sizes .m) (sizes .n) × (length (now ids) ≤ 64) ⌝ }
-    ensures { λ r. ⌜ r .touched ≤ 64 ⌝ }
-{
-    let mut pattern = [0u8; 4096];
-    let mut label_of = [0u16; 64];
-    pattern::fills(holds, live, &mut pattern, sizes);
-    batch::label(holds, live, &pattern, &mut label_of, ids, sizes);
-    batch::leave(live, ids, sizes.n);
-    reported(&pattern, touched, labels, &label_of, sizes)
-}
-
-// Removes a batch. Touched columns and labels are those of the tree before it.
-pub fn remove(
-    holds: &Holds,
-    live: &mut Live,
-    touched: &mut Rows,
-    labels: &mut Rows,
-    ids: &[u32],
-    sizes: Sizes,
-) -> Answer
-    requires { ⌜ Served (sizes .m) (sizes .n) ⌝ }
-    ensures { λ r. ⌜ r .touched ≤ 64 ⌝ }
-{
-    let number = refusals::of_record(sizes);
-    if number != 0 {
-        return refused(number, 0);
-    }
-    if ids.len() < 1 {
-        return refused(7, 0);
-    }
-    if 64 < ids.len() {
-        return refused(7, 0);
-    }
-    let refusal = refusals::of_removal(live, ids, sizes.n);
-    if refusal.number != 0 {
-        return refused(refusal.number, refusal.position);
-    }
-    removed(holds, live, touched, labels, ids, sizes)
+    batch::leave(booked, ids, n);
+    windows::leave(windows, ids, n);
 }

@@ -9,7 +9,7 @@ use crate::Sizes;
 use crate::Square;
 use crate::columns;
 
-fn mark(yes: bool) -> u8 {
+pub fn mark(yes: bool) -> u8 {
     if yes { 1 } else { 0 }
 }
 

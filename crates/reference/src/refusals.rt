@@ -1,15 +1,15 @@
 // Where a call is turned down, in the order of the table: the first number whose condition holds, 0 if none does.
-ghost use mathlib.Core.Path.{_≡_};
 ghost use Prim.Native.Nat.{_+_, _≤_, _<_};
 ghost use lib.ListN.{length};
-ghost use Rattle.reference.specs.Ranges.{Served};
+ghost use Rattle.reference.specs.Ranges.{Served, InStep};
+use crate::Booked;
 use crate::Holds;
 use crate::Limits;
-use crate::Live;
 use crate::Refusal;
 use crate::Sizes;
 use crate::columns;
 use crate::columns::wide;
+use crate::windows;
 
 pub fn is_outside(x: usize, low: usize, high: usize) -> bool {
     if x < low {
@@ -88,8 +88,8 @@ fn is_earlier(ids: &[u32], t: usize) -> bool
     false
 }
 
-// 8: the id at place t outside 1 to n; 9: earlier in this batch; 10, adding: live; 11, removing: not live.
-fn of_id(live: &Live, ids: &[u32], n: usize, t: usize, adding: bool) -> usize
+// 8: the id at place t outside 1 to n; 9: earlier in this batch; 10, adding: booked; 11, removing: not booked.
+fn of_id(booked: &Booked, ids: &[u32], n: usize, t: usize, adding: bool) -> usize
     requires { ⌜ (n ≤ 256) × (t < length (now ids)) ⌝ }
 {
     let i = wide(ids[t]);
@@ -102,7 +102,7 @@ fn of_id(live: &Live, ids: &[u32], n: usize, t: usize, adding: bool) -> usize
     if is_earlier(ids, t) {
         return 9;
     }
-    if columns::is_live(live, i) {
+    if columns::is_marked(booked, i) {
         if adding { 10 } else { 0 }
     } else {
         if adding { 0 } else { 11 }
@@ -135,14 +135,23 @@ fn refusal(number: usize, position: usize) -> Refusal {
     Refusal { number, position }
 }
 
-// 8 to 14 of the columns of an addition whose lists keep step, and 12 for rows left over.
-fn of_columns(live: &Live, ids: &[u32], counts: &[u32], rows: &[u32], m: usize, n: usize) -> Refusal
-    requires { ⌜ (n ≤ 256) × (length (now counts) ≡ length (now ids)) ⌝ }
+// 8 to 14 and 21 of the columns of an addition whose lists keep step, and 12 for rows left over.
+fn of_columns(
+    booked: &Booked,
+    ids: &[u32],
+    counts: &[u32],
+    rows: &[u32],
+    firsts: &[u32],
+    seconds: &[u32],
+    m: usize,
+    n: usize,
+) -> Refusal
+    requires { ⌜ (n ≤ 256) × InStep (now ids) (now counts) (now firsts) (now seconds) ⌝ }
 {
     let mut used = 0;
     let mut t = 0;
     while t < ids.len() {
-        let number = of_id(live, ids, n, t, true);
+        let number = of_id(booked, ids, n, t, true);
         if number != 0 {
             return refusal(number, t + 1);
         }
@@ -157,6 +166,9 @@ fn of_columns(live: &Live, ids: &[u32], counts: &[u32], rows: &[u32], m: usize, 
         if number != 0 {
             return refusal(number, t + 1);
         }
+        if !windows::is_window(firsts[t], seconds[t]) {
+            return refusal(21, t + 1);
+        }
         used += count;
         t += 1;
     }
@@ -166,35 +178,37 @@ fn of_columns(live: &Live, ids: &[u32], counts: &[u32], rows: &[u32], m: usize, 
     refusal(0, 0)
 }
 
-// 8 to 15 of an addition whose lists keep step.
+// 8 to 15 and 21 of an addition whose lists keep step.
 pub fn of_addition(
     holds: &Holds,
-    live: &Live,
+    booked: &Booked,
     ids: &[u32],
     counts: &[u32],
     rows: &[u32],
+    firsts: &[u32],
+    seconds: &[u32],
     sizes: Sizes,
 ) -> Refusal
-    requires { ⌜ Served (sizes .m) (sizes .n) × (length (now counts) ≡ length (now ids)) ⌝ }
+    requires { ⌜ Served (sizes .m) (sizes .n) × InStep (now ids) (now counts) (now firsts) (now seconds) ⌝ }
 {
-    let first = of_columns(live, ids, counts, rows, sizes.m, sizes.n);
+    let first = of_columns(booked, ids, counts, rows, firsts, seconds, sizes.m, sizes.n);
     if first.number != 0 {
         return first;
     }
-    let booked = columns::book_rows(holds, live, sizes.m, sizes.n);
-    if exceeds(sizes.c, booked, rows.len()) {
+    let stored = columns::book_rows(holds, booked, sizes.m, sizes.n);
+    if exceeds(sizes.c, stored, rows.len()) {
         return refusal(15, 0);
     }
     first
 }
 
 // 8 to 11 of a removal.
-pub fn of_removal(live: &Live, ids: &[u32], n: usize) -> Refusal
+pub fn of_removal(booked: &Booked, ids: &[u32], n: usize) -> Refusal
     requires { ⌜ n ≤ 256 ⌝ }
 {
     let mut t = 0;
     while t < ids.len() {
-        let number = of_id(live, ids, n, t, false);
+        let number = of_id(booked, ids, n, t, false);
         if number != 0 {
             return refusal(number, t + 1);
         }

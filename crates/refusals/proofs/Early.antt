@@ -5,7 +5,7 @@ use mathlib.Core.Path.{_≡_, refl, sym, ap, _∙_}
 use mathlib.Core.Logic.{inl, inr}
 use mathlib.Core.Bool.{Bool, true, false, _&&_, not}
 use mathlib.Core.List.{List}
-use Prim.Native.Nat.{ℕ, _+_, _≤_}
+use Prim.Native.Nat.{ℕ, _+_, _*_, _≤_}
 use native.Mathlib.Omega.{arith}
 use lib.Dec.{ltb, leb}
 use lib.ListN.{length}
@@ -71,15 +71,16 @@ module _ (l : Sizes) (t : Tables) (w : List ℕ) where
   factorTest = factorLong (l .m) (l .f) (t .heads) (t .parents) (t .rows) (t .counts) (t .next)
 
   abbrev bookTest : Bool
-  bookTest = bookLong (l .n) (l .c) (t .bookHeads) (t .bookRows) (t .bookNext)
+  bookTest = bookLong (l .n) (l .c) (t .bookHeads) (t .bookRows) (t .bookNext) (t .windows)
 
   -- the tables of L, then those of the book
   long-parts : longEnough l t ≡ factorTest && bookTest
-  long-parts = three factorTest (leb (l .n) (length (t .bookHeads))) (leb (l .c) (length (t .bookRows))) (leb (l .c) (length (t .bookNext)))
+  long-parts =
+      four factorTest (leb (l .n) (length (t .bookHeads))) (leb (l .c) (length (t .bookRows))) (leb (l .c) (length (t .bookNext))) (leb (2 * l .n) (length (t .windows)))
     where
-      three : (a b c d : Bool) → a && b && c && d ≡ a && (b && c && d)
-      three true b c d = refl
-      three false b c d = refl
+      four : (a b c d e : Bool) → a && b && c && d && e ≡ a && (b && c && d && e)
+      four true b c d e = refl
+      four false b c d e = refl
 
   short-tests : isAccepted (shortRefusal l t w) ≡ factorTest && bookTest && leb (workFor l) (length w)
   short-tests =

@@ -9,7 +9,7 @@ use native.Mathlib.Omega.{arith}
 use lib.ListN.{length, getD, take, drop}
 use lib.Seq.{drop-drop}
 use Rattle.lists.proofs.Tests.{eq-or-ne}
-use Rattle.symbolic.specs.Columns.{Column}
+use Rattle.symbolic.specs.Columns.{Column, columnWith}
 use Rattle.calls.specs.Refusals.{batchOf}
 use Rattle.refusals.specs.Offsets.{offsetOf, columnLent}
 
@@ -50,4 +50,4 @@ batch-at (i ∷ is) [] rs k d e h = absurd (omega arith)
 batch-at (i ∷ is) (n ∷ ns) rs zero d e h = refl
 batch-at (i ∷ is) (n ∷ ns) rs (suc k) d e h =
     batch-at is ns (drop n rs) k d (omega arith) (omega arith) ∙
-    ap (λ (xs : List ℕ). record { id = getD is k 0; rows = take (getD ns k 0) xs }) (drop-drop (offsetOf ns k) n rs)
+    ap (λ (xs : List ℕ). columnWith (getD is k 0) (take (getD ns k 0) xs)) (drop-drop (offsetOf ns k) n rs)

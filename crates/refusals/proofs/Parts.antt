@@ -1,5 +1,6 @@
 -- The parts that a batch's refusal is found by, each law one return or one turn of a loop: numbers at every position; the ids before a place; one id; the
--- rows of a column (`RowsLeft`: what is left says what they all say); a count; one column; the id of a removal.
+-- rows of a column (`RowsLeft`: what is left says what they all say); a count; one column with its window; the id of a
+-- removal.
 -- Assumes nothing.
 use mathlib.Core.Path.{_≡_, refl, sym, ap, _∙_}
 use mathlib.Core.Logic.{inl, inr, _≢_}
@@ -14,9 +15,10 @@ use lib.Seq.{drop-cons, drop-length}
 use borrow.Author.Tests.{le-leb, lt-leb, lt-ltb, le-ltb, eq-eqb, ne-eqb, eqb-true, eqb-false}
 use Rattle.lists.specs.Lists.{isIn, among}
 use Rattle.lists.proofs.Tests.{cases, both-and, refute, in-range, range-in}
+use Rattle.symbolic.specs.Columns.{isWindow}
 use Rattle.calls.specs.Refusals.{Refusal, refusal, accepted, isAccepted, orElse, unless, rowsRefusal}
 use Rattle.calls.proofs.Choices.{or-both, unless-holds, or-first, or-second, unless-true, unless-false}
-use Rattle.refusals.specs.Parts.{placed, IsNumber, before, idRefusal, rowsPart, countRefusal, columnRefusal, leavingRefusal}
+use Rattle.refusals.specs.Parts.{placed, IsNumber, before, idRefusal, rowsPart, countRefusal, windowRefusal, columnRefusal, leavingRefusal}
 use Rattle.refusals.proofs.Tests.{is-out, is-in}
 
 -- ---- numbers at every position
@@ -161,20 +163,32 @@ module _ (m k : ℕ) (rs : List ℕ) where
 -- ---- one column, and the id of a removal
 
 module _ (n : ℕ) (z : Bool) (is : List ℕ) (k : ℕ) {a : ℕ} (i : IsNumber a (idRefusal n is k)) where
-  module _ (m : ℕ) (ns rs : List ℕ) where
-    pub column-id : a ≢ 0 → IsNumber a (columnRefusal m n z is ns rs k)
-    column-id h = first-number (λ p. orElse (unless (not z) 10 p) (countRefusal m (getD ns k 0) rs p)) i h
+  module _ (m : ℕ) (ns rs ps qs : List ℕ) where
+    -- count and rows, then the window
+    abbrev counts : ℕ → Refusal
+    counts p = orElse (countRefusal m (getD ns k 0) rs p) (windowRefusal (getD ps k 0) (getD qs k 0) p)
+
+    pub column-id : a ≢ 0 → IsNumber a (columnRefusal m n z is ns rs ps qs k)
+    column-id h = first-number (λ p. orElse (unless (not z) 10 p) (counts p)) i h
 
     module _ (e : a ≡ 0) {x : Bool} (b : x ≡ z) where
-      pub column-live : x ≡ true → IsNumber 10 (columnRefusal m n z is ns rs k)
-      column-live t =
-          second-number i e
-          (first-number (countRefusal m (getD ns k 0) rs) (fails-number 10 (not z) (omega arith) (ap not (sym b ∙ t))) (omega arith))
+      pub column-live : x ≡ true → IsNumber 10 (columnRefusal m n z is ns rs ps qs k)
+      column-live t = second-number i e (first-number counts (fails-number 10 (not z) (omega arith) (ap not (sym b ∙ t))) (omega arith))
 
-      pub column-count : {r : ℕ} → x ≡ false → IsNumber r (countRefusal m (getD ns k 0) rs) → IsNumber r (columnRefusal m n z is ns rs k)
-      column-count t c =
-          second-number i e
-          (second-number (holds-number 10 (not z) (ap not (sym b ∙ t))) refl c)
+      module _ (t : x ≡ false) {r : ℕ} (c : IsNumber r (countRefusal m (getD ns k 0) rs)) where
+        unbooked : {q : ℕ} → IsNumber q counts → IsNumber q (columnRefusal m n z is ns rs ps qs k)
+        unbooked d = second-number i e (second-number (holds-number 10 (not z) (ap not (sym b ∙ t))) refl d)
+
+        pub column-count : r ≢ 0 → IsNumber r (columnRefusal m n z is ns rs ps qs k)
+        column-count h = unbooked (first-number (windowRefusal (getD ps k 0) (getD qs k 0)) c h)
+
+        module _ (f : r ≡ 0) {y : Bool} (w : y ≡ isWindow (getD ps k 0) (getD qs k 0)) where
+          pub column-window : y ≡ true → IsNumber 0 (columnRefusal m n z is ns rs ps qs k)
+          column-window h = unbooked (second-number c f (holds-number 21 (isWindow (getD ps k 0) (getD qs k 0)) (sym w ∙ h)))
+
+          pub column-late : y ≡ false → IsNumber 21 (columnRefusal m n z is ns rs ps qs k)
+          column-late h =
+              unbooked (second-number c f (fails-number 21 (isWindow (getD ps k 0) (getD qs k 0)) (omega arith) (sym w ∙ h)))
 
   pub leaving-id : a ≢ 0 → IsNumber a (leavingRefusal n z is k)
   leaving-id h = first-number (unless z 11) i h

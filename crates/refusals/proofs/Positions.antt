@@ -14,23 +14,25 @@ use lib.Seq.{drop-cons, drop-length, drop-drop}
 use borrow.Author.Tests.{leb-true, eq-eqb, ne-eqb}
 use Rattle.lists.specs.Lists.{isIn, among}
 use Rattle.lists.proofs.Tests.{cases, and-both, in-range}
-use Rattle.symbolic.specs.Columns.{Register}
+use Rattle.symbolic.specs.Columns.{isWindow, Register}
 use Rattle.book.specs.Book.{bookOf, isBooked}
 use Rattle.book.proofs.Columns.{ids-booked}
 use Rattle.calls.specs.Refusals.{Refusal, refusal, accepted, isAccepted, orElse, unless, inRegister, rowsRefusal, columnsRefusal, idsRefusal}
 use Rattle.calls.proofs.Choices.{or-both, unless-holds, or-first, or-assoc}
-use Rattle.refusals.specs.Parts.{placed, IsNumber, before, idRefusal, countRefusal, columnRefusal, leavingRefusal}
-use Rattle.book.specs.Book.{registerIn}
+use Rattle.refusals.specs.Parts.{placed, IsNumber, before, idRefusal, countRefusal, windowRefusal, columnRefusal, leavingRefusal, InStep}
+use Rattle.refusals.specs.Found.{bareIn}
 use Rattle.refusals.proofs.Tests.{unless-accepted}
 use Rattle.refusals.proofs.Parts.{placed-none}
 
 -- ---- one position
 
-regroup : (a b c d e f : Refusal) → orElse (orElse (orElse a b) (orElse c (orElse d e))) f ≡ orElse a (orElse b (orElse c (orElse d (orElse e f))))
-regroup a b c d e f =
-    or-assoc (orElse a b) (orElse c (orElse d e)) f ∙
-    ap (λ (x : Refusal). orElse (orElse a b) x) (or-assoc c (orElse d e) f ∙ ap (λ (x : Refusal). orElse c x) (or-assoc d e f)) ∙
-    or-assoc a b (orElse c (orElse d (orElse e f)))
+regroup : (a b c d e f g : Refusal) →
+    orElse (orElse (orElse a b) (orElse c (orElse (orElse d e) f))) g ≡ orElse a (orElse b (orElse c (orElse d (orElse e (orElse f g)))))
+regroup a b c d e f g =
+    or-assoc (orElse a b) (orElse c (orElse (orElse d e) f)) g ∙
+    ap (λ (x : Refusal). orElse (orElse a b) x)
+    (or-assoc c (orElse (orElse d e) f) g ∙ ap (λ (x : Refusal). orElse c x) (or-assoc (orElse d e) f g ∙ or-assoc d e (orElse f g))) ∙
+    or-assoc a b (orElse c (orElse d (orElse e (orElse f g))))
 
 -- the test of the id decides wherever its being live is not what being booked is
 module _ (n : ℕ) (is : List ℕ) (k : ℕ) (z y : Bool) (h : 1 ≤ getD is k 0 → z ≡ y) where
@@ -46,16 +48,18 @@ module _ (n : ℕ) (is : List ℕ) (k : ℕ) (z y : Bool) (h : 1 ≤ getD is k 0
       ]
 
 module _ (r : Register) (n p k : ℕ) (is : List ℕ) (h : k < length is) where
-  pub columns-here : (ns rs : List ℕ) → k < length ns →
-      columnsRefusal r n p (before k is) (drop k is) (drop k ns) rs ≡
-      orElse (columnRefusal (r .m) n (inRegister r (getD is k 0)) is ns rs k p) (columnsRefusal r n (suc p) (before (suc k) is) (drop (suc k) is) (drop (suc k) ns) (drop (getD ns k 0) rs))
+  pub columns-here : (ns rs ps qs : List ℕ) → k < length ns → k < length ps → k < length qs →
+      columnsRefusal r n p (before k is) (drop k is) (drop k ns) rs (drop k ps) (drop k qs) ≡
+      orElse (columnRefusal (r .m) n (inRegister r (getD is k 0)) is ns rs ps qs k p)
+      (columnsRefusal r n (suc p) (before (suc k) is) (drop (suc k) is) (drop (suc k) ns) (drop (getD ns k 0) rs) (drop (suc k) ps) (drop (suc k) qs))
   unfolding columnsRefusal before
-  columns-here ns rs g =
-      rw (drop-cons is k 0 h, drop-cons ns k 0 g)
+  columns-here ns rs ps qs g a b =
+      rw (drop-cons is k 0 h, drop-cons ns k 0 g, drop-cons ps k 0 a, drop-cons qs k 0 b)
       (sym
       (regroup (unless (isIn 1 n (getD is k 0)) 8 p) (unless (not (among (getD is k 0) (before k is))) 9 p) (unless (not (inRegister r (getD is k 0))) 10 p)
       (unless (isIn 1 256 (getD ns k 0) && leb (getD ns k 0) (length rs)) 12 p) (rowsRefusal (r .m) p 0 (take (getD ns k 0) rs))
-      (columnsRefusal r n (suc p) (getD is k 0 ∷ before k is) (drop (suc k) is) (drop (suc k) ns) (drop (getD ns k 0) rs))))
+      (unless (isWindow (getD ps k 0) (getD qs k 0)) 21 p)
+      (columnsRefusal r n (suc p) (getD is k 0 ∷ before k is) (drop (suc k) is) (drop (suc k) ns) (drop (getD ns k 0) rs) (drop (suc k) ps) (drop (suc k) qs))))
 
   pub ids-here : idsRefusal r n p (before k is) (drop k is) ≡
       orElse (leavingRefusal n (inRegister r (getD is k 0)) is k p) (idsRefusal r n (suc p) (before (suc k) is) (drop (suc k) is))
@@ -69,35 +73,41 @@ module _ (r : Register) (n p k : ℕ) (is : List ℕ) (h : k < length is) where
 
 -- ---- an addition
 
-pub record ColumnsLeft (m : ℕ) (heads ids counts list : List ℕ) (k from : ℕ) : Type 0 where
+pub record ColumnsLeft (m : ℕ) (heads ids counts list firsts seconds : List ℕ) (k from : ℕ) : Type 0 where
   pub within : k ≤ length ids
   pub starts : from ≤ length list
   pub same : (rows next : List ℕ) (free : ℕ) →
-      columnsRefusal (registerIn m (bookOf heads rows next free)) (length heads) (suc k) (before k ids) (drop k ids) (drop k counts) (drop from list) ≡
-      columnsRefusal (registerIn m (bookOf heads rows next free)) (length heads) 1 [] ids counts list
+      columnsRefusal (bareIn m (bookOf heads rows next free)) (length heads) (suc k) (before k ids) (drop k ids) (drop k counts) (drop from list) (drop k firsts) (drop k seconds) ≡
+      columnsRefusal (bareIn m (bookOf heads rows next free)) (length heads) 1 [] ids counts list firsts seconds
 
-pub columns-start : (m : ℕ) (hs is ns rs : List ℕ) → ColumnsLeft m hs is ns rs 0 0
+pub columns-start : (m : ℕ) (hs is ns rs ps qs : List ℕ) → ColumnsLeft m hs is ns rs ps qs 0 0
 unfolding before
-columns-start m hs is ns rs = record { within = omega arith; starts = omega arith; same = λ rows next free. refl }
+columns-start m hs is ns rs ps qs = record { within = omega arith; starts = omega arith; same = λ rows next free. refl }
 
-module _ {m : ℕ} {hs is ns rs : List ℕ} {k from : ℕ} (l : ColumnsLeft m hs is ns rs k from) where
+module _ {m : ℕ} {hs is ns rs ps qs : List ℕ} {k from : ℕ} (l : ColumnsLeft m hs is ns rs ps qs k from) where
   abbrev part : ℕ → Refusal
-  part p = columnRefusal m (length hs) (isBooked hs (getD is k 0)) is ns (drop from rs) k p
+  part p = columnRefusal m (length hs) (isBooked hs (getD is k 0)) is ns (drop from rs) ps qs k p
 
-  module _ (h : k < length is) (g : length ns ≡ length is) {a : ℕ} (t : IsNumber a part) where
+  -- what the columns after the one at place k say
+  abbrev later : Register → Refusal
+  later r =
+      columnsRefusal r (length hs) (suc (suc k)) (before (suc k) is) (drop (suc k) is) (drop (suc k) ns) (drop (getD ns k 0) (drop from rs)) (drop (suc k) ps)
+      (drop (suc k) qs)
+
+  module _ (h : k < length is) (g : InStep is ns ps qs) {a : ℕ} (t : IsNumber a part) where
     turn : (rows next : List ℕ) (free : ℕ) →
-        columnsRefusal (registerIn m (bookOf hs rows next free)) (length hs) 1 [] is ns rs ≡
-        orElse (placed a (suc k)) (columnsRefusal (registerIn m (bookOf hs rows next free)) (length hs) (suc (suc k)) (before (suc k) is) (drop (suc k) is) (drop (suc k) ns) (drop (getD ns k 0) (drop from rs)))
+        columnsRefusal (bareIn m (bookOf hs rows next free)) (length hs) 1 [] is ns rs ps qs ≡ orElse (placed a (suc k)) (later (bareIn m (bookOf hs rows next free)))
     turn rows next free =
-        let r : Register = registerIn m (bookOf hs rows next free) in
-        let f : Refusal = columnsRefusal r (length hs) (suc (suc k)) (before (suc k) is) (drop (suc k) is) (drop (suc k) ns) (drop (getD ns k 0) (drop from rs)) in
-        sym (l .same rows next free) ∙ columns-here r (length hs) (suc k) k is h ns (drop from rs) (omega arith) ∙
-        ap (λ (x : Refusal). orElse x f)
+        let r : Register = bareIn m (bookOf hs rows next free) in
+        sym (l .same rows next free) ∙
+        columns-here r (length hs) (suc k) k is h ns (drop from rs) ps qs (omega (arith, g .counted)) (omega (arith, g .firsts-length)) (omega (arith, g .seconds-length)) ∙
+        ap (λ (x : Refusal). orElse x (later r))
         (same-after (length hs) is k (inRegister r (getD is k 0)) (isBooked hs (getD is k 0)) (λ e. ids-booked (bookOf hs rows next free) (getD is k 0) e)
-        (λ (z : Bool). orElse (unless (not z) 10 (suc k)) (countRefusal m (getD ns k 0) (drop from rs) (suc k))) (suc k) ∙
+        (λ (z : Bool). orElse (unless (not z) 10 (suc k)) (orElse (countRefusal m (getD ns k 0) (drop from rs) (suc k)) (windowRefusal (getD ps k 0) (getD qs k 0) (suc k)))) (suc k) ∙
         t .same (suc k))
 
-    pub columns-refused : a ≢ 0 → (rows next : List ℕ) (free : ℕ) → refusal a (k + 1) ≡ columnsRefusal (registerIn m (bookOf hs rows next free)) (length hs) 1 [] is ns rs
+    pub columns-refused : a ≢ 0 → (rows next : List ℕ) (free : ℕ) →
+        refusal a (k + 1) ≡ columnsRefusal (bareIn m (bookOf hs rows next free)) (length hs) 1 [] is ns rs ps qs
     columns-refused e rows next free =
         sym (turn rows next free ∙ rw (ne-eqb a 0 e) (rw (ne-eqb a 0 e) (ap (refusal a) (sym (add-one k)))))
 
@@ -108,37 +118,42 @@ module _ {m : ℕ} {hs is ns rs : List ℕ} {k from : ℕ} (l : ColumnsLeft m hs
         let j : Refusal = unless (not (isBooked hs (getD is k 0))) 10 0 in
         let o : Refusal = unless (isIn 1 256 (getD ns k 0) && leb (getD ns k 0) (length (drop from rs))) 12 0 in
         let q : Refusal = rowsRefusal m 0 0 (take (getD ns k 0) (drop from rs)) in
-        let u : isAccepted (orElse o q) ≡ true = or-both j (orElse o q) (or-both i (orElse j (orElse o q)) (ap isAccepted (t .same 0 ∙ placed-none 0 e)) .1) .1 in
+        let x : Refusal = windowRefusal (getD ps k 0) (getD qs k 0) 0 in
+        let y : Refusal = orElse (orElse o q) x in
+        let u : isAccepted y ≡ true = or-both j y (or-both i (orElse j y) (ap isAccepted (t .same 0 ∙ placed-none 0 e)) .1) .1 in
         let v : (isIn 1 256 (getD ns k 0) && leb (getD ns k 0) (length (drop from rs))) ≡ true =
-        unless-holds (isIn 1 256 (getD ns k 0) && leb (getD ns k 0) (length (drop from rs))) 12 0 refl (or-both o q u .0) in
+        unless-holds (isIn 1 256 (getD ns k 0) && leb (getD ns k 0) (length (drop from rs))) 12 0 refl (or-both o q (or-both (orElse o q) x u .0) .0) in
         let w : getD ns k 0 ≤ length (drop from rs) = leb-true (getD ns k 0) (length (drop from rs)) (and-both (isIn 1 256 (getD ns k 0)) (leb (getD ns k 0) (length (drop from rs))) v .1) in
         omega (arith, length-drop from rs, l .starts)
 
-    pub columns-more : a ≡ 0 → ColumnsLeft m hs is ns rs (k + 1) (from + getD ns k 0)
+    pub columns-more : a ≡ 0 → ColumnsLeft m hs is ns rs ps qs (k + 1) (from + getD ns k 0)
     columns-more e =
         record {
           within = omega arith;
           starts = columns-room e;
           same = λ rows next free.
-              let r : Register = registerIn m (bookOf hs rows next free) in
-              ap (λ (j : ℕ). columnsRefusal r (length hs) (suc j) (before j is) (drop j is) (drop j ns) (drop (from + getD ns k 0) rs)) (add-one k) ∙
-              ap (columnsRefusal r (length hs) (suc (suc k)) (before (suc k) is) (drop (suc k) is) (drop (suc k) ns)) (sym (drop-drop (getD ns k 0) from rs)) ∙
+              let r : Register = bareIn m (bookOf hs rows next free) in
+              ap (λ (j : ℕ). columnsRefusal r (length hs) (suc j) (before j is) (drop j is) (drop j ns) (drop (from + getD ns k 0) rs) (drop j ps) (drop j qs)) (add-one k) ∙
+              ap (λ (xs : List ℕ). columnsRefusal r (length hs) (suc (suc k)) (before (suc k) is) (drop (suc k) is) (drop (suc k) ns) xs (drop (suc k) ps) (drop (suc k) qs)) (sym (drop-drop (getD ns k 0) from rs)) ∙
               sym (turn rows next free ∙ rw (eq-eqb a 0 e) refl);
         }
 
   module _ (h : length is ≤ k) where
-    ended : (rows next : List ℕ) (free : ℕ) → columnsRefusal (registerIn m (bookOf hs rows next free)) (length hs) 1 [] is ns rs ≡ unless (eqb (length (drop from rs)) 0) 12 0
+    ended : (rows next : List ℕ) (free : ℕ) →
+        columnsRefusal (bareIn m (bookOf hs rows next free)) (length hs) 1 [] is ns rs ps qs ≡ unless (eqb (length (drop from rs)) 0) 12 0
     unfolding columnsRefusal
     ended rows next free =
         let e : k ≡ length is = omega (arith, l .within) in
         sym (l .same rows next free) ∙
-        ap (λ (js : List ℕ). columnsRefusal (registerIn m (bookOf hs rows next free)) (length hs) (suc k) (before k is) js (drop k ns) (drop from rs)) (ap (λ (j : ℕ). drop j is) e ∙ drop-length is)
+        ap (λ (js : List ℕ). columnsRefusal (bareIn m (bookOf hs rows next free)) (length hs) (suc k) (before k is) js (drop k ns) (drop from rs) (drop k ps) (drop k qs)) (ap (λ (j : ℕ). drop j is) e ∙ drop-length is)
 
-    pub columns-over : from < length rs → (rows next : List ℕ) (free : ℕ) → refusal 12 0 ≡ columnsRefusal (registerIn m (bookOf hs rows next free)) (length hs) 1 [] is ns rs
+    pub columns-over : from < length rs → (rows next : List ℕ) (free : ℕ) →
+        refusal 12 0 ≡ columnsRefusal (bareIn m (bookOf hs rows next free)) (length hs) 1 [] is ns rs ps qs
     columns-over g rows next free =
         sym (ended rows next free ∙ rw (ne-eqb (length (drop from rs)) 0 (λ e. omega (arith, length-drop from rs))) refl)
 
-    pub columns-end : length rs ≤ from → (rows next : List ℕ) (free : ℕ) → accepted ≡ columnsRefusal (registerIn m (bookOf hs rows next free)) (length hs) 1 [] is ns rs
+    pub columns-end : length rs ≤ from → (rows next : List ℕ) (free : ℕ) →
+        accepted ≡ columnsRefusal (bareIn m (bookOf hs rows next free)) (length hs) 1 [] is ns rs ps qs
     columns-end g rows next free =
         sym (ended rows next free ∙ rw (eq-eqb (length (drop from rs)) 0 (omega (arith, length-drop from rs))) refl)
 
@@ -147,8 +162,8 @@ module _ {m : ℕ} {hs is ns rs : List ℕ} {k from : ℕ} (l : ColumnsLeft m hs
 pub record IdsLeft (heads ids : List ℕ) (k : ℕ) : Type 0 where
   pub within : k ≤ length ids
   pub same : (m : ℕ) (rows next : List ℕ) (free : ℕ) →
-      idsRefusal (registerIn m (bookOf heads rows next free)) (length heads) (suc k) (before k ids) (drop k ids) ≡
-      idsRefusal (registerIn m (bookOf heads rows next free)) (length heads) 1 [] ids
+      idsRefusal (bareIn m (bookOf heads rows next free)) (length heads) (suc k) (before k ids) (drop k ids) ≡
+      idsRefusal (bareIn m (bookOf heads rows next free)) (length heads) 1 [] ids
 
 pub ids-start : (hs is : List ℕ) → IdsLeft hs is 0
 unfolding before
@@ -157,15 +172,15 @@ ids-start hs is = record { within = omega arith; same = λ m rows next free. ref
 module _ {hs is : List ℕ} {k : ℕ} (l : IdsLeft hs is k) where
   module _ (h : k < length is) {a : ℕ} (t : IsNumber a (leavingRefusal (length hs) (isBooked hs (getD is k 0)) is k)) where
     leaves : (m : ℕ) (rows next : List ℕ) (free : ℕ) →
-        idsRefusal (registerIn m (bookOf hs rows next free)) (length hs) 1 [] is ≡
-        orElse (placed a (suc k)) (idsRefusal (registerIn m (bookOf hs rows next free)) (length hs) (suc (suc k)) (before (suc k) is) (drop (suc k) is))
+        idsRefusal (bareIn m (bookOf hs rows next free)) (length hs) 1 [] is ≡
+        orElse (placed a (suc k)) (idsRefusal (bareIn m (bookOf hs rows next free)) (length hs) (suc (suc k)) (before (suc k) is) (drop (suc k) is))
     leaves m rows next free =
-        let r : Register = registerIn m (bookOf hs rows next free) in
+        let r : Register = bareIn m (bookOf hs rows next free) in
         sym (l .same m rows next free) ∙ ids-here r (length hs) (suc k) k is h ∙
         ap (λ (x : Refusal). orElse x (idsRefusal r (length hs) (suc (suc k)) (before (suc k) is) (drop (suc k) is)))
         (same-after (length hs) is k (inRegister r (getD is k 0)) (isBooked hs (getD is k 0)) (λ e. ids-booked (bookOf hs rows next free) (getD is k 0) e) (λ (z : Bool). unless z 11 (suc k)) (suc k) ∙ t .same (suc k))
 
-    pub ids-refused : a ≢ 0 → (m : ℕ) (rows next : List ℕ) (free : ℕ) → refusal a (k + 1) ≡ idsRefusal (registerIn m (bookOf hs rows next free)) (length hs) 1 [] is
+    pub ids-refused : a ≢ 0 → (m : ℕ) (rows next : List ℕ) (free : ℕ) → refusal a (k + 1) ≡ idsRefusal (bareIn m (bookOf hs rows next free)) (length hs) 1 [] is
     ids-refused e m rows next free =
         sym (leaves m rows next free ∙ rw (ne-eqb a 0 e) (rw (ne-eqb a 0 e) (ap (refusal a) (sym (add-one k)))))
 
@@ -174,14 +189,14 @@ module _ {hs is : List ℕ} {k : ℕ} (l : IdsLeft hs is k) where
         record {
           within = omega arith;
           same = λ m rows next free.
-              ap (λ (j : ℕ). idsRefusal (registerIn m (bookOf hs rows next free)) (length hs) (suc j) (before j is) (drop j is)) (add-one k) ∙
+              ap (λ (j : ℕ). idsRefusal (bareIn m (bookOf hs rows next free)) (length hs) (suc j) (before j is) (drop j is)) (add-one k) ∙
               sym (leaves m rows next free ∙ rw (eq-eqb a 0 e) refl);
         }
 
-  pub ids-end : length is ≤ k → (m : ℕ) (rows next : List ℕ) (free : ℕ) → accepted ≡ idsRefusal (registerIn m (bookOf hs rows next free)) (length hs) 1 [] is
+  pub ids-end : length is ≤ k → (m : ℕ) (rows next : List ℕ) (free : ℕ) → accepted ≡ idsRefusal (bareIn m (bookOf hs rows next free)) (length hs) 1 [] is
   unfolding idsRefusal
   ids-end h m rows next free =
       let e : k ≡ length is = omega (arith, l .within) in
       sym
       (sym (l .same m rows next free) ∙
-      ap (idsRefusal (registerIn m (bookOf hs rows next free)) (length hs) (suc k) (before k is)) (ap (λ (j : ℕ). drop j is) e ∙ drop-length is))
+      ap (idsRefusal (bareIn m (bookOf hs rows next free)) (length hs) (suc k) (before k is)) (ap (λ (j : ℕ). drop j is) e ∙ drop-length is))

@@ -1,10 +1,10 @@
--- The four sizes and the eight tables as the definitions of numbers 1 to 5 read them; the records that an opening with F = 0 gets; the limits of the grades;
--- when the tables of L and those of the book are long enough, each group by itself; the room that an answer asks for. The numbers are in calls, Refusals.
+-- The four sizes and the nine tables as the definitions of numbers 1 to 5 read them; the records that an opening with F = 0 gets; the limits of the grades;
+-- when the tables of L and those of the book, with its windows, are long enough, each group by itself; the room that an answer asks for. The numbers are in calls, Refusals.
 -- Assumes nothing: these are definitions.
 use mathlib.Core.Path.{_≡_}
 use mathlib.Core.Bool.{Bool, _&&_, not}
 use mathlib.Core.List.{List}
-use Prim.Native.Nat.{ℕ}
+use Prim.Native.Nat.{ℕ, _*_}
 use lib.Dec.{leb, eqb}
 use lib.ListN.{length}
 use Rattle.lists.specs.Lists.{pick}
@@ -32,9 +32,9 @@ abbrev pub factorLong : (m f : ℕ) → (heads parents rows counts next : List �
 factorLong m f hs ps rs cs ns =
     leb m (length hs) && leb m (length ps) && leb f (length rs) && leb f (length cs) && leb f (length ns)
 
--- the tables of the book have places for n heads, and for C rows and nexts
-abbrev pub bookLong : (n c : ℕ) → (heads rows next : List ℕ) → Bool
-bookLong n c hs rs ns = leb n (length hs) && leb c (length rs) && leb c (length ns)
+-- the tables of the book have places for n heads, and for C rows and nexts, that of the windows for 2n minutes
+abbrev pub bookLong : (n c : ℕ) → (heads rows next windows : List ℕ) → Bool
+bookLong n c hs rs ns ws = leb n (length hs) && leb c (length rs) && leb c (length ns) && leb (2 * n) (length ws)
 
 -- an answer is refused by 18, for every list of that length
 abbrev pub NoRoom : (len place places : ℕ) → (answer : Bool) → Type 0

@@ -4,7 +4,7 @@
 use mathlib.Core.List.{List, [], _∷_}
 use Prim.Native.Nat.{ℕ, zero, suc, _+_}
 use lib.ListN.{getD, take, drop}
-use Rattle.symbolic.specs.Columns.{Column}
+use Rattle.symbolic.specs.Columns.{Column, columnWith}
 
 -- how many rows come before those of the column at place k
 unfoldable pub offsetOf : (counts : List ℕ) → (k : ℕ) → ℕ
@@ -14,4 +14,4 @@ offsetOf (n ∷ ns) (suc k) = n + offsetOf ns k
 
 -- the column at place k
 abbrev pub columnLent : (ids counts rows : List ℕ) → (k : ℕ) → Column
-columnLent is ns rs k = record { id = getD is k 0; rows = take (getD ns k 0) (drop (offsetOf ns k) rs) }
+columnLent is ns rs k = columnWith (getD is k 0) (take (getD ns k 0) (drop (offsetOf ns k) rs))

@@ -1,22 +1,21 @@
 // The numbers that a call is refused by, with their positions, found in their order. Tables are shared, never written. In order: sizes and their default
-// (1 to 4), tables and lists (5), the parts of a batch, an addition (7 to 15), a removal (7 to 11). asked.rt has those of questions (7, 17, 18),
-// limits.rt 20.
+// (1 to 4), tables and lists (5), an addition (7 to 15 and 21), a removal (7 to 9 and 11). position.rt has what is asked at one position, asked.rt the numbers of
+// questions (7, 17, 18), limits.rt 20.
 ghost use mathlib.Core.Path.{_≡_};
 ghost use mathlib.Core.Bool.{not};
 ghost use Prim.Native.Nat.{_+_, _≤_, _<_};
-ghost use lib.ListN.{length, getD, drop};
+ghost use lib.ListN.{length};
 ghost use Rattle.tables.specs.Tables.{sizesOf, tablesOf};
-ghost use Rattle.lists.specs.Lists.{isIn, among};
-ghost use Rattle.calls.specs.Refusals.{refusal, isAccepted, sizesRefusal, shortRefusal, listsLong};
-ghost use Rattle.book.specs.Book.{isBooked};
+ghost use Rattle.lists.specs.Lists.{isIn};
+ghost use Rattle.calls.specs.Refusals.{refusal, isAccepted, sizesRefusal, shortRefusal, listsLong, keepStep};
 ghost use Rattle.refusals.specs.Early.{largest, recordsFor, factorLong, bookLong};
-ghost use Rattle.refusals.specs.Parts.{IsNumber, before, idRefusal, rowsPart, countRefusal, columnRefusal, leavingRefusal, InStep, HasPlace};
+ghost use Rattle.refusals.specs.Parts.{InStep};
 ghost use Rattle.refusals.specs.Found.{found, HasBook, ColumnsFound, AddFound, IdsFound, RemoveFound};
 
 pub mod asked;
 pub mod limits;
+mod position;
 
-use book::Id;
 use pool::Rec;
 
 // The most columns in a batch, and the most rows that a question names.
@@ -132,9 +131,9 @@ fn short_factor(
     next.len() < f as usize
 }
 
-// Whether a table of the book is too short.
-fn short_book(heads: &[u32], rows: &[u16], next: &[u32], n: u32, c: u32) -> bool
-    ensures { λ r. ⌜ r ≡ not (bookLong n c (now (heads .entry)) (now (rows .entry)) (now (next .entry))) ⌝ }
+// Whether a table of the book, or that of the windows, is too short.
+fn short_book(heads: &[u32], rows: &[u16], next: &[u32], windows: &[u32], n: u32, c: u32) -> bool
+    ensures { λ r. ⌜ r ≡ not (bookLong n c (now (heads .entry)) (now (rows .entry)) (now (next .entry)) (now (windows .entry))) ⌝ }
 {
     if heads.len() < n as usize {
         return true;
@@ -142,7 +141,10 @@ fn short_book(heads: &[u32], rows: &[u16], next: &[u32], n: u32, c: u32) -> bool
     if rows.len() < c as usize {
         return true;
     }
-    next.len() < c as usize
+    if next.len() < c as usize {
+        return true;
+    }
+    windows.len() < 2 * n as usize
 }
 
 // Whether some table, or the work table, is too short.
@@ -155,18 +157,19 @@ pub fn short(
     book_heads: &[u32],
     book_rows: &[u16],
     book_next: &[u32],
+    windows: &[u32],
     work: &[u32],
     m: u32,
     n: u32,
     f: u32,
     c: u32,
 ) -> bool
-    ensures { λ r. ⌜ r ≡ not (isAccepted (shortRefusal (sizesOf m n f c) (tablesOf (now (heads .entry)) (now (parents .entry)) (now (rows .entry)) (now (counts .entry)) (now (next .entry)) (now («book_heads» .entry)) (now («book_rows» .entry)) (now («book_next» .entry))) (now (work .entry)))) ⌝ }
+    ensures { λ r. ⌜ r ≡ not (isAccepted (shortRefusal (sizesOf m n f c) (tablesOf (now (heads .entry)) (now (parents .entry)) (now (rows .entry)) (now (counts .entry)) (now (next .entry)) (now («book_heads» .entry)) (now («book_rows» .entry)) (now («book_next» .entry)) (now (windows .entry))) (now (work .entry)))) ⌝ }
 {
     if short_factor(heads, parents, rows, counts, next, m, f) {
         return true;
     }
-    if short_book(book_heads, book_rows, book_next, n, c) {
+    if short_book(book_heads, book_rows, book_next, windows, n, c) {
         return true;
     }
     work.len() < workspace::work_need(m, n, f, c)
@@ -192,115 +195,33 @@ fn shape_outside(r: usize) -> bool
     MOST_COLUMNS < r
 }
 
-// Whether the id at place k comes before it too.
-fn is_earlier(ids: &[u32], k: usize) -> bool
-    requires { ⌜ k < length (now ids) ⌝ }
-    ensures { λ a. ⌜ a ≡ among (getD (now (ids .entry)) k 0) (before k (now (ids .entry))) ⌝ }
-{
-    let id = ids[k];
-    let mut j: usize = 0;
-    while j < k {
-        if id == ids[j] {
-            return true;
-        }
-        j += 1;
-    }
-    false
-}
-
-// The number 8 or 9 that the id at place k is refused by, or 0.
-fn id_refusal(book_heads: &[u32], ids: &[u32], k: usize) -> u32
-    requires { ⌜ k < length (now ids) ⌝ }
-    ensures { λ a. ⌜ IsNumber a (idRefusal (length (now («book_heads» .entry))) (now (ids .entry)) k) ⌝ }
-{
-    let id = ids[k];
-    if id < 1 {
-        return 8;
-    }
-    if book_heads.len() < id as usize {
-        return 8;
-    }
-    if is_earlier(ids, k) {
-        return 9;
-    }
-    0
-}
-
-// The number 13 or 14 that the rows of a column are refused by, or 0.
-fn rows_refusal(rows: &[u32], m: u32) -> u32
-    ensures { λ a. ⌜ IsNumber a (rowsPart m (now (rows .entry))) ⌝ }
-{
-    let mut above: u32 = 0;
-    let mut i: usize = 0;
-    while i < rows.len() {
-        let row = rows[i];
-        if outside(1, m, row) {
-            return 13;
-        }
-        if row <= above {
-            return 14;
-        }
-        above = row;
-        i += 1;
-    }
-    0
-}
-
-// The number 12, 13 or 14 that a column of count rows, which start at from, is refused by, or 0.
-fn count_refusal(row_list: &[u32], from: usize, count: u32, m: u32) -> u32
-    requires { ⌜ from ≤ length (now «row_list») ⌝ }
-    ensures { λ a. ⌜ IsNumber a (countRefusal m count (drop from (now («row_list» .entry)))) ⌝ }
-{
-    if outside(1, MOST_COUNT, count) {
-        return 12;
-    }
-    if row_list.len() - from < count as usize {
-        return 12;
-    }
-    let to = from + count as usize;
-    rows_refusal(&row_list[from..to], m)
-}
-
-// The number 8, 9, 10, 12, 13 or 14 that the column at place k, whose rows start at from, is refused by, or 0.
-fn column_refusal(
-    book_heads: &[u32],
-    ids: &[u32],
-    row_counts: &[u32],
-    row_list: &[u32],
-    k: usize,
-    from: usize,
-    m: u32,
-) -> u32
-    requires { ⌜ HasPlace (now ids) (now «row_counts») (now «row_list») k from ⌝ }
-    ensures { λ a. ⌜ IsNumber a (columnRefusal m (length (now («book_heads» .entry))) (isBooked (now («book_heads» .entry)) (getD (now (ids .entry)) k 0)) (now (ids .entry)) (now («row_counts» .entry)) (drop from (now («row_list» .entry))) k) ⌝ }
-{
-    let first = id_refusal(book_heads, ids, k);
-    if first != 0 {
-        return first;
-    }
-    let id = ids[k];
-    if book::is_booked(book_heads, Id(id)) {
-        return 10;
-    }
-    let count = row_counts[k];
-    count_refusal(row_list, from, count, m)
-}
-
 // The first refusal of a column, position by position; after the last, that of rows left over.
 fn columns_refusal(
     book_heads: &[u32],
     ids: &[u32],
     row_counts: &[u32],
     row_list: &[u32],
+    firsts: &[u32],
+    seconds: &[u32],
     m: u32,
 ) -> Refusal
-    requires { ⌜ InStep (now ids) (now «row_counts») ⌝ }
-    ensures { λ a. ⌜ ColumnsFound m (now («book_heads» .entry)) (now (ids .entry)) (now («row_counts» .entry)) (now («row_list» .entry)) a ⌝ }
+    requires { ⌜ InStep (now ids) (now «row_counts») (now firsts) (now seconds) ⌝ }
+    ensures { λ a. ⌜ ColumnsFound m (now («book_heads» .entry)) (now (ids .entry)) (now («row_counts» .entry)) (now («row_list» .entry)) (now (firsts .entry)) (now (seconds .entry)) a ⌝ }
 {
     let mut k: usize = 0;
     let mut from: usize = 0;
     while k < ids.len() {
-        let number = column_refusal(book_heads, ids, row_counts, row_list, k, from, m);
+        let number = position::column_refusal(
+            book_heads,
+            ids,
+            row_counts,
+            row_list,
+            firsts,
+            seconds,
+            k,
+            from,
+            m,
+        );
         if number != 0 {
             return refused_at(number, k);
         }
@@ -313,26 +234,41 @@ fn columns_refusal(
     refused(0)
 }
 
-// The refusal 7 to 15 of an addition, or none. The book is sound.
+// Whether a batch has too few or too many columns, or a list that is to keep step with the ids does not.
+fn out_of_step(ids: &[u32], row_counts: &[u32], firsts: &[u32], seconds: &[u32]) -> bool
+    ensures { λ a. ⌜ a ≡ not (keepStep (now (ids .entry)) (now («row_counts» .entry)) (now (firsts .entry)) (now (seconds .entry))) ⌝ }
+{
+    if shape_outside(ids.len()) {
+        return true;
+    }
+    if row_counts.len() != ids.len() {
+        return true;
+    }
+    if firsts.len() != ids.len() {
+        return true;
+    }
+    seconds.len() != ids.len()
+}
+
+// The refusal 7 to 15, or 21, of an addition, or none. The book is sound.
 pub fn find_add(
     book_heads: &[u32],
     book_next: &[u32],
     ids: &[u32],
     row_counts: &[u32],
     row_list: &[u32],
+    firsts: &[u32],
+    seconds: &[u32],
     book_free: Rec,
     m: u32,
 ) -> Refusal
     requires { ⌜ HasBook m (now «book_heads») (now «book_next») («book_free» .0) ⌝ }
-    ensures { λ a. ⌜ AddFound m (now («book_heads» .entry)) (now («book_next» .entry)) («book_free» .0) (now (ids .entry)) (now («row_counts» .entry)) (now («row_list» .entry)) a ⌝ }
+    ensures { λ a. ⌜ AddFound m (now («book_heads» .entry)) (now («book_next» .entry)) («book_free» .0) (now (ids .entry)) (now («row_counts» .entry)) (now («row_list» .entry)) (now (firsts .entry)) (now (seconds .entry)) a ⌝ }
 {
-    if shape_outside(ids.len()) {
+    if out_of_step(ids, row_counts, firsts, seconds) {
         return refused(7);
     }
-    if row_counts.len() != ids.len() {
-        return refused(7);
-    }
-    let first = columns_refusal(book_heads, ids, row_counts, row_list, m);
+    let first = columns_refusal(book_heads, ids, row_counts, row_list, firsts, seconds, m);
     if first.number != 0 {
         return first;
     }
@@ -342,22 +278,6 @@ pub fn find_add(
     refused(15)
 }
 
-// The number 8, 9 or 11 that the id at place k of a removal is refused by, or 0.
-fn leaving_refusal(book_heads: &[u32], ids: &[u32], k: usize) -> u32
-    requires { ⌜ k < length (now ids) ⌝ }
-    ensures { λ a. ⌜ IsNumber a (leavingRefusal (length (now («book_heads» .entry))) (isBooked (now («book_heads» .entry)) (getD (now (ids .entry)) k 0)) (now (ids .entry)) k) ⌝ }
-{
-    let number = id_refusal(book_heads, ids, k);
-    if number != 0 {
-        return number;
-    }
-    let id = ids[k];
-    if book::is_booked(book_heads, Id(id)) {
-        return 0;
-    }
-    11
-}
-
 // The first refusal of an id of a removal, position by position.
 fn ids_refusal(book_heads: &[u32], ids: &[u32]) -> Refusal
     requires { ⌜ length (now ids) ≤ 64 ⌝ }
@@ -365,7 +285,7 @@ fn ids_refusal(book_heads: &[u32], ids: &[u32]) -> Refusal
 {
     let mut k: usize = 0;
     while k < ids.len() {
-        let number = leaving_refusal(book_heads, ids, k);
+        let number = position::leaving_refusal(book_heads, ids, k);
         if number != 0 {
             return refused_at(number, k);
         }
@@ -374,7 +294,7 @@ fn ids_refusal(book_heads: &[u32], ids: &[u32]) -> Refusal
     refused(0)
 }
 
-// The refusal 7 to 11 of a removal, or none.
+// The refusal 7 to 9 or 11 of a removal, or none.
 pub fn find_remove(book_heads: &[u32], ids: &[u32]) -> Refusal
     ensures { λ a. ⌜ RemoveFound (now («book_heads» .entry)) (now (ids .entry)) a ⌝ }
 {

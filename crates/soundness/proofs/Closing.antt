@@ -25,7 +25,7 @@ use Rattle.tables.specs.Stored.{Stored, recordsOf, isSoundFor}
 use Rattle.counting.specs.Counting.{CanLink}
 use Rattle.counting.specs.Given.{Counted, givenIn}
 use Rattle.soundness.specs.Checking.{ChainRead, Checked}
-use Rattle.soundness.specs.State.{liveIn, State, WithinWork, ColumnsRead}
+use Rattle.soundness.specs.State.{liveIn, State, SomeState, WithinWork, ColumnsRead}
 use Rattle.soundness.proofs.Column.{SoundParts, sound-parts, entriesHeld, Found}
 
 -- ---- what the code asks after a chain fitted
@@ -43,7 +43,7 @@ pub record CloseFacts (s : Stored) (b : book.Book) (w₂ : List ℕ) (j met n la
 
 -- ---- a column that is not the definition's
 
-module _ {s : Stored} {b : book.Book} {w : List ℕ} {j met : ℕ} (st : State s b w j met)
+module _ {s : Stored} {b : book.Book} {w : List ℕ} {j met : ℕ} (some : SomeState s b w j met)
     {w₁ : List ℕ} {size : ℕ} (d : Counted (length (s .heads)) w w₁ (givenIn (b .heads) (b .rows) (b .next) w (length (s .heads)) (length (s .next)) j) size)
     {w₂ : List ℕ} {a : Chain} (k : Checked (s .rows) (s .counts) (s .next) w₁ w₂ (length (s .heads)) met (at (s .heads) j) a) where
   pub walk-only : WithinWork s b w w₂
@@ -56,13 +56,14 @@ module _ {s : Stored} {b : book.Book} {w : List ℕ} {j met : ℕ} (st : State s
         ];
       }
 
-  pub closing-cut : (l : ℕ) → isSoundFor (liveIn s b) s ≡ false → ColumnsRead s b w w₂ l Cut
-  closing-cut l e =
-      record { only = walk-only; cut = λ _. e; next = λ n t. absurd (let z : _≡_ {A = ℕ} 0 1 = cc in omega arith) }
+  pub closing-cut : (l : ℕ) → ((windows : List ℕ) (clock : ℕ) → State s b windows clock w j met → isSoundFor (liveIn s b windows clock) s ≡ false) →
+      ColumnsRead s b w j met w₂ l Cut
+  closing-cut l h =
+      record { only = walk-only; cut = λ _. h; next = λ n t. absurd (let z : _≡_ {A = ℕ} 0 1 = cc in omega arith) }
 
 -- ---- the parent
 
-module _ {s : Stored} {b : book.Book} {w : List ℕ} {j met : ℕ} (st : State s b w j met) (inside : j ≤ length (s .heads)) {w₁ : List ℕ} {n last : ℕ} (found : Found s b w₁ j met n last) where
+module _ {s : Stored} {b : book.Book} {windows : List ℕ} {clock : ℕ} {w : List ℕ} {j met : ℕ} (st : State s b windows clock w j met) (inside : j ≤ length (s .heads)) {w₁ : List ℕ} {n last : ℕ} (found : Found s b windows clock w₁ j met n last) where
   abbrev m : ℕ
   m = length (s .heads)
 
@@ -70,7 +71,7 @@ module _ {s : Stored} {b : book.Book} {w : List ℕ} {j met : ℕ} (st : State s
   f = length (s .next)
 
   abbrev L : List FactorColumn
-  L = factorOf (length (s .heads)) (liveIn s b)
+  L = factorOf (length (s .heads)) (liveIn s b windows clock)
 
   pattern-is : valuesAt (s .rows) (recordsOf s j) ≡ patternOf (columnAt L j)
   pattern-is =
@@ -79,16 +80,16 @@ module _ {s : Stored} {b : book.Book} {w : List ℕ} {j met : ℕ} (st : State s
 
   pub closing-parent : getD (valuesAt (s .rows) (recordsOf s j)) 1 0 ≡ parentOf L j
   closing-parent =
-      let t : (rest : List ℕ) × (patternOf (columnAt L j) ≡ j ∷ rest) × (rises (suc j) m rest ≡ true) × (getD rest 0 0 ≡ parentOf L j) = pattern-parts m (liveIn s b) j (st .low) inside in
+      let t : (rest : List ℕ) × (patternOf (columnAt L j) ≡ j ∷ rest) × (rises (suc j) m rest ≡ true) × (getD rest 0 0 ≡ parentOf L j) = pattern-parts m (liveIn s b windows clock) j (st .low) inside in
       ap (λ (l : List ℕ). getD l 1 0) (pattern-is ∙ t .1) ∙ t .3
 
   pub closing-within : parentOf L j ≤ m
-  closing-within = elim (parent-above m (liveIn s b) j (st .low) inside) [ inl e ↦ omega arith | inr e ↦ e .1 ]
+  closing-within = elim (parent-above m (liveIn s b windows clock) j (st .low) inside) [ inl e ↦ omega arith | inr e ↦ e .1 ]
 
-  pub closing-differs : at (s .parents) j ≢ parentOf L j → isSoundFor (liveIn s b) s ≡ false
+  pub closing-differs : at (s .parents) j ≢ parentOf L j → isSoundFor (liveIn s b windows clock) s ≡ false
   closing-differs d =
-      refute (isSoundFor (liveIn s b) s) (λ t.
-      (let p : SoundParts (liveIn s b) s = sound-parts (liveIn s b) s t in
+      refute (isSoundFor (liveIn s b windows clock) s) (λ t.
+      (let p : SoundParts (liveIn s b windows clock) s = sound-parts (liveIn s b windows clock) s t in
       d (eqb-true (at (s .parents) j) (parentOf L j) (and-both (entriesHeld s j (columnAt L j)) (eqb (at (s .parents) j) (parentOf L j)) (p .holds j (st .low) inside) .1))))
 
   -- ---- the table

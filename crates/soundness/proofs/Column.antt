@@ -78,21 +78,21 @@ abbrev pub entriesHeld : Stored → (j : ℕ) → FactorColumn → Bool
 entriesHeld s j f = same (valuesAt (s .rows) (recordsOf s j)) (patternOf f) && same (valuesAt (s .counts) (recordsOf s j)) (multiplicitiesOf f)
 
 -- a walk that ended, after the rows given were counted in w₁
-pub record Found (s : Stored) (b : book.Book) (w₁ : List ℕ) (j met n last : ℕ) : Type 0 where
+pub record Found (s : Stored) (b : book.Book) (windows : List ℕ) (clock : ℕ) (w₁ : List ℕ) (j met n last : ℕ) : Type 0 where
   pub fitted : chainFits (s .rows) (s .counts) (s .next) w₁ (length (s .heads)) met (at (s .heads) j) ≡ true
   pub count : n ≡ met + length (recordsOf s j)
   pub within : n ≤ length (s .next)
   pub last-is : last ≡ lastFrom (s .next) (at (s .heads) j)
   pub linked : Linked (s .next) (at (s .heads) j) (recordsOf s j)
-  pub held : entriesHeld s j (columnAt (factorOf (length (s .heads)) (liveIn s b)) j) ≡ true
+  pub held : entriesHeld s j (columnAt (factorOf (length (s .heads)) (liveIn s b windows clock)) j) ≡ true
 
-module _ {s : Stored} {b : book.Book} {w : List ℕ} {j met : ℕ} (st : State s b w j met) (inside : j ≤ length (s .heads))
+module _ {s : Stored} {b : book.Book} {windows : List ℕ} {clock : ℕ} {w : List ℕ} {j met : ℕ} (st : State s b windows clock w j met) (inside : j ≤ length (s .heads))
     {w₁ : List ℕ} {size : ℕ} (d : Counted (length (s .heads)) w w₁ (givenIn (b .heads) (b .rows) (b .next) w (length (s .heads)) (length (s .next)) j) size) where
   abbrev m : ℕ
   m = length (s .heads)
 
   abbrev column : FactorColumn
-  column = columnAt (factorOf (length (s .heads)) (liveIn s b)) j
+  column = columnAt (factorOf (length (s .heads)) (liveIn s b windows clock)) j
 
   abbrev head : ℕ
   head = at (s .heads) j
@@ -103,10 +103,10 @@ module _ {s : Stored} {b : book.Book} {w : List ℕ} {j met : ℕ} (st : State s
       ap (λ (ns : List ℕ). entriesHeld s j (record { counts = ns; parent = 0 })) (ready-counters st inside d)
 
   module _ {w₂ : List ℕ} {a : Chain} (k : Checked (s .rows) (s .counts) (s .next) w₁ w₂ m met (at (s .heads) j) a) where
-    pub column-cut : a ≡ Cut → isSoundFor (liveIn s b) s ≡ false
+    pub column-cut : a ≡ Cut → isSoundFor (liveIn s b windows clock) s ≡ false
     column-cut e =
-        refute (isSoundFor (liveIn s b) s) (λ t.
-        (let p : SoundParts (liveIn s b) s = sound-parts (liveIn s b) s t in
+        refute (isSoundFor (liveIn s b windows clock) s) (λ t.
+        (let p : SoundParts (liveIn s b windows clock) s = sound-parts (liveIn s b windows clock) s t in
         let pool : Pool (s .next) (s .heads) (s .free) = whole-pool (s .next) (s .heads) (s .free) (p .whole) in
         let h : (entriesHeld s j column ≡ true) × (eqb (at (s .parents) j) (column .parent) ≡ true) =
         and-both (entriesHeld s j column) (eqb (at (s .parents) j) (column .parent)) (p .holds j (st .low) inside) in
@@ -115,7 +115,7 @@ module _ {s : Stored} {b : book.Book} {w : List ℕ} {j met : ℕ} (st : State s
         let z : Cut ≡ chainAnswer true met (s .next) head = sym e ∙ k .answer ∙ ap (λ (x : Bool). chainAnswer x met (s .next) head) y in
         let o : _≡_ {A = ℕ} 0 1 = cc in omega arith))
 
-    pub column-ended : {n : ℕ} {last : Rec} → a ≡ Ended n last → Found s b w₁ j met n (last .0)
+    pub column-ended : {n : ℕ} {last : Rec} → a ≡ Ended n last → Found s b windows clock w₁ j met n (last .0)
     column-ended {n} {last} e =
         elim (cases (chainFits (s .rows) (s .counts) (s .next) w₁ m met head)) [
           | inl y ↦

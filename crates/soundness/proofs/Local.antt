@@ -1,6 +1,6 @@
 -- What a column is given is what the definition gives it (given-is): the rows of its children but their first, counted where the children's chains were
 -- verified, the rows of the book columns that start there, and 1 on the diagonal. Before that: the columns that count and start at a row,
--- as a count over the ids of the book; that all booked columns count is used in `starting-count` alone. Assumes nothing.
+-- as a count over the ids of the book (starting-count): one inside its window has its rows, one outside has none and starts nowhere. Assumes nothing.
 use mathlib.Core.Path.{_≡_, refl, sym, ap, subst, _∙_}
 use mathlib.Core.Logic.{inl, inr, _≢_, _↔_}
 use mathlib.Core.Bool.{Bool, true, false, _&&_, not}
@@ -11,26 +11,30 @@ use lib.Dec.{leb, eqb}
 use lib.ListN.{length, getD, take, replicate, length-replicate, getD-replicate}
 use lib.Seq.{ext-getD}
 use borrow.Author.Tests.{lt-ltb, le-ltb, eq-eqb, ne-eqb}
-use Rattle.lists.specs.Lists.{Mem, later, one, among, count, at, times, rises, valuesAt}
-use Rattle.lists.proofs.Tests.{cases, eq-or-ne, lt-or-le, zero-or-pos, and-both}
+use Rattle.lists.specs.Lists.{Mem, later, pick, one, among, sumOf, count, at, times, rises, valuesAt}
+use Rattle.lists.proofs.Tests.{cases, eq-or-ne, lt-or-le, zero-or-pos, and-both, and-false}
 use Rattle.lists.proofs.Count.{count-ext, count-shift}
 use Rattle.lists.proofs.Times.{times-nil, times-self, times-other, times-cons, times-append, mem-times, times-mem, among-none, among-some, UpTo}
 use Rattle.lists.proofs.Rising.{rises-in, rises-first, rises-high}
-use Rattle.symbolic.specs.Columns.{Column, smallest, holds, startingWith, live}
+use Rattle.symbolic.specs.Columns.{Column, smallest, holds, startingWith, inWindow, counted, countedBy, live}
 use Rattle.symbolic.specs.Factor.{FactorColumn, factorOf, columnAt, multiplicity, parentOf, patternOf, childrenWith, countFor}
 use Rattle.symbolic.specs.Definition.{childWith}
 use Rattle.symbolic.proofs.Build.{factor-length, count-is, counts-length, children-count}
 use Rattle.symbolic.proofs.Patterns.{pattern-holds, pattern-parts}
-use Rattle.symbolic.proofs.Live.{live-all}
+use Rattle.symbolic.proofs.Columns.{starts-sum}
+use Rattle.symbolic.proofs.Live.{counted-sum, live-is}
 use Rattle.pool.specs.Chains.{chain}
 use Rattle.pool.proofs.Chains.{chain-nil, linked-step}
 use Rattle.pool.proofs.Whole.{pool-linked}
-use Rattle.book.specs.Book.{Book, isBooked, columnFor, columnsFrom, columnsIn, registerIn}
+use Rattle.book.specs.Book.{Book, isBooked, columnFor, columnsFrom, columnsIn}
 use Rattle.book.specs.Tally.{tallied}
 use Rattle.book.proofs.Columns.{columns-nil, columns-booked, columns-absent, absent-zero}
 use Rattle.book.proofs.Sound.{Sound, fitting}
 use Rattle.book.proofs.Tally.{tallied-length, tallied-cell}
-use Rattle.counting.specs.Counting.{numbered, gathered, startIn}
+use Rattle.windows.specs.Windows.{countsAt}
+use Rattle.windows.specs.Windowed.{linesIn, registerIn}
+use Rattle.windows.proofs.Windowed.{windowed-sum}
+use Rattle.counting.specs.Counting.{numbered, gathered, startIn, startAt}
 use Rattle.counting.proofs.Numbers.{numbered-in, gathered-up, gathered-zero, gathered-count}
 
 -- ---- rising rows stand once
@@ -83,37 +87,75 @@ module _ {m : ℕ} {b : Book} (s : Sound m b) where
         | inr e ↦ linked-step (b .next) (at (b .heads) i) (chain (b .next) (at (b .heads) i)) e (pool-linked (s .pool) i p q) .high
       ]
 
-  pub start-in : (i : ℕ) → 1 ≤ i → startIn b i ≤ m
-  start-in i p = rises-high 1 m (columnFor b i .rows) (rows-rise i p) 0
+  start-high : (i : ℕ) → 1 ≤ i → startIn b i ≤ m
+  start-high i p = rises-high 1 m (columnFor b i .rows) (rows-rise i p) 0
+
+  pub start-in : (windows : List ℕ) (clock i : ℕ) → 1 ≤ i → startAt b windows clock i ≤ m
+  start-in windows clock i p = picked (countsAt windows (length (b .heads)) clock i) (start-high i p)
+    where
+      picked : {v : ℕ} (z : Bool) → v ≤ m → pick z v 0 ≤ m
+      picked true h = h
+      picked false h = omega arith
+
+-- the row where an id starts is its smallest
+start-inside : (b : Book) (windows : List ℕ) (clock i j : ℕ) → 1 ≤ j → startAt b windows clock i ≡ j → startIn b i ≡ j
+start-inside b windows clock i j low = picked (startIn b i) (countsAt windows (length (b .heads)) clock i)
+  where
+    picked : (v : ℕ) (z : Bool) → pick z v 0 ≡ j → v ≡ j
+    picked v true e = e
+    picked v false e = absurd (omega arith)
 
 -- ---- the columns that start at a row, over the ids
 
-abbrev startsWith : Book → (j x : ℕ) → (i : ℕ) → Bool
-startsWith b j x i = eqb (smallest (columnFor b i)) j && holds (columnFor b i) x
+-- a column with its rows, or with none, starts at j and holds x exactly if its start, or 0, is j and it holds x
+counted-start : (rows : List ℕ) (j x : ℕ) → 1 ≤ j → (z : Bool) → (eqb (getD (pick z rows []) 0 0) j && among x (pick z rows [])) ≡ (eqb (pick z (getD rows 0 0) 0) j && among x rows)
+counted-start rows j x low true = refl
+counted-start rows j x low false = rw (ne-eqb 0 j (λ z. omega arith)) refl
 
-absent-not : (b : Book) (j x i : ℕ) → 1 ≤ j → isBooked (b .heads) i ≡ false → startsWith b j x i ≡ false
-unfolding valuesAt
-absent-not b j x i low e = rw (absent-zero (b .heads) i e, chain-nil (length (b .next)) (b .next), ne-eqb 0 j (λ z. omega arith)) refl
+module _ (b : Book) (windows : List ℕ) (clock : ℕ) (j x : ℕ) (low : 1 ≤ j) where
+  -- whether an id counts, starts at j and holds x
+  abbrev startsWith : (id : ℕ) → Bool
+  startsWith i = eqb (startAt b windows clock i) j && holds (columnFor b i) x
 
-starting-from : (b : Book) (j x : ℕ) → 1 ≤ j → (n i : ℕ) → startingWith j x (columnsFrom b (suc i) n) ≡ count (λ k. startsWith b j x (i + k)) n
-unfolding startingWith count
-starting-from b j x low zero i = rw (columns-nil b (suc i)) refl
-starting-from b j x low (suc n) i =
-    let f : ℕ → Bool = λ k. startsWith b j x (i + k) in
-    let one-more : i + 1 ≡ suc i = omega arith in
-    let here : f 1 ≡ startsWith b j x (suc i) = ap (startsWith b j x) one-more in
-    let rest : startingWith j x (columnsFrom b (suc (suc i)) n) ≡ count (λ k. f (suc k)) n =
-    starting-from b j x low n (suc i) ∙ count-ext (λ k. startsWith b j x (suc i + k)) (λ k. f (suc k)) n (λ k p q. (let e : suc i + k ≡ i + suc k = omega arith in ap (startsWith b j x) e)) in
-    let both : count f (suc n) ≡ one (f 1) + count (λ k. f (suc k)) n = count-shift f n in
-    elim (cases (isBooked (b .heads) (suc i))) [
-      | inl e ↦ ap (startingWith j x) (columns-booked b (suc i) n e) ∙ omega (arith, rest, both, ap one here)
-      | inr e ↦ ap (startingWith j x) (columns-absent b (suc i) n e) ∙ omega (arith, rest, both, ap one here, ap one (absent-not b j x (suc i) low e))
-    ]
+  -- a column as the window of its id leaves it
+  abbrev asCounted : Column → Column
+  asCounted c = counted (countsAt windows (length (b .heads)) clock (c .id)) c
 
--- all that the book has counts
-pub starting-count : (m : ℕ) (b : Book) (j x : ℕ) → 1 ≤ j → startingWith j x (live (registerIn m b)) ≡ count (startsWith b j x) (length (b .heads))
-starting-count m b j x low =
-    ap (startingWith j x) (live-all (registerIn m b) (columnsIn b)) ∙ starting-from b j x low (length (b .heads)) 0 ∙ count-ext (λ k. startsWith b j x (0 + k)) (startsWith b j x) (length (b .heads)) (λ k p q. (let e : 0 + k ≡ k = omega arith in ap (startsWith b j x) e))
+  -- one if it starts at j and holds x
+  abbrev startsOf : Column → ℕ
+  startsOf c = one (eqb (smallest (asCounted c)) j && holds (asCounted c) x)
+
+  absent-not : (i : ℕ) → isBooked (b .heads) i ≡ false → startsWith i ≡ false
+  unfolding valuesAt among
+  absent-not i e =
+      rw (absent-zero (b .heads) i e, chain-nil (length (b .next)) (b .next)) (and-false (eqb (pick (countsAt windows (length (b .heads)) clock i) 0 0) j))
+
+  booked-starts : (i : ℕ) → startsOf (columnFor b i) ≡ one (startsWith i)
+  booked-starts i = ap one (counted-start (columnFor b i .rows) j x low (countsAt windows (length (b .heads)) clock i))
+
+  starting-from : (n i : ℕ) → sumOf startsOf (columnsFrom b (suc i) n) ≡ count (λ k. startsWith (i + k)) n
+  unfolding sumOf count
+  starting-from zero i = rw (columns-nil b (suc i)) refl
+  starting-from (suc n) i =
+      let f : ℕ → Bool = λ k. startsWith (i + k) in
+      let one-more : i + 1 ≡ suc i = omega arith in
+      let here : f 1 ≡ startsWith (suc i) = ap startsWith one-more in
+      let rest : sumOf startsOf (columnsFrom b (suc (suc i)) n) ≡ count (λ k. f (suc k)) n =
+      starting-from n (suc i) ∙ count-ext (λ k. startsWith (suc i + k)) (λ k. f (suc k)) n (λ k p q. (let e : suc i + k ≡ i + suc k = omega arith in ap startsWith e)) in
+      let both : count f (suc n) ≡ one (f 1) + count (λ k. f (suc k)) n = count-shift f n in
+      elim (cases (isBooked (b .heads) (suc i))) [
+        | inl e ↦ ap (sumOf startsOf) (columns-booked b (suc i) n e) ∙ omega (arith, rest, both, ap one here, booked-starts (suc i))
+        | inr e ↦ ap (sumOf startsOf) (columns-absent b (suc i) n e) ∙ omega (arith, rest, both, ap one here, ap one (absent-not (suc i) e))
+      ]
+
+  -- the live columns that start at j and hold x, counted over the ids
+  pub starting-count : (m : ℕ) → startingWith j x (live (registerIn m clock b windows)) ≡ count startsWith (length (b .heads))
+  starting-count m =
+      ap (startingWith j x) (live-is (registerIn m clock b windows) (linesIn b windows)) ∙ starts-sum j x (countedBy (inWindow clock) (linesIn b windows)) ∙
+      counted-sum (inWindow clock) (λ c. one (eqb (smallest c) j && holds c x)) (linesIn b windows) ∙
+      windowed-sum windows (length (b .heads)) (λ c. one (eqb (smallest (counted (inWindow clock c) c)) j && holds (counted (inWindow clock c) c) x)) (columnsIn b) ∙
+      starting-from (length (b .heads)) 0 ∙
+      count-ext (λ k. startsWith (0 + k)) startsWith (length (b .heads)) (λ k p q. (let e : 0 + k ≡ k = omega arith in ap startsWith e))
 
 -- ---- the local equation
 
@@ -122,10 +164,10 @@ pub record Verified (m : ℕ) (cs : List Column) (parent : ℕ → ℕ) (tail : 
   pub parent-is : parent c ≡ parentOf (factorOf m cs) c
   pub rows-are : patternOf (columnAt (factorOf m cs) c) ≡ c ∷ tail c
 
-module _ {m : ℕ} {b : Book} (s : Sound m b) (parent : ℕ → ℕ) (tail : ℕ → List ℕ) (j : ℕ) (low : 1 ≤ j) (high : j ≤ m)
-    (before : (c : ℕ) → 1 ≤ c → c < j → Verified m (live (registerIn m b)) parent tail c) where
+module _ {m : ℕ} {b : Book} (s : Sound m b) (windows : List ℕ) (clock : ℕ) (parent : ℕ → ℕ) (tail : ℕ → List ℕ) (j : ℕ) (low : 1 ≤ j) (high : j ≤ m)
+    (before : (c : ℕ) → 1 ≤ c → c < j → Verified m (live (registerIn m clock b windows)) parent tail c) where
   abbrev cs : List Column
-  cs = live (registerIn m b)
+  cs = live (registerIn m clock b windows)
 
   abbrev L : List FactorColumn
   L = factorOf m cs
@@ -134,7 +176,7 @@ module _ {m : ℕ} {b : Book} (s : Sound m b) (parent : ℕ → ℕ) (tail : ℕ
   kids = gathered tail (numbered parent j (j - 1))
 
   abbrev cols : List ℕ
-  cols = gathered (λ i. columnFor b i .rows) (numbered (startIn b) j (length (b .heads)))
+  cols = gathered (λ i. columnFor b i .rows) (numbered (startAt b windows clock) j (length (b .heads)))
 
   -- the rows of a child
   tail-parts : (c : ℕ) → 1 ≤ c → c < j → (rises (suc c) m (tail c) ≡ true) × (getD (tail c) 0 0 ≡ parentOf L c)
@@ -180,8 +222,8 @@ module _ {m : ℕ} {b : Book} (s : Sound m b) (parent : ℕ → ℕ) (tail : ℕ
 
   cols-up : UpTo m cols
   cols-up =
-      gathered-up m (λ i. columnFor b i .rows) (numbered (startIn b) j (length (b .heads)))
-      (λ i n. rises-up m (columnFor b i .rows) (rows-rise s i (numbered-in (startIn b) j (length (b .heads)) i n .0)))
+      gathered-up m (λ i. columnFor b i .rows) (numbered (startAt b windows clock) j (length (b .heads)))
+      (λ i n. rises-up m (columnFor b i .rows) (rows-rise s i (numbered-in (startAt b windows clock) j (length (b .heads)) i n .0)))
 
   kids-below : (x : ℕ) → x < j → times x kids ≡ 0
   kids-below x h =
@@ -191,11 +233,11 @@ module _ {m : ℕ} {b : Book} (s : Sound m b) (parent : ℕ → ℕ) (tail : ℕ
 
   cols-below : (x : ℕ) → x < j → times x cols ≡ 0
   cols-below x h =
-      gathered-zero x (λ i. columnFor b i .rows) (numbered (startIn b) j (length (b .heads))) (λ i n.
-      (let t : (1 ≤ i) × (i ≤ length (b .heads)) × (startIn b i ≡ j) = numbered-in (startIn b) j (length (b .heads)) i n in
+      gathered-zero x (λ i. columnFor b i .rows) (numbered (startAt b windows clock) j (length (b .heads))) (λ i n.
+      (let t : (1 ≤ i) × (i ≤ length (b .heads)) × (startAt b windows clock i ≡ j) = numbered-in (startAt b windows clock) j (length (b .heads)) i n in
       elim (zero-or-pos (times x (columnFor b i .rows))) [
         | inl z ↦ z
-        | inr z ↦ absurd (omega (arith, least (columnFor b i .rows) (rows-rise s i (t .0)) (times-mem x (columnFor b i .rows) z), t .2))
+        | inr z ↦ absurd (omega (arith, least (columnFor b i .rows) (rows-rise s i (t .0)) (times-mem x (columnFor b i .rows) z), start-inside b windows clock i j low (t .2)))
       ]))
     where
       least : {x : ℕ} (xs : List ℕ) → rises 1 m xs ≡ true → Mem x xs → getD xs 0 0 ≤ x
@@ -211,8 +253,8 @@ module _ {m : ℕ} {b : Book} (s : Sound m b) (parent : ℕ → ℕ) (tail : ℕ
 
   cols-count : (x : ℕ) → times x cols ≡ startingWith j x cs
   cols-count x =
-      gathered-count (λ i. columnFor b i .rows) (startIn b) (λ i. holds (columnFor b i) x) j x (length (b .heads))
-      (λ i a h e. rises-once 1 m (columnFor b i .rows) (rows-rise s i a) x) ∙ sym (starting-count m b j x low)
+      gathered-count (λ i. columnFor b i .rows) (startAt b windows clock) (λ i. holds (columnFor b i) x) j x (length (b .heads))
+      (λ i a h e. rises-once 1 m (columnFor b i .rows) (rows-rise s i a) x) ∙ sym (starting-count b windows clock j x low m)
 
   one-times : (x : ℕ) → times x (j ∷ []) ≡ one (eqb x j)
   one-times x =

@@ -24,6 +24,8 @@ use Rattle.pool.specs.Chains.{chain}
 use Rattle.pool.specs.Whole.{chains, isWhole, AllLinked, Pool}
 use Rattle.pool.specs.Ends.{lasts, NoneTwice}
 use Rattle.pool.specs.Free.{FreeHas, Closed, zeroPairs}
+use Rattle.pool.specs.declared.Walk.{Walk}
+use Rattle.pool.specs.declared.Walk.the-variants.{Ended}
 use Rattle.pool.proofs.Whole.{whole-pool}
 use Rattle.pool.proofs.Apart.{chains-find}
 use Rattle.pool.proofs.Closed.{Rowed, closed-whole, whole-closed, zero-pairs, zero-pairs-back}
@@ -33,8 +35,9 @@ use Rattle.book.specs.Book as book
 use Rattle.tables.specs.Stored.{Stored, recordsOf, holdsFrom, isSoundFor}
 use Rattle.counting.proofs.Parts.{part-only}
 use Rattle.soundness.specs.Checking.{CanReadFree, FreeRead}
-use Rattle.soundness.specs.State.{liveIn, walked, State, WithinWork, FactorRead}
+use Rattle.soundness.specs.State.{liveIn, walked, State, SomeState, ColumnsRead, Prepared, SomePrepared, FactorRead}
 use Rattle.soundness.proofs.Ready.{HeldColumn, held}
+use Rattle.soundness.proofs.Columns.{first-state}
 use Rattle.soundness.proofs.Column.{holds-make, SoundParts, sound-parts}
 
 -- ---- the records that the columns do not have
@@ -65,7 +68,7 @@ module _ {rows counts next w : List ℕ} {m : ℕ} (pre : CanReadFree rows count
 
 -- ---- after the last column
 
-module _ {s : Stored} {b : book.Book} {w : List ℕ} {n : ℕ} (st : State s b w (length (s .heads) + 1) n) where
+module _ {s : Stored} {b : book.Book} {windows : List ℕ} {clock : ℕ} {w : List ℕ} {n : ℕ} (st : State s b windows clock w (length (s .heads) + 1) n) where
   abbrev m : ℕ
   m = length (s .heads)
 
@@ -73,7 +76,7 @@ module _ {s : Stored} {b : book.Book} {w : List ℕ} {n : ℕ} (st : State s b w
   f = length (s .next)
 
   abbrev L : List FactorColumn
-  L = factorOf (length (s .heads)) (liveIn s b)
+  L = factorOf (length (s .heads)) (liveIn s b windows clock)
 
   last-number : length (s .heads) + 1 - 1 ≡ length (s .heads)
   last-number = omega arith
@@ -102,20 +105,20 @@ module _ {s : Stored} {b : book.Book} {w : List ℕ} {n : ℕ} (st : State s b w
       let h : HeldColumn s (columnAt L c) c = held s (columnAt L c) c (st .holds c (omega arith) (omega (arith, t .1))) in
       let here : Mem x (recordsOf s c) =
       times-mem x (recordsOf s c) (subst (λ (i : ℕ). 1 ≤ times x (chain (s .next) (getD (s .heads) i 0))) (sym e) (t .2)) in
-      rises-in 1 m (subst (λ (l : List ℕ). Mem (at (s .rows) x) l) (h .rows-are) (values-mem (s .rows) here)) (pattern-within-rows m (liveIn s b) c (omega arith) (omega (arith, t .1))) .0
+      rises-in 1 m (subst (λ (l : List ℕ). Mem (at (s .rows) x) l) (h .rows-are) (values-mem (s .rows) here)) (pattern-within-rows m (liveIn s b windows clock) c (omega arith) (omega (arith, t .1))) .0
 
   -- ---- sound, and closed with zero multiplicities
 
-  sound-closed : isSoundFor (liveIn s b) s ≡ true → Closed (s .rows) (s .next) (s .heads) (s .free) × (zeroPairs (s .rows) (s .counts) ≡ times 0 (s .rows))
+  sound-closed : isSoundFor (liveIn s b windows clock) s ≡ true → Closed (s .rows) (s .next) (s .heads) (s .free) × (zeroPairs (s .rows) (s .counts) ≡ times 0 (s .rows))
   sound-closed e =
-      let p : SoundParts (liveIn s b) s = sound-parts (liveIn s b) s e in
+      let p : SoundParts (liveIn s b windows clock) s = sound-parts (liveIn s b windows clock) s e in
       let x : Bool = allZero (valuesAt (s .rows) (chain (s .next) (s .free))) in
       let y : Bool = allZero (valuesAt (s .counts) (chain (s .next) (s .free))) in
       let z : (x ≡ true) × (y ≡ true) = and-both x y (p .free-zero) in
       let pool : Pool (s .next) (s .heads) (s .free) = whole-pool (s .next) (s .heads) (s .free) (p .whole) in
       (whole-closed (st .sizes .stored .rows-long) all-linked rowed (p .whole) (z .0), zero-pairs-back (s .rows) (s .counts) (st .sizes .stored .rows-long) (st .sizes .stored .counts-long) pool rowed (z .0) (z .1))
 
-  closed-sound : Closed (s .rows) (s .next) (s .heads) (s .free) → zeroPairs (s .rows) (s .counts) ≡ times 0 (s .rows) → isSoundFor (liveIn s b) s ≡ true
+  closed-sound : Closed (s .rows) (s .next) (s .heads) (s .free) → zeroPairs (s .rows) (s .counts) ≡ times 0 (s .rows) → isSoundFor (liveIn s b windows clock) s ≡ true
   closed-sound c e =
       let t : (isWhole (s .next) (s .heads) (s .free) ≡ true) × (allZero (valuesAt (s .rows) (chain (s .next) (s .free))) ≡ true) = closed-whole (st .sizes .stored .rows-long) all-linked rowed c in
       let pool : Pool (s .next) (s .heads) (s .free) = whole-pool (s .next) (s .heads) (s .free) (t .0) in
@@ -148,25 +151,17 @@ module _ {s : Stored} {b : book.Book} {w : List ℕ} {n : ℕ} (st : State s b w
         long = omega (arith, st .sizes .long);
       }
 
-  module _ {w₀ : List ℕ} (only : WithinWork s b w₀ w) {a : Bool} (apart : Decides (NoneTwice (region w (6 * length (s .heads)) (length (s .heads)))) a) where
+  module _ {a : Bool} (apart : Decides (NoneTwice (region w (6 * length (s .heads)) (length (s .heads)))) a) where
     -- two columns share a record
-    pub last-shared : a ≡ false → FactorRead s b w₀ w false
-    last-shared e =
-        record {
-          only = only;
-          answer = sym (refute (isSoundFor (liveIn s b) s) (λ t.
-              false≢true (sym e ∙ apart .no (subst NoneTwice (sym lasts-are) (sound-closed t .0 .apart)))));
-        }
+    unsound-shared : a ≡ false → false ≡ isSoundFor (liveIn s b windows clock) s
+    unsound-shared e =
+        sym (refute (isSoundFor (liveIn s b windows clock) s) (λ t.
+        false≢true (sym e ∙ apart .no (subst NoneTwice (sym lasts-are) (sound-closed t .0 .apart)))))
 
-    pub last-answer : {y : List ℕ} {c : Bool} → a ≡ true → Decides (FreeRead (s .rows) (s .counts) (s .next) (s .free) (length (s .next) - n)) c →
-        OnlyIn (piecesAt (length (s .heads)) (length (s .next))) (2 * length (s .next)) w y → FactorRead s b w₀ y c
-    last-answer {y} {c} e d o =
-        record {
-          only = only-trans only (only-wider 0 _ (omega arith) (omega arith) o);
-          answer = both-ways c (isSoundFor (liveIn s b) s) sound found;
-        }
+    sound-free : {c : Bool} → a ≡ true → Decides (FreeRead (s .rows) (s .counts) (s .next) (s .free) (length (s .next) - n)) c → c ≡ isSoundFor (liveIn s b windows clock) s
+    sound-free {c} e d = both-ways c (isSoundFor (liveIn s b windows clock) s) sound found
       where
-        sound : c ≡ true → isSoundFor (liveIn s b) s ≡ true
+        sound : c ≡ true → isSoundFor (liveIn s b windows clock) s ≡ true
         sound t =
             let r : FreeRead (s .rows) (s .counts) (s .next) (s .free) (length (s .next) - n) = d .yes t in
             closed-sound
@@ -177,8 +172,29 @@ module _ {s : Stored} {b : book.Book} {w : List ℕ} {n : ℕ} (st : State s b w
             })
             (r .both-zero ∙ sym (r .rows-zero))
 
-        found : isSoundFor (liveIn s b) s ≡ true → c ≡ true
+        found : isSoundFor (liveIn s b windows clock) s ≡ true → c ≡ true
         found t =
             let p : Closed (s .rows) (s .next) (s .heads) (s .free) × (zeroPairs (s .rows) (s .counts) ≡ times 0 (s .rows)) = sound-closed t in
             let q : times 0 (s .rows) ≡ length (s .next) - n = omega (arith, p .0 .size, counted) in
             d .no (record { rows-zero = q; both-zero = p .1 ∙ q; has = subst (FreeHas (s .rows) (s .next) (s .free)) q (p .0 .free-has) })
+
+-- ---- by all windows and clocks that were prepared for
+
+module _ {s : Stored} {b : book.Book} {w₀ w : List ℕ} {n : ℕ} {z : Walk} (r : ColumnsRead s b w₀ 1 0 w (length (s .heads) + 1) z) (ended : z ≡ Ended n) where
+  after : (windows : List ℕ) (clock : ℕ) → Prepared s b windows clock w₀ → State s b windows clock w (length (s .heads) + 1) n
+  after windows clock p = r .next n ended windows clock (first-state p)
+
+  pub some-after : SomePrepared s b w₀ → SomeState s b w (length (s .heads) + 1) n
+  some-after p = record { windows = p .windows; clock = p .clock; state = after (p .windows) (p .clock) (p .prepared) }
+
+  module _ {a : Bool} (apart : Decides (NoneTwice (region w (6 * length (s .heads)) (length (s .heads)))) a) where
+    pub last-shared : a ≡ false → FactorRead s b w₀ w false
+    last-shared e = record { only = r .only; answer = λ windows clock p. unsound-shared (after windows clock p) apart e }
+
+    pub last-answer : {y : List ℕ} {c : Bool} → a ≡ true → Decides (FreeRead (s .rows) (s .counts) (s .next) (s .free) (length (s .next) - n)) c →
+        OnlyIn (piecesAt (length (s .heads)) (length (s .next))) (2 * length (s .next)) w y → FactorRead s b w₀ y c
+    last-answer e d o =
+        record {
+          only = only-trans (r .only) (only-wider 0 _ (omega arith) (omega arith) o);
+          answer = λ windows clock p. sound-free (after windows clock p) apart e d;
+        }

@@ -27,7 +27,7 @@ use Rattle.book.specs.Book as book
 use Rattle.book.specs.Tally.{tallied, bookRows}
 use Rattle.book.proofs.Sound.{Sound, sound-of}
 use Rattle.tables.specs.Stored.{Stored, recordsOf, holdsColumn}
-use Rattle.counting.specs.Counting.{numbered, gathered, startIn}
+use Rattle.counting.specs.Counting.{numbered, gathered, startAt}
 use Rattle.counting.specs.Given.{Counted, childrenIn, stashed, Stashed, startingIn, givenIn, CanTallyAll}
 use Rattle.soundness.specs.Checking.{CanCheck}
 use Rattle.soundness.specs.State.{liveIn, State}
@@ -63,7 +63,7 @@ held s f j e =
       parent-is = eqb-true (at (s .parents) j) (f .parent) (t .1);
     }
 
-module _ {s : Stored} {b : book.Book} {w : List ℕ} {j met : ℕ} (st : State s b w j met) where
+module _ {s : Stored} {b : book.Book} {windows : List ℕ} {clock : ℕ} {w : List ℕ} {j met : ℕ} (st : State s b windows clock w j met) where
   abbrev m : ℕ
   m = length (s .heads)
 
@@ -71,15 +71,15 @@ module _ {s : Stored} {b : book.Book} {w : List ℕ} {j met : ℕ} (st : State s
   f = length (s .next)
 
   abbrev L : List FactorColumn
-  L = factorOf (length (s .heads)) (liveIn s b)
+  L = factorOf (length (s .heads)) (liveIn s b windows clock)
 
   read-column : (c : ℕ) → 1 ≤ c → c < j → HeldColumn s (columnAt L c) c
   read-column c p q = held s (columnAt L c) c (st .holds c p q)
 
-  read-verified : (c : ℕ) → 1 ≤ c → c < j → Verified m (liveIn s b) (at (s .parents)) (tailOf s) c
+  read-verified : (c : ℕ) → 1 ≤ c → c < j → Verified m (liveIn s b windows clock) (at (s .parents)) (tailOf s) c
   read-verified c p q =
       let h : HeldColumn s (columnAt L c) c = read-column c p q in
-      let t : (rest : List ℕ) × (patternOf (columnAt L c) ≡ c ∷ rest) × (rises (suc c) m rest ≡ true) × (getD rest 0 0 ≡ parentOf L c) = pattern-parts m (liveIn s b) c p (omega (arith, st .high)) in
+      let t : (rest : List ℕ) × (patternOf (columnAt L c) ≡ c ∷ rest) × (rises (suc c) m rest ≡ true) × (getD rest 0 0 ≡ parentOf L c) = pattern-parts m (liveIn s b windows clock) c p (omega (arith, st .high)) in
       let e : tailOf s c ≡ t .0 = ap (drop 1) (h .rows-are ∙ t .1) in
       record { parent-is = h .parent-is; rows-are = t .1 ∙ ap (λ (l : List ℕ). c ∷ l) (sym e) }
 
@@ -87,9 +87,9 @@ module _ {s : Stored} {b : book.Book} {w : List ℕ} {j met : ℕ} (st : State s
   read-length : (c : ℕ) → 1 ≤ c → c < j → (length (recordsOf s c) ≡ 1 + length (tailOf s c)) × (length (recordsOf s c) ≤ m)
   read-length c p q =
       let h : HeldColumn s (columnAt L c) c = read-column c p q in
-      let v : Verified m (liveIn s b) (at (s .parents)) (tailOf s) c = read-verified c p q in
+      let v : Verified m (liveIn s b windows clock) (at (s .parents)) (tailOf s) c = read-verified c p q in
       let l : length (recordsOf s c) ≡ length (patternOf (columnAt L c)) = sym (values-length (s .rows) (recordsOf s c)) ∙ ap length (h .rows-are) in
-      let r : length (patternOf (columnAt L c)) + 1 ≤ suc m = rises-length 1 m (patternOf (columnAt L c)) (omega arith) (pattern-within-rows m (liveIn s b) c p (omega (arith, st .high))) in
+      let r : length (patternOf (columnAt L c)) + 1 ≤ suc m = rises-length 1 m (patternOf (columnAt L c)) (omega arith) (pattern-within-rows m (liveIn s b windows clock) c p (omega (arith, st .high))) in
       (omega (arith, l, ap length (v .rows-are)), omega arith)
 
   -- its rows but the first, in the stash
@@ -129,12 +129,12 @@ module _ {s : Stored} {b : book.Book} {w : List ℕ} {j met : ℕ} (st : State s
     kids-are : childrenIn w m j ≡ numbered (at (s .parents)) j (j - 1)
     kids-are = linked-chain (region w (childNext m) m) (cell w (childHead m) (j - 1)) (numbered (at (s .parents)) j (j - 1)) kids-linked
 
-    cols-linked : Linked (region w (columnNext m f (length (b .next))) (length (b .heads))) (cell w (columnHead m) (j - 1)) (numbered (startIn b) j (length (b .heads)))
+    cols-linked : Linked (region w (columnNext m f (length (b .next))) (length (b .heads))) (cell w (columnHead m) (j - 1)) (numbered (startAt b windows clock) j (length (b .heads)))
     cols-linked = st .columns j (st .low) inside
 
-    cols-are : startingIn w m f (length (b .heads)) (length (b .next)) j ≡ numbered (startIn b) j (length (b .heads))
+    cols-are : startingIn w m f (length (b .heads)) (length (b .next)) j ≡ numbered (startAt b windows clock) j (length (b .heads))
     cols-are =
-        linked-chain (region w (columnNext m f (length (b .next))) (length (b .heads))) (cell w (columnHead m) (j - 1)) (numbered (startIn b) j (length (b .heads))) cols-linked
+        linked-chain (region w (columnNext m f (length (b .next))) (length (b .heads))) (cell w (columnHead m) (j - 1)) (numbered (startAt b windows clock) j (length (b .heads))) cols-linked
 
     a-kid : (c : ℕ) → 1 ≤ times c (childrenIn w m j) → (1 ≤ c) × (c < j)
     a-kid c n =
@@ -143,14 +143,14 @@ module _ {s : Stored} {b : book.Book} {w : List ℕ} {j met : ℕ} (st : State s
 
     an-id : (i : ℕ) → 1 ≤ times i (startingIn w m f (length (b .heads)) (length (b .next)) j) → (1 ≤ i) × (i ≤ length (b .heads))
     an-id i n =
-        let t : (1 ≤ i) × (i ≤ length (b .heads)) × (startIn b i ≡ j) =
-        numbered-in (startIn b) j (length (b .heads)) i (subst (λ (l : List ℕ). 1 ≤ times i l) cols-are n) in
+        let t : (1 ≤ i) × (i ≤ length (b .heads)) × (startAt b windows clock i ≡ j) =
+        numbered-in (startAt b windows clock) j (length (b .heads)) i (subst (λ (l : List ℕ). 1 ≤ times i l) cols-are n) in
         (t .0, t .1)
 
     tails-up : (c : ℕ) → 1 ≤ c → c < j → UpTo m (tailOf s c)
     tails-up c p q =
-        let v : Verified m (liveIn s b) (at (s .parents)) (tailOf s) c = read-verified c p q in
-        tail-rows m (patternOf (columnAt L c)) c (tailOf s c) (v .rows-are) (rises-up m (patternOf (columnAt L c)) (pattern-within-rows m (liveIn s b) c p (omega (arith, st .high))))
+        let v : Verified m (liveIn s b windows clock) (at (s .parents)) (tailOf s) c = read-verified c p q in
+        tail-rows m (patternOf (columnAt L c)) c (tailOf s c) (v .rows-are) (rises-up m (patternOf (columnAt L c)) (pattern-within-rows m (liveIn s b windows clock) c p (omega (arith, st .high))))
       where
         tail-rows : (m : ℕ) (xs : List ℕ) (y : ℕ) (ys : List ℕ) → xs ≡ y ∷ ys → UpTo m xs → UpTo m ys
         tail-rows m xs y ys e up x n = up x (omega (arith, ap (times x) e, times-cons x y ys))
@@ -166,7 +166,7 @@ module _ {s : Stored} {b : book.Book} {w : List ℕ} {j met : ℕ} (st : State s
           children = linked-self (region w (childNext m) m) (cell w (childHead m) (j - 1)) (numbered (at (s .parents)) j (j - 1)) kids-linked;
           stash = λ c n. (let t : (1 ≤ c) × (c < j) = a-kid c n in stash-piece c (t .0) (t .1) (tails-up c (t .0) (t .1)));
           starting =
-              linked-self (region w (columnNext m f (length (b .next))) (length (b .heads))) (cell w (columnHead m) (j - 1)) (numbered (startIn b) j (length (b .heads))) cols-linked;
+              linked-self (region w (columnNext m f (length (b .next))) (length (b .heads))) (cell w (columnHead m) (j - 1)) (numbered (startAt b windows clock) j (length (b .heads))) cols-linked;
           copied = λ i n.
               (let t : (1 ≤ i) × (i ≤ length (b .heads)) = an-id i n in
               record { free = b .free; has = record { m = m; sized = st .sizes .booked; sound = st .sound; low = t .0; high = t .1 }; fits = rows-few book-sound i (t .0) });
@@ -175,13 +175,13 @@ module _ {s : Stored} {b : book.Book} {w : List ℕ} {j met : ℕ} (st : State s
 
     abbrev given-rows : List ℕ
     given-rows =
-        j ∷ (gathered (tailOf s) (numbered (at (s .parents)) j (j - 1)) ++ gathered (λ (i : ℕ). book.columnFor b i .rows) (numbered (startIn b) j (length (b .heads))))
+        j ∷ (gathered (tailOf s) (numbered (at (s .parents)) j (j - 1)) ++ gathered (λ (i : ℕ). book.columnFor b i .rows) (numbered (startAt b windows clock) j (length (b .heads))))
 
     given-same : givenIn (b .heads) (b .rows) (b .next) w m f j ≡ given-rows
     given-same =
         let k : gathered (stashed w m f) (childrenIn w m j) ≡ gathered (tailOf s) (numbered (at (s .parents)) j (j - 1)) =
         gathered-ext (stashed w m f) (tailOf s) (childrenIn w m j) (λ c n. (let t : (1 ≤ c) × (c < j) = a-kid c n in stash-tail c (t .0) (t .1))) ∙ ap (gathered (tailOf s)) kids-are in
-        let l : gathered (bookRows (b .heads) (b .rows) (b .next)) (startingIn w m f (length (b .heads)) (length (b .next)) j) ≡ gathered (λ (i : ℕ). book.columnFor b i .rows) (numbered (startIn b) j (length (b .heads))) =
+        let l : gathered (bookRows (b .heads) (b .rows) (b .next)) (startingIn w m f (length (b .heads)) (length (b .next)) j) ≡ gathered (λ (i : ℕ). book.columnFor b i .rows) (numbered (startAt b windows clock) j (length (b .heads))) =
         gathered-ext (bookRows (b .heads) (b .rows) (b .next)) (λ (i : ℕ). book.columnFor b i .rows) (startingIn w m f (length (b .heads)) (length (b .next)) j) (λ i n. refl) ∙
         ap (gathered (λ (i : ℕ). book.columnFor b i .rows)) cols-are in
         rw (k, l) refl
@@ -194,7 +194,7 @@ module _ {s : Stored} {b : book.Book} {w : List ℕ} {j met : ℕ} (st : State s
       pub ready-counters : region w₁ 0 m ≡ columnAt L j .counts
       ready-counters =
           d .counters ∙ ap (tallied (region w 0 m)) given-same ∙ ap (λ (l : List ℕ). tallied l given-rows) front-zero ∙
-          given-is book-sound (at (s .parents)) (tailOf s) j (st .low) inside read-verified
+          given-is book-sound windows clock (at (s .parents)) (tailOf s) j (st .low) inside read-verified
 
       pub ready-check : CanCheck (s .rows) (s .counts) (s .next) w₁ m met size
       ready-check =

@@ -27,7 +27,7 @@ use Rattle.ends.specs.Naming.{CanName, namedIn, Named}
 use Rattle.ends.proofs.Naming.{NamedOnly, named-only, named-keep, named-next, named-region}
 use Rattle.book.specs.Book as book
 use Rattle.tables.specs.Stored.{Stored, recordsOf, holdsColumn}
-use Rattle.counting.specs.Counting.{linkedIn, ListedIn, startIn, OnlyTwo}
+use Rattle.counting.specs.Counting.{linkedIn, ListedIn, startAt, OnlyTwo}
 use Rattle.counting.specs.Given.{Counted, givenIn}
 use Rattle.counting.proofs.Linking.{link-only, link-listed}
 use Rattle.soundness.specs.Checking.{Checked}
@@ -59,7 +59,7 @@ module _ (ns xs : List ℕ) (h : ℕ) where
 
 -- ---- what the stores leave
 
-module _ {s : Stored} {b : book.Book} {w : List ℕ} {j met : ℕ} (st : State s b w j met) (inside : j ≤ length (s .heads)) {w₁ : List ℕ} {n last : ℕ} (found : Found s b w₁ j met n last)
+module _ {s : Stored} {b : book.Book} {windows : List ℕ} {clock : ℕ} {w : List ℕ} {j met : ℕ} (st : State s b windows clock w j met) (inside : j ≤ length (s .heads)) {w₁ : List ℕ} {n last : ℕ} (found : Found s b windows clock w₁ j met n last)
     {size : ℕ} (d : Counted (length (s .heads)) w w₁ (givenIn (b .heads) (b .rows) (b .next) w (length (s .heads)) (length (s .next)) j) size)
     {w₂ : List ℕ} {a : Chain} (k : Checked (s .rows) (s .counts) (s .next) w₁ w₂ (length (s .heads)) met (at (s .heads) j) a) where
   abbrev m : ℕ
@@ -69,7 +69,7 @@ module _ {s : Stored} {b : book.Book} {w : List ℕ} {j met : ℕ} (st : State s
   f = length (s .next)
 
   abbrev L : List FactorColumn
-  L = factorOf (length (s .heads)) (liveIn s b)
+  L = factorOf (length (s .heads)) (liveIn s b windows clock)
 
   two-length : length w₂ ≡ length w
   two-length = closing-length st inside found d k
@@ -125,10 +125,10 @@ module _ {s : Stored} {b : book.Book} {w : List ℕ} {j met : ℕ} (st : State s
       next-zero : IsZero w₅ 0 m
       next-zero i h = near (0 + i) (omega arith) ∙ four-place (0 + i) (inl (omega arith)) (λ e. omega arith) ∙ chain-read st inside found d k .zero i h
 
-      next-columns : ListedIn w₅ (columnHead m) m (columnNext m f (length (b .next))) (length (b .heads)) (startIn b) (length (b .heads))
+      next-columns : ListedIn w₅ (columnHead m) m (columnNext m f (length (b .next))) (length (b .heads)) (startAt b windows clock) (length (b .heads))
       next-columns =
           let c : ℕ = columnNext m f (length (b .next)) in
-          listed-keep w w₅ (columnHead m) m c (length (b .heads)) (startIn b) (length (b .heads))
+          listed-keep w w₅ (columnHead m) m c (length (b .heads)) (startAt b windows clock) (length (b .heads))
           (region-ext w w₅ c c (length (b .heads)) (omega (arith, st .sizes .long)) (omega (arith, st .sizes .long, five-length))
           (λ i h. past (c + i) (omega arith) ∙ four-far (c + i) (omega arith) (λ e. omega arith) (inr (omega arith))))
           (λ i h. near (columnHead m + i) (omega arith) ∙ four-far (columnHead m + i) (omega arith) (λ e. omega arith) (inl (omega arith))) (st .columns)
@@ -258,7 +258,7 @@ module _ {s : Stored} {b : book.Book} {w : List ℕ} {j met : ℕ} (st : State s
             named = subst (λ (x : ℕ). Named w₅ (lastsAt m) x (namesAt m) f) (sym q) (new .1);
           }
 
-      closing-only : WithinWork s b w w₅
+      pub closing-only : WithinWork s b w w₅
       closing-only =
           record {
             same-length = five-length;
@@ -268,7 +268,7 @@ module _ {s : Stored} {b : book.Book} {w : List ℕ} {j met : ℕ} (st : State s
             ];
           }
 
-      closing-state : State s b w₅ (j + 1) n
+      pub closing-state : State s b windows clock w₅ (j + 1) n
       closing-state =
           record {
             sizes = record {
@@ -297,10 +297,12 @@ module _ {s : Stored} {b : book.Book} {w : List ℕ} {j met : ℕ} (st : State s
                 ];
           }
 
-      pub closing-end : ColumnsRead s b w w₅ (j + 1) (Ended n)
-      closing-end =
-          record {
-            only = closing-only;
-            cut = λ e. absurd (let z : _≡_ {A = ℕ} 0 1 = cc in omega arith);
-            next = λ l e. (let q : n ≡ l = cc in subst (State s b w₅ (j + 1)) q closing-state);
-          }
+-- the column was read, for whatever windows and clock the state was known
+pub closing-end : {s : Stored} {b : book.Book} {w : List ℕ} {j met : ℕ} {w₅ : List ℕ} {n : ℕ} → WithinWork s b w w₅ →
+    ((windows : List ℕ) (clock : ℕ) → State s b windows clock w j met → State s b windows clock w₅ (j + 1) n) → ColumnsRead s b w j met w₅ (j + 1) (Ended n)
+closing-end {s} {b} {w} {j} {met} {w₅} {n} only h =
+    record {
+      only = only;
+      cut = λ e. absurd (let z : _≡_ {A = ℕ} 0 1 = cc in omega arith);
+      next = λ l e windows clock st. (let q : n ≡ l = cc in subst (State s b windows clock w₅ (j + 1)) q (h windows clock st));
+    }

@@ -1,5 +1,5 @@
 -- What is known when columns 1 to j − 1 of L were read: their chains end, and their last records are named; their rows stand in the stash, the children and
--- the book's columns are listed, no counter is left, and each column is the definition's. What reading one column and all columns answer.
+-- the book's columns that count are listed, no counter is left, and each column is the definition's. What reading one column and all columns answer.
 -- Assumes nothing: these are definitions.
 use mathlib.Core.Path.{_≡_}
 use mathlib.Core.Bool.{Bool, true, false}
@@ -17,12 +17,13 @@ use Rattle.pool.specs.declared.Walk.{Walk}
 use Rattle.pool.specs.declared.Walk.the-variants.{Ended, Cut}
 use Rattle.ends.specs.Naming.{Named}
 use Rattle.book.specs.Book as book
+use Rattle.windows.specs.Windowed.{registerIn}
 use Rattle.tables.specs.Stored.{Stored, Sized, recordsOf, holdsColumn, isSoundFor}
-use Rattle.counting.specs.Counting.{ListedIn, startIn}
+use Rattle.counting.specs.Counting.{ListedIn, startAt}
 
--- the columns that count: the live ones of the book's register
-abbrev pub liveIn : Stored → book.Book → List Column
-liveIn s b = live (book.registerIn (length (s .heads)) b)
+-- the columns that count: the live ones of the register that book and windows hold at a minute
+abbrev pub liveIn : Stored → book.Book → (windows : List ℕ) → (clock : ℕ) → List Column
+liveIn s b w t = live (registerIn (length (s .heads)) t b w)
 
 -- tables cut to their sizes, sizes that 32 bits hold with room, and a work table of W places
 pub record TablesFit (s : Stored) (b : book.Book) (work : List ℕ) : Type 0 where
@@ -58,8 +59,8 @@ pub record Stash (s : Stored) (work : List ℕ) (j met : ℕ) : Type 0 where
   pub rows-are : (c : ℕ) → 1 ≤ c → c < j →
       region work (rowStash (length (s .heads)) (length (s .next)) + cell work (stashStart (length (s .heads))) (c - 1)) (length (recordsOf s c)) ≡ valuesAt (s .rows) (recordsOf s c)
 
--- all that is known before column j is read
-pub record State (s : Stored) (b : book.Book) (work : List ℕ) (j met : ℕ) : Type 0 where
+-- all that is known before column j is read, of the columns that count by windows and clock
+pub record State (s : Stored) (b : book.Book) (windows : List ℕ) (clock : ℕ) (work : List ℕ) (j met : ℕ) : Type 0 where
   pub sizes : TablesFit s b work
   pub low : 1 ≤ j
   pub high : j ≤ suc (length (s .heads))
@@ -67,9 +68,15 @@ pub record State (s : Stored) (b : book.Book) (work : List ℕ) (j met : ℕ) : 
   pub chains-walked : Walked s work j met
   pub zero : IsZero work 0 (length (s .heads))
   pub children : ListedIn work (childHead (length (s .heads))) (length (s .heads)) (childNext (length (s .heads))) (length (s .heads)) (at (s .parents)) (j - 1)
-  pub columns : ListedIn work (columnHead (length (s .heads))) (length (s .heads)) (columnNext (length (s .heads)) (length (s .next)) (length (b .next))) (length (b .heads)) (startIn b) (length (b .heads))
+  pub columns : ListedIn work (columnHead (length (s .heads))) (length (s .heads)) (columnNext (length (s .heads)) (length (s .next)) (length (b .next))) (length (b .heads)) (startAt b windows clock) (length (b .heads))
   pub stash : Stash s work j met
-  pub holds : (c : ℕ) → 1 ≤ c → c < j → holdsColumn s c (columnAt (factorOf (length (s .heads)) (liveIn s b)) c) ≡ true
+  pub holds : (c : ℕ) → 1 ≤ c → c < j → holdsColumn s c (columnAt (factorOf (length (s .heads)) (liveIn s b windows clock)) c) ≡ true
+
+-- that for some windows and a clock
+pub record SomeState (s : Stored) (b : book.Book) (work : List ℕ) (j met : ℕ) : Type 0 where
+  pub windows : List ℕ
+  pub clock : ℕ
+  pub state : State s b windows clock work j met
 
 -- the work table is the same but for its first W places
 abbrev pub WithinWork : Stored → book.Book → (before after : List ℕ) → Type 0
@@ -77,27 +84,33 @@ WithinWork s b w₀ w = OnlyIn 0 (workNeed (length (s .heads)) (length (b .heads
 
 -- what reading column j asks
 pub record CanReadColumn (s : Stored) (b : book.Book) (work : List ℕ) (j met : ℕ) : Type 0 where
-  pub state : State s b work j met
+  pub some : SomeState s b work j met
   pub inside : j ≤ length (s .heads)
 
--- columns up to k - 1 read: a cut means that the tables are not sound
-pub record ColumnsRead (s : Stored) (b : book.Book) (work₀ work : List ℕ) (k : ℕ) (a : Walk) : Type 0 where
+-- columns j to k - 1 read: for all windows and clocks that the state was known for, a cut means that the tables are not sound
+pub record ColumnsRead (s : Stored) (b : book.Book) (work₀ : List ℕ) (j met : ℕ) (work : List ℕ) (k : ℕ) (a : Walk) : Type 0 where
   pub only : WithinWork s b work₀ work
-  pub cut : a ≡ Cut → isSoundFor (liveIn s b) s ≡ false
-  pub next : (n : ℕ) → a ≡ Ended n → State s b work k n
+  pub cut : a ≡ Cut → (windows : List ℕ) (clock : ℕ) → State s b windows clock work₀ j met → isSoundFor (liveIn s b windows clock) s ≡ false
+  pub next : (n : ℕ) → a ≡ Ended n → (windows : List ℕ) (clock : ℕ) → State s b windows clock work₀ j met → State s b windows clock work k n
 
 -- ---- before the first column
 
--- the book is sound, its columns are listed, and what the columns of L need is zero
-pub record Prepared (s : Stored) (b : book.Book) (work : List ℕ) : Type 0 where
+-- the book is sound, its columns that count by windows and clock are listed, and what the columns of L need is zero
+pub record Prepared (s : Stored) (b : book.Book) (windows : List ℕ) (clock : ℕ) (work : List ℕ) : Type 0 where
   pub sizes : TablesFit s b work
   pub sound : book.isSound (length (s .heads)) b ≡ true
   pub zero : IsZero work 0 (length (s .heads))
   pub heads-zero : IsZero work (childHead (length (s .heads))) (length (s .heads))
   pub start-zero : cell work (stashStart (length (s .heads))) 0 ≡ 0
-  pub columns : ListedIn work (columnHead (length (s .heads))) (length (s .heads)) (columnNext (length (s .heads)) (length (s .next)) (length (b .next))) (length (b .heads)) (startIn b) (length (b .heads))
+  pub columns : ListedIn work (columnHead (length (s .heads))) (length (s .heads)) (columnNext (length (s .heads)) (length (s .next)) (length (b .next))) (length (b .heads)) (startAt b windows clock) (length (b .heads))
 
--- after all columns were read: the answer is whether the stored columns are sound for those that count
+-- that for some windows and a clock
+pub record SomePrepared (s : Stored) (b : book.Book) (work : List ℕ) : Type 0 where
+  pub windows : List ℕ
+  pub clock : ℕ
+  pub prepared : Prepared s b windows clock work
+
+-- after all columns were read: the answer is whether the stored columns are sound for those that count, by all windows and clocks that were prepared for
 pub record FactorRead (s : Stored) (b : book.Book) (work₀ work : List ℕ) (a : Bool) : Type 0 where
   pub only : WithinWork s b work₀ work
-  pub answer : a ≡ isSoundFor (liveIn s b) s
+  pub answer : (windows : List ℕ) (clock : ℕ) → Prepared s b windows clock work₀ → a ≡ isSoundFor (liveIn s b windows clock) s

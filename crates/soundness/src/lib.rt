@@ -1,6 +1,6 @@
-// Decides number 6 as far as tables go: for any contents of all of them, whether they are sound, in time proportional to m + n + F + C. (The record's limits
-// are tested in `factor`.) Columns of L are read by rising number: what the definition gives for a column is counted from the book and from its children,
-// which were read before. Records are not marked: chains that end are apart if their last records are, and the free chain if its last record has row 0.
+// Decides number 6 as far as tables go: for any contents of all of them, whether they are sound at a clock, in time proportional to m + n + F + C. (The record's
+// limits are tested in `factor`.) Book and windows come first. Columns of L are read by rising number: what the definition gives for a column is counted from the
+// booked columns inside their windows and from its children, which were read before. Records are not marked: chains that end are apart if their last records are, and the free chain if its last record has row 0.
 ghost use mathlib.Core.Path.{_≡_};
 ghost use Prim.Native.Nat.{_+_, _*_, _-_, _≤_};
 ghost use lib.ListN.{length, getD};
@@ -10,8 +10,15 @@ ghost use Rattle.workspace.specs.Layout.{piecesAt};
 ghost use Rattle.workspace.specs.Regions.{region, OnlyIn};
 ghost use Rattle.book.specs.Book.{bookOf};
 ghost use Rattle.soundness.specs.Checking.{CanCheckEntry, EntryChecked, CanCheck, Checked, CanReadFree, FreeRead};
-ghost use Rattle.soundness.specs.State.{State, CanReadColumn, ColumnsRead, Prepared, FactorRead, WithinWork};
-ghost use Rattle.soundness.specs.ReadThrough.{CanReadThrough, areSound, madeReady};
+ghost use Rattle.soundness.specs.State.{SomeState, CanReadColumn, ColumnsRead, SomePrepared, FactorRead, WithinWork};
+ghost use Rattle.soundness.specs.ReadThrough.{
+  CanReadBooked,
+  bookedSound,
+  WithinBooked,
+  CanReadThrough,
+  madeReady,
+  areSound,
+};
 use book::Row;
 use pool::Chain;
 use pool::Rec;
@@ -119,7 +126,7 @@ fn read_column(
     met: usize,
 ) -> Walk
     requires { ⌜ CanReadColumn (storedOf (now heads) (now parents) (now rows) (now counts) (now next) (free .0)) (bookOf (now «book_heads») (now «book_rows») (now «book_next») («book_free» .0)) (now work) (j .0) met ⌝ }
-    ensures { λ a. ⌜ ColumnsRead (storedOf (now (heads .entry)) (now (parents .entry)) (now (rows .entry)) (now (counts .entry)) (now (next .entry)) (free .0)) (bookOf (now («book_heads» .entry)) (now («book_rows» .entry)) (now («book_next» .entry)) («book_free» .0)) (now (work .entry)) (now (work .exit)) (j .0 + 1) a ⌝ }
+    ensures { λ a. ⌜ ColumnsRead (storedOf (now (heads .entry)) (now (parents .entry)) (now (rows .entry)) (now (counts .entry)) (now (next .entry)) (free .0)) (bookOf (now («book_heads» .entry)) (now («book_rows» .entry)) (now («book_next» .entry)) («book_free» .0)) (now (work .entry)) (j .0) met (now (work .exit)) (j .0 + 1) a ⌝ }
 {
     let m = heads.len();
     let f = next.len();
@@ -160,8 +167,8 @@ fn read_columns(
     free: Rec,
     book_free: Rec,
 ) -> Walk
-    requires { ⌜ State (storedOf (now heads) (now parents) (now rows) (now counts) (now next) (free .0)) (bookOf (now «book_heads») (now «book_rows») (now «book_next») («book_free» .0)) (now work) 1 0 ⌝ }
-    ensures { λ a. ⌜ ColumnsRead (storedOf (now (heads .entry)) (now (parents .entry)) (now (rows .entry)) (now (counts .entry)) (now (next .entry)) (free .0)) (bookOf (now («book_heads» .entry)) (now («book_rows» .entry)) (now («book_next» .entry)) («book_free» .0)) (now (work .entry)) (now (work .exit)) (length (now (heads .entry)) + 1) a ⌝ }
+    requires { ⌜ SomeState (storedOf (now heads) (now parents) (now rows) (now counts) (now next) (free .0)) (bookOf (now «book_heads») (now «book_rows») (now «book_next») («book_free» .0)) (now work) 1 0 ⌝ }
+    ensures { λ a. ⌜ ColumnsRead (storedOf (now (heads .entry)) (now (parents .entry)) (now (rows .entry)) (now (counts .entry)) (now (next .entry)) (free .0)) (bookOf (now («book_heads» .entry)) (now («book_rows» .entry)) (now («book_next» .entry)) («book_free» .0)) (now (work .entry)) 1 0 (now (work .exit)) (length (now (heads .entry)) + 1) a ⌝ }
 {
     let mut n: usize = 0;
     let mut i: usize = 0;
@@ -233,7 +240,7 @@ fn read_factor(
     free: Rec,
     book_free: Rec,
 ) -> bool
-    requires { ⌜ Prepared (storedOf (now heads) (now parents) (now rows) (now counts) (now next) (free .0)) (bookOf (now «book_heads») (now «book_rows») (now «book_next») («book_free» .0)) (now work) ⌝ }
+    requires { ⌜ SomePrepared (storedOf (now heads) (now parents) (now rows) (now counts) (now next) (free .0)) (bookOf (now «book_heads») (now «book_rows») (now «book_next») («book_free» .0)) (now work) ⌝ }
     ensures { λ a. ⌜ FactorRead (storedOf (now (heads .entry)) (now (parents .entry)) (now (rows .entry)) (now (counts .entry)) (now (next .entry)) (free .0)) (bookOf (now («book_heads» .entry)) (now («book_rows» .entry)) (now («book_next» .entry)) («book_free» .0)) (now (work .entry)) (now (work .exit)) a ⌝ }
 {
     let m = heads.len();
@@ -263,6 +270,36 @@ fn read_factor(
     }
 }
 
+// Whether book and windows are sound. The book's places of the work table hold anything after.
+fn read_booked(
+    book_heads: &[u32],
+    book_rows: &[u16],
+    book_next: &[u32],
+    windows: &[u32],
+    work: &mut [u32],
+    book_free: Rec,
+    m: usize,
+    f: usize,
+) -> bool
+    requires { ⌜ CanReadBooked (bookOf (now «book_heads») (now «book_rows») (now «book_next») («book_free» .0)) (now windows) (now work) m f ⌝ }
+    ensures answer { λ a. ⌜ a ≡ bookedSound m (bookOf (now («book_heads» .entry)) (now («book_rows» .entry)) (now («book_next» .entry)) («book_free» .0)) (now (windows .entry)) ⌝ }
+    ensures work { λ a. ⌜ WithinBooked m f (bookOf (now («book_heads» .entry)) (now («book_rows» .entry)) (now («book_next» .entry)) («book_free» .0)) (now (work .entry)) (now (work .exit)) ⌝ }
+{
+    let a = 8 * m + 4 * f + 1024;
+    let e = a + book_next.len() + book_heads.len();
+    if !book::read_through(
+        book_heads,
+        book_rows,
+        book_next,
+        &mut work[a..e],
+        book_free,
+        m as u32,
+    ) {
+        return false;
+    }
+    windows::minutes::are_sound(book_heads, windows)
+}
+
 // Makes a work table of any content ready to be read through with, for m columns: what the pass counts and lists in is zero.
 pub fn make_ready(work: &mut [u32], m: usize)
     requires { ⌜ 4 * m + 1 ≤ length (now work) ⌝ }
@@ -281,30 +318,32 @@ pub fn read_through(
     book_heads: &[u32],
     book_rows: &[u16],
     book_next: &[u32],
+    windows: &[u32],
     work: &mut [u32],
     free: Rec,
     book_free: Rec,
+    clock: u32,
 ) -> bool
-    requires { ⌜ CanReadThrough (storedOf (now heads) (now parents) (now rows) (now counts) (now next) (free .0)) (bookOf (now «book_heads») (now «book_rows») (now «book_next») («book_free» .0)) (now work) ⌝ }
-    ensures answer { λ a. ⌜ a ≡ areSound (storedOf (now (heads .entry)) (now (parents .entry)) (now (rows .entry)) (now (counts .entry)) (now (next .entry)) (free .0)) (bookOf (now («book_heads» .entry)) (now («book_rows» .entry)) (now («book_next» .entry)) («book_free» .0)) ⌝ }
+    requires { ⌜ CanReadThrough (storedOf (now heads) (now parents) (now rows) (now counts) (now next) (free .0)) (bookOf (now «book_heads») (now «book_rows») (now «book_next») («book_free» .0)) (now windows) (now work) ⌝ }
+    ensures answer { λ a. ⌜ a ≡ areSound (storedOf (now (heads .entry)) (now (parents .entry)) (now (rows .entry)) (now (counts .entry)) (now (next .entry)) (free .0)) (bookOf (now («book_heads» .entry)) (now («book_rows» .entry)) (now («book_next» .entry)) («book_free» .0)) (now (windows .entry)) clock ⌝ }
     ensures work { λ a. ⌜ WithinWork (storedOf (now (heads .entry)) (now (parents .entry)) (now (rows .entry)) (now (counts .entry)) (now (next .entry)) (free .0)) (bookOf (now («book_heads» .entry)) (now («book_rows» .entry)) (now («book_next» .entry)) («book_free» .0)) (now (work .entry)) (now (work .exit)) ⌝ }
 {
     let m = heads.len();
     let f = next.len();
-    let a = 8 * m + 4 * f + 1024;
-    let b = a + book_next.len();
-    let e = b + book_heads.len();
-    if !book::read_through(
+    if !read_booked(
         book_heads,
         book_rows,
         book_next,
-        &mut work[a..e],
+        windows,
+        work,
         book_free,
-        m as u32,
+        m,
+        f,
     ) {
         return false;
     }
-    counting::link_columns(book_heads, book_rows, work, 3 * m, m, b);
+    let b = 8 * m + 4 * f + 1024 + book_next.len();
+    counting::link_columns(book_heads, book_rows, windows, work, clock, 3 * m, m, b);
     read_factor(
         heads,
         parents,

@@ -20,17 +20,26 @@ use Rattle.symbolic.proofs.Columns.{starts-sum}
 -- ---- the same column, as a test
 
 abbrev pub sameColumn : (c d : Column) → Bool
-sameColumn c d = eqb (c .id) (d .id) && same (c .rows) (d .rows)
+sameColumn c d = (eqb (c .id) (d .id) && same (c .rows) (d .rows)) && (eqb (c .first) (d .first) && eqb (c .second) (d .second))
 
 pub column-eq : (c d : Column) → sameColumn c d ≡ true → c ≡ d
 column-eq c d h =
-    let t : (eqb (c .id) (d .id) ≡ true) × (same (c .rows) (d .rows) ≡ true) = and-both (eqb (c .id) (d .id)) (same (c .rows) (d .rows)) h in
-    let p : c .id ≡ d .id = eqb-true (c .id) (d .id) (t .0) in
-    let q : c .rows ≡ d .rows = same-eq (c .rows) (d .rows) (t .1) in
-    λ i. record { id = p i; rows = q i }
+    let A : Bool = eqb (c .id) (d .id) in
+    let B : Bool = same (c .rows) (d .rows) in
+    let C : Bool = eqb (c .first) (d .first) in
+    let D : Bool = eqb (c .second) (d .second) in
+    let t : ((A && B) ≡ true) × ((C && D) ≡ true) = and-both (A && B) (C && D) h in
+    let a : (A ≡ true) × (B ≡ true) = and-both A B (t .0) in
+    let b : (C ≡ true) × (D ≡ true) = and-both C D (t .1) in
+    let p : c .id ≡ d .id = eqb-true (c .id) (d .id) (a .0) in
+    let q : c .rows ≡ d .rows = same-eq (c .rows) (d .rows) (a .1) in
+    let x : c .first ≡ d .first = eqb-true (c .first) (d .first) (b .0) in
+    let y : c .second ≡ d .second = eqb-true (c .second) (d .second) (b .1) in
+    λ i. record { id = p i; rows = q i; first = x i; second = y i }
 
 pub column-self : (c : Column) → sameColumn c c ≡ true
-column-self c = both-and (eq-eqb (c .id) (c .id) refl) (same-self (c .rows))
+column-self c =
+    both-and (both-and (eq-eqb (c .id) (c .id) refl) (same-self (c .rows))) (both-and (eq-eqb (c .first) (c .first) refl) (eq-eqb (c .second) (c .second) refl))
 
 -- ---- what reads columns up to order
 

@@ -12,7 +12,7 @@ use borrow.Author.Tests.{eq-eqb, ne-eqb}
 use Rattle.lists.specs.Lists.{Mem}
 use Rattle.lists.proofs.Tests.{cases, zero-or-pos}
 use Rattle.lists.proofs.Member.{any-find, any-has, mem-place, place-mem}
-use Rattle.symbolic.specs.Columns.{Column, smallest}
+use Rattle.symbolic.specs.Columns.{Column, columnWith, smallest}
 use Rattle.symbolic.specs.Factor.{FactorColumn, factorOf, multiplicity, parentOf}
 use Rattle.symbolic.specs.Definition.{OnPath, here, up}
 use Rattle.symbolic.specs.Batch.{atPosition, passes, isTouched, labelFrom, labelOf}
@@ -23,7 +23,7 @@ use Rattle.symbolic.proofs.Paths.{path-members, path-start}
 -- ---- of any list of factor columns, positions from i on
 
 abbrev emptyColumn : Column
-emptyColumn = record { id = 0; rows = [] }
+emptyColumn = columnWith 0 []
 
 place-of : (fs : List FactorColumn) (j i : ℕ) (cs : List Column) → 0 < labelFrom fs j i cs →
     (k : ℕ) × (k < length cs) × (labelFrom fs j i cs ≡ i + k) × (passes fs j (getD cs k emptyColumn) ≡ true)

@@ -23,3 +23,4 @@ pub mod Theorems
 pub mod Instances
 pub mod Fresh
 pub mod Live
+pub mod Minutes

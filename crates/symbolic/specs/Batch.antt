@@ -7,12 +7,12 @@ use Prim.Native.Nat.{ℕ, zero, suc, _-_, max}
 use lib.Dec.{eqb}
 use lib.ListN.{length, getD}
 use Rattle.lists.specs.Lists.{pick, any, among, sumOf}
-use Rattle.symbolic.specs.Columns.{Column, smallest}
+use Rattle.symbolic.specs.Columns.{Column, columnWith, smallest}
 use Rattle.symbolic.specs.Factor.{FactorColumn, columnAt, pathOf, sizeOf}
 
 -- "A batch has positions 1 to r": the column at one
 abbrev pub atPosition : (batch : List Column) → (position : ℕ) → Column
-atPosition cs k = getD cs (k - 1) (record { id = 0; rows = [] })
+atPosition cs k = getD cs (k - 1) (columnWith 0 [])
 
 -- j is on the path of the smallest row of c
 abbrev pub passes : List FactorColumn → (j : ℕ) → Column → Bool

@@ -4,7 +4,7 @@ use mathlib.Core.Path.{_≡_}
 use mathlib.Core.Bool.{true, false}
 use mathlib.Core.List.{List, [], _∷_}
 use Prim.Native.Nat.{ℕ}
-use Rattle.symbolic.specs.Columns.{Column}
+use Rattle.symbolic.specs.Columns.{Column, columnWith}
 use Rattle.symbolic.specs.Factor.{FactorColumn, factorOf, columnAt, patternOf, multiplicitiesOf, pathOf, sizeSum}
 use Rattle.symbolic.specs.Batch.{touched, labelsOf, entriesOf}
 use Rattle.symbolic.specs.Grades.{limitsOf, areLimits, oldLimits, limitsFor, gradeOf}
@@ -12,11 +12,11 @@ use Rattle.symbolic.specs.Change.{without, columnsOf}
 
 -- the columns of the listed state: {1,3}, {1,4}, {2,3} under ids 1, 2, 3
 abbrev pub listedColumns : List Column
-listedColumns = record { id = 1; rows = 1 ∷ 3 ∷ [] } ∷ record { id = 2; rows = 1 ∷ 4 ∷ [] } ∷ record { id = 3; rows = 2 ∷ 3 ∷ [] } ∷ []
+listedColumns = columnWith 1 (1 ∷ 3 ∷ []) ∷ columnWith 2 (1 ∷ 4 ∷ []) ∷ columnWith 3 (2 ∷ 3 ∷ []) ∷ []
 
 -- {1,3} under ids 4 and 7
 abbrev pub twoAlike : List Column
-twoAlike = record { id = 4; rows = 1 ∷ 3 ∷ [] } ∷ record { id = 7; rows = 1 ∷ 3 ∷ [] } ∷ []
+twoAlike = columnWith 4 (1 ∷ 3 ∷ []) ∷ columnWith 7 (1 ∷ 3 ∷ []) ∷ []
 
 -- a factor column with a given parent and given multiplicities of rows 1 to m
 abbrev pub column : (parent : ℕ) → (counts : List ℕ) → FactorColumn
@@ -49,13 +49,13 @@ pub record Cases : Type 0 where
       factorOf 3 (without (7 ∷ []) twoAlike) ≡
       column 3 (2 ∷ 0 ∷ 1 ∷ []) ∷ column 0 (0 ∷ 1 ∷ 0 ∷ []) ∷ column 0 (0 ∷ 0 ∷ 2 ∷ []) ∷ []
   -- a second {1,3} touches 1 and 3: column 3 counts too, though nothing changes in it
-  pub again-touched : touched (factorOf 3 twoAlike) (record { id = 7; rows = 1 ∷ 3 ∷ [] } ∷ []) ≡ 1 ∷ 3 ∷ []
+  pub again-touched : touched (factorOf 3 twoAlike) (columnWith 7 (1 ∷ 3 ∷ []) ∷ []) ≡ 1 ∷ 3 ∷ []
   pub again-entries : entriesOf (factorOf 3 (without (7 ∷ []) twoAlike)) (factorOf 3 twoAlike) (1 ∷ 3 ∷ []) ≡ 3
   -- {1,4} leaves the listed state and {2,5} enters: column 1 has 3 rows before, column 2 has 3 after, and each counts by the larger
   pub exchange-entries :
-      entriesOf (factorOf 5 listedColumns) (factorOf 5 (record { id = 4; rows = 2 ∷ 5 ∷ [] } ∷ without (2 ∷ []) listedColumns)) (1 ∷ 2 ∷ 3 ∷ 4 ∷ 5 ∷ []) ≡ 10
+      entriesOf (factorOf 5 listedColumns) (factorOf 5 (columnWith 4 (2 ∷ 5 ∷ []) ∷ without (2 ∷ []) listedColumns)) (1 ∷ 2 ∷ 3 ∷ 4 ∷ 5 ∷ []) ≡ 10
   -- 6. "{5} alone: L_5 is 5:2"
-  pub alone : columnAt (factorOf 5 (record { id = 1; rows = 5 ∷ [] } ∷ [])) 5 ≡ column 0 (0 ∷ 0 ∷ 0 ∷ 0 ∷ 2 ∷ [])
+  pub alone : columnAt (factorOf 5 (columnWith 1 (5 ∷ []) ∷ [])) 5 ≡ column 0 (0 ∷ 0 ∷ 0 ∷ 0 ∷ 2 ∷ [])
   -- 7. "Case 3 with F = 9 is accepted, with F = 8 refused by 16": it needs 9 records
   pub batch-size : sizeSum (factorOf 5 listedColumns) ≡ 9
   -- 8. "255 entries give grade 1, 256 give 2"

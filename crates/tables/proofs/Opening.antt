@@ -1,10 +1,10 @@
 -- What an opening writes is sound: both pools are whole, free records are zero, no id is booked, and the stored columns are the factor of no columns
--- (`opened-sound`, `opened-columns`); the tables stay as long as they were (`opened-long`). What is written is read back by `opened-stored` and
--- `opened-book`. Assumes nothing.
+-- (`opened-sound`, `opened-columns`); the tables stay as long as they were (`opened-long`). What is written is read back by `opened-stored`,
+-- `opened-book` and `opened-windows`. Assumes nothing.
 use mathlib.Core.Path.{_≡_, refl, sym, ap, _∙_, subst}
 use mathlib.Core.Bool.{true}
 use mathlib.Core.List.{List, [], _∷_, _++_, append-nil}
-use Prim.Native.Nat.{ℕ, zero, suc, _+_, _-_, _≤_, _<_}
+use Prim.Native.Nat.{ℕ, zero, suc, _+_, _-_, _*_, _≤_, _<_}
 use native.Mathlib.Omega.{arith}
 use lib.ListN.{length, take, drop, replicate, length-replicate, getD-replicate, List·getD-append}
 use lib.Seq.{take-at}
@@ -26,8 +26,11 @@ use Rattle.pool.proofs.Opening.{opened-length, opened-used, opened-chain, pool-
 use Rattle.book.specs.Book as book
 use Rattle.book.specs.Entries.{opened}
 use Rattle.book.proofs.Opened as booked
+use Rattle.windows.specs.Windowed.{windowed, areSound}
+use Rattle.windows.proofs.Windowed.{windowed-nil}
+use Rattle.windows.proofs.Sound as minutes
 use Rattle.tables.specs.Stored.{Stored, recordsOf, isSoundFor}
-use Rattle.tables.specs.Tables.{Tables, Sizes, longEnough, storedIn, bookIn, registerOf, isSound}
+use Rattle.tables.specs.Tables.{Tables, Sizes, longEnough, storedIn, bookIn, windowsIn, registerOf, isSound}
 use Rattle.tables.specs.Opening.{openedState, openedTables}
 use Rattle.tables.proofs.Stored.{Holds, facts-sound}
 use Rattle.tables.proofs.Tables.{Long, long-facts, facts-long}
@@ -69,6 +72,9 @@ module _ (l : Sizes) (g : Limits) (t : Tables) (h : l .m ≤ l .f) where
       let c : take (l .c) (openedTables l t .bookNext) ≡ openedNexts 0 (l .c) =
       take-over (l .c) (openedNexts 0 (l .c)) (t .bookNext) (opened-length 0 (l .c) (omega arith)) in
       λ i. record { heads = a i; rows = b i; next = c i; free = freeHead 0 (l .c) }
+
+  pub opened-windows : windowsIn (openedState l g) (openedTables l t) ≡ replicate (2 * l .n) 0
+  opened-windows = take-over (2 * l .n) (replicate (2 * l .n) 0) (t .windows) (length-replicate (2 * l .n) 0)
 
 -- ---- places
 
@@ -143,7 +149,10 @@ module _ (l : Sizes) (h : l .m ≤ l .f) where
 
 module _ (l : Sizes) (g : Limits) (t : Tables) (h : l .m ≤ l .f) where
   pub opened-columns : registerOf (openedState l g) (openedTables l t) .columns ≡ []
-  opened-columns = ap (λ (b : book.Book). book.columnsIn b) (opened-book l g t h) ∙ booked.opened-columns (l .n) (l .c)
+  opened-columns =
+      let w : List ℕ = windowsIn (openedState l g) (openedTables l t) in
+      let n : ℕ = length (bookIn (openedState l g) (openedTables l t) .heads) in
+      ap (windowed w n) (ap (λ (b : book.Book). book.columnsIn b) (opened-book l g t h) ∙ booked.opened-columns (l .n) (l .c)) ∙ windowed-nil w n
 
   opened-live : live (registerOf (openedState l g) (openedTables l t)) ≡ []
   opened-live =
@@ -157,7 +166,10 @@ module _ (l : Sizes) (g : Limits) (t : Tables) (h : l .m ≤ l .f) where
       let s : isSoundFor (live (registerOf (openedState l g) (openedTables l t))) (storedIn (openedState l g) (openedTables l t)) ≡ true =
       ap (λ (cs : List Column). isSoundFor cs (storedIn (openedState l g) (openedTables l t))) opened-live ∙
       ap (λ (x : Stored). isSoundFor [] x) (opened-stored l g t h) ∙ opened-stored-sound l h in
-      both-and r (both-and b s)
+      let w : areSound (bookIn (openedState l g) (openedTables l t) .heads) (windowsIn (openedState l g) (openedTables l t)) ≡ true =
+      ap (λ (b : book.Book). areSound (b .heads) (windowsIn (openedState l g) (openedTables l t))) (opened-book l g t h) ∙
+      ap (areSound (replicate (l .n) 0)) (opened-windows l g t h) ∙ minutes.opened-sound (l .n) in
+      both-and r (both-and (both-and b w) s)
 
 module _ (l : Sizes) (t : Tables) (h : l .m ≤ l .f) where
   pub opened-long : longEnough l t ≡ true → longEnough l (openedTables l t) ≡ true
@@ -172,6 +184,7 @@ module _ (l : Sizes) (t : Tables) (h : l .m ≤ l .f) where
         bookHeads = stay (l .n) (replicate (l .n) 0) (t .bookHeads) (length-replicate (l .n) 0) (g .bookHeads);
         bookRows = stay (l .c) (replicate (l .c) 0) (t .bookRows) (length-replicate (l .c) 0) (g .bookRows);
         bookNext = stay (l .c) (openedNexts 0 (l .c)) (t .bookNext) (opened-length 0 (l .c) (omega arith)) (g .bookNext);
+        windows = stay (2 * l .n) (replicate (2 * l .n) 0) (t .windows) (length-replicate (2 * l .n) 0) (g .windows);
       })
     where
       stay : (n : ℕ) (new old : List ℕ) → length new ≡ n → n ≤ length old → n ≤ length (over new old)

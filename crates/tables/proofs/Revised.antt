@@ -1,4 +1,4 @@
--- Tables revised column by column: what stays is reflexive and composes (`stays-self`, `stays-joins`, `beyond-joins`, `tails-join`), a column that stays
+-- Tables revised column by column: what stays is reflexive and composes (`stays-self`, `stays-joins`), a column that stays
 -- holds what it held (`stays-holds`), and tables whose columns are the factor's are sound (`revised-sound`). Assumes nothing.
 use mathlib.Core.Path.{_≡_, refl, sym, ap, _∙_, subst}
 use mathlib.Core.Bool.{true}
@@ -13,8 +13,7 @@ use Rattle.symbolic.specs.Factor.{FactorColumn, factorOf, columnAt}
 use Rattle.pool.specs.Chains.{chain}
 use Rattle.pool.specs.Whole.{Pool}
 use Rattle.tables.specs.Stored.{Stored, recordsOf, isSoundFor}
-use Rattle.tables.specs.Tables.{Tables, Sizes}
-use Rattle.tables.specs.Stays.{ColumnStays, Beyond, TailsStay}
+use Rattle.tables.specs.Stays.{ColumnStays}
 use Rattle.tables.proofs.Stored.{Holds, facts-sound}
 
 -- ---- what stays
@@ -32,22 +31,6 @@ stays-joins {a} {b} {c} {j} s t =
       row = λ x m. t .row x (e x m) ∙ s .row x m;
       count = λ x m. t .count x (e x m) ∙ s .count x m;
       next = λ x m. t .next x (e x m) ∙ s .next x m;
-    }
-
-pub beyond-joins : {n : ℕ} {xs ys zs : List ℕ} → Beyond n xs ys → Beyond n ys zs → Beyond n xs zs
-beyond-joins s t = record { same-length = t .same-length ∙ s .same-length; same-tail = t .same-tail ∙ s .same-tail }
-
-pub tails-join : {l : Sizes} {t u v : Tables} → TailsStay l t u → TailsStay l u v → TailsStay l t v
-tails-join a b =
-    record {
-      heads = beyond-joins (a .heads) (b .heads);
-      parents = beyond-joins (a .parents) (b .parents);
-      rows = beyond-joins (a .rows) (b .rows);
-      counts = beyond-joins (a .counts) (b .counts);
-      next = beyond-joins (a .next) (b .next);
-      bookHeads = beyond-joins (a .bookHeads) (b .bookHeads);
-      bookRows = beyond-joins (a .bookRows) (b .bookRows);
-      bookNext = beyond-joins (a .bookNext) (b .bookNext);
     }
 
 -- ---- a column that stays

@@ -1,11 +1,11 @@
 -- What stays, as tests on given tables: a column (`staysTest`), its entries' records (`keepsTest`), the places beyond a size (`beyondTest`), an id's
--- column of the book (`bookTest`); each with the law that a test that passes says so. A stored example is held to the promises by computing these.
+-- column of the book (`bookTest`) and minutes (`minutesTest`); each with the law that a test that passes says so. A stored example is held to the promises by computing these.
 -- Assumes nothing.
 use mathlib.Core.Path.{_≡_, sym, ap, _∙_}
 use mathlib.Core.Logic.{inl, inr}
 use mathlib.Core.Bool.{Bool, true, _&&_, _||_, not, true≢false}
 use mathlib.Core.List.{List, [], _∷_}
-use Prim.Native.Nat.{ℕ}
+use Prim.Native.Nat.{ℕ, _+_}
 use lib.Dec.{eqb}
 use lib.ListN.{length, getD, drop}
 use borrow.Author.Tests.{eqb-true, eq-eqb, not-true}
@@ -14,7 +14,7 @@ use Rattle.lists.proofs.Tests.{and-both, or-either}
 use Rattle.lists.proofs.Member.{all-at, same-eq}
 use Rattle.book.specs.Book as book
 use Rattle.tables.specs.Stored.{Stored, recordsOf}
-use Rattle.tables.specs.Stays.{ColumnStays, EntriesKeep, Beyond}
+use Rattle.tables.specs.Stays.{ColumnStays, EntriesKeep, MinutesStay, Beyond}
 
 -- equal values at a list of numbers are equal at each of them
 pub values-same : (xs ys : List ℕ) {x : ℕ} {rs : List ℕ} → Mem x rs → valuesAt xs rs ≡ valuesAt ys rs → at xs x ≡ at ys x
@@ -100,3 +100,13 @@ book-passed b a i z =
       records = same-eq (book.recordsUnder a i) (book.recordsUnder b i) (t .0);
       rows = same-eq (valuesAt (a .rows) (book.recordsUnder a i)) (valuesAt (b .rows) (book.recordsUnder b i)) (t .1);
     }
+
+-- ---- the minutes of an id
+
+abbrev pub minutesTest : (n : ℕ) (before after : List ℕ) (id : ℕ) → Bool
+minutesTest n b a i = eqb (at a i) (at b i) && eqb (at a (n + i)) (at b (n + i))
+
+pub minutes-passed : (n : ℕ) (b a : List ℕ) (i : ℕ) → minutesTest n b a i ≡ true → MinutesStay n b a i
+minutes-passed n b a i z =
+    let t : (eqb (at a i) (at b i) ≡ true) × (eqb (at a (n + i)) (at b (n + i)) ≡ true) = and-both (eqb (at a i) (at b i)) (eqb (at a (n + i)) (at b (n + i))) z in
+    record { first = eqb-true (at a i) (at b i) (t .0); second = eqb-true (at a (n + i)) (at b (n + i)) (t .1) }

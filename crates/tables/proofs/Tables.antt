@@ -1,10 +1,10 @@
 -- The tables within their sizes: long enough as facts (`Long`), and what stays so when the tails stay (`tails-long`); soundness in its two halves, what
 -- it says of the booked columns (`sound-fits`) and of the stored ones against the sizes (`sound-factor`).
 -- Assumes nothing.
-use mathlib.Core.Path.{_≡_, subst}
+use mathlib.Core.Path.{_≡_, refl, _∙_, subst}
 use mathlib.Core.Bool.{Bool, true, _&&_}
 use mathlib.Core.List.{List}
-use Prim.Native.Nat.{ℕ, _≤_}
+use Prim.Native.Nat.{ℕ, _*_, _≤_}
 use native.Mathlib.Omega.{arith}
 use lib.Dec.{leb}
 use lib.ListN.{length}
@@ -18,8 +18,10 @@ use Rattle.symbolic.specs.Factor.{factorOf, factorFor}
 use Rattle.symbolic.specs.Grades.{areLimits}
 use Rattle.book.specs.Book as book
 use Rattle.book.proofs.Sound.{columns-fit, columns-rows}
+use Rattle.windows.specs.Windowed.{areSound}
+use Rattle.windows.proofs.Windowed.{windowed-all}
 use Rattle.tables.specs.Stored.{isSoundFor, holdsFrom}
-use Rattle.tables.specs.Tables.{Tables, Sizes, State, longEnough, storedIn, bookIn, registerOf, holdsSound, isSound}
+use Rattle.tables.specs.Tables.{Tables, Sizes, State, longEnough, storedIn, bookIn, windowsIn, registerOf, holdsSound, isSound}
 use Rattle.tables.specs.Stays.{TailsStay}
 use Rattle.tables.proofs.Stored.{sound-holds}
 
@@ -34,6 +36,7 @@ pub record Long (l : Sizes) (t : Tables) : Type 0 where
   pub bookHeads : l .n ≤ length (t .bookHeads)
   pub bookRows : l .c ≤ length (t .bookRows)
   pub bookNext : l .c ≤ length (t .bookNext)
+  pub windows : 2 * l .n ≤ length (t .windows)
 
 module _ (l : Sizes) (t : Tables) where
   pub long-facts : longEnough l t ≡ true → Long l t
@@ -46,7 +49,9 @@ module _ (l : Sizes) (t : Tables) where
       let f : Bool = leb (l .n) (length (t .bookHeads)) in
       let g : Bool = leb (l .c) (length (t .bookRows)) in
       let h : Bool = leb (l .c) (length (t .bookNext)) in
-      let p : ((a && b && c && d && e && f && g) ≡ true) × (h ≡ true) = and-both (a && b && c && d && e && f && g) h z in
+      let k : Bool = leb (2 * l .n) (length (t .windows)) in
+      let o : ((a && b && c && d && e && f && g && h) ≡ true) × (k ≡ true) = and-both (a && b && c && d && e && f && g && h) k z in
+      let p : ((a && b && c && d && e && f && g) ≡ true) × (h ≡ true) = and-both (a && b && c && d && e && f && g) h (o .0) in
       let q : ((a && b && c && d && e && f) ≡ true) × (g ≡ true) = and-both (a && b && c && d && e && f) g (p .0) in
       let r : ((a && b && c && d && e) ≡ true) × (f ≡ true) = and-both (a && b && c && d && e) f (q .0) in
       let s : ((a && b && c && d) ≡ true) × (e ≡ true) = and-both (a && b && c && d) e (r .0) in
@@ -62,14 +67,16 @@ module _ (l : Sizes) (t : Tables) where
         bookHeads = leb-true (l .n) (length (t .bookHeads)) (r .1);
         bookRows = leb-true (l .c) (length (t .bookRows)) (q .1);
         bookNext = leb-true (l .c) (length (t .bookNext)) (p .1);
+        windows = leb-true (2 * l .n) (length (t .windows)) (o .1);
       }
 
   pub facts-long : Long l t → longEnough l t ≡ true
   facts-long h =
-      both-and (both-and (both-and (both-and (both-and (both-and (both-and (le-leb (l .m) (length (t .heads)) (h .heads))
+      both-and (both-and (both-and (both-and (both-and (both-and (both-and (both-and (le-leb (l .m) (length (t .heads)) (h .heads))
       (le-leb (l .m) (length (t .parents)) (h .parents))) (le-leb (l .f) (length (t .rows)) (h .rows))) (le-leb (l .f) (length (t .counts)) (h .counts)))
       (le-leb (l .f) (length (t .next)) (h .next))) (le-leb (l .n) (length (t .bookHeads)) (h .bookHeads)))
-      (le-leb (l .c) (length (t .bookRows)) (h .bookRows))) (le-leb (l .c) (length (t .bookNext)) (h .bookNext))
+      (le-leb (l .c) (length (t .bookRows)) (h .bookRows))) (le-leb (l .c) (length (t .bookNext)) (h .bookNext)))
+      (le-leb (2 * l .n) (length (t .windows)) (h .windows))
 
 -- tables whose lengths stay stay long enough
 pub tails-long : (l : Sizes) (t u : Tables) → TailsStay l t u → longEnough l t ≡ true → longEnough l u ≡ true
@@ -84,31 +91,50 @@ tails-long l t u s z =
       bookHeads = omega (arith, s .bookHeads .same-length);
       bookRows = omega (arith, s .bookRows .same-length);
       bookNext = omega (arith, s .bookNext .same-length);
+      windows = omega (arith, s .windows .same-length);
     })
 
 -- ---- sound
+
+-- book, windows and stored columns, each sound
+record SoundParts (s : State) (t : Tables) : Type 0 where
+  booked : book.isSound (s .sizes .m) (bookIn s t) ≡ true
+  windows : areSound (bookIn s t .heads) (windowsIn s t) ≡ true
+  stored : isSoundFor (live (registerOf s t)) (storedIn s t) ≡ true
 
 module _ (s : State) (t : Tables) where
   pub sound-limits : isSound s t ≡ true → areLimits (s .limits) ≡ true
   sound-limits h = and-both (areLimits (s .limits)) (holdsSound s t) h .0
 
-  sound-held : isSound s t ≡ true → (book.isSound (s .sizes .m) (bookIn s t) ≡ true) × (isSoundFor (live (registerOf s t)) (storedIn s t) ≡ true)
-  sound-held h =
-      and-both (book.isSound (s .sizes .m) (bookIn s t)) (isSoundFor (live (registerOf s t)) (storedIn s t)) (and-both (areLimits (s .limits)) (holdsSound s t) h .1)
+  sound-parts : isSound s t ≡ true → SoundParts s t
+  sound-parts h =
+      let A : Bool = book.isSound (s .sizes .m) (bookIn s t) in
+      let B : Bool = areSound (bookIn s t .heads) (windowsIn s t) in
+      let C : Bool = isSoundFor (live (registerOf s t)) (storedIn s t) in
+      let p : ((A && B) ≡ true) × (C ≡ true) = and-both (A && B) C (and-both (areLimits (s .limits)) (holdsSound s t) h .1) in
+      let q : (A ≡ true) × (B ≡ true) = and-both A B (p .0) in
+      record { booked = q .0; windows = q .1; stored = p .1 }
 
   pub sound-book : isSound s t ≡ true → book.isSound (s .sizes .m) (bookIn s t) ≡ true
-  sound-book h = sound-held h .0
+  sound-book h = sound-parts h .booked
+
+  pub sound-windows : isSound s t ≡ true → areSound (bookIn s t .heads) (windowsIn s t) ≡ true
+  sound-windows h = sound-parts h .windows
 
   pub sound-stored : isSound s t ≡ true → isSoundFor (live (registerOf s t)) (storedIn s t) ≡ true
-  sound-stored h = sound-held h .1
+  sound-stored h = sound-parts h .stored
 
   -- every booked column has 1 to 256 rows, rising, within 1 to m
   pub sound-fits : isSound s t ≡ true → all (book.columnFits (s .sizes .m)) (registerOf s t .columns) ≡ true
-  sound-fits h = columns-fit (s .sizes .m) (bookIn s t) (sound-book h)
+  sound-fits h =
+      windowed-all (windowsIn s t) (length (bookIn s t .heads)) (book.columnFits (s .sizes .m)) (λ c a b. refl) (book.columnsIn (bookIn s t)) ∙
+      columns-fit (s .sizes .m) (bookIn s t) (sound-book h)
 
   -- so its rows rise within 1 to m
   pub sound-rows : isSound s t ≡ true → all (fitsRows (s .sizes .m)) (registerOf s t .columns) ≡ true
-  sound-rows h = columns-rows (s .sizes .m) (bookIn s t) (sound-book h)
+  sound-rows h =
+      windowed-all (windowsIn s t) (length (bookIn s t .heads)) (fitsRows (s .sizes .m)) (λ c a b. refl) (book.columnsIn (bookIn s t)) ∙
+      columns-rows (s .sizes .m) (bookIn s t) (sound-book h)
 
   pub stored-rows : longEnough (s .sizes) t ≡ true → length (storedIn s t .heads) ≡ s .sizes .m
   stored-rows z = length-take-le (s .sizes .m) (t .heads) (long-facts (s .sizes) t z .heads)

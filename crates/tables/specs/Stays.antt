@@ -4,7 +4,7 @@
 use mathlib.Core.Path.{_≡_}
 use mathlib.Core.Bool.{true}
 use mathlib.Core.List.{List}
-use Prim.Native.Nat.{ℕ}
+use Prim.Native.Nat.{ℕ, _+_, _*_}
 use lib.ListN.{length, drop}
 use Rattle.lists.specs.Lists.{Mem, at}
 use Rattle.symbolic.specs.Factor.{FactorColumn, inPattern}
@@ -30,12 +30,17 @@ abbrev pub EntriesStay : (staying : List FactorColumn) (before after : Stored) (
 EntriesStay fs b a j =
     (x y : ℕ) → Mem x (recordsOf b j) → Mem y (recordsOf a j) → at (b .rows) x ≡ at (a .rows) y → inPattern fs (at (b .rows) x) j ≡ true → x ≡ y
 
+-- the minutes of an id, of n, stay
+pub record MinutesStay (n : ℕ) (before after : List ℕ) (id : ℕ) : Type 0 where
+  pub first : at after id ≡ at before id
+  pub second : at after (n + id) ≡ at before (n + id)
+
 -- "Table places beyond the sizes keep their content"; lengths stay
 pub record Beyond (n : ℕ) (before after : List ℕ) : Type 0 where
   pub same-length : length after ≡ length before
   pub same-tail : drop n after ≡ drop n before
 
--- each of the eight tables keeps what stands beyond its size
+-- each of the nine tables keeps what stands beyond its size
 pub record TailsStay (l : Sizes) (before after : Tables) : Type 0 where
   pub heads : Beyond (l .m) (before .heads) (after .heads)
   pub parents : Beyond (l .m) (before .parents) (after .parents)
@@ -45,3 +50,4 @@ pub record TailsStay (l : Sizes) (before after : Tables) : Type 0 where
   pub bookHeads : Beyond (l .n) (before .bookHeads) (after .bookHeads)
   pub bookRows : Beyond (l .c) (before .bookRows) (after .bookRows)
   pub bookNext : Beyond (l .c) (before .bookNext) (after .bookNext)
+  pub windows : Beyond (2 * l .n) (before .windows) (after .windows)

@@ -15,7 +15,7 @@ use Rattle.lists.specs.Lists.{pick, among, rises, all, first}
 use Rattle.lists.proofs.Tests.{eq-or-ne, refute}
 use Rattle.lists.proofs.Member.{all-at, place-mem, among-mem}
 use Rattle.lists.proofs.Rising.{rises-first, rises-high}
-use Rattle.symbolic.specs.Columns.{Column, smallest, holds, fitsRows}
+use Rattle.symbolic.specs.Columns.{Column, columnWith, smallest, holds, fitsRows}
 use Rattle.workspace.specs.Regions.{IsZero, OnlyIn}
 use Rattle.workspace.proofs.Regions.{only-refl, only-trans}
 use Rattle.updown.specs.Entries.{Listed}
@@ -30,7 +30,7 @@ use Rattle.updown.proofs.Gathering.{can-gather, bumps}
 use Rattle.updown.proofs.SoFar.{so-far-column, so-far-past, so-far-all, so-far-steady}
 
 abbrev pub none : Column
-none = record { id = 0; rows = [] }
+none = columnWith 0 []
 
 -- ---- a column that fits
 

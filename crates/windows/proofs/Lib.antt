@@ -1,2 +1,10 @@
+pub mod Windowed
+pub mod Written
+pub mod Lines
+pub mod Sound
 pub mod Chosen
+pub mod Counted
 pub mod Collecting
+pub mod Judging
+pub mod Writing
+pub mod Hiding

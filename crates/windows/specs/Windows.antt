@@ -1,14 +1,10 @@
 -- Windows of booked columns: two minutes for each id in one table of 2n places, the first minutes of ids 1 to n, then the second minutes. Which ids count at a
 -- minute. Assumes nothing: these are definitions.
-use mathlib.Core.Bool.{Bool, _&&_, _||_, not}
+use mathlib.Core.Bool.{Bool, _&&_, not}
 use mathlib.Core.List.{List}
 use Prim.Native.Nat.{ℕ, _+_}
-use lib.Dec.{eqb, leb, ltb}
 use Rattle.lists.specs.Lists.{at}
-
--- "it counts from the first minute up to, not including, the second. Minutes 0 and 0 mean none: it always counts"
-abbrev pub isInside : (first second minute : ℕ) → Bool
-isInside a b t = (eqb a 0 && eqb b 0) || (leb a t && ltb t b)
+use Rattle.symbolic.specs.Columns.{isInside}
 
 -- whether an id, of n, counts at a minute
 abbrev pub countsAt : (windows : List ℕ) → (n minute id : ℕ) → Bool

@@ -1,12 +1,16 @@
 // Windows of booked columns, two minutes for each id: which ids count at a minute, and the ids that count at one minute and not at another, collected in groups
-// by rising id. Reads the book's heads and the windows; no call uses it today.
+// by rising id. Reads the book's heads and the windows; `minutes` writes windows.
 ghost use mathlib.Core.Path.{_≡_};
 ghost use mathlib.Core.Bool.{_&&_};
 ghost use Prim.Native.Nat.{_+_, _*_, _≤_};
 ghost use lib.ListN.{length};
+ghost use Rattle.symbolic.specs.Columns.{isInside};
 ghost use Rattle.book.specs.Book.{isBooked};
-ghost use Rattle.windows.specs.Windows.{isInside, countsAt, movesFrom};
+ghost use Rattle.windows.specs.Windows.{countsAt, movesFrom};
 ghost use Rattle.windows.specs.Chosen.{CanCollect, Collected};
+
+pub mod minutes;
+
 use book::Id;
 
 // A group of ids: how many were collected, and the id to go on from.
@@ -31,8 +35,8 @@ pub fn is_inside(first: u32, second: u32, minute: u32) -> bool
 }
 
 // Whether id counts at a minute.
-fn counts_at(windows: &[u32], n: usize, minute: u32, id: Id) -> bool
-    requires { ⌜ (1 ≤ id .0) × (id .0 ≤ n) × (n + n ≤ length (now windows)) × (n ≤ 16384) ⌝ }
+pub fn counts_at(windows: &[u32], n: usize, minute: u32, id: Id) -> bool
+    requires { ⌜ (1 ≤ id .0) × (id .0 ≤ n) × (n + n ≤ length (now windows)) × (n ≤ 200000) ⌝ }
     ensures { λ r. ⌜ r ≡ countsAt (now (windows .entry)) n minute (id .0) ⌝ }
 {
     let k = id.0 as usize;

@@ -76,7 +76,7 @@ readThrough m f = 8 * m + 4 * f + 1024
 abbrev pub savedAt : (m f : ℕ) → ℕ
 savedAt m f = spare m f
 
--- per column: its parent before the exchange in the lower part, and in the upper part, once it is gathered, one more than its size before
+-- per column: in the lower part its parent before the exchange, and in the upper part, once it is gathered, one more than its size before
 abbrev pub gatherAt : (m f : ℕ) → ℕ
 gatherAt m f = savedAt m f + 2 * f
 

@@ -11,7 +11,7 @@ struct Lent {
     list: Vec<u32>,
 }
 
-const CALLS: [fn(Record, &mut Lent) -> Reply; 9] = [
+const CALLS: [fn(Record, &mut Lent) -> Reply; 11] = [
     |r, x| x.tables.check(r, &mut x.work),
     |r, x| nothing_found(x.tables.next_row(r, &mut x.work, 1, 1)),
     |r, x| x.tables.parent(r, &mut x.work, 1),
@@ -19,8 +19,10 @@ const CALLS: [fn(Record, &mut Lent) -> Reply; 9] = [
     |r, x| x.tables.column(r, &mut x.work, &mut x.list, 1, 0),
     |r, x| x.tables.meets(r, &mut x.work, &mut x.list, 1, 0),
     |r, x| x.tables.common(r, &mut x.work, &[1]),
-    |r, x| number_alone(x.tables.add(r, &mut x.work, &mut x.touched, &mut x.labels, &[4], &[1], &[1]), r),
+    |r, x| number_alone(x.tables.add(r, &mut x.work, &mut x.touched, &mut x.labels, &[4], &[1], &[1], &[0], &[0]), r),
     |r, x| number_alone(x.tables.remove(r, &mut x.work, &mut x.touched, &mut x.labels, &[1]), r),
+    |r, x| number_alone(x.tables.set_clock(r, &mut x.work, &mut x.touched, &mut x.labels, r.clock), r),
+    |r, x| number_alone(x.tables.set_clock(r, &mut x.work, &mut x.touched, &mut x.labels, 1), r),
 ];
 
 // The answer of a refused question for the next row has nothing but a number.
@@ -30,7 +32,7 @@ fn nothing_found(found: Found) -> Reply {
     Reply { number, value: 0 }
 }
 
-// The answer of a refused batch has nothing but a number and the record that was given.
+// The answer of a refused batch or clock change has nothing but a number and the record that was given.
 fn number_alone(changed: Changed, record: Record) -> Reply {
     let number = changed.number;
     assert_eq!(changed, Changed { number, position: 0, touched: 0, entries: 0, grade: 0, record });

@@ -3,8 +3,18 @@ use super::world::CUTS;
 use nigvalds::lent::{work_places, Record, Tables};
 
 // What makes the tables unsound and keeps their lengths.
-const DAMAGES: [fn(&mut Tables); 6] =
-    [|t| t.parents[0] = 2, |t| t.heads[4] = 0, |t| t.rows[5] = 2, |t| t.counts[0] += 1, |t| t.next[0] = 1, |t| t.book_rows[0] = 2];
+const DAMAGES: [fn(&mut Tables); 10] = [
+    |t| t.parents[0] = 2,
+    |t| t.heads[4] = 0,
+    |t| t.rows[5] = 2,
+    |t| t.counts[0] += 1,
+    |t| t.next[0] = 1,
+    |t| t.book_rows[0] = 2,
+    |t| t.windows[0] = 1,
+    |t| t.windows[3] = 1,
+    |t| t.windows[15] = 1,
+    |t| (t.windows[0], t.windows[8]) = (7, 9),
+];
 
 /// Hands on each of them with the places of a work table and the number that refuses it.
 pub fn each_early(t: &Tables, record: Record, refused: fn(&Tables, Record, usize, u32)) {

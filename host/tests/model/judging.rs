@@ -1,9 +1,10 @@
 //! Laid-out tables beside the definition of soundness: what check must answer of them, and write.
+use super::booked::{always, chosen, Line};
 use super::laid::{Laid, Order, Part};
 use super::random::Random;
 use super::sound::is_sound;
 use super::world::BEYOND;
-use super::{Live, Sizes, OLD_LIMITS};
+use super::{Book, Sizes, OLD_LIMITS};
 use nigvalds::lent::{work_places, Record, Reply};
 
 pub const PARTS: [Part; 2] = [Part::Factor, Part::Book];
@@ -41,21 +42,26 @@ pub fn judged(laid: &Laid, random: &mut Random) -> bool {
     sound
 }
 
-/// Live columns: some share rows, so that columns of L have children and several records; some ids are not live.
-pub fn live_for(s: Sizes, random: &mut Random) -> Live {
+/// Booked columns: some share rows, so that columns of L have children and several records; some ids are not booked, and some windows do not count.
+pub fn book_for(s: Sizes, random: &mut Random) -> Book {
     let ids = random.rising(s.n * 2 / 3, s.n);
     ids.into_iter()
         .map(|id| {
-            (id, {
-                let k = random.within(1, 5.min(s.m));
-                random.rising(k, s.m)
-            })
+            let k = random.within(1, 5.min(s.m));
+            let (rows, (first, second)) = (random.rising(k, s.m), random.window());
+            (id, Line { rows, first, second })
         })
         .collect()
 }
 
 /// Sound tables of such columns.
 pub fn laid(s: Sizes, order: Order, random: &mut Random) -> Laid {
-    let live = live_for(s, random);
-    Laid::out(s, OLD_LIMITS, &live, order, random)
+    let (book, clock) = (book_for(s, random), random.minute());
+    Laid::out(s, OLD_LIMITS, &book, clock, order, random)
+}
+
+/// The same without windows: every row of the book shows in the factor.
+pub fn laid_always(s: Sizes, order: Order, random: &mut Random) -> Laid {
+    let book = always(&chosen(&book_for(s, random), |_| true));
+    Laid::out(s, OLD_LIMITS, &book, 0, order, random)
 }

@@ -1,7 +1,7 @@
 //! Tables laid out by the model alone, with the records of their chains in any order; and the links of one pool, to be read and changed.
 use super::random::Random;
 use super::world::BEYOND;
-use super::{factor, Limits, Live, Sizes};
+use super::{factor, live, Book, Limits, Sizes};
 use nigvalds::lent::{Record, Tables};
 
 /// Record and tables.
@@ -56,12 +56,12 @@ fn linked(next: &mut [u32], records: &[u32]) -> u32 {
 }
 
 impl Laid {
-    /// Sound tables of the live columns, if there are no more than 256 rows in each; places beyond the sizes have any contents.
-    pub fn out(s: Sizes, limits: Limits, live: &Live, order: Order, random: &mut Random) -> Laid {
+    /// Sound tables of the booked columns at a minute, if there are no more than 256 rows in each; places beyond the sizes have any contents.
+    pub fn out(s: Sizes, limits: Limits, book: &Book, clock: u32, order: Order, random: &mut Random) -> Laid {
         let [grade2, grade3, grade4] = limits;
         let (mut records, mut booked) = (&taken(order, s.f, random)[..], &taken(order, s.c, random)[..]);
         let mut t = Tables::for_sizes(s.m, s.n, s.f, s.c);
-        for (j, column) in factor(s.m, live).iter().enumerate() {
+        for (j, column) in factor(s.m, &live(book, clock)).iter().enumerate() {
             let (mine, rest) = records.split_at(column.entries.len());
             t.heads[j] = linked(&mut t.next, mine);
             t.parents[j] = column.parent as u16;
@@ -70,17 +70,18 @@ impl Laid {
             }
             records = rest;
         }
-        for (id, rows) in live {
-            let (mine, rest) = booked.split_at(rows.len());
+        for (id, line) in book {
+            let (mine, rest) = booked.split_at(line.rows.len());
             t.book_heads[*id as usize - 1] = linked(&mut t.book_next, mine);
-            mine.iter().zip(rows).for_each(|(r, row)| t.book_rows[*r as usize - 1] = *row as u16);
+            mine.iter().zip(&line.rows).for_each(|(r, row)| t.book_rows[*r as usize - 1] = *row as u16);
+            (t.windows[*id as usize - 1], t.windows[(s.n + *id) as usize - 1]) = (line.first, line.second);
             booked = rest;
         }
         let (free, book_free) = (linked(&mut t.next, records), linked(&mut t.book_next, booked));
-        [&mut t.heads, &mut t.next, &mut t.book_heads, &mut t.book_next].into_iter().for_each(|x| x.extend(random.contents(BEYOND)));
+        [&mut t.heads, &mut t.next, &mut t.book_heads, &mut t.book_next, &mut t.windows].into_iter().for_each(|x| x.extend(random.contents(BEYOND)));
         let narrow = [&mut t.parents, &mut t.rows, &mut t.counts, &mut t.book_rows];
         narrow.into_iter().for_each(|x| x.extend(random.contents(BEYOND).into_iter().map(|y| y as u16)));
-        Laid { record: Record { m: s.m, n: s.n, f: s.f, c: s.c, free, book_free, grade2, grade3, grade4 }, tables: t }
+        Laid { record: Record { m: s.m, n: s.n, f: s.f, c: s.c, free, book_free, grade2, grade3, grade4, clock }, tables: t }
     }
 
     /// The number of records of a pool.

@@ -1,6 +1,7 @@
-//! A second implementation, by the definition's words alone: which columns are live, the factor of them, what a batch reports, and by which number a call is
-//! turned down. It shares nothing with the library but the order of the tables' names.
+//! A second implementation, by the definition's words alone: which columns are booked and live, the factor of these, what a batch or a clock change reports, and by
+//! which number a call is turned down. It shares nothing with the library but the order of the tables' names.
 #![allow(dead_code)]
+pub mod booked;
 pub mod calls;
 pub mod early;
 pub mod judging;
@@ -9,6 +10,8 @@ pub mod meeting;
 pub mod random;
 pub mod sound;
 pub mod world;
+
+pub use booked::{added, live, Book, Lists};
 
 use std::collections::BTreeMap;
 
@@ -41,7 +44,7 @@ pub fn limits_for(asked: Limits) -> Limits {
     }
 }
 
-/// The grade of some entries: the last one whose first entries are reached, 0 for none.
+/// The grade of some entries: the last one whose first entries are reached; "A call that touches nothing has grade 0".
 pub fn grade(limits: Limits, entries: u32) -> u32 {
     let firsts = [(1, 1), (2, limits[0]), (3, limits[1]), (4, limits[2])];
     firsts.iter().filter(|(_, first)| entries >= *first).map(|(grade, _)| *grade).max().unwrap_or(0)
@@ -103,7 +106,7 @@ pub fn size(factor: &[Pattern]) -> usize {
     factor.iter().map(|p| p.entries.len()).sum()
 }
 
-/// What an accepted batch reports.
+/// What an accepted batch or clock change reports.
 #[derive(Clone, Debug, PartialEq, Eq)]
 pub struct Report {
     pub touched: Vec<u16>,
@@ -112,16 +115,26 @@ pub struct Report {
     pub grade: u32,
 }
 
-/// The report of a batch whose columns, by position, start at these rows, in the factor that they are live in: paths and sizes are those after an addition,
-/// and those before a removal.
-pub fn report(limits: Limits, factor: &[Pattern], starts: &[u32]) -> Report {
+/// Paths with their labels.
+pub type Paths = Vec<(Vec<u32>, u16)>;
+
+/// The paths of columns that start at these rows, by position, which is the label; a column that does not count has none, and keeps its position.
+pub fn positions(factor: &[Pattern], starts: &[Option<u32>]) -> Paths {
+    (1..).zip(starts).filter_map(|(k, start)| start.map(|j| (path(factor, j), k))).collect()
+}
+
+/// The report of a change from one factor to another along these paths: each column on them once, with the largest label; "Entries take the larger of a column's
+/// sizes before and after".
+pub fn report(limits: Limits, before: &[Pattern], after: &[Pattern], paths: &Paths) -> Report {
     let mut labels: BTreeMap<u32, u16> = BTreeMap::new();
-    for (k, start) in starts.iter().enumerate() {
-        path(factor, *start).iter().for_each(|j| {
-            labels.insert(*j, k as u16 + 1);
+    for (path, label) in paths {
+        path.iter().for_each(|j| {
+            let largest = labels.entry(*j).or_default();
+            *largest = (*largest).max(*label);
         });
     }
-    let entries = labels.keys().map(|j| factor[*j as usize - 1].entries.len() as u32).sum();
+    let size = |factor: &[Pattern], j: u32| factor[j as usize - 1].entries.len() as u32;
+    let entries = labels.keys().map(|j| size(before, *j).max(size(after, *j))).sum();
     let touched = labels.keys().map(|j| *j as u16).collect();
     Report { touched, labels: labels.values().copied().collect(), entries, grade: grade(limits, entries) }
 }
@@ -149,36 +162,40 @@ pub fn open_number(asked: Sizes, limits: Limits, is_long_for: impl Fn(Sizes) -> 
     checks.iter().find(|(_, holds)| !holds).map_or(0, |(number, _)| *number)
 }
 
-/// The number of an addition, 0 if it is accepted; 7 to 16.
-pub fn add_number(s: Sizes, live: &Live, ids: &[u32], counts: &[u32], rows: &[u32]) -> Number {
-    if ids.is_empty() || ids.len() > 64 || counts.len() != ids.len() {
+/// The number of an addition, 0 if it is accepted; 7 to 16 and 21.
+pub fn add_number(s: Sizes, book: &Book, clock: u32, x: &Lists) -> Number {
+    let r = x.ids.len();
+    if !(1..=64).contains(&r) || x.counts.len() != r || x.firsts.len() != r || x.seconds.len() != r {
         return (7, 0);
     }
     let mut used = 0;
-    for (k, (id, count)) in ids.iter().zip(counts).enumerate() {
+    for (k, (id, count)) in x.ids.iter().zip(&x.counts).enumerate() {
         let position = k as u32 + 1;
         if !(1..=s.n).contains(id) {
             return (8, position);
         }
-        if ids[..k].contains(id) {
+        if x.ids[..k].contains(id) {
             return (9, position);
         }
-        if live.contains_key(id) {
+        if book.contains_key(id) {
             return (10, position);
         }
-        if !(1..=256).contains(count) || *count as usize > rows.len() - used {
+        if !(1..=256).contains(count) || *count as usize > x.rows.len() - used {
             return (12, position);
         }
-        let number = rows_number(s.m, &rows[used..used + *count as usize]);
+        let number = rows_number(s.m, &x.rows[used..used + *count as usize]);
         if number != 0 {
             return (number, position);
         }
+        if !booked::is_window(x.firsts[k], x.seconds[k]) {
+            return (21, position);
+        }
         used += *count as usize;
     }
-    if used < rows.len() {
+    if used < x.rows.len() {
         return (12, 0);
     }
-    room_number(s, &added(live, ids, counts, rows))
+    room_number(s, &added(book, x), clock)
 }
 
 // 13 or 14 of a column's rows, in turn.
@@ -196,30 +213,24 @@ fn rows_number(m: u32, rows: &[u32]) -> u32 {
     0
 }
 
-// 15 or 16 of the live columns after an addition.
-fn room_number(s: Sizes, live: &Live) -> Number {
-    if live.values().map(Vec::len).sum::<usize>() > s.c as usize {
+// 15 of the booked columns after an addition, or 16 of the live ones.
+fn room_number(s: Sizes, book: &Book, clock: u32) -> Number {
+    if book.values().map(|line| line.rows.len()).sum::<usize>() > s.c as usize {
         return (15, 0);
     }
-    if size(&factor(s.m, live)) > s.f as usize {
+    clock_number(s, book, clock)
+}
+
+/// "Limit 16 is checked on the final patterns, after a clock change too": of the columns that are live at a minute.
+pub fn clock_number(s: Sizes, book: &Book, minute: u32) -> Number {
+    if size(&factor(s.m, &live(book, minute))) > s.f as usize {
         return (16, 0);
     }
     (0, 0)
 }
 
-/// The live columns after an accepted addition.
-pub fn added(live: &Live, ids: &[u32], counts: &[u32], rows: &[u32]) -> Live {
-    let mut after = live.clone();
-    let mut used = 0;
-    for (id, count) in ids.iter().zip(counts) {
-        after.insert(*id, rows[used..used + *count as usize].to_vec());
-        used += *count as usize;
-    }
-    after
-}
-
 /// The number of a removal, 0 if it is accepted; 7, 8, 9, 11.
-pub fn remove_number(s: Sizes, live: &Live, ids: &[u32]) -> Number {
+pub fn remove_number(s: Sizes, book: &Book, ids: &[u32]) -> Number {
     if ids.is_empty() || ids.len() > 64 {
         return (7, 0);
     }
@@ -231,7 +242,7 @@ pub fn remove_number(s: Sizes, live: &Live, ids: &[u32]) -> Number {
         if ids[..k].contains(id) {
             return (9, position);
         }
-        if !live.contains_key(id) {
+        if !book.contains_key(id) {
             return (11, position);
         }
     }

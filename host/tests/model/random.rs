@@ -1,5 +1,8 @@
 //! Random numbers that are the same in every run, and random batches.
-use super::{Limits, Live, Sizes};
+use super::{Book, Limits, Lists, Sizes};
+
+/// The last minute of a short day.
+pub const LAST: u32 = 12;
 
 /// A generator (xorshift).
 pub struct Random(u64);
@@ -91,34 +94,54 @@ impl Random {
         limits
     }
 
-    /// Ids, counts and rows of an addition, mostly acceptable, with a slip now and then.
-    pub fn addition(&mut self, s: Sizes, live: &Live) -> (Vec<u32>, Vec<u32>, Vec<u32>) {
-        let mut free: Vec<u32> = (1..=s.n).filter(|i| !live.contains_key(i)).collect();
-        let (mut ids, mut counts, mut rows) = (Vec::new(), Vec::new(), Vec::new());
+    /// Two minutes: none, a window of a short day, or one at the end of all minutes.
+    pub fn window(&mut self) -> (u32, u32) {
+        match self.within(1, 8) {
+            1..=3 => (0, 0),
+            4 => self.one(&[(0, u32::MAX), (u32::MAX - 1, u32::MAX), (LAST, u32::MAX), (0, 1)]),
+            _ => {
+                let first = self.within(0, LAST - 1);
+                (first, self.within(first + 1, LAST))
+            }
+        }
+    }
+
+    /// A minute to set the clock to.
+    pub fn minute(&mut self) -> u32 {
+        match self.within(1, 12) {
+            1 => self.one(&[u32::MAX, u32::MAX - 1, 1 << 31]),
+            _ => self.within(0, LAST),
+        }
+    }
+
+    /// The lists of an addition, mostly acceptable, with a slip now and then.
+    pub fn addition(&mut self, s: Sizes, book: &Book) -> Lists {
+        let mut free: Vec<u32> = (1..=s.n).filter(|i| !book.contains_key(i)).collect();
+        let mut x = Lists::default();
         for _ in 0..self.within(1, 4) {
             if free.is_empty() {
                 break;
             }
-            let k = self.within(0, free.len() as u32 - 1) as usize;
-            ids.push(free.swap_remove(k));
-            let count = self.within(1, s.m.min(4));
-            counts.push(count);
-            rows.extend(self.rising(count, s.m));
+            let (k, count) = (self.within(0, free.len() as u32 - 1) as usize, self.within(1, s.m.min(4)));
+            let (rows, (first, second)) = (self.rising(count, s.m), self.window());
+            x.push(free.swap_remove(k), &rows, first, second);
         }
         if self.once_in(4) {
-            self.slip(s, &mut ids, &mut counts, &mut rows);
+            self.slip(s, &mut x);
         }
-        (ids, counts, rows)
+        x
     }
 
-    // Spoils one of the three lists at one place, or their lengths.
-    fn slip(&mut self, s: Sizes, ids: &mut Vec<u32>, counts: &mut Vec<u32>, rows: &mut Vec<u32>) {
+    // Spoils one of the lists at one place, or their lengths.
+    fn slip(&mut self, s: Sizes, x: &mut Lists) {
         let odd = [0, 1, s.m, s.m + 1, s.n, s.n + 1, 257, u32::MAX, 65537];
         let value = self.one(&odd);
-        let list = match self.within(1, 3) {
-            1 => ids,
-            2 => counts,
-            _ => rows,
+        let list = match self.within(1, 5) {
+            1 => &mut x.ids,
+            2 => &mut x.counts,
+            3 => &mut x.rows,
+            4 => &mut x.firsts,
+            _ => &mut x.seconds,
         };
         match self.within(1, 5) {
             1 => list.push(value),
@@ -147,8 +170,8 @@ impl Random {
     }
 
     /// Ids of a removal.
-    pub fn removal(&mut self, s: Sizes, live: &Live) -> Vec<u32> {
-        let mut left: Vec<u32> = live.keys().copied().collect();
+    pub fn removal(&mut self, s: Sizes, book: &Book) -> Vec<u32> {
+        let mut left: Vec<u32> = book.keys().copied().collect();
         let mut ids = Vec::new();
         for _ in 0..self.within(1, 3) {
             if left.is_empty() {

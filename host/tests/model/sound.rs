@@ -1,5 +1,6 @@
 //! Soundness of tables by the words of its definition.
-use super::{are_limits, factor, Live, Pattern};
+use super::booked::{is_window, Line};
+use super::{are_limits, factor, live, Book, Pattern};
 use nigvalds::lent::{Record, Tables};
 
 // The records of a chain, if all lie in range and it ends.
@@ -25,20 +26,26 @@ fn chains(next: &[u32], most: usize, heads: &[u32], free: u32, is_zero: impl Fn(
     (once && unused.iter().all(|r| is_zero(*r))).then_some(all)
 }
 
-/// The columns that the book holds, if its part of the tables is sound.
-pub fn live(r: Record, t: &Tables) -> Option<Live> {
+/// The columns that the book holds with their windows, if its part of the tables is sound and so are the windows: of a booked id a window, of another 0 and 0.
+pub fn booked(r: Record, t: &Tables) -> Option<Book> {
     let free = |k: usize| t.book_rows[k - 1] == 0;
     let all = chains(&t.book_next, r.c as usize, &t.book_heads[..r.n as usize], r.book_free, free)?;
-    let mut live = Live::new();
-    for (id, records) in all.iter().enumerate().filter(|c| !c.1.is_empty()) {
+    let mut book = Book::new();
+    for (k, records) in all.iter().enumerate() {
+        let (first, second) = (t.windows[k], t.windows[r.n as usize + k]);
+        if records.is_empty() && (first, second) != (0, 0) || !is_window(first, second) {
+            return None;
+        }
         let rows: Vec<u32> = records.iter().map(|k| t.book_rows[k - 1] as u32).collect();
         let in_range = rows.iter().all(|i| (1..=r.m).contains(i));
         if !in_range || rows.len() > 256 || rows.windows(2).any(|w| w[0] >= w[1]) {
             return None;
         }
-        live.insert(id as u32 + 1, rows);
+        if !rows.is_empty() {
+            book.insert(k as u32 + 1, Line { rows, first, second });
+        }
     }
-    Some(live)
+    Some(book)
 }
 
 /// The stored columns, if their part of the tables is sound.
@@ -54,10 +61,16 @@ pub fn records(r: Record, t: &Tables) -> Vec<Vec<usize>> {
     t.heads[..r.m as usize].iter().map(|h| chain(&t.next, r.f as usize, *h).expect("sound tables")).collect()
 }
 
-/// "Tables are sound if ..", of tables that are long enough. Limits that break the rule of an opening, "and zeros, are unsound".
+/// The records of each id's column in the book.
+pub fn book_records(r: Record, t: &Tables) -> Vec<Vec<usize>> {
+    t.book_heads[..r.n as usize].iter().map(|h| chain(&t.book_next, r.c as usize, *h).expect("sound tables")).collect()
+}
+
+/// "Tables are sound if ..", of tables that are long enough, with the factor "for the live columns" at the record's clock. Limits that break the rule of an
+/// opening, "and zeros, are unsound".
 pub fn is_sound(r: Record, t: &Tables) -> bool {
-    match (live(r, t), stored(r, t)) {
-        (Some(live), Some(stored)) => are_limits([r.grade2, r.grade3, r.grade4]) && stored == factor(r.m, &live),
+    match (booked(r, t), stored(r, t)) {
+        (Some(book), Some(stored)) => are_limits([r.grade2, r.grade3, r.grade4]) && stored == factor(r.m, &live(&book, r.clock)),
         _ => false,
     }
 }

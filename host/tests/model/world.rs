@@ -1,14 +1,15 @@
 //! Lent tables and lists beside the plain register: each call is made on the library, and everything that it answers and leaves is compared.
+use super::booked::chosen;
 use super::random::Random;
-use super::{add_number, added, factor, limits_for, next_row, open_number, path, remove_number, report, size, sizes_for, sound};
-use super::{Limits, Live, Number, Pattern, Sizes};
+use super::{add_number, added, clock_number, factor, limits_for, live, next_row, open_number, path, positions, remove_number, report, size, sizes_for, sound};
+use super::{Book, Limits, Lists, Live, Number, Paths, Pattern, Sizes};
 use nigvalds::lent::{work_places, Changed, Found, Opened, Record, Tables};
 
 /// Places that tables and lists have beyond what the sizes need.
 pub const BEYOND: usize = 3;
 
 /// Each cuts one table to a place less than the sizes 5, 8, 9 and 16 need.
-pub const CUTS: [fn(&mut Tables); 8] = [
+pub const CUTS: [fn(&mut Tables); 9] = [
     |t| t.heads.truncate(4),
     |t| t.parents.truncate(4),
     |t| t.rows.truncate(8),
@@ -17,12 +18,14 @@ pub const CUTS: [fn(&mut Tables); 8] = [
     |t| t.book_heads.truncate(7),
     |t| t.book_rows.truncate(15),
     |t| t.book_next.truncate(15),
+    |t| t.windows.truncate(15),
 ];
 
 pub struct World {
     pub sizes: Sizes,
     pub limits: Limits,
-    pub live: Live,
+    pub book: Book,
+    pub clock: u32,
     pub record: Record,
     pub tables: Tables,
     pub work: Vec<u32>,
@@ -39,6 +42,16 @@ fn narrow(list: Vec<u32>) -> Vec<u16> {
     list.into_iter().map(|x| x as u16).collect()
 }
 
+// A change of the register: booked columns and clock after it, the factors before and after it and of the columns that stay, the paths that it touches.
+struct Change {
+    book: Book,
+    clock: u32,
+    before: Vec<Pattern>,
+    after: Vec<Pattern>,
+    staying: Vec<Pattern>,
+    paths: Paths,
+}
+
 impl World {
     /// Tables of any contents, long enough for what is asked, opened.
     pub fn open(asked: Sizes, limits: Limits, random: &mut Random) -> World {
@@ -53,10 +66,11 @@ impl World {
             book_heads: random.contents(n),
             book_rows: narrow(random.contents(c)),
             book_next: random.contents(c),
+            windows: random.contents(2 * s.n as usize + BEYOND),
         };
         let work = random.contents(work_places(s.m, s.n, s.f, s.c) + BEYOND);
         let (touched, labels) = (narrow(random.contents(m)), narrow(random.contents(m)));
-        let mut world = World { sizes: s, limits, live: Live::new(), record: Record::default(), tables, work, touched, labels };
+        let mut world = World { sizes: s, limits, book: Book::new(), clock: 0, record: Record::default(), tables, work, touched, labels };
         assert_eq!(world.reopen(asked, limits), 0);
         world
     }
@@ -72,7 +86,8 @@ impl World {
             return expected;
         }
         assert_eq!(opened.number, 0);
-        (self.sizes, self.limits, self.live, self.record) = (sizes_for(s), limits_for(limits), Live::new(), opened.record);
+        (self.sizes, self.limits, self.record) = (sizes_for(s), limits_for(limits), opened.record);
+        (self.book, self.clock) = (Book::new(), 0);
         self.is_as(&tables, &work);
         0
     }
@@ -81,7 +96,7 @@ impl World {
     fn is_long_for(&self, s: Sizes) -> bool {
         let (m, n, f, c, t) = (s.m as usize, s.n as usize, s.f as usize, s.c as usize, &self.tables);
         let factor = t.heads.len() >= m && t.parents.len() >= m && t.rows.len() >= f && t.counts.len() >= f && t.next.len() >= f;
-        let book = t.book_heads.len() >= n && t.book_rows.len() >= c && t.book_next.len() >= c;
+        let book = t.book_heads.len() >= n && t.book_rows.len() >= c && t.book_next.len() >= c && t.windows.len() >= 2 * n;
         factor && book && self.work.len() >= work_places(s.m, s.n, s.f, s.c)
     }
 
@@ -89,12 +104,12 @@ impl World {
         work_places(self.sizes.m, self.sizes.n, self.sizes.f, self.sizes.c)
     }
 
-    // Sound tables of the register, its sizes and limits; nothing beyond the sizes has changed, and the work table is zero within its places.
+    // Sound tables of the register, its sizes, limits and clock; nothing beyond the sizes has changed, and the work table is zero within its places.
     fn is_as(&self, before: &Tables, work: &[u32]) {
         assert!(sound::is_sound(self.record, &self.tables));
-        assert_eq!(sound::live(self.record, &self.tables).as_ref(), Some(&self.live));
+        assert_eq!(sound::booked(self.record, &self.tables).as_ref(), Some(&self.book));
         let (s, t, r) = (self.sizes, &self.tables, self.record);
-        assert_eq!(([r.m, r.n, r.f, r.c], [r.grade2, r.grade3, r.grade4]), ([s.m, s.n, s.f, s.c], self.limits));
+        assert_eq!(([r.m, r.n, r.f, r.c], [r.grade2, r.grade3, r.grade4], r.clock), ([s.m, s.n, s.f, s.c], self.limits, self.clock));
         assert_eq!(t.heads[s.m as usize..], before.heads[s.m as usize..]);
         assert_eq!(t.parents[s.m as usize..], before.parents[s.m as usize..]);
         assert_eq!(t.rows[s.f as usize..], before.rows[s.f as usize..]);
@@ -103,6 +118,7 @@ impl World {
         assert_eq!(t.book_heads[s.n as usize..], before.book_heads[s.n as usize..]);
         assert_eq!(t.book_rows[s.c as usize..], before.book_rows[s.c as usize..]);
         assert_eq!(t.book_next[s.c as usize..], before.book_next[s.c as usize..]);
+        assert_eq!(t.windows[2 * s.n as usize..], before.windows[2 * s.n as usize..]);
         self.is_cleared(work);
     }
 
@@ -113,64 +129,100 @@ impl World {
         assert_eq!(self.work[k..], work[k..]);
     }
 
-    /// The factor of the live columns.
-    pub fn factor(&self) -> Vec<Pattern> {
-        factor(self.sizes.m, &self.live)
+    /// The live columns.
+    pub fn live(&self) -> Live {
+        live(&self.book, self.clock)
     }
 
-    // The smallest rows of the columns of these ids, by position.
-    fn starts(live: &Live, ids: &[u32]) -> Vec<u32> {
-        ids.iter().map(|id| live[id][0]).collect()
+    /// The factor of them.
+    pub fn factor(&self) -> Vec<Pattern> {
+        self.factor_of(&self.live())
+    }
+
+    fn factor_of(&self, live: &Live) -> Vec<Pattern> {
+        factor(self.sizes.m, live)
+    }
+
+    // The smallest rows of the columns of these ids, by position; "A batch column outside its window has no path".
+    fn starts(live: &Live, ids: &[u32]) -> Vec<Option<u32>> {
+        ids.iter().map(|id| live.get(id).map(|rows| rows[0])).collect()
     }
 
     /// Adds a batch on the library and on the register. Gives the number.
-    pub fn add(&mut self, ids: &[u32], counts: &[u32], rows: &[u32]) -> Number {
-        let expected = add_number(self.sizes, &self.live, ids, counts, rows);
-        let after = if expected.0 == 0 { added(&self.live, ids, counts, rows) } else { self.live.clone() };
-        let with = factor(self.sizes.m, &after);
-        let starts = if expected.0 == 0 { Self::starts(&after, ids) } else { Vec::new() };
-        self.batch(expected, after, &with, &starts, |w| w.tables.add(w.record, &mut w.work, &mut w.touched, &mut w.labels, ids, counts, rows))
+    pub fn add(&mut self, x: &Lists) -> Number {
+        let expected = add_number(self.sizes, &self.book, self.clock, x);
+        let change = (expected.0 == 0).then(|| {
+            let (book, before) = (added(&self.book, x), self.factor());
+            let live = live(&book, self.clock);
+            let after = self.factor_of(&live);
+            let paths = positions(&after, &Self::starts(&live, &x.ids));
+            Change { book, clock: self.clock, staying: before.clone(), before, after, paths }
+        });
+        self.change(expected, change, &x.ids, |w| {
+            w.tables.add(w.record, &mut w.work, &mut w.touched, &mut w.labels, &x.ids, &x.counts, &x.rows, &x.firsts, &x.seconds)
+        })
     }
 
     /// Removes a batch likewise.
     pub fn remove(&mut self, ids: &[u32]) -> Number {
-        let expected = remove_number(self.sizes, &self.live, ids);
-        let mut after = self.live.clone();
-        let mut starts = Vec::new();
-        if expected.0 == 0 {
-            starts = Self::starts(&self.live, ids);
-            after.retain(|id, _| !ids.contains(id));
-        }
-        let with = self.factor();
-        self.batch(expected, after, &with, &starts, |w| w.tables.remove(w.record, &mut w.work, &mut w.touched, &mut w.labels, ids))
+        let expected = remove_number(self.sizes, &self.book, ids);
+        let change = (expected.0 == 0).then(|| {
+            let (mut book, before) = (self.book.clone(), self.factor());
+            book.retain(|id, _| !ids.contains(id));
+            let after = self.factor_of(&live(&book, self.clock));
+            let paths = positions(&before, &Self::starts(&self.live(), ids));
+            Change { book, clock: self.clock, staying: after.clone(), before, after, paths }
+        });
+        self.change(expected, change, ids, |w| w.tables.remove(w.record, &mut w.work, &mut w.touched, &mut w.labels, ids))
     }
 
-    // A batch, and the factor with its columns: numbers, report, tables, and what must stay.
-    fn batch(&mut self, expected: Number, after: Live, with: &[Pattern], starts: &[u32], call: impl Fn(&mut World) -> Changed) -> Number {
+    /// Sets the clock likewise: "takes out columns that fall outside, then lets in those that begin to count", all columns on the old paths of the ones and the new
+    /// paths of the others "listed with label 0". The tables of the book and of the windows stay.
+    pub fn set_clock(&mut self, minute: u32) -> Number {
+        let (expected, was) = (clock_number(self.sizes, &self.book, minute), self.clock);
+        let change = (expected.0 == 0).then(|| {
+            let (before, after) = (self.factor(), self.factor_of(&live(&self.book, minute)));
+            let staying = self.factor_of(&chosen(&self.book, |line| line.counts_at(was) && line.counts_at(minute)));
+            let leave = chosen(&self.book, |line| line.counts_at(was) && !line.counts_at(minute));
+            let enter = chosen(&self.book, |line| line.counts_at(minute) && !line.counts_at(was));
+            let old = leave.values().map(|rows| (path(&before, rows[0]), 0));
+            let paths = old.chain(enter.values().map(|rows| (path(&after, rows[0]), 0))).collect();
+            Change { book: self.book.clone(), clock: minute, before, after, staying, paths }
+        });
+        let (tables, free) = (self.tables.clone(), self.record.book_free);
+        let number = self.change(expected, change, &[], |w| w.tables.set_clock(w.record, &mut w.work, &mut w.touched, &mut w.labels, minute));
+        let t = &self.tables;
+        assert!(t.book_heads == tables.book_heads && t.book_rows == tables.book_rows && t.book_next == tables.book_next && t.windows == tables.windows);
+        assert_eq!((&t.heads, self.record.book_free), (&tables.heads, free));
+        number
+    }
+
+    // A change, none where it is refused, and the ids that it books or removes: numbers, report, tables, and what must stay.
+    fn change(&mut self, expected: Number, change: Option<Change>, ids: &[u32], call: impl Fn(&mut World) -> Changed) -> Number {
         let (tables, work, record) = (self.tables.clone(), self.work.clone(), self.record);
         let (touched, labels) = (self.touched.clone(), self.labels.clone());
         let answer = call(self);
         assert_eq!((answer.number, answer.position), expected);
-        if expected.0 != 0 {
+        let Some(x) = change else {
             assert_eq!(answer, Changed { number: expected.0, position: expected.1, touched: 0, entries: 0, grade: 0, record });
             assert!(self.tables == tables && self.touched == touched && self.labels == labels);
             self.is_cleared(&work);
             return expected;
-        }
-        self.live = after;
-        self.record = answer.record;
-        let said = report(self.limits, with, starts);
+        };
+        let said = report(self.limits, &x.before, &x.after, &x.paths);
+        (self.book, self.clock, self.record) = (x.book, x.clock, answer.record);
         let k = said.touched.len();
         assert_eq!((answer.touched as usize, answer.entries, answer.grade), (k, said.entries, said.grade));
         assert_eq!((&self.touched[..k], &self.labels[..k]), (&said.touched[..], &said.labels[..]));
         assert_eq!((&self.touched[k..], &self.labels[k..]), (&touched[k..], &labels[k..]));
         self.is_as(&tables, &work);
-        self.keeps(record, &tables, &said.touched);
+        self.keeps(record, &tables, &said.touched, &x.staying);
+        self.keeps_book(record, &tables, ids);
         expected
     }
 
-    // Columns off the report keep head, parent and every record; an entry that stands before and after keeps its record.
-    fn keeps(&self, record: Record, before: &Tables, touched: &[u16]) {
+    // Columns off the report keep head, parent and every record; "An entry standing before, between and after keeps its record".
+    fn keeps(&self, record: Record, before: &Tables, touched: &[u16], staying: &[Pattern]) {
         let (old, new) = (sound::records(record, before), sound::records(self.record, &self.tables));
         for j in 1..=self.sizes.m as usize {
             let t = &self.tables;
@@ -182,9 +234,21 @@ impl World {
             }
             for r in &old[j - 1] {
                 let row = before.rows[r - 1];
+                let between = staying[j - 1].entries.iter().any(|e| e.0 == row as u32);
                 let stands = new[j - 1].iter().find(|k| t.rows[**k - 1] == row);
-                assert!(stands.is_none_or(|k| k == r));
+                assert!(!between || stands.is_none_or(|k| k == r));
             }
+        }
+    }
+
+    // Every other id keeps its head, its records in the book and its minutes.
+    fn keeps_book(&self, record: Record, before: &Tables, ids: &[u32]) {
+        let (n, t) = (self.sizes.n as usize, &self.tables);
+        let (old, new) = (sound::book_records(record, before), sound::book_records(self.record, t));
+        for k in (0..n).filter(|k| !ids.contains(&(*k as u32 + 1))) {
+            assert_eq!((before.book_heads[k], &old[k]), (t.book_heads[k], &new[k]));
+            assert!(old[k].iter().all(|r| (before.book_rows[r - 1], before.book_next[r - 1]) == (t.book_rows[r - 1], t.book_next[r - 1])));
+            assert_eq!((before.windows[k], before.windows[n + k]), (t.windows[k], t.windows[n + k]));
         }
     }
 

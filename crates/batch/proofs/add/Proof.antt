@@ -6,7 +6,7 @@ use Rattle.symbolic.specs.Grades.{Limits, limitsOf}
 use Rattle.tables.specs.Tables.{tablesOf}
 use Rattle.calls.specs.Calls.{Change, adding}
 use Rattle.calls.specs.Steps.{World}
-use Rattle.batch.specs.Outcome.{cutWorld}
+use Rattle.steps.specs.Outcome.{cutWorld}
 use Rattle.batch.specs.Parts.{Judged}
 use Rattle.batch.proofs.Verdicts.{judged-can}
 use Rattle.batch.proofs.Stepping.{batch-refused, batch-taken}
@@ -16,7 +16,7 @@ use Rattle.batch.proofs.add.Tie as tie
 -- ---- the places, named
 
 abbrev entry-at : tie.After-judge-add-arg7 → tie.Start
-entry-at c = c .before .before .before .before .before .before .before .before .before .before .before .before .before .before .before .before .before .before .before .before .before
+entry-at c = c .before .before .before .before .before .before .before .before .before .before .before .before .before .before .before .before .before .before .before .before .before .before .before .before
 
 abbrev entry : tie.After-judge-add → tie.Start
 entry c = entry-at (c .before)
@@ -25,10 +25,10 @@ abbrev judged : tie.After-struct-known → tie.After-judge-add
 judged c = c .before .before .before
 
 abbrev wrote : tie.After-accepting → tie.After-write-add
-wrote c = c .before .before .before .before .before .before .before .before .before .before .before .before .before .before .before .before .before .before .before .before .before
+wrote c = c .before .before .before .before .before .before .before .before .before .before .before .before .before .before .before .before .before .before .before .before .before .before .before
 
-abbrev at-write : tie.After-write-add-arg10 → tie.Else1
-at-write c = c .before .before .before .before .before .before .before .before .before .before .before
+abbrev at-write : tie.After-write-add-arg11 → tie.Else1
+at-write c = c .before .before .before .before .before .before .before .before .before .before .before .before
 
 -- ---- the world and the change
 
@@ -37,18 +37,19 @@ limitsAt s = limitsOf (s .args .grade2) (s .args .grade3) (s .args .grade4)
 
 abbrev worldAt : tie.Start → World
 worldAt s =
-    cutWorld (tablesOf (s .args .heads .now) (s .args .parents .now) (s .args .rows .now) (s .args .counts .now) (s .args .next .now) (s .args .book-heads .now) (s .args .book-rows .now) (s .args .book-next .now))
-    (limitsAt s) (s .args .free .0) (s .args .book-free .0)
+    cutWorld (tablesOf (s .args .heads .now) (s .args .parents .now) (s .args .rows .now) (s .args .counts .now) (s .args .next .now) (s .args .book-heads .now) (s .args .book-rows .now) (s .args .book-next .now)
+    (s .args .windows .now))
+    (limitsAt s) (s .args .clock) (s .args .free .0) (s .args .book-free .0)
 
 abbrev changeAt : tie.Start → Change
-changeAt s = adding (s .args .ids .now) (s .args .row-counts .now) (s .args .row-list .now)
+changeAt s = adding (s .args .ids .now) (s .args .row-counts .now) (s .args .row-list .now) (s .args .firsts .now) (s .args .seconds .now)
 
 -- the verdict
 verdict-at : (c : tie.After-judge-add) → Judged (worldAt (entry c)) (changeAt (entry c)) (entry c .args .work .now) (c .judge-add .last .1 .1 .1 .1 .1 .1 .1 .0) (c .judge-add .result)
-verdict-at c = let s = entry c in c .judge-add .ensures (limitsAt s) (s .args .book-rows .now) (s .pre .find)
+verdict-at c = let s = entry c in c .judge-add .ensures (limitsAt s) (s .args .book-rows .now) (s .args .windows .now) (s .pre .find)
 
 judge-add-requires : tie.Need-judge-add-requires
-judge-add-requires c κs = let s = entry-at c in record { limits = limitsAt s; book-rows = s .args .book-rows .now; can = s .pre .find }
+judge-add-requires c κs = let s = entry-at c in record { limits = limitsAt s; book-rows = s .args .book-rows .now; windows = s .args .windows .now; can = s .pre .find }
 
 refusing-requires : tie.Need-refusing-requires
 refusing-requires c κs = search needs
@@ -83,7 +84,7 @@ write-add-requires : tie.Need-write-add-requires
 write-add-requires c κs =
     let e = at-write c in
     let x = judged (e .before) in
-    record { limits = limitsAt (entry x); before = entry x .args .work .now; can = judged-can (verdict-at x) (e .if1 .left) (entry x .pre) }
+    record { limits = limitsAt (entry x); clock = entry x .args .clock; before = entry x .args .work .now; can = judged-can (verdict-at x) (e .if1 .left) (entry x .pre) }
 
 accepting-requires : tie.Need-accepting-requires
 accepting-requires c κs = search needs
@@ -110,13 +111,16 @@ same-length-14 : tie.Need-same-length-14
 same-length-14 c = wrote c .write-add .kept .1 .1 .1 .1 .1 .1 .1 .0
 
 same-length-15 : tie.Need-same-length-15
-same-length-15 c = wrote c .write-add .kept .1 .1 .1 .1 .1 .1 .1 .1 .0 ∙ judged (at-write (wrote c .before) .before) .judge-add .kept .1 .1 .1 .1 .1 .1 .1 .0
+same-length-15 c = wrote c .write-add .kept .1 .1 .1 .1 .1 .1 .1 .1 .0
 
 same-length-16 : tie.Need-same-length-16
-same-length-16 c = wrote c .write-add .kept .1 .1 .1 .1 .1 .1 .1 .1 .1 .0
+same-length-16 c = wrote c .write-add .kept .1 .1 .1 .1 .1 .1 .1 .1 .1 .0 ∙ judged (at-write (wrote c .before) .before) .judge-add .kept .1 .1 .1 .1 .1 .1 .1 .0
 
 same-length-17 : tie.Need-same-length-17
 same-length-17 c = wrote c .write-add .kept .1 .1 .1 .1 .1 .1 .1 .1 .1 .1 .0
+
+same-length-18 : tie.Need-same-length-18
+same-length-18 c = wrote c .write-add .kept .1 .1 .1 .1 .1 .1 .1 .1 .1 .1 .1 .0
 
 returns-2 : tie.Need-returns-2
 returns-2 c =
@@ -125,7 +129,7 @@ returns-2 c =
     let x = judged (e .before) in
     let s = entry x in
     let j = verdict-at x in
-    batch-taken j (e .if1 .left) (y .write-add .ensures (limitsAt s) (s .args .work .now) (judged-can j (e .if1 .left) (s .pre))) (c .accepting .ensures)
+    batch-taken j (e .if1 .left) (y .write-add .ensures (limitsAt s) (s .args .clock) (s .args .work .now) (judged-can j (e .if1 .left) (s .pre))) (c .accepting .ensures)
 
 pub add-spec : {M : Type 1} → statement M
 add-spec =
@@ -153,4 +157,5 @@ add-spec =
     same-length-15
     same-length-16
     same-length-17
+    same-length-18
     returns-2)

@@ -6,7 +6,7 @@ use Rattle.symbolic.specs.Grades.{Limits, limitsOf}
 use Rattle.tables.specs.Tables.{tablesOf}
 use Rattle.calls.specs.Calls.{Change, removing}
 use Rattle.calls.specs.Steps.{World}
-use Rattle.batch.specs.Outcome.{cutWorld}
+use Rattle.steps.specs.Outcome.{cutWorld}
 use Rattle.batch.specs.Parts.{Judged}
 use Rattle.batch.proofs.Verdicts.{judged-can}
 use Rattle.batch.proofs.Stepping.{batch-refused, batch-taken}
@@ -15,8 +15,8 @@ use Rattle.batch.proofs.remove.Tie as tie
 
 -- ---- the places, named
 
-abbrev entry-at : tie.After-judge-remove-arg8 → tie.Start
-entry-at c = c .before .before .before .before .before .before .before .before .before .before .before .before .before .before .before .before .before .before .before .before
+abbrev entry-at : tie.After-judge-remove-arg9 → tie.Start
+entry-at c = c .before .before .before .before .before .before .before .before .before .before .before .before .before .before .before .before .before .before .before .before .before .before
 
 abbrev entry : tie.After-judge-remove → tie.Start
 entry c = entry-at (c .before)
@@ -25,10 +25,10 @@ abbrev judged : tie.After-struct-known → tie.After-judge-remove
 judged c = c .before .before .before
 
 abbrev wrote : tie.After-accepting → tie.After-write-remove
-wrote c = c .before .before .before .before .before .before .before .before .before .before .before .before .before .before .before .before .before .before .before .before .before
+wrote c = c .before .before .before .before .before .before .before .before .before .before .before .before .before .before .before .before .before .before .before .before .before .before .before
 
-abbrev at-write : tie.After-write-remove-arg10 → tie.Else1
-at-write c = c .before .before .before .before .before .before .before .before .before .before .before
+abbrev at-write : tie.After-write-remove-arg11 → tie.Else1
+at-write c = c .before .before .before .before .before .before .before .before .before .before .before .before
 
 -- ---- the world and the change
 
@@ -37,14 +37,15 @@ limitsAt s = limitsOf (s .args .grade2) (s .args .grade3) (s .args .grade4)
 
 abbrev worldAt : tie.Start → World
 worldAt s =
-    cutWorld (tablesOf (s .args .heads .now) (s .args .parents .now) (s .args .rows .now) (s .args .counts .now) (s .args .next .now) (s .args .book-heads .now) (s .args .book-rows .now) (s .args .book-next .now))
-    (limitsAt s) (s .args .free .0) (s .args .book-free .0)
+    cutWorld (tablesOf (s .args .heads .now) (s .args .parents .now) (s .args .rows .now) (s .args .counts .now) (s .args .next .now) (s .args .book-heads .now) (s .args .book-rows .now) (s .args .book-next .now)
+    (s .args .windows .now))
+    (limitsAt s) (s .args .clock) (s .args .free .0) (s .args .book-free .0)
 
 abbrev changeAt : tie.Start → Change
 changeAt s = removing (s .args .ids .now)
 
 -- the verdict
-verdict-at : (c : tie.After-judge-remove) → Judged (worldAt (entry c)) (changeAt (entry c)) (entry c .args .work .now) (c .judge-remove .last .1 .1 .1 .1 .1 .1 .1 .1 .0) (c .judge-remove .result)
+verdict-at : (c : tie.After-judge-remove) → Judged (worldAt (entry c)) (changeAt (entry c)) (entry c .args .work .now) (c .judge-remove .last .1 .1 .1 .1 .1 .1 .1 .1 .1 .0) (c .judge-remove .result)
 verdict-at c = let s = entry c in c .judge-remove .ensures (limitsAt s) (s .args .free .0) (s .args .book-free .0) (s .pre .find)
 
 judge-remove-requires : tie.Need-judge-remove-requires
@@ -75,7 +76,10 @@ same-length-7 : tie.Need-same-length-7
 same-length-7 c = refl
 
 same-length-8 : tie.Need-same-length-8
-same-length-8 c = judged (c .before .before) .judge-remove .kept .1 .1 .1 .1 .1 .1 .1 .1 .0
+same-length-8 c = refl
+
+same-length-9 : tie.Need-same-length-9
+same-length-9 c = judged (c .before .before) .judge-remove .kept .1 .1 .1 .1 .1 .1 .1 .1 .1 .0
 
 returns : tie.Need-returns
 returns c =
@@ -86,40 +90,43 @@ write-remove-requires : tie.Need-write-remove-requires
 write-remove-requires c κs =
     let e = at-write c in
     let x = judged (e .before) in
-    record { limits = limitsAt (entry x); before = entry x .args .work .now; can = judged-can (verdict-at x) (e .if1 .left) (entry x .pre) }
+    record { limits = limitsAt (entry x); clock = entry x .args .clock; before = entry x .args .work .now; can = judged-can (verdict-at x) (e .if1 .left) (entry x .pre) }
 
 accepting-requires : tie.Need-accepting-requires
 accepting-requires c κs = search needs
 
-same-length-9 : tie.Need-same-length-9
-same-length-9 c = wrote c .write-remove .kept .1 .0
-
 same-length-10 : tie.Need-same-length-10
-same-length-10 c = wrote c .write-remove .kept .1 .1 .0
+same-length-10 c = wrote c .write-remove .kept .1 .0
 
 same-length-11 : tie.Need-same-length-11
-same-length-11 c = wrote c .write-remove .kept .1 .1 .1 .0
+same-length-11 c = wrote c .write-remove .kept .1 .1 .0
 
 same-length-12 : tie.Need-same-length-12
-same-length-12 c = wrote c .write-remove .kept .1 .1 .1 .1 .0
+same-length-12 c = wrote c .write-remove .kept .1 .1 .1 .0
 
 same-length-13 : tie.Need-same-length-13
-same-length-13 c = wrote c .write-remove .kept .1 .1 .1 .1 .1 .0
+same-length-13 c = wrote c .write-remove .kept .1 .1 .1 .1 .0
 
 same-length-14 : tie.Need-same-length-14
-same-length-14 c = wrote c .write-remove .kept .1 .1 .1 .1 .1 .1 .0
+same-length-14 c = wrote c .write-remove .kept .1 .1 .1 .1 .1 .0
 
 same-length-15 : tie.Need-same-length-15
-same-length-15 c = wrote c .write-remove .kept .1 .1 .1 .1 .1 .1 .1 .0
+same-length-15 c = wrote c .write-remove .kept .1 .1 .1 .1 .1 .1 .0
 
 same-length-16 : tie.Need-same-length-16
-same-length-16 c = wrote c .write-remove .kept .1 .1 .1 .1 .1 .1 .1 .1 .0 ∙ judged (at-write (wrote c .before) .before) .judge-remove .kept .1 .1 .1 .1 .1 .1 .1 .1 .0
+same-length-16 c = wrote c .write-remove .kept .1 .1 .1 .1 .1 .1 .1 .0
 
 same-length-17 : tie.Need-same-length-17
-same-length-17 c = wrote c .write-remove .kept .1 .1 .1 .1 .1 .1 .1 .1 .1 .0
+same-length-17 c = wrote c .write-remove .kept .1 .1 .1 .1 .1 .1 .1 .1 .0
 
 same-length-18 : tie.Need-same-length-18
-same-length-18 c = wrote c .write-remove .kept .1 .1 .1 .1 .1 .1 .1 .1 .1 .1 .0
+same-length-18 c = wrote c .write-remove .kept .1 .1 .1 .1 .1 .1 .1 .1 .1 .0 ∙ judged (at-write (wrote c .before) .before) .judge-remove .kept .1 .1 .1 .1 .1 .1 .1 .1 .1 .0
+
+same-length-19 : tie.Need-same-length-19
+same-length-19 c = wrote c .write-remove .kept .1 .1 .1 .1 .1 .1 .1 .1 .1 .1 .0
+
+same-length-20 : tie.Need-same-length-20
+same-length-20 c = wrote c .write-remove .kept .1 .1 .1 .1 .1 .1 .1 .1 .1 .1 .1 .0
 
 returns-2 : tie.Need-returns-2
 returns-2 c =
@@ -128,7 +135,7 @@ returns-2 c =
     let x = judged (e .before) in
     let s = entry x in
     let j = verdict-at x in
-    batch-taken j (e .if1 .left) (y .write-remove .ensures (limitsAt s) (s .args .work .now) (judged-can j (e .if1 .left) (s .pre))) (c .accepting .ensures)
+    batch-taken j (e .if1 .left) (y .write-remove .ensures (limitsAt s) (s .args .clock) (s .args .work .now) (judged-can j (e .if1 .left) (s .pre))) (c .accepting .ensures)
 
 pub remove-spec : {M : Type 1} → statement M
 remove-spec =
@@ -144,10 +151,10 @@ remove-spec =
     same-length-6
     same-length-7
     same-length-8
+    same-length-9
     returns
     write-remove-requires
     accepting-requires
-    same-length-9
     same-length-10
     same-length-11
     same-length-12
@@ -157,4 +164,6 @@ remove-spec =
     same-length-16
     same-length-17
     same-length-18
+    same-length-19
+    same-length-20
     returns-2)

@@ -13,7 +13,7 @@ use Rattle.bench_driver.proofs.bench_run_batches.Tie as tie
 -- ---- the places, named
 
 abbrev entry : tie.After-check → tie.Start
-entry c = c .before .before .before .before .before .before .before .before .before .before .before .before .before .before .before .before .before .before .before .before .before .before .before .before
+entry c = c .before .before .before .before .before .before .before .before .before .before .before .before .before .before .before .before .before .before .before .before .before .before .before .before .before .before
 
 abbrev passed : tie.After-short-lists → tie.Else1
 passed c = c .before .before .before
@@ -21,17 +21,17 @@ passed c = c .before .before .before
 abbrev checked : tie.Else1 → tie.After-check
 checked c = c .before .before .before
 
-abbrev ran : tie.After-slice-known21 → tie.After-run
-ran c = c .before .before .before .before .before .before .before .before .before .before .before .before .before .before .before .before .before .before .before .before
+abbrev ran : tie.After-slice-known23 → tie.After-run
+ran c = c .before .before .before .before .before .before .before .before .before .before .before .before .before .before .before .before .before .before .before .before .before .before
 
-abbrev lent : tie.After-run-arg10 → tie.Else2
-lent c = c .before .before .before .before .before .before .before .before .before .before
+abbrev lent : tie.After-run-arg11 → tie.Else2
+lent c = c .before .before .before .before .before .before .before .before .before .before .before
 
 abbrev stateAt : tie.Start → State
 stateAt s = stateOf (s .args .factor)
 
 abbrev tablesAt : tie.Start → Tables
-tablesAt s = tablesOf (s .args .heads .now) (s .args .parents .now) (s .args .rows .now) (s .args .counts .now) (s .args .next .now) (s .args .book-heads .now) (s .args .book-rows .now) (s .args .book-next .now)
+tablesAt s = tablesOf (s .args .heads .now) (s .args .parents .now) (s .args .rows .now) (s .args .counts .now) (s .args .next .now) (s .args .book-heads .now) (s .args .book-rows .now) (s .args .book-next .now) (s .args .windows .now)
 
 five-some : _≡_ {A = ℕ} 5 0 → ⊥
 five-some e = omega arith
@@ -61,16 +61,16 @@ same-length-7 : tie.Need-same-length-7
 same-length-7 c = refl
 
 same-length-8 : tie.Need-same-length-8
-same-length-8 c = c .before .before .before .check .kept .1 .1 .1 .1 .1 .1 .1 .1 .1 .0
+same-length-8 c = refl
+
+same-length-9 : tie.Need-same-length-9
+same-length-9 c = c .before .before .before .check .kept .1 .1 .1 .1 .1 .1 .1 .1 .1 .1 .0
 
 returns : tie.Need-returns
 returns c = λ e. absurd (c .if1 .taken e)
 
 short-lists-requires : tie.Need-short-lists-requires
 short-lists-requires c κs = search needs
-
-same-length-9 : tie.Need-same-length-9
-same-length-9 c = refl
 
 same-length-10 : tie.Need-same-length-10
 same-length-10 c = refl
@@ -91,13 +91,19 @@ same-length-15 : tie.Need-same-length-15
 same-length-15 c = refl
 
 same-length-16 : tie.Need-same-length-16
-same-length-16 c = checked (passed (c .before)) .check .kept .1 .1 .1 .1 .1 .1 .1 .1 .1 .0
+same-length-16 c = refl
 
 same-length-17 : tie.Need-same-length-17
 same-length-17 c = refl
 
 same-length-18 : tie.Need-same-length-18
-same-length-18 c = refl
+same-length-18 c = checked (passed (c .before)) .check .kept .1 .1 .1 .1 .1 .1 .1 .1 .1 .1 .0
+
+same-length-19 : tie.Need-same-length-19
+same-length-19 c = refl
+
+same-length-20 : tie.Need-same-length-20
+same-length-20 c = refl
 
 returns-2 : tie.Need-returns-2
 returns-2 c = λ e. absurd (five-some e)
@@ -110,37 +116,40 @@ run-requires c κs =
     let k : tie.After-check = checked d in
     let s : tie.Start = entry k in
     let x = lists-fit (s .args .factor .m) (s .args .touched .now) (s .args .labels .now) (h .short-lists .ensures) (e .if2 .left) in
-    checked-can (stateAt s) (tablesAt s) (s .args .work .now) (replyOf (k .check .result)) (k .check .last .1 .1 .1 .1 .1 .1 .1 .1 .1 .0) (k .check .ensures) (d .if1 .left) (s .args .touched .now) (s .args .labels .now) (x .0) (x .1)
-
-same-length-19 : tie.Need-same-length-19
-same-length-19 c = ran c .run .kept .1 .1 .0
-
-same-length-20 : tie.Need-same-length-20
-same-length-20 c = ran c .run .kept .1 .1 .1 .0
+    checked-can (stateAt s) (tablesAt s) (s .args .work .now) (replyOf (k .check .result)) (k .check .last .1 .1 .1 .1 .1 .1 .1 .1 .1 .1 .0) (k .check .ensures) (d .if1 .left) (s .args .touched .now) (s .args .labels .now) (x .0) (x .1)
 
 same-length-21 : tie.Need-same-length-21
-same-length-21 c = ran c .run .kept .1 .1 .1 .1 .0
+same-length-21 c = ran c .run .kept .1 .1 .0
 
 same-length-22 : tie.Need-same-length-22
-same-length-22 c = ran c .run .kept .1 .1 .1 .1 .1 .0
+same-length-22 c = ran c .run .kept .1 .1 .1 .0
 
 same-length-23 : tie.Need-same-length-23
-same-length-23 c = ran c .run .kept .1 .1 .1 .1 .1 .1 .0
+same-length-23 c = ran c .run .kept .1 .1 .1 .1 .0
 
 same-length-24 : tie.Need-same-length-24
-same-length-24 c = ran c .run .kept .1 .1 .1 .1 .1 .1 .1 .0
+same-length-24 c = ran c .run .kept .1 .1 .1 .1 .1 .0
 
 same-length-25 : tie.Need-same-length-25
-same-length-25 c = ran c .run .kept .1 .1 .1 .1 .1 .1 .1 .1 .0
+same-length-25 c = ran c .run .kept .1 .1 .1 .1 .1 .1 .0
 
 same-length-26 : tie.Need-same-length-26
-same-length-26 c = ran c .run .kept .1 .1 .1 .1 .1 .1 .1 .1 .1 .0 ∙ checked (passed (lent (ran c .before) .before)) .check .kept .1 .1 .1 .1 .1 .1 .1 .1 .1 .0
+same-length-26 c = ran c .run .kept .1 .1 .1 .1 .1 .1 .1 .0
 
 same-length-27 : tie.Need-same-length-27
-same-length-27 c = ran c .run .kept .1 .1 .1 .1 .1 .1 .1 .1 .1 .1 .0
+same-length-27 c = ran c .run .kept .1 .1 .1 .1 .1 .1 .1 .1 .0
 
 same-length-28 : tie.Need-same-length-28
-same-length-28 c = ran c .run .kept .1 .1 .1 .1 .1 .1 .1 .1 .1 .1 .1 .0
+same-length-28 c = ran c .run .kept .1 .1 .1 .1 .1 .1 .1 .1 .1 .0
+
+same-length-29 : tie.Need-same-length-29
+same-length-29 c = ran c .run .kept .1 .1 .1 .1 .1 .1 .1 .1 .1 .1 .0 ∙ checked (passed (lent (ran c .before) .before)) .check .kept .1 .1 .1 .1 .1 .1 .1 .1 .1 .1 .0
+
+same-length-30 : tie.Need-same-length-30
+same-length-30 c = ran c .run .kept .1 .1 .1 .1 .1 .1 .1 .1 .1 .1 .1 .0
+
+same-length-31 : tie.Need-same-length-31
+same-length-31 c = ran c .run .kept .1 .1 .1 .1 .1 .1 .1 .1 .1 .1 .1 .1 .0
 
 returns-3 : tie.Need-returns-3
 returns-3 c = λ e. ran c .run .ensures
@@ -158,9 +167,9 @@ bench-run-batches-spec =
     same-length-6
     same-length-7
     same-length-8
+    same-length-9
     returns
     short-lists-requires
-    same-length-9
     same-length-10
     same-length-11
     same-length-12
@@ -170,10 +179,10 @@ bench-run-batches-spec =
     same-length-16
     same-length-17
     same-length-18
-    returns-2
-    run-requires
     same-length-19
     same-length-20
+    returns-2
+    run-requires
     same-length-21
     same-length-22
     same-length-23
@@ -182,4 +191,7 @@ bench-run-batches-spec =
     same-length-26
     same-length-27
     same-length-28
+    same-length-29
+    same-length-30
+    same-length-31
     returns-3)

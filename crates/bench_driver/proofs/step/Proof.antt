@@ -15,16 +15,16 @@ use Rattle.bench_driver.proofs.step.Tie as tie
 -- ---- the places, named
 
 abbrev entry : tie.After-planned → tie.Start
-entry c = c .before .before .before .before .before .before .before .before .before .before .before .before .before .before .before .before
+entry c = c .before .before .before .before .before .before .before .before .before .before .before .before .before .before .before .before .before
 
 abbrev found : tie.Else3 → tie.After-planned
 found c = c .before .before .before .before .before .before
 
-abbrev lent : tie.After-change-arg10 → tie.Else3
-lent c = c .before .before .before .before .before .before .before .before .before .before
+abbrev lent : tie.After-change-arg11 → tie.Else3
+lent c = c .before .before .before .before .before .before .before .before .before .before .before
 
-abbrev ran : tie.After-slice-known20 → tie.After-change
-ran c = c .before .before .before .before .before .before .before .before .before .before .before .before .before .before .before .before .before .before .before .before
+abbrev ran : tie.After-slice-known22 → tie.After-change
+ran c = c .before .before .before .before .before .before .before .before .before .before .before .before .before .before .before .before .before .before .before .before .before .before
 
 -- ---- the parts
 
@@ -45,9 +45,9 @@ facts c =
     record { id-low = x .0; id-high = x .1; count-low = y .0; count-high = y .1; row-low = z .0; row-high = z .1 }
 
 -- nothing changes
-kept : (s : tie.Start) (x : Factor) → x ≡ s .args .factor → CanChange (stateOf x) (tablesOf (s .args .heads .now) (s .args .parents .now) (s .args .rows .now) (s .args .counts .now) (s .args .next .now) (s .args .book-heads .now) (s .args .book-rows .now) (s .args .book-next .now)) (s .args .work .now) (s .args .touched .now) (s .args .labels .now)
+kept : (s : tie.Start) (x : Factor) → x ≡ s .args .factor → CanChange (stateOf x) (tablesOf (s .args .heads .now) (s .args .parents .now) (s .args .rows .now) (s .args .counts .now) (s .args .next .now) (s .args .book-heads .now) (s .args .book-rows .now) (s .args .book-next .now) (s .args .windows .now)) (s .args .work .now) (s .args .touched .now) (s .args .labels .now)
 kept s x e =
-    subst (λ (x : Factor). CanChange (stateOf x) (tablesOf (s .args .heads .now) (s .args .parents .now) (s .args .rows .now) (s .args .counts .now) (s .args .next .now) (s .args .book-heads .now) (s .args .book-rows .now) (s .args .book-next .now)) (s .args .work .now) (s .args .touched .now) (s .args .labels .now)) (sym e) (s .pre)
+    subst (λ (x : Factor). CanChange (stateOf x) (tablesOf (s .args .heads .now) (s .args .parents .now) (s .args .rows .now) (s .args .counts .now) (s .args .next .now) (s .args .book-heads .now) (s .args .book-rows .now) (s .args .book-next .now) (s .args .windows .now)) (s .args .work .now) (s .args .touched .now) (s .args .labels .now)) (sym e) (s .pre)
 
 planned-requires : tie.Need-planned-requires
 planned-requires c κs = search needs
@@ -139,6 +139,9 @@ same-length-9 c = ran c .change .kept .1 .1 .1 .1 .1 .1 .1 .1 .1 .1 .0
 same-length-10 : tie.Need-same-length-10
 same-length-10 c = ran c .change .kept .1 .1 .1 .1 .1 .1 .1 .1 .1 .1 .1 .0
 
+same-length-11 : tie.Need-same-length-11
+same-length-11 c = ran c .change .kept .1 .1 .1 .1 .1 .1 .1 .1 .1 .1 .1 .1 .0
+
 returns-4 : tie.Need-returns-4
 returns-4 c = ran c .change .ensures
 
@@ -176,4 +179,5 @@ step-spec =
     same-length-8
     same-length-9
     same-length-10
+    same-length-11
     returns-4)

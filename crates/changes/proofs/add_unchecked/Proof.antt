@@ -1,6 +1,7 @@
 -- `add_unchecked` meets its contract: within their sizes usable tables can be batched, and the prefixes written back are the whole tables' batch, by the laws
 -- of Batching.antt. Assumes nothing.
 use mathlib.Core.Path.{refl, sym}
+use Prim.Native.Nat.{_*_}
 use borrow.Author.Needs.{needs}
 use lib.ListN.{take}
 use Rattle.tables.specs.Tables.{Tables, State, tablesOf}
@@ -15,19 +16,19 @@ use Rattle.changes.proofs.add_unchecked.Tie as tie
 -- ---- the places, named
 
 abbrev entry : tie.After-add-arg → tie.Start
-entry c = c .before .before .before .before .before .before .before .before .before .before .before .before .before .before .before .before .before .before .before
+entry c = c .before .before .before .before .before .before .before .before .before .before .before .before .before .before .before .before .before .before .before .before .before .before
 
-abbrev lent : tie.After-add-arg11 → tie.Start
-lent c = entry (c .before .before .before .before .before .before .before .before .before .before)
+abbrev lent : tie.After-add-arg12 → tie.Start
+lent c = entry (c .before .before .before .before .before .before .before .before .before .before .before)
 
 abbrev ran : tie.After-changed → tie.After-add
-ran c = c .before .before .before .before .before .before .before .before .before .before .before .before .before .before .before .before .before .before .before .before .before
+ran c = c .before .before .before .before .before .before .before .before .before .before .before .before .before .before .before .before .before .before .before .before .before .before .before
 
 abbrev stateAt : tie.Start → State
 stateAt s = stateOf (s .args .factor)
 
 abbrev tablesAt : tie.Start → Tables
-tablesAt s = tablesOf (s .args .heads .now) (s .args .parents .now) (s .args .rows .now) (s .args .counts .now) (s .args .next .now) (s .args .book-heads .now) (s .args .book-rows .now) (s .args .book-next .now)
+tablesAt s = tablesOf (s .args .heads .now) (s .args .parents .now) (s .args .rows .now) (s .args .counts .now) (s .args .next .now) (s .args .book-heads .now) (s .args .book-rows .now) (s .args .book-next .now) (s .args .windows .now)
 
 lengths : (c : tie.After-add-arg) → Cut (stateAt (entry c)) (tablesAt (entry c))
 lengths c = let s : tie.Start = entry c in cut (stateAt s) (tablesAt s) (s .pre .can-use .usable .long)
@@ -92,6 +93,15 @@ slice-relend-prefix-add-7 c = long (c .before .before .before .before .before .b
 slice-aggregate-add-8 : tie.Need-slice-aggregate-add-8
 slice-aggregate-add-8 c = sym (lengths (c .before .before .before .before .before .before .before) .bookNext)
 
+mul-add : tie.Need-mul-add
+mul-add c = search needs
+
+slice-relend-prefix-add-8 : tie.Need-slice-relend-prefix-add-8
+slice-relend-prefix-add-8 c = long (c .before .before .before .before .before .before .before) .windows
+
+slice-aggregate-add-9 : tie.Need-slice-aggregate-add-9
+slice-aggregate-add-9 c = sym (lengths (c .before .before .before .before .before .before .before .before) .windows)
+
 add-requires : tie.Need-add-requires
 add-requires c κs = let s : tie.Start = lent c in change-can (s .args .factor) (tablesAt s) (s .pre)
 
@@ -120,7 +130,7 @@ same-length-7 : tie.Need-same-length-7
 same-length-7 c = let s : tie.Start = lent (ran c .before) in joined-length (s .args .factor .c) (s .args .book-next .now) (ran c .add .last .1 .1 .1 .1 .1 .1 .1 .0) (ran c .add .kept .1 .1 .1 .1 .1 .1 .1 .0)
 
 same-length-8 : tie.Need-same-length-8
-same-length-8 c = ran c .add .kept .1 .1 .1 .1 .1 .1 .1 .1 .0
+same-length-8 c = let s : tie.Start = lent (ran c .before) in joined-length (2 * s .args .factor .n) (s .args .windows .now) (ran c .add .last .1 .1 .1 .1 .1 .1 .1 .1 .0) (ran c .add .kept .1 .1 .1 .1 .1 .1 .1 .1 .0)
 
 same-length-9 : tie.Need-same-length-9
 same-length-9 c = ran c .add .kept .1 .1 .1 .1 .1 .1 .1 .1 .1 .0
@@ -128,13 +138,16 @@ same-length-9 c = ran c .add .kept .1 .1 .1 .1 .1 .1 .1 .1 .1 .0
 same-length-10 : tie.Need-same-length-10
 same-length-10 c = ran c .add .kept .1 .1 .1 .1 .1 .1 .1 .1 .1 .1 .0
 
+same-length-11 : tie.Need-same-length-11
+same-length-11 c = ran c .add .kept .1 .1 .1 .1 .1 .1 .1 .1 .1 .1 .1 .0
+
 returns : tie.Need-returns
 returns c =
     let d : tie.After-add = ran c in
     let s : tie.Start = lent (d .before) in
-    let t : Tables = tablesOf (take (s .args .factor .m) (s .args .heads .now)) (d .add .last .1 .0) (d .add .last .1 .1 .0) (d .add .last .1 .1 .1 .0) (d .add .last .1 .1 .1 .1 .0) (d .add .last .1 .1 .1 .1 .1 .0) (d .add .last .1 .1 .1 .1 .1 .1 .0) (d .add .last .1 .1 .1 .1 .1 .1 .1 .0) in
-    change-step (s .args .factor) (tablesAt s) (s .pre) (adding (s .args .ids .now) (s .args .row-counts .now) (s .args .row-list .now)) (reportLists (s .args .work .now) (s .args .touched .now) (s .args .labels .now)) t (d .add .result)
-    (reportLists (d .add .last .1 .1 .1 .1 .1 .1 .1 .1 .0) (d .add .last .1 .1 .1 .1 .1 .1 .1 .1 .1 .0) (d .add .last .1 .1 .1 .1 .1 .1 .1 .1 .1 .1 .0)) refl (d .add .ensures) (c .changed .ensures)
+    let t : Tables = tablesOf (take (s .args .factor .m) (s .args .heads .now)) (d .add .last .1 .0) (d .add .last .1 .1 .0) (d .add .last .1 .1 .1 .0) (d .add .last .1 .1 .1 .1 .0) (d .add .last .1 .1 .1 .1 .1 .0) (d .add .last .1 .1 .1 .1 .1 .1 .0) (d .add .last .1 .1 .1 .1 .1 .1 .1 .0) (d .add .last .1 .1 .1 .1 .1 .1 .1 .1 .0) in
+    change-step (s .args .factor) (tablesAt s) (s .pre) (adding (s .args .ids .now) (s .args .row-counts .now) (s .args .row-list .now) (s .args .firsts .now) (s .args .seconds .now)) (reportLists (s .args .work .now) (s .args .touched .now) (s .args .labels .now)) t (d .add .result) (s .args .factor .clock)
+    (reportLists (d .add .last .1 .1 .1 .1 .1 .1 .1 .1 .1 .0) (d .add .last .1 .1 .1 .1 .1 .1 .1 .1 .1 .1 .0) (d .add .last .1 .1 .1 .1 .1 .1 .1 .1 .1 .1 .1 .0)) (d .add .ensures) (c .changed .ensures) refl
 
 pub add-unchecked-spec : {M : Type 1} → statement M
 add-unchecked-spec =
@@ -159,6 +172,9 @@ add-unchecked-spec =
     slice-aggregate-add-7
     slice-relend-prefix-add-7
     slice-aggregate-add-8
+    mul-add
+    slice-relend-prefix-add-8
+    slice-aggregate-add-9
     add-requires
     changed-requires
     same-length
@@ -171,4 +187,5 @@ add-unchecked-spec =
     same-length-8
     same-length-9
     same-length-10
+    same-length-11
     returns)

@@ -1,4 +1,4 @@
--- `factor_cases::show` is safe and ends: the outer loop's table is at most 8, the inner one's place at most the table's places. The measures are what is
+-- `factor_cases::show` is safe and ends: the outer loop's table is at most 9, the inner one's place at most the table's places. The measures are what is
 -- left of these. Assumes nothing.
 use Prim.Native.Nat.{_≤_, _-_}
 use native.Mathlib.Omega.{arith}
@@ -13,10 +13,10 @@ abbrev μ-loop2 : tie.MeasureT-loop2
 μ-loop2 «record» t table n place₀ place = n - place
 
 abbrev Inv-loop : tie.InvT-loop
-Inv-loop «record» t table₀ table = table ≤ 8
+Inv-loop «record» t table₀ table = table ≤ 9
 
 abbrev μ-loop : tie.MeasureT-loop
-μ-loop «record» t table₀ table = 8 - table
+μ-loop «record» t table₀ table = 9 - table
 
 answer-requires : tie.Need-answer-requires Inv-loop2 μ-loop2 Inv-loop μ-loop
 answer-requires c κs = search needs
@@ -60,6 +60,9 @@ loop-less c = search needs
 loop-again : tie.Need-loop-again Inv-loop2 μ-loop2 Inv-loop μ-loop
 loop-again c = search needs
 
+show-clock-requires : tie.Need-show-clock-requires Inv-loop2 μ-loop2 Inv-loop μ-loop
+show-clock-requires c κs = search needs
+
 returns : tie.Need-returns Inv-loop2 μ-loop2 Inv-loop μ-loop
 returns c = search needs
 
@@ -85,4 +88,5 @@ show-spec =
     add-table
     loop-less
     loop-again
+    show-clock-requires
     returns)

@@ -26,15 +26,6 @@ array-read-damaged c = search needs
 damaged-requires : tie.Need-damaged-requires Inv-loop μ-loop
 damaged-requires c κs = search needs
 
-mul-damaged-book : tie.Need-mul-damaged-book Inv-loop μ-loop
-mul-damaged-book c = search needs
-
-array-read-damaged-book : tie.Need-array-read-damaged-book Inv-loop μ-loop
-array-read-damaged-book c = search needs
-
-damaged-book-requires : tie.Need-damaged-book-requires Inv-loop μ-loop
-damaged-book-requires c κs = search needs
-
 answer-requires : tie.Need-answer-requires Inv-loop μ-loop
 answer-requires c κs = search needs
 
@@ -69,9 +60,6 @@ show-place-spec =
     mul-damaged
     array-read-damaged
     damaged-requires
-    mul-damaged-book
-    array-read-damaged-book
-    damaged-book-requires
     answer-requires
     array-write-line
     add-i

@@ -18,36 +18,36 @@ use Rattle.listing_answers.proofs.answer.Statement.{statement}
 use Rattle.listing_answers.proofs.answer.Tie as tie
 
 abbrev entry : tie.After-parse → tie.Start
-entry c = c .before .before .before .before .before .before .before .before .before .before .before .before .before .before .before .before
+entry c = c .before .before .before .before .before .before .before .before .before .before .before .before .before .before .before .before .before
 
 -- at the end of each arm, its call
-abbrev open-done : tie.After-slice-known24 → tie.After-open-line
-open-done c = c .before .before .before .before .before .before .before .before .before .before .before .before .before .before .before .before .before .before .before .before
+abbrev open-done : tie.After-slice-known26 → tie.After-open-line
+open-done c = c .before .before .before .before .before .before .before .before .before .before .before .before .before .before .before .before .before .before .before .before .before .before
 
-abbrev add-done : tie.After-slice-known35 → tie.After-add-line
-add-done c = c .before .before .before .before .before .before .before .before .before .before .before .before .before .before .before .before .before .before .before .before .before .before
+abbrev add-done : tie.After-slice-known38 → tie.After-add-line
+add-done c = c .before .before .before .before .before .before .before .before .before .before .before .before .before .before .before .before .before .before .before .before .before .before .before .before
 
-abbrev drop-done : tie.After-slice-known46 → tie.After-drop-line
-drop-done c = c .before .before .before .before .before .before .before .before .before .before .before .before .before .before .before .before .before .before .before .before .before .before
+abbrev drop-done : tie.After-slice-known50 → tie.After-drop-line
+drop-done c = c .before .before .before .before .before .before .before .before .before .before .before .before .before .before .before .before .before .before .before .before .before .before .before .before
 
-abbrev show-done : tie.After-slice-known48 → tie.After-show
+abbrev show-done : tie.After-slice-known52 → tie.After-show
 show-done c = c .before .before .before .before
 
-abbrev no-done : tie.After-slice-known49 → tie.After-no-line
+abbrev no-done : tie.After-slice-known53 → tie.After-no-line
 no-done c = c .before .before
 
 -- the command that an arm has, and the parsing before it
 abbrev opened : tie.After-open-line → tie.After-asked
-opened c = c .before .before .before .before .before .before .before .before .before .before .before .before
+opened c = c .before .before .before .before .before .before .before .before .before .before .before .before .before
 
 abbrev added : tie.After-add-line → tie.After-asked2
-added c = c .before .before .before .before .before .before .before .before .before .before .before .before .before .before .before
+added c = c .before .before .before .before .before .before .before .before .before .before .before .before .before .before .before .before
 
 abbrev dropped : tie.After-drop-line → tie.After-asked3
-dropped c = c .before .before .before .before .before .before .before .before .before .before .before .before .before .before
+dropped c = c .before .before .before .before .before .before .before .before .before .before .before .before .before .before .before
 
 abbrev showed : tie.After-show → tie.After-enum-told
-showed c = c .before .before .before .before .before .before .before .before .before .before .before
+showed c = c .before .before .before .before .before .before .before .before .before .before .before .before
 
 abbrev refused : tie.After-no-line → tie.After-enum-told2
 refused c = c .before .before
@@ -70,7 +70,7 @@ parsed-other c = c .before .before .before .before
 abbrev tables : tie.Start → Tables
 tables s =
     let a = s .args in
-    tablesOf (a .heads .now) (a .parents .now) (a .rows .now) (a .counts .now) (a .next .now) (a .book-heads .now) (a .book-rows .now) (a .book-next .now)
+    tablesOf (a .heads .now) (a .parents .now) (a .rows .now) (a .counts .now) (a .next .now) (a .book-heads .now) (a .book-rows .now) (a .book-next .now) (a .windows .now)
 
 abbrev memory : tie.Start → Memory
 memory s = memoryOf (s .args .factor) (tables s) (s .args .work .now) (s .args .touched .now) (s .args .labels .now)
@@ -93,20 +93,20 @@ is-unknown : (c : tie.After-enum-told2) → commandOf (entry (parsed-other c) .a
 is-unknown c = sym (parsed-other c .parse .ensures .command) ∙ c .enum-told2 .given .1
 
 parse-requires : tie.Need-parse-requires
-parse-requires c κs = c .before .before .before .before .before .before .before .before .before .before .before .before .before .before .before .pre .0
+parse-requires c κs = c .before .before .before .before .before .before .before .before .before .before .before .before .before .before .before .before .pre .0
 
 enum-known-asked : tie.Need-enum-known-asked
 enum-known-asked c = search needs
 
 open-line-requires : tie.Need-open-line-requires
-open-line-requires c κs = omega (arith, entry (parsed-open (c .before .before .before .before .before .before .before .before .before .before .before)) .pre .1 .0)
+open-line-requires c κs = omega (arith, entry (parsed-open (c .before .before .before .before .before .before .before .before .before .before .before .before)) .pre .1 .0)
 
 enum-known-asked-2 : tie.Need-enum-known-asked-2
 enum-known-asked-2 c = search needs
 
 add-line-requires : tie.Need-add-line-requires
 add-line-requires c κs =
-    let k = c .before .before .before .before .before .before .before .before .before .before .before .before .before .before in
+    let k = c .before .before .before .before .before .before .before .before .before .before .before .before .before .before .before in
     let p = parsed-add k in
     let s = entry p in (
       omega (arith, s .pre .1 .0),
@@ -121,7 +121,7 @@ enum-known-asked-3 c = search needs
 
 drop-line-requires : tie.Need-drop-line-requires
 drop-line-requires c κs =
-    let s = entry (parsed-drop (c .before .before .before .before .before .before .before .before .before .before .before .before .before)) in
+    let s = entry (parsed-drop (c .before .before .before .before .before .before .before .before .before .before .before .before .before .before)) in
     (omega (arith, s .pre .1 .0), s .pre .1 .1 .usable)
 
 enum-told : tie.Need-enum-told
@@ -129,7 +129,7 @@ enum-told c = search needs
 
 show-requires : tie.Need-show-requires
 show-requires c κs =
-    let p = parsed-show (c .before .before .before .before .before .before .before .before .before .before) in
+    let p = parsed-show (c .before .before .before .before .before .before .before .before .before .before .before) in
     let s = entry p in
     can-show (s .args .factor) (tables s) (s .args .work .now) (s .args .touched .now) (s .args .labels .now) (s .pre .1 .1) (omega (arith, s .pre .0, p .parse .kept .1 .0)) (s .pre .1 .0)
 
@@ -149,7 +149,7 @@ returns c =
     let g = s .pre .1 .1 .lengths in
     let a =
     opens (sizesOf (v .0) (v .1 .0) (v .1 .1 .0) (v .1 .1 .1 .0)) (tables s) (s .args .work .now) (s .args .factor) (s .args .touched .now) (s .args .labels .now) (s .args .out .now)
-    (tablesOf (l .1 .0) (l .1 .1 .0) (l .1 .1 .1 .0) (l .1 .1 .1 .1 .0) (l .1 .1 .1 .1 .1 .0) (l .1 .1 .1 .1 .1 .1 .0) (l .1 .1 .1 .1 .1 .1 .1 .0) (l .1 .1 .1 .1 .1 .1 .1 .1 .0)) (l .1 .1 .1 .1 .1 .1 .1 .1 .1 .0) (l .1 .1 .1 .1 .1 .1 .1 .1 .1 .1 .0) (s .pre .1 .1) (s .args .line .now) (o .open-line .result) (o .open-line .ensures) (is-open q) in (
+    (tablesOf (l .1 .0) (l .1 .1 .0) (l .1 .1 .1 .0) (l .1 .1 .1 .1 .0) (l .1 .1 .1 .1 .1 .0) (l .1 .1 .1 .1 .1 .1 .0) (l .1 .1 .1 .1 .1 .1 .1 .0) (l .1 .1 .1 .1 .1 .1 .1 .1 .0) (l .1 .1 .1 .1 .1 .1 .1 .1 .1 .0)) (l .1 .1 .1 .1 .1 .1 .1 .1 .1 .1 .0) (l .1 .1 .1 .1 .1 .1 .1 .1 .1 .1 .1 .0) (s .pre .1 .1) (s .args .line .now) (o .open-line .result) (o .open-line .ensures) (is-open q) in (
       a,
       record {
         lengths = record {
@@ -161,7 +161,8 @@ returns c =
           book-heads = omega (arith, g .book-heads, o .open-line .kept .1 .1 .1 .1 .1 .1 .0);
           book-rows = omega (arith, g .book-rows, o .open-line .kept .1 .1 .1 .1 .1 .1 .1 .0);
           book-next = omega (arith, g .book-next, o .open-line .kept .1 .1 .1 .1 .1 .1 .1 .1 .0);
-          work = omega (arith, g .work, o .open-line .kept .1 .1 .1 .1 .1 .1 .1 .1 .1 .0);
+          windows = omega (arith, g .windows, o .open-line .kept .1 .1 .1 .1 .1 .1 .1 .1 .1 .0);
+          work = omega (arith, g .work, o .open-line .kept .1 .1 .1 .1 .1 .1 .1 .1 .1 .1 .0);
           touched = omega (arith, g .touched);
           labels = omega (arith, g .labels);
         };
@@ -191,9 +192,10 @@ returns-2 c =
           book-heads = omega (arith, g .book-heads, o .add-line .kept .1 .1 .1 .1 .1 .1 .0);
           book-rows = omega (arith, g .book-rows, o .add-line .kept .1 .1 .1 .1 .1 .1 .1 .0);
           book-next = omega (arith, g .book-next, o .add-line .kept .1 .1 .1 .1 .1 .1 .1 .1 .0);
-          work = omega (arith, g .work, o .add-line .kept .1 .1 .1 .1 .1 .1 .1 .1 .1 .0);
-          touched = omega (arith, g .touched, o .add-line .kept .1 .1 .1 .1 .1 .1 .1 .1 .1 .1 .0);
-          labels = omega (arith, g .labels, o .add-line .kept .1 .1 .1 .1 .1 .1 .1 .1 .1 .1 .1 .0);
+          windows = omega (arith, g .windows, o .add-line .kept .1 .1 .1 .1 .1 .1 .1 .1 .1 .0);
+          work = omega (arith, g .work, o .add-line .kept .1 .1 .1 .1 .1 .1 .1 .1 .1 .1 .0);
+          touched = omega (arith, g .touched, o .add-line .kept .1 .1 .1 .1 .1 .1 .1 .1 .1 .1 .1 .0);
+          labels = omega (arith, g .labels, o .add-line .kept .1 .1 .1 .1 .1 .1 .1 .1 .1 .1 .1 .1 .0);
         };
         usable = a .usable;
       },
@@ -219,9 +221,10 @@ returns-3 c =
           book-heads = omega (arith, g .book-heads, o .drop-line .kept .1 .1 .1 .1 .1 .1 .0);
           book-rows = omega (arith, g .book-rows, o .drop-line .kept .1 .1 .1 .1 .1 .1 .1 .0);
           book-next = omega (arith, g .book-next, o .drop-line .kept .1 .1 .1 .1 .1 .1 .1 .1 .0);
-          work = omega (arith, g .work, o .drop-line .kept .1 .1 .1 .1 .1 .1 .1 .1 .1 .0);
-          touched = omega (arith, g .touched, o .drop-line .kept .1 .1 .1 .1 .1 .1 .1 .1 .1 .1 .0);
-          labels = omega (arith, g .labels, o .drop-line .kept .1 .1 .1 .1 .1 .1 .1 .1 .1 .1 .1 .0);
+          windows = omega (arith, g .windows, o .drop-line .kept .1 .1 .1 .1 .1 .1 .1 .1 .1 .0);
+          work = omega (arith, g .work, o .drop-line .kept .1 .1 .1 .1 .1 .1 .1 .1 .1 .1 .0);
+          touched = omega (arith, g .touched, o .drop-line .kept .1 .1 .1 .1 .1 .1 .1 .1 .1 .1 .1 .0);
+          labels = omega (arith, g .labels, o .drop-line .kept .1 .1 .1 .1 .1 .1 .1 .1 .1 .1 .1 .1 .0);
         };
         usable = a .usable;
       },
@@ -267,8 +270,9 @@ answer-spec =
     (λ c. open-done c .open-line .kept .1 .1 .1 .1 .1 .1 .1 .0)
     (λ c. open-done c .open-line .kept .1 .1 .1 .1 .1 .1 .1 .1 .0)
     (λ c. open-done c .open-line .kept .1 .1 .1 .1 .1 .1 .1 .1 .1 .0)
-    (λ c. parsed-open (opened (open-done c)) .parse .kept .1 .0)
     (λ c. open-done c .open-line .kept .1 .1 .1 .1 .1 .1 .1 .1 .1 .1 .0)
+    (λ c. parsed-open (opened (open-done c)) .parse .kept .1 .0)
+    (λ c. open-done c .open-line .kept .1 .1 .1 .1 .1 .1 .1 .1 .1 .1 .1 .0)
     returns
     (λ c. refl)
     (λ c. add-done c .add-line .kept .1 .1 .0)
@@ -281,8 +285,9 @@ answer-spec =
     (λ c. add-done c .add-line .kept .1 .1 .1 .1 .1 .1 .1 .1 .1 .0)
     (λ c. add-done c .add-line .kept .1 .1 .1 .1 .1 .1 .1 .1 .1 .1 .0)
     (λ c. add-done c .add-line .kept .1 .1 .1 .1 .1 .1 .1 .1 .1 .1 .1 .0)
-    (λ c. parsed-add (added (add-done c)) .parse .kept .1 .0)
     (λ c. add-done c .add-line .kept .1 .1 .1 .1 .1 .1 .1 .1 .1 .1 .1 .1 .0)
+    (λ c. parsed-add (added (add-done c)) .parse .kept .1 .0)
+    (λ c. add-done c .add-line .kept .1 .1 .1 .1 .1 .1 .1 .1 .1 .1 .1 .1 .1 .0)
     returns-2
     (λ c. refl)
     (λ c. drop-done c .drop-line .kept .1 .1 .0)
@@ -295,8 +300,9 @@ answer-spec =
     (λ c. drop-done c .drop-line .kept .1 .1 .1 .1 .1 .1 .1 .1 .1 .0)
     (λ c. drop-done c .drop-line .kept .1 .1 .1 .1 .1 .1 .1 .1 .1 .1 .0)
     (λ c. drop-done c .drop-line .kept .1 .1 .1 .1 .1 .1 .1 .1 .1 .1 .1 .0)
-    (λ c. parsed-drop (dropped (drop-done c)) .parse .kept .1 .0)
     (λ c. drop-done c .drop-line .kept .1 .1 .1 .1 .1 .1 .1 .1 .1 .1 .1 .1 .0)
+    (λ c. parsed-drop (dropped (drop-done c)) .parse .kept .1 .0)
+    (λ c. drop-done c .drop-line .kept .1 .1 .1 .1 .1 .1 .1 .1 .1 .1 .1 .1 .1 .0)
     returns-3
     (λ c. refl)
     (λ c. refl)
@@ -306,8 +312,9 @@ answer-spec =
     (λ c. refl)
     (λ c. refl)
     (λ c. refl)
-    (λ c. omega (arith, show-done c .show .kept .1 .1 .1 .1 .1 .1 .1 .1 .1 .0, parsed-show (showed (show-done c)) .parse .kept .1 .0))
-    (λ c. show-done c .show .kept .1 .1 .1 .1 .1 .1 .1 .1 .1 .1 .0)
+    (λ c. refl)
+    (λ c. omega (arith, show-done c .show .kept .1 .1 .1 .1 .1 .1 .1 .1 .1 .1 .0, parsed-show (showed (show-done c)) .parse .kept .1 .0))
+    (λ c. show-done c .show .kept .1 .1 .1 .1 .1 .1 .1 .1 .1 .1 .1 .0)
     returns-4
     (λ c. parsed-other (refused (no-done c)) .parse .kept .1 .0)
     (λ c. no-done c .no-line .kept .0)

@@ -59,6 +59,9 @@ slice-aggregate-serve-14 c = search needs
 slice-aggregate-serve-15 : tie.Need-slice-aggregate-serve-15
 slice-aggregate-serve-15 c = search needs
 
+slice-aggregate-serve-16 : tie.Need-slice-aggregate-serve-16
+slice-aggregate-serve-16 c = search needs
+
 serve-requires : tie.Need-serve-requires
 serve-requires c κs = (
   omega (arith, length-replicate {A = ℕ} 1000 0),
@@ -75,19 +78,20 @@ serve-requires c κs = (
           book-heads = length-replicate {A = ℕ} 256 0;
           book-rows = length-replicate {A = ℕ} 2048 0;
           book-next = length-replicate {A = ℕ} 2048 0;
+          windows = length-replicate {A = ℕ} 512 0;
           work = length-replicate {A = ℕ} 12032 0;
           touched = length-replicate {A = ℕ} 64 0;
           labels = length-replicate {A = ℕ} 64 0;
         };
-        usable = inl (c .before .before .before .before .before .before .before .before .before .before .before .before .before .before .before .before .closed .ensures);
+        usable = inl (c .before .before .before .before .before .before .before .before .before .before .before .before .before .before .before .before .before .closed .ensures);
       },
-      (length-replicate {A = ℕ} 2000 0, c .before .before .before .before .before .before .before .before .before .before .before .before .before .before .before .start .ensures),
+      (length-replicate {A = ℕ} 2000 0, c .before .before .before .before .before .before .before .before .before .before .before .before .before .before .before .before .start .ensures),
     ),
   ),
 )
 
 returns : tie.Need-returns
-returns c = listed (c .before .before .before .before .before .before .before .before .before .before .before .before .before .before .before .serve .ensures) (c .before .before .before .before .before .before .before .before .before .before .before .before .before .before .before .before .before .before .before .before .before .before .before .before .before .before .before .before .before .before .before .before .closed .ensures)
+returns c = listed (c .before .before .before .before .before .before .before .before .before .before .before .before .before .before .before .before .serve .ensures) (c .before .before .before .before .before .before .before .before .before .before .before .before .before .before .before .before .before .before .before .before .before .before .before .before .before .before .before .before .before .before .before .before .before .before .closed .ensures)
 
 pub run-spec : {M : Type 1} → statement M
 run-spec =
@@ -110,5 +114,6 @@ run-spec =
     slice-aggregate-serve-13
     slice-aggregate-serve-14
     slice-aggregate-serve-15
+    slice-aggregate-serve-16
     serve-requires
     returns)

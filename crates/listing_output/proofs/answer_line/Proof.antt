@@ -9,34 +9,34 @@ use Rattle.listing_output.proofs.answer_line.Statement.{statement}
 use Rattle.listing_output.proofs.answer_line.Tie as tie
 
 abbrev entry : tie.After-answer → tie.Start
-entry c = c .before .before .before .before .before .before .before .before .before .before .before .before .before .before .before .before .before .before .before .before .before .before .before .before .before .before .before .before
+entry c = c .before .before .before .before .before .before .before .before .before .before .before .before .before .before .before .before .before .before .before .before .before .before .before .before .before .before .before .before .before .before
 
 abbrev answered : tie.After-struct-known → tie.After-answer
-answered c = c .before .before .before .before .before .before .before .before .before .before .before .before .before .before .before .before .before .before .before .before .before .before .before .before .before .before .before .before
+answered c = c .before .before .before .before .before .before .before .before .before .before .before .before .before .before .before .before .before .before .before .before .before .before .before .before .before .before .before .before .before .before
 
 -- what waits lies within the list
 room : (s : tie.Start) → s .args .waiting ≤ length (s .args .out .now)
 room s = omega (arith, s .pre .1 .0)
 
 sub-answer : tie.Need-sub-answer
-sub-answer c = omega (arith, c .before .before .before .before .before .before .before .before .before .before .before .before .before .before .before .before .before .before .before .before .before .before .before .before .before .before .pre .1 .0)
+sub-answer c = omega (arith, c .before .before .before .before .before .before .before .before .before .before .before .before .before .before .before .before .before .before .before .before .before .before .before .before .before .before .before .before .pre .1 .0)
 
 part-answer-start : tie.Need-part-answer-start
-part-answer-start c = omega (arith, c .before .before .before .before .before .before .before .before .before .before .before .before .before .before .before .before .before .before .before .before .before .before .before .before .before .before .pre .1 .0)
+part-answer-start c = omega (arith, c .before .before .before .before .before .before .before .before .before .before .before .before .before .before .before .before .before .before .before .before .before .before .before .before .before .before .before .before .pre .1 .0)
 
 part-answer-end : tie.Need-part-answer-end
 part-answer-end c = search needs
 
 answer-requires : tie.Need-answer-requires
 answer-requires c κs =
-    let s = c .before .before .before .before .before .before .before .before .before .before .before .before .before .before .before .before .before .before .before .before .before .before .before .before .before .before .before in
+    let s = c .before .before .before .before .before .before .before .before .before .before .before .before .before .before .before .before .before .before .before .before .before .before .before .before .before .before .before .before .before in
     (s .pre .0, (part-room (s .args .out .now) (s .args .waiting) 91520 (s .pre .1 .0), s .pre .1 .1))
 
-add-t44 : tie.Need-add-t44
-add-t44 c =
+add-t47 : tie.Need-add-t47
+add-t47 c =
     let a = answered c in
     let s = entry a in
-    omega (arith, s .good, answer-within (s .args .out .now) (s .args .waiting) (room s) (a .answer .kept .1 .1 .1 .1 .1 .1 .1 .1 .1 .1 .1 .1 .1 .0) (a .answer .ensures .0))
+    omega (arith, s .good, answer-within (s .args .out .now) (s .args .waiting) (room s) (a .answer .kept .1 .1 .1 .1 .1 .1 .1 .1 .1 .1 .1 .1 .1 .1 .0) (a .answer .ensures .0))
 
 same-length : tie.Need-same-length
 same-length c = answered c .answer .kept .1 .0
@@ -75,10 +75,13 @@ same-length-12 : tie.Need-same-length-12
 same-length-12 c = answered c .answer .kept .1 .1 .1 .1 .1 .1 .1 .1 .1 .1 .1 .1 .0
 
 same-length-13 : tie.Need-same-length-13
-same-length-13 c =
+same-length-13 c = answered c .answer .kept .1 .1 .1 .1 .1 .1 .1 .1 .1 .1 .1 .1 .1 .0
+
+same-length-14 : tie.Need-same-length-14
+same-length-14 c =
     let a = answered c in
     let s = entry a in
-    same-len-mid (s .args .waiting) (length (s .args .out .now) - s .args .waiting) (s .args .out .now) (a .answer .last .1 .1 .1 .1 .1 .1 .1 .1 .1 .1 .1 .1 .1 .0) (a .answer .kept .1 .1 .1 .1 .1 .1 .1 .1 .1 .1 .1 .1 .1 .0)
+    same-len-mid (s .args .waiting) (length (s .args .out .now) - s .args .waiting) (s .args .out .now) (a .answer .last .1 .1 .1 .1 .1 .1 .1 .1 .1 .1 .1 .1 .1 .1 .0) (a .answer .kept .1 .1 .1 .1 .1 .1 .1 .1 .1 .1 .1 .1 .1 .1 .0)
 
 returns : tie.Need-returns
 returns c =
@@ -89,7 +92,7 @@ returns c =
       record {
         bytes = e .bytes;
         says = e .says;
-        written = written-behind (s .args .out .now) (a .answer .last .1 .1 .1 .1 .1 .1 .1 .1 .1 .1 .1 .1 .1 .0) (e .bytes) (s .args .waiting) (a .answer .result .end) (room s) (e .written);
+        written = written-behind (s .args .out .now) (a .answer .last .1 .1 .1 .1 .1 .1 .1 .1 .1 .1 .1 .1 .1 .1 .0) (e .bytes) (s .args .waiting) (a .answer .result .end) (room s) (e .written);
       },
     )
 
@@ -101,7 +104,7 @@ answer-line-spec =
     part-answer-start
     part-answer-end
     answer-requires
-    add-t44
+    add-t47
     same-length
     same-length-2
     same-length-3
@@ -115,4 +118,5 @@ answer-line-spec =
     same-length-11
     same-length-12
     same-length-13
+    same-length-14
     returns)

@@ -17,22 +17,22 @@ use Rattle.listing_show.proofs.show_column.Reads as show-column-reads
 use Rattle.listing_text.proofs.text.no_line.Reads as no-line-reads
 
 abbrev Inv-loop : tie.InvT-loop
-Inv-loop factor heads parents rows counts next book-heads book-rows book-next list₀ out₀ m end₀ j₀ list out end j =
-    Lines (registerOf (stateOf factor) (tablesOf heads parents rows counts next book-heads book-rows book-next)) out₀ out end j × (j ≤ m) × (length list ≡ length list₀)
+Inv-loop factor heads parents rows counts next book-heads book-rows book-next windows list₀ out₀ m end₀ j₀ list out end j =
+    Lines (registerOf (stateOf factor) (tablesOf heads parents rows counts next book-heads book-rows book-next windows)) out₀ out end j × (j ≤ m) × (length list ≡ length list₀)
 
 abbrev μ-loop : tie.MeasureT-loop
-μ-loop factor heads parents rows counts next book-heads book-rows book-next list₀ out₀ m end₀ j₀ list out end j = m - j
+μ-loop factor heads parents rows counts next book-heads book-rows book-next windows list₀ out₀ m end₀ j₀ list out end j = m - j
 
 abbrev entry : tie.Else1 Inv-loop μ-loop → tie.Start Inv-loop μ-loop
-entry c = c .before .before .before .before .before .before .before .before .before .before .before .before
+entry c = c .before .before .before .before .before .before .before .before .before .before .before .before .before
 
 abbrev entry-then : tie.Then1 Inv-loop μ-loop → tie.Start Inv-loop μ-loop
-entry-then c = c .before .before .before .before .before .before .before .before .before .before .before .before
+entry-then c = c .before .before .before .before .before .before .before .before .before .before .before .before .before
 
 abbrev tables : tie.Start Inv-loop μ-loop → Tables
 tables s =
     let a = s .args in
-    tablesOf (a .heads .now) (a .parents .now) (a .rows .now) (a .counts .now) (a .next .now) (a .book-heads .now) (a .book-rows .now) (a .book-next .now)
+    tablesOf (a .heads .now) (a .parents .now) (a .rows .now) (a .counts .now) (a .next .now) (a .book-heads .now) (a .book-rows .now) (a .book-next .now) (a .windows .now)
 
 -- the line of the next column has room
 record Facts (c : tie.In-loop Inv-loop μ-loop) : Type 0 where
@@ -95,9 +95,9 @@ loop-again c =
     let x = c .before .before .before .before in
     let l = x .before .before .before in
     let f = facts l in (
-      lines-keep (l .before .loop .inv .0) (f .end₀) (x .show-column .ensures) (x .show-column .kept .1 .1 .1 .1 .1 .1 .1 .1 .1 .1 .0),
+      lines-keep (l .before .loop .inv .0) (f .end₀) (x .show-column .ensures) (x .show-column .kept .1 .1 .1 .1 .1 .1 .1 .1 .1 .1 .1 .0),
       omega arith,
-      omega (arith, l .before .loop .inv .2, x .show-column .kept .1 .1 .1 .1 .1 .1 .1 .1 .1 .0),
+      omega (arith, l .before .loop .inv .2, x .show-column .kept .1 .1 .1 .1 .1 .1 .1 .1 .1 .1 .0),
     )
 
 same-length-2 : tie.Need-same-length-2 Inv-loop μ-loop

@@ -17,7 +17,7 @@ use Rattle.listing_show.proofs.show_column.Statement.{statement}
 use Rattle.listing_show.proofs.show_column.Tie as tie
 
 abbrev start : tie.After-parent-unchecked → tie.Start
-start c = c .before .before .before .before .before .before .before .before .before .before .before
+start c = c .before .before .before .before .before .before .before .before .before .before .before .before
 
 abbrev parented : tie.After-column-unchecked → tie.After-parent-unchecked
 parented c = c .before .before
@@ -34,7 +34,7 @@ paired c = c .before .before .before .before
 abbrev register : tie.Start → Register
 register s =
     let a = s .args in
-    registerOf (stateOf (a .factor)) (tablesOf (a .heads .now) (a .parents .now) (a .rows .now) (a .counts .now) (a .next .now) (a .book-heads .now) (a .book-rows .now) (a .book-next .now))
+    registerOf (stateOf (a .factor)) (tablesOf (a .heads .now) (a .parents .now) (a .rows .now) (a .counts .now) (a .next .now) (a .book-heads .now) (a .book-rows .now) (a .book-next .now) (a .windows .now))
 
 -- the parent that was asked for
 parent-is : (c : tie.After-parent-unchecked) → c .parent-unchecked .result .value ≡ parentOf (factorFor (register (start c))) (start c .args .j)
@@ -48,7 +48,7 @@ parent-known c = omega (arith, c .parent-unchecked .ok)
 record Column (c : tie.After-column-unchecked) : Type 0 where
   pub value : c .column-unchecked .result .value ≡ sizeOf (columnAt (factorFor (register (start (parented c)))) (start (parented c) .args .j))
   pub few : c .column-unchecked .result .value ≤ 64
-  pub listed : take (2 * c .column-unchecked .result .value) (c .column-unchecked .last .1 .1 .1 .1 .1 .1 .1 .1 .1 .0) ≡ columnList (register (start (parented c))) (start (parented c) .args .j)
+  pub listed : take (2 * c .column-unchecked .result .value) (c .column-unchecked .last .1 .1 .1 .1 .1 .1 .1 .1 .1 .1 .0) ≡ columnList (register (start (parented c))) (start (parented c) .args .j)
 
 column : (c : tie.After-column-unchecked) → Column c
 column c =
@@ -64,7 +64,7 @@ column c =
       few = omega (arith, v, entries-most r j (s .pre .low) (s .pre .high), s .pre .few);
       listed =
           column-listed r j (s .pre .low) (s .pre .high) (c .column-unchecked .result) (s .args .list .now) room
-          (c .column-unchecked .last .1 .1 .1 .1 .1 .1 .1 .1 .1 .0) (c .column-unchecked .ensures .1) (c .column-unchecked .result .value) v;
+          (c .column-unchecked .last .1 .1 .1 .1 .1 .1 .1 .1 .1 .1 .0) (c .column-unchecked .ensures .1) (c .column-unchecked .result .value) v;
     }
 
 head-most : (c : tie.After-show-head) → c .show-head .result ≤ start (parented (columned c)) .args .at + 21
@@ -103,7 +103,7 @@ show-pairs-requires c κs =
     let x = columned h in
     let s = start (parented x) in
     record {
-      entries = omega (arith, column x .few, s .pre .entries, x .column-unchecked .kept .1 .1 .1 .1 .1 .1 .1 .1 .1 .0);
+      entries = omega (arith, column x .few, s .pre .entries, x .column-unchecked .kept .1 .1 .1 .1 .1 .1 .1 .1 .1 .1 .0);
       fits = omega (arith, column x .few, s .pre .fits, head-most h, h .show-head .kept .0);
     }
 
@@ -113,7 +113,7 @@ line-end-requires c κs =
     record { room = omega (arith, pairs-most p) }
 
 same-length : tie.Need-same-length
-same-length c = columned (headed (paired (c .before .before))) .column-unchecked .kept .1 .1 .1 .1 .1 .1 .1 .1 .1 .0
+same-length c = columned (headed (paired (c .before .before))) .column-unchecked .kept .1 .1 .1 .1 .1 .1 .1 .1 .1 .1 .0
 
 same-length-2 : tie.Need-same-length-2
 same-length-2 c =

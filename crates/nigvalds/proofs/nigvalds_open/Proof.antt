@@ -13,7 +13,7 @@ opened-from-requires c κs = search needs
 
 -- the place of the entry's call
 abbrev ran : tie.After-opened-from → tie.After-open
-ran c = c .before .before .before .before .before .before .before .before .before .before .before .before .before .before .before .before .before .before .before
+ran c = c .before .before .before .before .before .before .before .before .before .before .before .before .before .before .before .before .before .before .before .before .before
 
 same-length : tie.Need-same-length
 same-length c = ran c .open .kept .1 .1 .1 .1 .1 .1 .1 .0
@@ -42,6 +42,9 @@ same-length-8 c = ran c .open .kept .1 .1 .1 .1 .1 .1 .1 .1 .1 .1 .1 .1 .1 .1 .0
 same-length-9 : tie.Need-same-length-9
 same-length-9 c = ran c .open .kept .1 .1 .1 .1 .1 .1 .1 .1 .1 .1 .1 .1 .1 .1 .1 .0
 
+same-length-10 : tie.Need-same-length-10
+same-length-10 c = ran c .open .kept .1 .1 .1 .1 .1 .1 .1 .1 .1 .1 .1 .1 .1 .1 .1 .1 .0
+
 returns : tie.Need-returns
 returns c = opened-step (ran c .open .result) (c .opened-from .result) (c .opened-from .ensures) (ran c .open .ensures)
 
@@ -60,4 +63,5 @@ nigvalds-open-spec =
     same-length-7
     same-length-8
     same-length-9
+    same-length-10
     returns)

@@ -10,16 +10,16 @@ use Rattle.refusals.proofs.columns_refusal.Statement.{statement}
 use Rattle.refusals.proofs.columns_refusal.Tie as tie
 
 abbrev Inv-loop : tie.InvT-loop
-Inv-loop book-heads ids row-counts row-list m k₀ from₀ k from = ColumnsLeft m book-heads ids row-counts row-list k from
+Inv-loop book-heads ids row-counts row-list firsts seconds m k₀ from₀ k from = ColumnsLeft m book-heads ids row-counts row-list firsts seconds k from
 
 abbrev μ-loop : tie.MeasureT-loop
-μ-loop book-heads ids row-counts row-list m k₀ from₀ k from = length ids - k
+μ-loop book-heads ids row-counts row-list firsts seconds m k₀ from₀ k from = length ids - k
 
 abbrev entry : tie.In-loop Inv-loop μ-loop → tie.Start Inv-loop μ-loop
-entry c = c .before .before .before .before .before .before
+entry c = c .before .before .before .before .before .before .before .before
 
 loop-holds : tie.Need-loop-holds Inv-loop μ-loop
-loop-holds c = columns-start _ _ _ _ _
+loop-holds c = columns-start _ _ _ _ _ _ _
 
 column-refusal-requires : tie.Need-column-refusal-requires Inv-loop μ-loop
 column-refusal-requires c κs = search needs
@@ -32,7 +32,7 @@ returns c rows next free =
     let one : tie.Then1 Inv-loop μ-loop = c .before in
     let t : tie.In-loop Inv-loop μ-loop = one .before .before in
     c .refused-at .ensures ∙
-    columns-refused (t .before .loop .inv) (t .loop-test .taken) (entry t .pre .counted) (one .before .column-refusal .ensures) (one .if1 .taken) rows next free
+    columns-refused (t .before .loop .inv) (t .loop-test .taken) (entry t .pre) (one .before .column-refusal .ensures) (one .if1 .taken) rows next free
 
 mul-from : tie.Need-mul-from Inv-loop μ-loop
 mul-from c = search needs
@@ -41,12 +41,12 @@ shared-slice-read-from : tie.Need-shared-slice-read-from Inv-loop μ-loop
 shared-slice-read-from c = search needs
 
 cast-from : tie.Need-cast-from Inv-loop μ-loop
-cast-from c = omega (arith, c .shared-slice-known5 .given (c .before .before .before .before .loop .k))
+cast-from c = omega (arith, c .shared-slice-known7 .given (c .before .before .before .before .loop .k))
 
 add-from : tie.Need-add-from Inv-loop μ-loop
 add-from c =
     let t : tie.In-loop Inv-loop μ-loop = c .before .before .before in
-    omega (arith, columns-room (t .before .loop .inv) (t .loop-test .taken) (entry t .pre .counted) (c .before .before .column-refusal .ensures) (c .before .if1 .left))
+    omega (arith, columns-room (t .before .loop .inv) (t .loop-test .taken) (entry t .pre) (c .before .before .column-refusal .ensures) (c .before .if1 .left))
 
 add-k : tie.Need-add-k Inv-loop μ-loop
 add-k c = search needs
@@ -57,7 +57,7 @@ loop-less c = omega arith
 loop-again : tie.Need-loop-again Inv-loop μ-loop
 loop-again c =
     let t : tie.In-loop Inv-loop μ-loop = c .before .before .before in
-    columns-more (t .before .loop .inv) (t .loop-test .taken) (entry t .pre .counted) (c .before .before .column-refusal .ensures) (c .before .if1 .left)
+    columns-more (t .before .loop .inv) (t .loop-test .taken) (entry t .pre) (c .before .before .column-refusal .ensures) (c .before .if1 .left)
 
 refused-requires : tie.Need-refused-requires Inv-loop μ-loop
 refused-requires c κs = search needs

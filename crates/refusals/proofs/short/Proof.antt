@@ -6,7 +6,7 @@ use Rattle.refusals.proofs.short.Statement.{statement}
 use Rattle.refusals.proofs.short.Tie as tie
 
 abbrev entry : tie.After-short-factor → tie.Start
-entry c = c .before .before .before .before .before .before .before .before .before .before
+entry c = c .before .before .before .before .before .before .before .before .before .before .before
 
 abbrev sizesAt : tie.Start → Sizes
 sizesAt s = sizesOf (s .args .m) (s .args .n) (s .args .f) (s .args .c)
@@ -14,7 +14,7 @@ sizesAt s = sizesOf (s .args .m) (s .args .n) (s .args .f) (s .args .c)
 abbrev tablesAt : tie.Start → Tables
 tablesAt s =
     tablesOf (s .args .heads .now) (s .args .parents .now) (s .args .rows .now) (s .args .counts .now) (s .args .next .now) (s .args .book-heads .now) (s .args .book-rows .now)
-    (s .args .book-next .now)
+    (s .args .book-next .now) (s .args .windows .now)
 
 short-factor-requires : tie.Need-short-factor-requires
 short-factor-requires c κs = search needs

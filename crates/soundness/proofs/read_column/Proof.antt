@@ -2,15 +2,17 @@
 -- second row; a test that fails means that the tables are not sound, and after all of them the state is that of one column more (proofs/Ready.antt,
 -- proofs/Column.antt, proofs/Closing.antt, proofs/Storing.antt). Assumes nothing.
 use mathlib.Core.Path.{refl, sym, _∙_}
-use Prim.Native.Nat.{_+_, _*_, _-_}
+use mathlib.Core.List.{List}
+use Prim.Native.Nat.{ℕ, _+_, _*_, _-_}
 use native.Mathlib.Omega.{arith}
 use lib.ListN.{length, length-set}
 use Rattle.book.specs.Book.{Book, bookOf}
 use Rattle.tables.specs.Stored.{Stored, storedOf}
+use Rattle.soundness.specs.State.{State, SomeState}
 use Rattle.soundness.proofs.Ready.{ready-tally, ready-check}
 use Rattle.soundness.proofs.Column.{Found, column-cut, column-ended}
 use Rattle.soundness.proofs.Closing.{CloseFacts, closing-cut, closing-differs, closing-facts, closing-second, closing-link}
-use Rattle.soundness.proofs.Storing.{closing-name, closing-end}
+use Rattle.soundness.proofs.Storing.{closing-name, closing-only, closing-state, closing-end}
 use borrow.Author.Needs.{needs}
 use Rattle.soundness.proofs.read_column.Statement.{statement}
 use Rattle.soundness.proofs.read_column.Tie as tie
@@ -40,13 +42,19 @@ stored e = storedOf (e .args .heads .now) (e .args .parents .now) (e .args .rows
 abbrev booked : tie.Start → Book
 booked e = bookOf (e .args .book-heads .now) (e .args .book-rows .now) (e .args .book-next .now) (e .args .book-free .0)
 
-found : (c : tie.After-known-told) →
-    Found (stored (started (tallied-at (walked-at c)))) (booked (started (tallied-at (walked-at c))))
+-- what was known before column j
+abbrev known : (e : tie.Start) → SomeState (stored e) (booked e) (e .args .work .now) (e .args .j .0) (e .args .met)
+known e = e .pre .some
+
+found : (c : tie.After-known-told) (windows : List ℕ) (clock : ℕ) →
+    State (stored (started (tallied-at (walked-at c)))) (booked (started (tallied-at (walked-at c)))) windows clock (started (tallied-at (walked-at c)) .args .work .now)
+    (started (tallied-at (walked-at c)) .args .j .0) (started (tallied-at (walked-at c)) .args .met) →
+    Found (stored (started (tallied-at (walked-at c)))) (booked (started (tallied-at (walked-at c)))) windows clock
     (tallied-at (walked-at c) .tally-all .last .1 .1 .1 .0) (started (tallied-at (walked-at c)) .args .j .0) (started (tallied-at (walked-at c)) .args .met) (c .before .n .given .0 .0) (c .before .n .given .0 .1 .0 .0)
-found c =
+found c windows clock st =
     let k = walked-at c in
     let t = tallied-at k in
-    column-ended (started t .pre .state) (started t .pre .inside) (t .tally-all .ensures) (k .check-chain .ensures) (c .before .n .given .1)
+    column-ended st (started t .pre .inside) (t .tally-all .ensures) (k .check-chain .ensures) (c .before .n .given .1)
 
 facts : (c : tie.After-known-told) →
     CloseFacts (stored (started (tallied-at (walked-at c)))) (booked (started (tallied-at (walked-at c)))) (walked-at c .check-chain .last .1 .1 .1 .0)
@@ -54,7 +62,8 @@ facts : (c : tie.After-known-told) →
 facts c =
     let k = walked-at c in
     let t = tallied-at k in
-    closing-facts (started t .pre .state) (started t .pre .inside) (found c) (t .tally-all .ensures) (k .check-chain .ensures)
+    let z = known (started t) in
+    closing-facts (z .state) (started t .pre .inside) (found c (z .windows) (z .clock) (z .state)) (t .tally-all .ensures) (k .check-chain .ensures)
 
 sub-i : tie.Need-sub-i
 sub-i c = search needs
@@ -63,7 +72,7 @@ cast-i : tie.Need-cast-i
 cast-i c = search needs
 
 tally-all-requires : tie.Need-tally-all-requires
-tally-all-requires c κs = let p = c .before .before .before .before .before .before .before .before .before .before .pre in ready-tally (p .state) (p .inside)
+tally-all-requires c κs = let p = c .before .before .before .before .before .before .before .before .before .before .pre in ready-tally (p .some .state) (p .inside)
 
 cast-size : tie.Need-cast-size
 cast-size c = search needs
@@ -78,7 +87,7 @@ check-chain-requires : tie.Need-check-chain-requires
 check-chain-requires c κs =
     let t = c .before .before .before .before in
     let p = started t .pre in
-    ready-check (p .state) (p .inside) (t .tally-all .ensures)
+    ready-check (p .some .state) (p .inside) (t .tally-all .ensures)
 
 enum-told : tie.Need-enum-told
 enum-told c = search needs
@@ -91,8 +100,8 @@ returns c =
     let k = refused c in
     let t = tallied-at k in
     let p = started t .pre in
-    closing-cut (p .state) (t .tally-all .ensures) (k .check-chain .ensures) (started t .args .j .0 + 1)
-    (column-cut (p .state) (p .inside) (t .tally-all .ensures) (k .check-chain .ensures) (c .enum-told .given .1))
+    closing-cut (p .some) (t .tally-all .ensures) (k .check-chain .ensures) (started t .args .j .0 + 1)
+    (λ windows clock st. column-cut st (p .inside) (t .tally-all .ensures) (k .check-chain .ensures) (c .enum-told .given .1))
 
 enum-known-n : tie.Need-enum-known-n
 enum-known-n c = search needs
@@ -130,10 +139,11 @@ returns-2 c =
     let k = walked-at h in
     let t = tallied-at k in
     let p = started t .pre in
-    let f = found h in
-    let q = closing-second (p .state) (p .inside) f (t .tally-all .ensures) (k .check-chain .ensures) _ _ refl refl in
-    closing-cut (p .state) (t .tally-all .ensures) (k .check-chain .ensures) (started t .args .j .0 + 1)
-    (closing-differs (p .state) (p .inside) f (λ e. c .if1 .taken (e ∙ sym (c .before .before .second .ensures ∙ q))))
+    closing-cut (p .some) (t .tally-all .ensures) (k .check-chain .ensures) (started t .args .j .0 + 1)
+    (λ windows clock st.
+    (let f = found h windows clock st in
+    let q = closing-second st (p .inside) f (t .tally-all .ensures) (k .check-chain .ensures) _ _ refl refl in
+    closing-differs st (p .inside) f (λ e. c .if1 .taken (e ∙ sym (c .before .before .second .ensures ∙ q)))))
 
 mul-link : tie.Need-mul-link
 mul-link c = let f = facts (compared (c .before .before)) in omega arith
@@ -144,9 +154,10 @@ link-requires c κs =
     let k = walked-at h in
     let t = tallied-at k in
     let p = started t .pre in
-    let f = found h in
-    closing-link (p .state) (p .inside) f (t .tally-all .ensures) (k .check-chain .ensures) (c .before .before .before .second .result .0)
-    (c .before .before .before .second .ensures ∙ closing-second (p .state) (p .inside) f (t .tally-all .ensures) (k .check-chain .ensures) _ _ refl refl)
+    let z = known (started t) in
+    let f = found h (z .windows) (z .clock) (z .state) in
+    closing-link (z .state) (p .inside) f (t .tally-all .ensures) (k .check-chain .ensures) (c .before .before .before .second .result .0)
+    (c .before .before .before .second .ensures ∙ closing-second (z .state) (p .inside) f (t .tally-all .ensures) (k .check-chain .ensures) _ _ refl refl)
 
 cast-work : tie.Need-cast-work
 cast-work c = let f = facts (compared (linking c)) in omega arith
@@ -179,10 +190,11 @@ name-requires c κs =
     let k = walked-at h in
     let t = tallied-at k in
     let p = started t .pre in
-    let f = found h in
-    closing-name (p .state) (p .inside) f (t .tally-all .ensures) (k .check-chain .ensures) (l .before .second .result .0)
-    (l .before .second .ensures ∙ closing-second (p .state) (p .inside) f (t .tally-all .ensures) (k .check-chain .ensures) _ _ refl refl)
-    (c .before .before .before .before .before .if1 .left) (c .before .before .before .link .ensures) refl (let z = facts h in omega arith)
+    let z = known (started t) in
+    let f = found h (z .windows) (z .clock) (z .state) in
+    closing-name (z .state) (p .inside) f (t .tally-all .ensures) (k .check-chain .ensures) (l .before .second .result .0)
+    (l .before .second .ensures ∙ closing-second (z .state) (p .inside) f (t .tally-all .ensures) (k .check-chain .ensures) _ _ refl refl)
+    (c .before .before .before .before .before .if1 .left) (c .before .before .before .link .ensures) refl (let y = facts h in omega arith)
 
 same-length-3 : tie.Need-same-length-3
 same-length-3 c =
@@ -204,10 +216,17 @@ returns-3 c =
     let k = walked-at h in
     let t = tallied-at k in
     let p = started t .pre in
-    let f = found h in
-    closing-end (p .state) (p .inside) f (t .tally-all .ensures) (k .check-chain .ensures) (l .before .second .result .0)
-    (l .before .second .ensures ∙ closing-second (p .state) (p .inside) f (t .tally-all .ensures) (k .check-chain .ensures) _ _ refl refl)
-    (q .before .before .before .before .if1 .left) (q .before .before .link .ensures) refl (n .name .ensures)
+    let z = known (started t) in
+    let f = found h (z .windows) (z .clock) (z .state) in
+    closing-end
+    (closing-only (z .state) (p .inside) f (t .tally-all .ensures) (k .check-chain .ensures) (l .before .second .result .0)
+    (l .before .second .ensures ∙ closing-second (z .state) (p .inside) f (t .tally-all .ensures) (k .check-chain .ensures) _ _ refl refl)
+    (q .before .before .before .before .if1 .left) (q .before .before .link .ensures) refl (n .name .ensures))
+    (λ windows clock st.
+    (let g = found h windows clock st in
+    closing-state st (p .inside) g (t .tally-all .ensures) (k .check-chain .ensures) (l .before .second .result .0)
+    (l .before .second .ensures ∙ closing-second st (p .inside) g (t .tally-all .ensures) (k .check-chain .ensures) _ _ refl refl)
+    (q .before .before .before .before .if1 .left) (q .before .before .link .ensures) refl (n .name .ensures)))
 
 pub read-column-spec : {M : Type 1} → statement M
 read-column-spec =

@@ -16,6 +16,9 @@ Inv-loop heads parents rows counts next book-heads book-rows book-next work₀ f
 abbrev μ-loop : tie.MeasureT-loop
 μ-loop heads parents rows counts next book-heads book-rows book-next work₀ free book-free n₀ i₀ work n i = length heads - i
 
+abbrev entry : tie.In-loop Inv-loop μ-loop → tie.Start Inv-loop μ-loop
+entry c = c .before .before .before .before .before .before .before .before .before .before .before
+
 abbrev test : tie.After-read-column Inv-loop μ-loop → tie.In-loop Inv-loop μ-loop
 test d = d .before .before
 
@@ -26,16 +29,16 @@ abbrev read-one : tie.After-known-told Inv-loop μ-loop → tie.After-read-colum
 read-one c = c .before .before .before .before .before
 
 loop-holds : tie.Need-loop-holds Inv-loop μ-loop
-loop-holds c = columns-start (c .before .before .before .before .before .before .before .before .before .pre)
+loop-holds c = columns-start
 
 add-j : tie.Need-add-j Inv-loop μ-loop
 add-j c = omega arith
 
 cast-j : tie.Need-cast-j Inv-loop μ-loop
-cast-j c = omega (arith, c .before .loop .inv .state .sizes .m-bound)
+cast-j c = omega (arith, entry c .pre .state .sizes .m-bound)
 
 read-column-requires : tie.Need-read-column-requires Inv-loop μ-loop
-read-column-requires c κs = columns-can (c .before .before .loop .inv) (c .before .loop-test .taken)
+read-column-requires c κs = columns-can (c .before .before .loop .inv) (entry (c .before) .pre) (c .before .loop-test .taken)
 
 enum-told : tie.Need-enum-told Inv-loop μ-loop
 enum-told c = search needs

@@ -3,8 +3,8 @@
 use mathlib.Core.Path.{sym}
 use native.Mathlib.Omega.{arith}
 use borrow.Author.Tests.{not-true, not-false}
-use Rattle.soundness.proofs.Columns.{first-state}
-use Rattle.soundness.proofs.ReadThrough.{last-compare, last-within, last-can, last-shared, last-answer}
+use Rattle.soundness.proofs.Columns.{first-state, first-some}
+use Rattle.soundness.proofs.ReadThrough.{some-after, last-compare, last-within, last-can, last-shared, last-answer}
 use borrow.Author.Needs.{needs}
 use Rattle.soundness.proofs.read_factor.Statement.{statement}
 use Rattle.soundness.proofs.read_factor.Tie as tie
@@ -23,7 +23,7 @@ abbrev compared : tie.After-are-apart → tie.After-known-told
 compared c = c .before .before
 
 read-columns-requires : tie.Need-read-columns-requires
-read-columns-requires c κs = first-state (c .before .before .before .before .before .before .before .before .before .before .pre)
+read-columns-requires c κs = first-some (c .before .before .before .before .before .before .before .before .before .before .pre)
 
 enum-told : tie.Need-enum-told
 enum-told c = search needs
@@ -32,19 +32,24 @@ same-length : tie.Need-same-length
 same-length c = refused c .read-columns .ensures .only .same-length
 
 returns : tie.Need-returns
-returns c = let r = refused c in record { only = r .read-columns .ensures .only; answer = sym (r .read-columns .ensures .cut (c .enum-told .given .1)) }
+returns c =
+    let r = refused c in
+    record {
+      only = r .read-columns .ensures .only;
+      answer = λ windows clock p. sym (r .read-columns .ensures .cut (c .enum-told .given .1) windows clock (first-state p));
+    }
 
 enum-known-n : tie.Need-enum-known-n
 enum-known-n c = search needs
 
 mul-are-apart : tie.Need-mul-are-apart
-mul-are-apart c = let p = entry (ended (c .before)) .pre .sizes in omega arith
+mul-are-apart c = let p = entry (ended (c .before)) .pre .prepared .sizes in omega arith
 
 mul-are-apart-2 : tie.Need-mul-are-apart-2
-mul-are-apart-2 c = let p = entry (ended (c .before)) .pre .sizes in omega arith
+mul-are-apart-2 c = let p = entry (ended (c .before)) .pre .prepared .sizes in omega arith
 
 are-apart-requires : tie.Need-are-apart-requires
-are-apart-requires c κs = let h = c .before in last-compare (ended h .read-columns .ensures .next (h .before .n .given .0 .0) (h .before .n .given .1))
+are-apart-requires c κs = let h = c .before in last-compare (some-after (ended h .read-columns .ensures) (h .before .n .given .1) (entry (ended h) .pre) .state)
 
 same-length-2 : tie.Need-same-length-2
 same-length-2 c = ended (compared (c .before)) .read-columns .ensures .only .same-length
@@ -54,17 +59,17 @@ returns-2 c =
     let d = c .before in
     let h = compared d in
     let r = ended h in
-    last-shared (r .read-columns .ensures .next (h .before .n .given .0 .0) (h .before .n .given .1)) (r .read-columns .ensures .only) (d .are-apart .ensures)
+    last-shared (r .read-columns .ensures) (h .before .n .given .1) (d .are-apart .ensures)
     (not-true (d .are-apart .result) (c .if1 .taken))
 
 sub-left : tie.Need-sub-left
 sub-left c =
     let h = compared (c .before) in
-    omega (arith, last-within (ended h .read-columns .ensures .next (h .before .n .given .0 .0) (h .before .n .given .1)))
+    omega (arith, last-within (some-after (ended h .read-columns .ensures) (h .before .n .given .1) (entry (ended h) .pre) .state))
 
 read-free-requires : tie.Need-read-free-requires
 read-free-requires c κs =
-    let h = compared (c .before .before) in last-can (ended h .read-columns .ensures .next (h .before .n .given .0 .0) (h .before .n .given .1))
+    let h = compared (c .before .before) in last-can (some-after (ended h .read-columns .ensures) (h .before .n .given .1) (entry (ended h) .pre) .state)
 
 same-length-3 : tie.Need-same-length-3
 same-length-3 c =
@@ -73,7 +78,7 @@ same-length-3 c =
     let d = e .before in
     let h = compared d in
     let r = ended h in
-    last-answer (r .read-columns .ensures .next (h .before .n .given .0 .0) (h .before .n .given .1)) (r .read-columns .ensures .only) (d .are-apart .ensures)
+    last-answer (r .read-columns .ensures) (h .before .n .given .1) (d .are-apart .ensures)
     (not-false (d .are-apart .result) (e .if1 .left)) (f .read-free .ensures .0) (f .read-free .ensures .1) .only .same-length
 
 returns-3 : tie.Need-returns-3
@@ -83,7 +88,7 @@ returns-3 c =
     let d = e .before in
     let h = compared d in
     let r = ended h in
-    last-answer (r .read-columns .ensures .next (h .before .n .given .0 .0) (h .before .n .given .1)) (r .read-columns .ensures .only) (d .are-apart .ensures)
+    last-answer (r .read-columns .ensures) (h .before .n .given .1) (d .are-apart .ensures)
     (not-false (d .are-apart .result) (e .if1 .left)) (f .read-free .ensures .0) (f .read-free .ensures .1)
 
 pub read-factor-spec : {M : Type 1} → statement M

@@ -6,7 +6,7 @@ use native.Mathlib.Omega.{arith}
 use lib.Dec.{ltb, eqb}
 use borrow.Author.Tests.{lt-leb, le-leb, eq-eqb, ne-eqb}
 use Rattle.lists.proofs.Tests.{and-false}
-use Rattle.windows.specs.Windows.{isInside}
+use Rattle.symbolic.specs.Columns.{isInside}
 use Rattle.windows.proofs.is_inside.Statement.{statement}
 use Rattle.windows.proofs.is_inside.Tie as tie
 

@@ -5,10 +5,10 @@ use Rattle.batch_cases.proofs.large_shown.ask.Statement.{statement}
 use Rattle.batch_cases.proofs.large_shown.ask.Tie as tie
 
 abbrev Inv-loop : tie.InvT-loop
-Inv-loop «record» heads parents rows counts next book-heads book-rows book-next work₀ k₀ work k = k ≤ 7
+Inv-loop «record» heads parents rows counts next book-heads book-rows book-next windows work₀ k₀ work k = k ≤ 7
 
 abbrev μ-loop : tie.MeasureT-loop
-μ-loop «record» heads parents rows counts next book-heads book-rows book-next work₀ k₀ work k = 7 - k
+μ-loop «record» heads parents rows counts next book-heads book-rows book-next windows work₀ k₀ work k = 7 - k
 
 lengths-requires : tie.Need-lengths-requires Inv-loop μ-loop
 lengths-requires c κs = search needs

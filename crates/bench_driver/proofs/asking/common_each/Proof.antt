@@ -8,15 +8,15 @@ use Rattle.bench_driver.proofs.asking.common_each.Statement.{statement}
 use Rattle.bench_driver.proofs.asking.common_each.Tie as tie
 
 abbrev Inv-loop : tie.InvT-loop
-Inv-loop factor heads parents rows counts next book-heads book-rows book-next row-list r first₀ done₀ sum₀ first done sum = Grouping (length row-list) first done sum
+Inv-loop factor heads parents rows counts next book-heads book-rows book-next windows row-list r first₀ done₀ sum₀ first done sum = Grouping (length row-list) first done sum
 
 abbrev μ-loop : tie.MeasureT-loop
-μ-loop factor heads parents rows counts next book-heads book-rows book-next row-list r first₀ done₀ sum₀ first done sum = length row-list - first
+μ-loop factor heads parents rows counts next book-heads book-rows book-next windows row-list r first₀ done₀ sum₀ first done sum = length row-list - first
 
 -- ---- the places, named
 
 abbrev entry : tie.At-loop Inv-loop μ-loop → tie.Start Inv-loop μ-loop
-entry c = c .before .before .before .before .before .before .before .before .before .before
+entry c = c .before .before .before .before .before .before .before .before .before .before .before
 
 abbrev turn : tie.After-struct-known Inv-loop μ-loop → tie.In-loop Inv-loop μ-loop
 turn c = c .before .before .before .before

@@ -10,16 +10,16 @@ use Rattle.bench_driver.proofs.asking.meets_each.Statement.{statement}
 use Rattle.bench_driver.proofs.asking.meets_each.Tie as tie
 
 abbrev Inv-loop : tie.InvT-loop
-Inv-loop factor heads parents rows counts next book-heads book-rows book-next work₀ list₀ row-list done₀ sum₀ work list done sum =
-    Asking (stateOf factor) (tablesOf heads parents rows counts next book-heads book-rows book-next) work₀ list₀ work list (length row-list) done sum
+Inv-loop factor heads parents rows counts next book-heads book-rows book-next windows work₀ list₀ row-list done₀ sum₀ work list done sum =
+    Asking (stateOf factor) (tablesOf heads parents rows counts next book-heads book-rows book-next windows) work₀ list₀ work list (length row-list) done sum
 
 abbrev μ-loop : tie.MeasureT-loop
-μ-loop factor heads parents rows counts next book-heads book-rows book-next work₀ list₀ row-list done₀ sum₀ work list done sum = length row-list - done
+μ-loop factor heads parents rows counts next book-heads book-rows book-next windows work₀ list₀ row-list done₀ sum₀ work list done sum = length row-list - done
 
 -- ---- the places, named
 
 abbrev entry : tie.At-loop Inv-loop μ-loop → tie.Start Inv-loop μ-loop
-entry c = c .before .before .before .before .before .before .before .before .before .before .before .before
+entry c = c .before .before .before .before .before .before .before .before .before .before .before .before .before
 
 abbrev turn : tie.After-meets-unchecked Inv-loop μ-loop → tie.In-loop Inv-loop μ-loop
 turn c = c .before .before .before .before
@@ -32,30 +32,30 @@ at c = turn (ran c) .before
 
 -- ---- a turn keeps the invariant
 
-asked : (c : tie.After-slice-known4 Inv-loop μ-loop) → Asking (stateOf (entry (at c) .args .factor)) (tablesOf (entry (at c) .args .heads .now) (entry (at c) .args .parents .now) (entry (at c) .args .rows .now) (entry (at c) .args .counts .now) (entry (at c) .args .next .now) (entry (at c) .args .book-heads .now) (entry (at c) .args .book-rows .now) (entry (at c) .args .book-next .now)) (entry (at c) .args .work .now) (entry (at c) .args .list .now) (ran c .meets-unchecked .last .1 .1 .1 .1 .1 .1 .1 .1 .1 .0) (ran c .meets-unchecked .last .1 .1 .1 .1 .1 .1 .1 .1 .1 .1 .0) (length (entry (at c) .args .row-list .now)) (at c .loop .done) (at c .loop .sum)
-asked c = answered (at c .loop .inv) (ran c .meets-unchecked .ensures .1 .1) (ran c .meets-unchecked .kept .1 .1 .1 .1 .1 .1 .1 .1 .1 .1 .0)
+asked : (c : tie.After-slice-known4 Inv-loop μ-loop) → Asking (stateOf (entry (at c) .args .factor)) (tablesOf (entry (at c) .args .heads .now) (entry (at c) .args .parents .now) (entry (at c) .args .rows .now) (entry (at c) .args .counts .now) (entry (at c) .args .next .now) (entry (at c) .args .book-heads .now) (entry (at c) .args .book-rows .now) (entry (at c) .args .book-next .now) (entry (at c) .args .windows .now)) (entry (at c) .args .work .now) (entry (at c) .args .list .now) (ran c .meets-unchecked .last .1 .1 .1 .1 .1 .1 .1 .1 .1 .1 .0) (ran c .meets-unchecked .last .1 .1 .1 .1 .1 .1 .1 .1 .1 .1 .1 .0) (length (entry (at c) .args .row-list .now)) (at c .loop .done) (at c .loop .sum)
+asked c = answered (at c .loop .inv) (ran c .meets-unchecked .ensures .1 .1) (ran c .meets-unchecked .kept .1 .1 .1 .1 .1 .1 .1 .1 .1 .1 .1 .0)
 
 loop-holds : tie.Need-loop-holds Inv-loop μ-loop
 loop-holds c =
     record {
-      can = c .before .before .before .before .before .before .before .before .before .before .before .pre .0;
+      can = c .before .before .before .before .before .before .before .before .before .before .before .before .pre .0;
       same-work = refl;
       same-list = refl;
       few = omega arith;
       room = omega arith;
     }
 
-mul-t18 : tie.Need-mul-t18 Inv-loop μ-loop
-mul-t18 c = omega (arith, c .loop-test .taken, entry (c .before) .pre .1)
+mul-t19 : tie.Need-mul-t19 Inv-loop μ-loop
+mul-t19 c = omega (arith, c .loop-test .taken, entry (c .before) .pre .1)
 
-shared-slice-read-t21 : tie.Need-shared-slice-read-t21 Inv-loop μ-loop
-shared-slice-read-t21 c = c .before .loop-test .taken
+shared-slice-read-t22 : tie.Need-shared-slice-read-t22 Inv-loop μ-loop
+shared-slice-read-t22 c = c .before .loop-test .taken
 
 meets-unchecked-requires : tie.Need-meets-unchecked-requires Inv-loop μ-loop
 meets-unchecked-requires c κs = c .before .before .before .before .loop .inv .can
 
-cast-t26 : tie.Need-cast-t26 Inv-loop μ-loop
-cast-t26 c = omega (arith, asked (c .before) .few, entry (at (c .before)) .pre .1)
+cast-t27 : tie.Need-cast-t27 Inv-loop μ-loop
+cast-t27 c = omega (arith, asked (c .before) .few, entry (at (c .before)) .pre .1)
 
 same-length : tie.Need-same-length Inv-loop μ-loop
 same-length c = asked (c .before) .same-work
@@ -81,8 +81,8 @@ loop-less c = omega (arith, turn (ran (c .before .before)) .loop-test .taken)
 loop-again : tie.Need-loop-again Inv-loop μ-loop
 loop-again c = counted (asked (c .before .before)) (turn (ran (c .before .before)) .loop-test .taken) (omega (arith, c .struct-known .given))
 
-cast-t28 : tie.Need-cast-t28 Inv-loop μ-loop
-cast-t28 c = omega (arith, c .before .loop .inv .few, entry (c .before) .pre .1)
+cast-t29 : tie.Need-cast-t29 Inv-loop μ-loop
+cast-t29 c = omega (arith, c .before .loop .inv .few, entry (c .before) .pre .1)
 
 same-length-3 : tie.Need-same-length-3 Inv-loop μ-loop
 same-length-3 c = c .before .loop .inv .same-work
@@ -100,10 +100,10 @@ meets-each-spec =
     Inv-loop
     μ-loop
     loop-holds
-    mul-t18
-    shared-slice-read-t21
+    mul-t19
+    shared-slice-read-t22
     meets-unchecked-requires
-    cast-t26
+    cast-t27
     same-length
     same-length-2
     returns
@@ -112,7 +112,7 @@ meets-each-spec =
     add-done
     loop-less
     loop-again
-    cast-t28
+    cast-t29
     same-length-3
     same-length-4
     returns-2)

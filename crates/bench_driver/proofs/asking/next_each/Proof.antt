@@ -8,15 +8,15 @@ use Rattle.bench_driver.proofs.asking.next_each.Statement.{statement}
 use Rattle.bench_driver.proofs.asking.next_each.Tie as tie
 
 abbrev Inv-loop : tie.InvT-loop
-Inv-loop factor heads parents rows counts next book-heads book-rows book-next row-list first₀ done₀ sum₀ first done sum = Grouping (length row-list) first done sum
+Inv-loop factor heads parents rows counts next book-heads book-rows book-next windows row-list first₀ done₀ sum₀ first done sum = Grouping (length row-list) first done sum
 
 abbrev μ-loop : tie.MeasureT-loop
-μ-loop factor heads parents rows counts next book-heads book-rows book-next row-list first₀ done₀ sum₀ first done sum = length row-list - first
+μ-loop factor heads parents rows counts next book-heads book-rows book-next windows row-list first₀ done₀ sum₀ first done sum = length row-list - first
 
 -- ---- the places, named
 
 abbrev entry : tie.At-loop Inv-loop μ-loop → tie.Start Inv-loop μ-loop
-entry c = c .before .before .before .before .before .before .before .before .before .before
+entry c = c .before .before .before .before .before .before .before .before .before .before .before
 
 abbrev turn : tie.After-struct-known2 Inv-loop μ-loop → tie.In-loop Inv-loop μ-loop
 turn c = c .before .before .before .before .before .before
@@ -43,20 +43,20 @@ loop-holds c = record { within = omega arith; some = omega arith; room = omega a
 sub-loop : tie.Need-sub-loop Inv-loop μ-loop
 sub-loop c = c .loop .inv .within
 
-mul-t18 : tie.Need-mul-t18 Inv-loop μ-loop
-mul-t18 c = let f = facts c in omega (arith, f .ends, f .few)
+mul-t19 : tie.Need-mul-t19 Inv-loop μ-loop
+mul-t19 c = let f = facts c in omega (arith, f .ends, f .few)
 
-shared-slice-read-t22 : tie.Need-shared-slice-read-t22 Inv-loop μ-loop
-shared-slice-read-t22 c = let f = facts (c .before) in omega (arith, f .ends)
+shared-slice-read-t23 : tie.Need-shared-slice-read-t23 Inv-loop μ-loop
+shared-slice-read-t23 c = let f = facts (c .before) in omega (arith, f .ends)
 
-add-t19 : tie.Need-add-t19 Inv-loop μ-loop
-add-t19 c = let f = facts (c .before) in omega (arith, f .ends, f .few)
+add-t20 : tie.Need-add-t20 Inv-loop μ-loop
+add-t20 c = let f = facts (c .before) in omega (arith, f .ends, f .few)
 
-mul-t18-2 : tie.Need-mul-t18-2 Inv-loop μ-loop
-mul-t18-2 c = let f = facts (c .before) in omega (arith, f .ends, f .few)
+mul-t19-2 : tie.Need-mul-t19-2 Inv-loop μ-loop
+mul-t19-2 c = let f = facts (c .before) in omega (arith, f .ends, f .few)
 
-shared-slice-read-t22-2 : tie.Need-shared-slice-read-t22-2 Inv-loop μ-loop
-shared-slice-read-t22-2 c = let f = facts (c .before .before) in omega (arith, f .ends)
+shared-slice-read-t23-2 : tie.Need-shared-slice-read-t23-2 Inv-loop μ-loop
+shared-slice-read-t23-2 c = let f = facts (c .before .before) in omega (arith, f .ends)
 
 next-row-unchecked-requires : tie.Need-next-row-unchecked-requires Inv-loop μ-loop
 next-row-unchecked-requires c κs = entry (c .before .before .before) .pre .0
@@ -99,11 +99,11 @@ next-each-spec =
     μ-loop
     loop-holds
     sub-loop
-    mul-t18
-    shared-slice-read-t22
-    add-t19
-    mul-t18-2
-    shared-slice-read-t22-2
+    mul-t19
+    shared-slice-read-t23
+    add-t20
+    mul-t19-2
+    shared-slice-read-t23-2
     next-row-unchecked-requires
     returns
     cast-sum

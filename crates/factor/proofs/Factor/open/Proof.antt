@@ -9,7 +9,7 @@ use Rattle.factor.proofs.Factor.open.Tie as tie
 
 -- ---- the places, named
 abbrev ruled : tie.After-early → tie.After-are-limits
-ruled c = c .before .before .before .before .before .before .before .before .before .before
+ruled c = c .before .before .before .before .before .before .before .before .before .before .before
 
 abbrev limited : tie.After-are-limits → tie.After-default-limits
 limited c = c .before
@@ -18,10 +18,10 @@ abbrev sized : tie.After-early → tie.After-default-records
 sized c = limited (ruled c) .before
 
 abbrev entry : tie.After-default-records → tie.Start
-entry c = c .before .before .before .before .before .before .before .before .before .before
+entry c = c .before .before .before .before .before .before .before .before .before .before .before
 
 abbrev tablesAt : tie.Start → Tables
-tablesAt s = tablesOf (s .args .heads .now) (s .args .parents .now) (s .args .rows .now) (s .args .counts .now) (s .args .next .now) (s .args .book-heads .now) (s .args .book-rows .now) (s .args .book-next .now)
+tablesAt s = tablesOf (s .args .heads .now) (s .args .parents .now) (s .args .rows .now) (s .args .counts .now) (s .args .next .now) (s .args .book-heads .now) (s .args .book-rows .now) (s .args .book-next .now) (s .args .windows .now)
 
 abbrev limitsAt : tie.Start → Limits
 limitsAt s = limitsOf (s .args .grade2) (s .args .grade3) (s .args .grade4)
@@ -65,6 +65,9 @@ same-length-8 c = refl
 same-length-9 : tie.Need-same-length-9
 same-length-9 c = refl
 
+same-length-10 : tie.Need-same-length-10
+same-length-10 c = refl
+
 returns : tie.Need-returns
 returns c =
     let e : tie.After-early = c .before in
@@ -74,46 +77,49 @@ returns c =
 
 write-requires : tie.Need-write-requires
 write-requires c κs =
-    let x : tie.Else1 = c .before .before .before .before .before .before .before .before .before in
+    let x : tie.Else1 = c .before .before .before .before .before .before .before .before .before .before in
     let e : tie.After-early = x .before in
     let s : tie.Start = entry (sized e) in
     open-writes (s .args .m) (s .args .n) (s .args .f) (s .args .c) (limitsAt s) (tablesAt s) (s .args .work .now) (sized e .default-records .ensures)
     (limited (ruled e) .default-limits .ensures) (ruled e .are-limits .ensures) (e .early .ensures) (x .if1 .left)
 
-abbrev written : tie.After-slice-known18 → tie.After-write
-written c = c .before .before .before .before .before .before .before .before .before .before .before .before .before .before .before .before .before .before
-
-same-length-10 : tie.Need-same-length-10
-same-length-10 c = written c .write .kept .0
+abbrev written : tie.After-slice-known20 → tie.After-write
+written c = c .before .before .before .before .before .before .before .before .before .before .before .before .before .before .before .before .before .before .before .before
 
 same-length-11 : tie.Need-same-length-11
-same-length-11 c = written c .write .kept .1 .0
+same-length-11 c = written c .write .kept .0
 
 same-length-12 : tie.Need-same-length-12
-same-length-12 c = written c .write .kept .1 .1 .0
+same-length-12 c = written c .write .kept .1 .0
 
 same-length-13 : tie.Need-same-length-13
-same-length-13 c = written c .write .kept .1 .1 .1 .0
+same-length-13 c = written c .write .kept .1 .1 .0
 
 same-length-14 : tie.Need-same-length-14
-same-length-14 c = written c .write .kept .1 .1 .1 .1 .0
+same-length-14 c = written c .write .kept .1 .1 .1 .0
 
 same-length-15 : tie.Need-same-length-15
-same-length-15 c = written c .write .kept .1 .1 .1 .1 .1 .0
+same-length-15 c = written c .write .kept .1 .1 .1 .1 .0
 
 same-length-16 : tie.Need-same-length-16
-same-length-16 c = written c .write .kept .1 .1 .1 .1 .1 .1 .0
+same-length-16 c = written c .write .kept .1 .1 .1 .1 .1 .0
 
 same-length-17 : tie.Need-same-length-17
-same-length-17 c = written c .write .kept .1 .1 .1 .1 .1 .1 .1 .0
+same-length-17 c = written c .write .kept .1 .1 .1 .1 .1 .1 .0
 
 same-length-18 : tie.Need-same-length-18
-same-length-18 c = written c .write .kept .1 .1 .1 .1 .1 .1 .1 .1 .0
+same-length-18 c = written c .write .kept .1 .1 .1 .1 .1 .1 .1 .0
+
+same-length-19 : tie.Need-same-length-19
+same-length-19 c = written c .write .kept .1 .1 .1 .1 .1 .1 .1 .1 .0
+
+same-length-20 : tie.Need-same-length-20
+same-length-20 c = written c .write .kept .1 .1 .1 .1 .1 .1 .1 .1 .1 .0
 
 returns-2 : tie.Need-returns-2
 returns-2 c =
     let d : tie.After-write = written c in
-    let x : tie.Else1 = d .before .before .before .before .before .before .before .before .before .before in
+    let x : tie.Else1 = d .before .before .before .before .before .before .before .before .before .before .before in
     let e : tie.After-early = x .before in
     let s : tie.Start = entry (sized e) in
     open-done (s .args .m) (s .args .n) (s .args .f) (s .args .c) (limitsAt s) (tablesAt s) (s .args .work .now) (sized e .default-records .ensures)
@@ -136,9 +142,9 @@ open-spec =
     same-length-7
     same-length-8
     same-length-9
+    same-length-10
     returns
     write-requires
-    same-length-10
     same-length-11
     same-length-12
     same-length-13
@@ -147,4 +153,6 @@ open-spec =
     same-length-16
     same-length-17
     same-length-18
+    same-length-19
+    same-length-20
     returns-2)

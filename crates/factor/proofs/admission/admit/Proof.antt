@@ -9,7 +9,7 @@ use Rattle.factor.proofs.admission.admit.Tie as tie
 
 -- ---- the places, named
 abbrev entry : tie.After-early → tie.Start
-entry c = c .before .before .before .before .before .before .before .before .before .before .before
+entry c = c .before .before .before .before .before .before .before .before .before .before .before .before
 
 abbrev passed : tie.After-read-through → tie.After-early
 passed c = c .before .before .before
@@ -18,7 +18,7 @@ abbrev stateAt : tie.Start → State
 stateAt s = stateOf (s .args .factor)
 
 abbrev tablesAt : tie.Start → Tables
-tablesAt s = tablesOf (s .args .heads .now) (s .args .parents .now) (s .args .rows .now) (s .args .counts .now) (s .args .next .now) (s .args .book-heads .now) (s .args .book-rows .now) (s .args .book-next .now)
+tablesAt s = tablesOf (s .args .heads .now) (s .args .parents .now) (s .args .rows .now) (s .args .counts .now) (s .args .next .now) (s .args .book-heads .now) (s .args .book-rows .now) (s .args .book-next .now) (s .args .windows .now)
 
 early-requires : tie.Need-early-requires
 early-requires c κs = search needs
@@ -38,7 +38,7 @@ read-through-requires c κs =
     admit-reads (stateAt s) (tablesAt s) (s .args .work .now) (s .args .lists) (d .early .ensures) (c .before .if1 .left)
 
 same-length-2 : tie.Need-same-length-2
-same-length-2 c = c .before .before .before .read-through .kept .1 .1 .1 .1 .1 .1 .1 .1 .1 .0
+same-length-2 c = c .before .before .before .read-through .kept .1 .1 .1 .1 .1 .1 .1 .1 .1 .1 .0
 
 returns-2 : tie.Need-returns-2
 returns-2 c =
@@ -48,7 +48,7 @@ returns-2 c =
     (r .read-through .ensures .1) (c .if2 .taken)
 
 same-length-3 : tie.Need-same-length-3
-same-length-3 c = c .before .before .before .read-through .kept .1 .1 .1 .1 .1 .1 .1 .1 .1 .0
+same-length-3 c = c .before .before .before .read-through .kept .1 .1 .1 .1 .1 .1 .1 .1 .1 .1 .0
 
 returns-3 : tie.Need-returns-3
 returns-3 c =

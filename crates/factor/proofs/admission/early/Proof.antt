@@ -8,7 +8,7 @@ use Rattle.factor.proofs.admission.early.Tie as tie
 
 -- ---- the places, named
 abbrev entry : tie.After-sizes → tie.Start
-entry c = c .before .before .before .before .before .before .before .before .before .before
+entry c = c .before .before .before .before .before .before .before .before .before .before .before
 
 abbrev measured : tie.After-short → tie.After-sizes
 measured c = c .before .before .before
@@ -17,7 +17,7 @@ abbrev sizesAt : tie.Start → Sizes
 sizesAt s = sizesOf (s .args .factor .m) (s .args .factor .n) (s .args .factor .f) (s .args .factor .c)
 
 abbrev tablesAt : tie.Start → Tables
-tablesAt s = tablesOf (s .args .heads .now) (s .args .parents .now) (s .args .rows .now) (s .args .counts .now) (s .args .next .now) (s .args .book-heads .now) (s .args .book-rows .now) (s .args .book-next .now)
+tablesAt s = tablesOf (s .args .heads .now) (s .args .parents .now) (s .args .rows .now) (s .args .counts .now) (s .args .next .now) (s .args .book-heads .now) (s .args .book-rows .now) (s .args .book-next .now) (s .args .windows .now)
 
 sizes-requires : tie.Need-sizes-requires
 sizes-requires c κs = search needs

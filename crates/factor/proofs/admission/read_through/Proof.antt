@@ -18,13 +18,13 @@ use Rattle.factor.proofs.admission.read_through.Tie as tie
 
 -- ---- the places, named
 abbrev entry : tie.After-make-ready → tie.Start
-entry c = c .before .before .before .before .before .before .before .before .before .before .before .before .before .before .before
+entry c = c .before .before .before .before .before .before .before .before .before .before .before .before .before .before .before .before
 
 abbrev first : tie.After-read-through-arg → tie.After-make-ready
 first c = c .before .before .before
 
 abbrev lent : tie.After-read-through → tie.After-make-ready
-lent c = first (c .before .before .before .before .before .before .before .before .before)
+lent c = first (c .before .before .before .before .before .before .before .before .before .before)
 
 abbrev read : tie.After-work-need → tie.After-read-through
 read c = c .before .before .before .before
@@ -33,7 +33,7 @@ abbrev stateAt : tie.Start → State
 stateAt s = stateOf (s .args .factor)
 
 abbrev tablesAt : tie.Start → Tables
-tablesAt s = tablesOf (s .args .heads .now) (s .args .parents .now) (s .args .rows .now) (s .args .counts .now) (s .args .next .now) (s .args .book-heads .now) (s .args .book-rows .now) (s .args .book-next .now)
+tablesAt s = tablesOf (s .args .heads .now) (s .args .parents .now) (s .args .rows .now) (s .args .counts .now) (s .args .next .now) (s .args .book-heads .now) (s .args .book-rows .now) (s .args .book-next .now) (s .args .windows .now)
 
 lengths : (c : tie.After-read-through-arg) → Cut (stateAt (entry (first c))) (tablesAt (entry (first c)))
 lengths c = let s : tie.Start = entry (first c) in cut (stateAt s) (tablesAt s) (s .pre .long)
@@ -56,7 +56,7 @@ cast-c : tie.Need-cast-c
 cast-c c = search needs
 
 make-ready-requires : tie.Need-make-ready-requires
-make-ready-requires c κs = let s : tie.Start = c .before .before .before .before .before .before .before .before .before .before .before .before .before .before in omega (arith, s .pre .room)
+make-ready-requires c κs = let s : tie.Start = c .before .before .before .before .before .before .before .before .before .before .before .before .before .before .before in omega (arith, s .pre .room)
 
 slice-aggregate-read-through : tie.Need-slice-aggregate-read-through
 slice-aggregate-read-through c = sym (lengths c .heads)
@@ -82,9 +82,15 @@ slice-aggregate-read-through-7 c = sym (lengths (c .before .before .before .befo
 slice-aggregate-read-through-8 : tie.Need-slice-aggregate-read-through-8
 slice-aggregate-read-through-8 c = sym (lengths (c .before .before .before .before .before .before .before) .bookNext)
 
+mul-read-through : tie.Need-mul-read-through
+mul-read-through c = search needs
+
+slice-aggregate-read-through-9 : tie.Need-slice-aggregate-read-through-9
+slice-aggregate-read-through-9 c = sym (lengths (c .before .before .before .before .before .before .before .before) .windows)
+
 read-through-requires : tie.Need-read-through-requires
 read-through-requires c κs =
-    let d : tie.After-make-ready = first (c .before .before .before .before .before .before .before .before) in can-read-through (stateAt (entry d)) (entry d .pre) (ready-is d)
+    let d : tie.After-make-ready = first (c .before .before .before .before .before .before .before .before .before) in can-read-through (stateAt (entry d)) (entry d .pre) (ready-is d)
 
 work-need-requires : tie.Need-work-need-requires
 work-need-requires c κs = search needs
@@ -144,6 +150,8 @@ read-through-spec =
     slice-aggregate-read-through-6
     slice-aggregate-read-through-7
     slice-aggregate-read-through-8
+    mul-read-through
+    slice-aggregate-read-through-9
     read-through-requires
     work-need-requires
     clear-requires

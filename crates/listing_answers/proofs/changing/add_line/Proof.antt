@@ -17,24 +17,24 @@ use Rattle.listing_answers.proofs.changing.add_line.Tie as tie
 
 -- the addition
 abbrev change : tie.Start → Change
-change s = adding (s .args .id ∷ []) (s .args .count ∷ []) (take (s .args .count) (s .args .list .now))
+change s = adding (s .args .id ∷ []) (s .args .count ∷ []) (take (s .args .count) (s .args .list .now)) (0 ∷ []) (0 ∷ [])
 
 abbrev entry : tie.Else1 → tie.Start
-entry c = c .before .before .before .before .before .before .before .before .before .before .before .before .before .before .before
+entry c = c .before .before .before .before .before .before .before .before .before .before .before .before .before .before .before .before
 
 abbrev entry-then : tie.Then1 → tie.Start
-entry-then c = c .before .before .before .before .before .before .before .before .before .before .before .before .before .before .before
+entry-then c = c .before .before .before .before .before .before .before .before .before .before .before .before .before .before .before .before
 
 abbrev called : tie.After-changed-line → tie.After-add-unchecked
-called c = c .before .before .before .before .before .before .before .before .before .before .before .before .before .before .before .before .before .before .before .before .before .before .before
+called c = c .before .before .before .before .before .before .before .before .before .before .before .before .before .before .before .before .before .before .before .before .before .before .before .before .before
 
 abbrev chosen : tie.After-add-unchecked → tie.Else1
-chosen c = c .before .before .before .before .before .before .before .before .before .before .before .before .before .before
+chosen c = c .before .before .before .before .before .before .before .before .before .before .before .before .before .before .before .before .before
 
 abbrev tables : tie.Start → Tables
 tables s =
     let a = s .args in
-    tablesOf (a .heads .now) (a .parents .now) (a .rows .now) (a .counts .now) (a .next .now) (a .book-heads .now) (a .book-rows .now) (a .book-next .now)
+    tablesOf (a .heads .now) (a .parents .now) (a .rows .now) (a .counts .now) (a .next .now) (a .book-heads .now) (a .book-rows .now) (a .book-next .now) (a .windows .now)
 
 abbrev memory : tie.Start → Memory
 memory s = memoryOf (s .args .factor) (tables s) (s .args .work .now) (s .args .touched .now) (s .args .labels .now)
@@ -64,14 +64,20 @@ slice-aggregate-add-unchecked-2 c = search needs
 
 slice-aggregate-add-unchecked-3 : tie.Need-slice-aggregate-add-unchecked-3
 slice-aggregate-add-unchecked-3 c =
-    let s = entry (c .before .before .before .before .before .before .before .before .before .before .before .before .before) in
+    let s = entry (c .before .before .before .before .before .before .before .before .before .before .before .before .before .before) in
     sym (length-take-le (s .args .count) (s .args .list .now) (s .pre .1 .0))
 
+slice-aggregate-add-unchecked-4 : tie.Need-slice-aggregate-add-unchecked-4
+slice-aggregate-add-unchecked-4 c = search needs
+
+slice-aggregate-add-unchecked-5 : tie.Need-slice-aggregate-add-unchecked-5
+slice-aggregate-add-unchecked-5 c = search needs
+
 add-unchecked-requires : tie.Need-add-unchecked-requires
-add-unchecked-requires c κs = can (c .before .before .before .before .before .before .before .before .before .before .before .before .before)
+add-unchecked-requires c κs = can (c .before .before .before .before .before .before .before .before .before .before .before .before .before .before .before .before)
 
 changed-line-requires : tie.Need-changed-line-requires
-changed-line-requires c κs = entry (chosen (c .before .before .before .before .before .before .before .before .before .before .before .before .before .before .before .before .before .before .before .before .before .before)) .pre .0
+changed-line-requires c κs = entry (chosen (c .before .before .before .before .before .before .before .before .before .before .before .before .before .before .before .before .before .before .before .before .before .before .before .before)) .pre .0
 
 same-length-2 : tie.Need-same-length-2
 same-length-2 c = called (c .before .before) .add-unchecked .kept .1 .1 .0
@@ -104,7 +110,10 @@ same-length-11 : tie.Need-same-length-11
 same-length-11 c = called (c .before .before) .add-unchecked .kept .1 .1 .1 .1 .1 .1 .1 .1 .1 .1 .1 .0
 
 same-length-12 : tie.Need-same-length-12
-same-length-12 c = c .before .before .changed-line .kept .0
+same-length-12 c = called (c .before .before) .add-unchecked .kept .1 .1 .1 .1 .1 .1 .1 .1 .1 .1 .1 .1 .0
+
+same-length-13 : tie.Need-same-length-13
+same-length-13 c = c .before .before .changed-line .kept .0
 
 returns-2 : tie.Need-returns-2
 returns-2 c =
@@ -113,9 +122,9 @@ returns-2 c =
     let l = x .add-unchecked .last in
     let s = entry (chosen x) in
     open-changes (s .args .factor) (tables s) (s .args .work .now) (s .args .touched .now) (s .args .labels .now) (can (chosen x)) (x .add-unchecked .result)
-    (tablesOf (s .args .heads .now) (l .1 .1 .0) (l .1 .1 .1 .0) (l .1 .1 .1 .1 .0) (l .1 .1 .1 .1 .1 .0) (l .1 .1 .1 .1 .1 .1 .0) (l .1 .1 .1 .1 .1 .1 .1 .0) (l .1 .1 .1 .1 .1 .1 .1 .1 .0))
-    (l .1 .1 .1 .1 .1 .1 .1 .1 .1 .0) (l .1 .1 .1 .1 .1 .1 .1 .1 .1 .1 .0) (l .1 .1 .1 .1 .1 .1 .1 .1 .1 .1 .1 .0) (s .args .out .now) (o .changed-line .last .0) (o .changed-line .result) (o .changed-line .ensures)
-    (x .add-unchecked .kept .1 .1 .1 .1 .1 .1 .1 .1 .1 .1 .0) (x .add-unchecked .kept .1 .1 .1 .1 .1 .1 .1 .1 .1 .1 .1 .0) (change s) (x .add-unchecked .ensures)
+    (tablesOf (s .args .heads .now) (l .1 .1 .0) (l .1 .1 .1 .0) (l .1 .1 .1 .1 .0) (l .1 .1 .1 .1 .1 .0) (l .1 .1 .1 .1 .1 .1 .0) (l .1 .1 .1 .1 .1 .1 .1 .0) (l .1 .1 .1 .1 .1 .1 .1 .1 .0) (l .1 .1 .1 .1 .1 .1 .1 .1 .1 .0))
+    (l .1 .1 .1 .1 .1 .1 .1 .1 .1 .1 .0) (l .1 .1 .1 .1 .1 .1 .1 .1 .1 .1 .1 .0) (l .1 .1 .1 .1 .1 .1 .1 .1 .1 .1 .1 .1 .0) (s .args .out .now) (o .changed-line .last .0) (o .changed-line .result) (o .changed-line .ensures)
+    (x .add-unchecked .kept .1 .1 .1 .1 .1 .1 .1 .1 .1 .1 .1 .0) (x .add-unchecked .kept .1 .1 .1 .1 .1 .1 .1 .1 .1 .1 .1 .1 .0) (change s) (x .add-unchecked .ensures)
 
 pub add-line-spec : {M : Type 1} → statement M
 add-line-spec =
@@ -127,6 +136,8 @@ add-line-spec =
     slice-aggregate-add-unchecked
     slice-aggregate-add-unchecked-2
     slice-aggregate-add-unchecked-3
+    slice-aggregate-add-unchecked-4
+    slice-aggregate-add-unchecked-5
     add-unchecked-requires
     changed-line-requires
     same-length-2
@@ -140,4 +151,5 @@ add-line-spec =
     same-length-10
     same-length-11
     same-length-12
+    same-length-13
     returns-2)

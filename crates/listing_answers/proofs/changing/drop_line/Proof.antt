@@ -14,21 +14,21 @@ use Rattle.listing_answers.proofs.changing.drop_line.Statement.{stateme
 use Rattle.listing_answers.proofs.changing.drop_line.Tie as tie
 
 abbrev entry : tie.Else1 → tie.Start
-entry c = c .before .before .before .before .before .before .before .before .before .before .before .before .before .before
+entry c = c .before .before .before .before .before .before .before .before .before .before .before .before .before .before .before
 
 abbrev entry-then : tie.Then1 → tie.Start
-entry-then c = c .before .before .before .before .before .before .before .before .before .before .before .before .before .before
+entry-then c = c .before .before .before .before .before .before .before .before .before .before .before .before .before .before .before
 
 abbrev called : tie.After-changed-line → tie.After-remove-unchecked
-called c = c .before .before .before .before .before .before .before .before .before .before .before .before .before .before .before .before .before .before .before .before .before .before .before
+called c = c .before .before .before .before .before .before .before .before .before .before .before .before .before .before .before .before .before .before .before .before .before .before .before .before .before
 
 abbrev chosen : tie.After-remove-unchecked → tie.Else1
-chosen c = c .before .before .before .before .before .before .before .before .before .before .before .before
+chosen c = c .before .before .before .before .before .before .before .before .before .before .before .before .before
 
 abbrev tables : tie.Start → Tables
 tables s =
     let a = s .args in
-    tablesOf (a .heads .now) (a .parents .now) (a .rows .now) (a .counts .now) (a .next .now) (a .book-heads .now) (a .book-rows .now) (a .book-next .now)
+    tablesOf (a .heads .now) (a .parents .now) (a .rows .now) (a .counts .now) (a .next .now) (a .book-heads .now) (a .book-rows .now) (a .book-next .now) (a .windows .now)
 
 abbrev memory : tie.Start → Memory
 memory s = memoryOf (s .args .factor) (tables s) (s .args .work .now) (s .args .touched .now) (s .args .labels .now)
@@ -54,10 +54,10 @@ slice-aggregate-remove-unchecked : tie.Need-slice-aggregate-remove-unchecked
 slice-aggregate-remove-unchecked c = search needs
 
 remove-unchecked-requires : tie.Need-remove-unchecked-requires
-remove-unchecked-requires c κs = can (c .before .before .before .before .before .before .before .before .before .before .before)
+remove-unchecked-requires c κs = can (c .before .before .before .before .before .before .before .before .before .before .before .before)
 
 changed-line-requires : tie.Need-changed-line-requires
-changed-line-requires c κs = entry (chosen (c .before .before .before .before .before .before .before .before .before .before .before .before .before .before .before .before .before .before .before .before .before .before)) .pre .0
+changed-line-requires c κs = entry (chosen (c .before .before .before .before .before .before .before .before .before .before .before .before .before .before .before .before .before .before .before .before .before .before .before .before)) .pre .0
 
 same-length-2 : tie.Need-same-length-2
 same-length-2 c = called (c .before .before) .remove-unchecked .kept .1 .1 .0
@@ -90,7 +90,10 @@ same-length-11 : tie.Need-same-length-11
 same-length-11 c = called (c .before .before) .remove-unchecked .kept .1 .1 .1 .1 .1 .1 .1 .1 .1 .1 .1 .0
 
 same-length-12 : tie.Need-same-length-12
-same-length-12 c = c .before .before .changed-line .kept .0
+same-length-12 c = called (c .before .before) .remove-unchecked .kept .1 .1 .1 .1 .1 .1 .1 .1 .1 .1 .1 .1 .0
+
+same-length-13 : tie.Need-same-length-13
+same-length-13 c = c .before .before .changed-line .kept .0
 
 returns-2 : tie.Need-returns-2
 returns-2 c =
@@ -99,9 +102,9 @@ returns-2 c =
     let l = x .remove-unchecked .last in
     let s = entry (chosen x) in
     open-changes (s .args .factor) (tables s) (s .args .work .now) (s .args .touched .now) (s .args .labels .now) (can (chosen x)) (x .remove-unchecked .result)
-    (tablesOf (s .args .heads .now) (l .1 .1 .0) (l .1 .1 .1 .0) (l .1 .1 .1 .1 .0) (l .1 .1 .1 .1 .1 .0) (l .1 .1 .1 .1 .1 .1 .0) (l .1 .1 .1 .1 .1 .1 .1 .0) (l .1 .1 .1 .1 .1 .1 .1 .1 .0))
-    (l .1 .1 .1 .1 .1 .1 .1 .1 .1 .0) (l .1 .1 .1 .1 .1 .1 .1 .1 .1 .1 .0) (l .1 .1 .1 .1 .1 .1 .1 .1 .1 .1 .1 .0) (s .args .out .now) (o .changed-line .last .0) (o .changed-line .result) (o .changed-line .ensures)
-    (x .remove-unchecked .kept .1 .1 .1 .1 .1 .1 .1 .1 .1 .1 .0) (x .remove-unchecked .kept .1 .1 .1 .1 .1 .1 .1 .1 .1 .1 .1 .0) (removing (s .args .id ∷ [])) (x .remove-unchecked .ensures)
+    (tablesOf (s .args .heads .now) (l .1 .1 .0) (l .1 .1 .1 .0) (l .1 .1 .1 .1 .0) (l .1 .1 .1 .1 .1 .0) (l .1 .1 .1 .1 .1 .1 .0) (l .1 .1 .1 .1 .1 .1 .1 .0) (l .1 .1 .1 .1 .1 .1 .1 .1 .0) (l .1 .1 .1 .1 .1 .1 .1 .1 .1 .0))
+    (l .1 .1 .1 .1 .1 .1 .1 .1 .1 .1 .0) (l .1 .1 .1 .1 .1 .1 .1 .1 .1 .1 .1 .0) (l .1 .1 .1 .1 .1 .1 .1 .1 .1 .1 .1 .1 .0) (s .args .out .now) (o .changed-line .last .0) (o .changed-line .result) (o .changed-line .ensures)
+    (x .remove-unchecked .kept .1 .1 .1 .1 .1 .1 .1 .1 .1 .1 .1 .0) (x .remove-unchecked .kept .1 .1 .1 .1 .1 .1 .1 .1 .1 .1 .1 .1 .0) (removing (s .args .id ∷ [])) (x .remove-unchecked .ensures)
 
 pub drop-line-spec : {M : Type 1} → statement M
 drop-line-spec =
@@ -124,4 +127,5 @@ drop-line-spec =
     same-length-10
     same-length-11
     same-length-12
+    same-length-13
     returns-2)

@@ -6,10 +6,10 @@ use Rattle.reference.proofs.batch.enter.Statement.{statement}
 use Rattle.reference.proofs.batch.enter.Tie as tie
 
 abbrev Inv-loop : tie.InvT-loop
-Inv-loop holds₀ live₀ ids counts rows n at₀ t₀ holds live at t = t ≤ length ids
+Inv-loop holds₀ booked₀ ids counts rows n at₀ t₀ holds booked at t = t ≤ length ids
 
 abbrev μ-loop : tie.MeasureT-loop
-μ-loop holds₀ live₀ ids counts rows n at₀ t₀ holds live at t = length ids - t
+μ-loop holds₀ booked₀ ids counts rows n at₀ t₀ holds booked at t = length ids - t
 
 loop-holds : tie.Need-loop-holds Inv-loop μ-loop
 loop-holds c = omega arith

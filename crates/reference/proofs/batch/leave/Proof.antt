@@ -6,10 +6,10 @@ use Rattle.reference.proofs.batch.leave.Statement.{statement}
 use Rattle.reference.proofs.batch.leave.Tie as tie
 
 abbrev Inv-loop : tie.InvT-loop
-Inv-loop live₀ ids n t₀ live t = t ≤ length ids
+Inv-loop booked₀ ids n t₀ booked t = t ≤ length ids
 
 abbrev μ-loop : tie.MeasureT-loop
-μ-loop live₀ ids n t₀ live t = length ids - t
+μ-loop booked₀ ids n t₀ booked t = length ids - t
 
 loop-holds : tie.Need-loop-holds Inv-loop μ-loop
 loop-holds c = omega arith

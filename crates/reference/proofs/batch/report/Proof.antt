@@ -5,10 +5,10 @@ use Rattle.reference.proofs.batch.report.Statement.{statement}
 use Rattle.reference.proofs.batch.report.Tie as tie
 
 abbrev Inv-loop : tie.InvT-loop
-Inv-loop touched₀ labels₀ label-of m count₀ k₀ touched labels count k = (k ≤ m) × (count ≤ k)
+Inv-loop touched₀ labels₀ marked label-of m count₀ k₀ touched labels count k = (k ≤ m) × (count ≤ k)
 
 abbrev μ-loop : tie.MeasureT-loop
-μ-loop touched₀ labels₀ label-of m count₀ k₀ touched labels count k = m - k
+μ-loop touched₀ labels₀ marked label-of m count₀ k₀ touched labels count k = m - k
 
 loop-holds : tie.Need-loop-holds Inv-loop μ-loop
 loop-holds c = omega arith

@@ -5,10 +5,10 @@ use Rattle.reference.proofs.columns.book_rows.Statement.{statement}
 use Rattle.reference.proofs.columns.book_rows.Tie as tie
 
 abbrev Inv-loop : tie.InvT-loop
-Inv-loop holds live m n total₀ i₀ total i = (1 ≤ i) × (i ≤ n + 1) × (total + 64 ≤ 64 * i)
+Inv-loop holds booked m n total₀ i₀ total i = (1 ≤ i) × (i ≤ n + 1) × (total + 64 ≤ 64 * i)
 
 abbrev μ-loop : tie.MeasureT-loop
-μ-loop holds live m n total₀ i₀ total i = n + 1 - i
+μ-loop holds booked m n total₀ i₀ total i = n + 1 - i
 
 loop-holds : tie.Need-loop-holds Inv-loop μ-loop
 loop-holds c = omega arith

@@ -6,19 +6,19 @@ use Rattle.reference.proofs.columns.enter.Statement.{statement}
 use Rattle.reference.proofs.columns.enter.Tie as tie
 
 abbrev Inv-loop : tie.InvT-loop
-Inv-loop holds₀ live rows from count i at₀ taken₀ holds at taken = taken ≤ at
+Inv-loop holds₀ booked rows from count i at₀ taken₀ holds at taken = taken ≤ at
 
 abbrev μ-loop : tie.MeasureT-loop
-μ-loop holds₀ live rows from count i at₀ taken₀ holds at taken = length rows - at
+μ-loop holds₀ booked rows from count i at₀ taken₀ holds at taken = length rows - at
 
 empty-requires : tie.Need-empty-requires Inv-loop μ-loop
 empty-requires c κs = omega arith
 
-sub-live : tie.Need-sub-live Inv-loop μ-loop
-sub-live c = omega arith
+sub-booked : tie.Need-sub-booked Inv-loop μ-loop
+sub-booked c = omega arith
 
-element-write-live : tie.Need-element-write-live Inv-loop μ-loop
-element-write-live c = omega arith
+element-write-booked : tie.Need-element-write-booked Inv-loop μ-loop
+element-write-booked c = omega arith
 
 loop-holds : tie.Need-loop-holds Inv-loop μ-loop
 loop-holds c = omega arith
@@ -60,8 +60,8 @@ enter-spec =
     Inv-loop
     μ-loop
     empty-requires
-    sub-live
-    element-write-live
+    sub-booked
+    element-write-booked
     loop-holds
     returns
     mul-wide

@@ -5,10 +5,10 @@ use Rattle.reference.proofs.columns.leave_all.Statement.{statement}
 use Rattle.reference.proofs.columns.leave_all.Tie as tie
 
 abbrev Inv-loop : tie.InvT-loop
-Inv-loop live₀ i₀ live i = (1 ≤ i) × (i ≤ 257)
+Inv-loop booked₀ i₀ booked i = (1 ≤ i) × (i ≤ 257)
 
 abbrev μ-loop : tie.MeasureT-loop
-μ-loop live₀ i₀ live i = 257 - i
+μ-loop booked₀ i₀ booked i = 257 - i
 
 loop-holds : tie.Need-loop-holds Inv-loop μ-loop
 loop-holds c = omega arith

@@ -5,10 +5,10 @@ use Rattle.reference.proofs.columns.row_count.Statement.{statement}
 use Rattle.reference.proofs.columns.row_count.Tie as tie
 
 abbrev Inv-loop : tie.InvT-loop
-Inv-loop holds live m i count₀ j₀ count j = (1 ≤ j) × (j ≤ m + 1) × (count + 1 ≤ j)
+Inv-loop holds booked m i count₀ j₀ count j = (1 ≤ j) × (j ≤ m + 1) × (count + 1 ≤ j)
 
 abbrev μ-loop : tie.MeasureT-loop
-μ-loop holds live m i count₀ j₀ count j = m + 1 - j
+μ-loop holds booked m i count₀ j₀ count j = m + 1 - j
 
 loop-holds : tie.Need-loop-holds Inv-loop μ-loop
 loop-holds c = omega arith

@@ -6,10 +6,10 @@ use Rattle.reference.proofs.refusals.of_columns.Statement.{statement}
 use Rattle.reference.proofs.refusals.of_columns.Tie as tie
 
 abbrev Inv-loop : tie.InvT-loop
-Inv-loop live ids counts rows m n used₀ t₀ used t = (t ≤ length ids) × (used ≤ length rows)
+Inv-loop booked ids counts rows firsts seconds m n used₀ t₀ used t = (t ≤ length ids) × (used ≤ length rows)
 
 abbrev μ-loop : tie.MeasureT-loop
-μ-loop live ids counts rows m n used₀ t₀ used t = length ids - t
+μ-loop booked ids counts rows firsts seconds m n used₀ t₀ used t = length ids - t
 
 loop-holds : tie.Need-loop-holds Inv-loop μ-loop
 loop-holds c = omega arith
@@ -71,6 +71,30 @@ refusal-requires-4 c κs = omega arith
 returns-4 : tie.Need-returns-4 Inv-loop μ-loop
 returns-4 c = omega arith
 
+mul-is-window : tie.Need-mul-is-window Inv-loop μ-loop
+mul-is-window c = omega arith
+
+shared-slice-read-is-window : tie.Need-shared-slice-read-is-window Inv-loop μ-loop
+shared-slice-read-is-window c = omega arith
+
+mul-is-window-2 : tie.Need-mul-is-window-2 Inv-loop μ-loop
+mul-is-window-2 c = omega arith
+
+shared-slice-read-is-window-2 : tie.Need-shared-slice-read-is-window-2 Inv-loop μ-loop
+shared-slice-read-is-window-2 c = omega arith
+
+is-window-requires : tie.Need-is-window-requires Inv-loop μ-loop
+is-window-requires c κs = omega arith
+
+add-refusal-5 : tie.Need-add-refusal-5 Inv-loop μ-loop
+add-refusal-5 c = omega arith
+
+refusal-requires-5 : tie.Need-refusal-requires-5 Inv-loop μ-loop
+refusal-requires-5 c κs = omega arith
+
+returns-5 : tie.Need-returns-5 Inv-loop μ-loop
+returns-5 c = omega arith
+
 add-used : tie.Need-add-used Inv-loop μ-loop
 add-used c = omega arith
 
@@ -83,17 +107,17 @@ loop-less c = omega arith
 loop-again : tie.Need-loop-again Inv-loop μ-loop
 loop-again c = omega arith
 
-refusal-requires-5 : tie.Need-refusal-requires-5 Inv-loop μ-loop
-refusal-requires-5 c κs = omega arith
-
-returns-5 : tie.Need-returns-5 Inv-loop μ-loop
-returns-5 c = omega arith
-
 refusal-requires-6 : tie.Need-refusal-requires-6 Inv-loop μ-loop
 refusal-requires-6 c κs = omega arith
 
 returns-6 : tie.Need-returns-6 Inv-loop μ-loop
 returns-6 c = omega arith
+
+refusal-requires-7 : tie.Need-refusal-requires-7 Inv-loop μ-loop
+refusal-requires-7 c κs = omega arith
+
+returns-7 : tie.Need-returns-7 Inv-loop μ-loop
+returns-7 c = omega arith
 
 pub of-columns-spec : {M : Type 1} → statement M
 of-columns-spec =
@@ -121,11 +145,19 @@ of-columns-spec =
     add-refusal-4
     refusal-requires-4
     returns-4
+    mul-is-window
+    shared-slice-read-is-window
+    mul-is-window-2
+    shared-slice-read-is-window-2
+    is-window-requires
+    add-refusal-5
+    refusal-requires-5
+    returns-5
     add-used
     add-t
     loop-less
     loop-again
-    refusal-requires-5
-    returns-5
     refusal-requires-6
-    returns-6)
+    returns-6
+    refusal-requires-7
+    returns-7)

@@ -6,10 +6,10 @@ use Rattle.reference.proofs.refusals.of_removal.Statement.{statement}
 use Rattle.reference.proofs.refusals.of_removal.Tie as tie
 
 abbrev Inv-loop : tie.InvT-loop
-Inv-loop live ids n t₀ t = t ≤ length ids
+Inv-loop booked ids n t₀ t = t ≤ length ids
 
 abbrev μ-loop : tie.MeasureT-loop
-μ-loop live ids n t₀ t = length ids - t
+μ-loop booked ids n t₀ t = length ids - t
 
 loop-holds : tie.Need-loop-holds Inv-loop μ-loop
 loop-holds c = omega arith

@@ -1,4 +1,0 @@
-pub mod Turning
-pub mod Stepping
-pub mod Starting
-pub mod Beginning

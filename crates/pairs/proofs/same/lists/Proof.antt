@@ -1,0 +1,62 @@
+-- `lists` is safe and ends. The measure is the places that are left. Assumes nothing.
+use Prim.Native.Nat.{_-_, _≤_}
+use borrow.Author.Needs.{needs}
+use Rattle.pairs.proofs.same.lists.Statement.{statement}
+use Rattle.pairs.proofs.same.lists.Tie as tie
+
+abbrev Inv-loop : tie.InvT-loop
+Inv-loop what ours theirs k₀ k = k ≤ 160
+
+abbrev μ-loop : tie.MeasureT-loop
+μ-loop what ours theirs k₀ k = 160 - k
+
+loop-holds : tie.Need-loop-holds Inv-loop μ-loop
+loop-holds c = search needs
+
+mul-places : tie.Need-mul-places Inv-loop μ-loop
+mul-places c = search needs
+
+element-copy-out-places : tie.Need-element-copy-out-places Inv-loop μ-loop
+element-copy-out-places c = search needs
+
+mul-places-2 : tie.Need-mul-places-2 Inv-loop μ-loop
+mul-places-2 c = search needs
+
+element-copy-out-places-2 : tie.Need-element-copy-out-places-2 Inv-loop μ-loop
+element-copy-out-places-2 c = search needs
+
+places-requires : tie.Need-places-requires Inv-loop μ-loop
+places-requires c κs = search needs
+
+returns : tie.Need-returns Inv-loop μ-loop
+returns c = search needs
+
+add-k : tie.Need-add-k Inv-loop μ-loop
+add-k c = search needs
+
+loop-less : tie.Need-loop-less Inv-loop μ-loop
+loop-less c = search needs
+
+loop-again : tie.Need-loop-again Inv-loop μ-loop
+loop-again c = search needs
+
+returns-2 : tie.Need-returns-2 Inv-loop μ-loop
+returns-2 c = search needs
+
+pub lists-spec : {M : Type 1} → statement M
+lists-spec =
+    tie.close
+    (tie.spec
+    Inv-loop
+    μ-loop
+    loop-holds
+    mul-places
+    element-copy-out-places
+    mul-places-2
+    element-copy-out-places-2
+    places-requires
+    returns
+    add-k
+    loop-less
+    loop-again
+    returns-2)

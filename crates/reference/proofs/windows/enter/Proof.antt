@@ -1,0 +1,71 @@
+-- `windows::enter` is safe and ends. The measure is the positions that are left. Assumes nothing.
+use native.Mathlib.Omega.{arith}
+use Prim.Native.Nat.{_-_, _≤_}
+use lib.ListN.{length}
+use Rattle.reference.proofs.windows.enter.Statement.{statement}
+use Rattle.reference.proofs.windows.enter.Tie as tie
+
+abbrev Inv-loop : tie.InvT-loop
+Inv-loop windows₀ ids firsts seconds n t₀ windows t = t ≤ length ids
+
+abbrev μ-loop : tie.MeasureT-loop
+μ-loop windows₀ ids firsts seconds n t₀ windows t = length ids - t
+
+loop-holds : tie.Need-loop-holds Inv-loop μ-loop
+loop-holds c = omega arith
+
+mul-wide : tie.Need-mul-wide Inv-loop μ-loop
+mul-wide c = omega arith
+
+shared-slice-read-wide : tie.Need-shared-slice-read-wide Inv-loop μ-loop
+shared-slice-read-wide c = omega arith
+
+wide-requires : tie.Need-wide-requires Inv-loop μ-loop
+wide-requires c κs = omega arith
+
+mul-put : tie.Need-mul-put Inv-loop μ-loop
+mul-put c = omega arith
+
+shared-slice-read-put : tie.Need-shared-slice-read-put Inv-loop μ-loop
+shared-slice-read-put c = omega arith
+
+mul-put-2 : tie.Need-mul-put-2 Inv-loop μ-loop
+mul-put-2 c = omega arith
+
+shared-slice-read-put-2 : tie.Need-shared-slice-read-put-2 Inv-loop μ-loop
+shared-slice-read-put-2 c = omega arith
+
+put-requires : tie.Need-put-requires Inv-loop μ-loop
+put-requires c κs = omega arith
+
+add-t : tie.Need-add-t Inv-loop μ-loop
+add-t c = omega arith
+
+loop-less : tie.Need-loop-less Inv-loop μ-loop
+loop-less c = omega arith
+
+loop-again : tie.Need-loop-again Inv-loop μ-loop
+loop-again c = omega arith
+
+returns : tie.Need-returns Inv-loop μ-loop
+returns c = omega arith
+
+pub enter-spec : {M : Type 1} → statement M
+enter-spec =
+    tie.close
+    (tie.spec
+    Inv-loop
+    μ-loop
+    loop-holds
+    mul-wide
+    shared-slice-read-wide
+    wide-requires
+    mul-put
+    shared-slice-read-put
+    mul-put-2
+    shared-slice-read-put-2
+    put-requires
+    add-t
+    loop-less
+    loop-again
+    returns)

@@ -1,0 +1,5 @@
+pub mod Cut
+pub mod Lifting
+pub mod Lifted
+pub mod Whole
+pub mod Grading
