@@ -4,3 +4,4 @@ pub mod Changes
 pub mod Questions
 pub mod Numbers
 pub mod Steps
+pub mod Lent

@@ -2,3 +2,4 @@ pub mod Stored
 pub mod Tables
 pub mod Opening
 pub mod Stays
+pub mod Lent
