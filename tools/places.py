@@ -1,7 +1,7 @@
 """The places of a function and what is to be proved of it, read from its source, for functions that only hand tables on.
 
 `Model` has the rules; tools/shift-paths uses them. Of a function that reads elements, or whose arms meet, nothing is said: `Trouble`.
-Needs of plain arithmetic (casts, sums) are left out: they ask nothing of a table."""
+Needs of plain arithmetic (casts, sums) are left out but for a product that ends a part: they ask nothing of a table."""
 import glob, os, re
 
 
@@ -30,12 +30,12 @@ def until(toks, i, mark):
 
 
 class Function:
-    """A function of the source: parameters as (name, kind), kind `mut` or `shared` for a slice and `value` else, which slices are of bytes, and the tokens
-    of its body."""
+    """A function of the source: parameters as (name, kind), kind `mut` or `shared` for a slice and `value` else, which slices are of bytes, the parameters' types,
+    and the tokens of its body."""
 
     def __init__(self, crate, module, owner, name, params, body):
         self.crate, self.module, self.owner, self.name = crate, module, owner, name
-        self.params, self.bytes = [(p, kind_of(t)) for p, t in params], {p for p, t in params if '[u8]' in t}
+        self.params, self.bytes, self.types = [(p, kind_of(t)) for p, t in params], {p for p, t in params if '[u8]' in t}, dict(params)
         self.body = re.findall(r"[A-Za-z_]\w*|\d\w*|::|=>|->|\.\.=?|[-+*/%<>=!]=|&&|\|\||\S", body)
 
     def position(self, name):
@@ -216,7 +216,7 @@ class Model:
     def struct_copied(self, name, value, st):
         if len(value) < 3 or set(value[1::2]) != {'.'}:
             return
-        kinds = self.fields.get(('', value[2]), {'u32'})
+        kinds = self.fields.get((self.f.types.get(value[0], ''), value[2])) or self.fields.get(('', value[2]), {'u32'})
         for f in value[4::2]:
             kinds = set().union(*(self.fields.get((k, f), {'u32'}) for k in kinds))
         if all(k[0].isupper() for k in kinds):
@@ -330,6 +330,8 @@ class Model:
                     self.need(st, f'slice-aggregate-{g.name}', ('aggregate', no, p))
             elif len(lent) > 1 and lent[1] == '[' and a[0] == '&':
                 if lent[2] == '..':
+                    if '*' in lent:
+                        self.need(st, f'mul-{g.name}', ('mul', no, p))
                     if x in self.arrays:
                         self.need(st, f'array-{"borrow" if kind == "mut" else "share"}-prefix-{x}', ('relend', no, p))
                     elif self.kinds.get(x) == 'mut':

@@ -12,7 +12,6 @@ use crate::large_tables::Heads;
 use crate::large_tables::Ids;
 use crate::large_tables::Next;
 use crate::large_tables::Parents;
-use crate::large_tables::Report;
 use crate::large_tables::RowList;
 use crate::large_tables::Rows;
 use crate::large_tables::Windows;

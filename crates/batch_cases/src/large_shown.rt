@@ -12,7 +12,7 @@ use crate::large_tables::Rows;
 use crate::large_tables::Windows;
 use crate::large_tables::Work;
 use crate::lines;
-use changes::Changed;
+use answers::Changed;
 use factor::Factor;
 
 // ---- reports

@@ -1,6 +1,6 @@
 // The tables of the large case: m 4,096, n 64, F 65,536, C 16,384; and the calls of the factor on them.
+use answers::Changed;
 use book::Row;
-use changes::Changed;
 use factor::Factor;
 use factor::Opening;
 use questions::Found;

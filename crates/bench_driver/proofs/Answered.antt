@@ -5,7 +5,7 @@ use Prim.Native.Nat.{ℕ, _+_, _*_, _≤_, _<_}
 use native.Mathlib.Omega.{arith}
 use lib.ListN.{length}
 use Rattle.tables.specs.Tables.{Tables, State}
-use Rattle.factor.specs.Admission.{CanUse}
+use Rattle.admission.specs.Admission.{CanUse}
 
 -- ---- a question for each row named
 

@@ -4,7 +4,7 @@ use mathlib.Core.List.{List}
 use Prim.Native.Nat.{ℕ}
 use lib.ListN.{length}
 use Rattle.tables.specs.Tables.{State, tablesOf}
-use Rattle.changes.specs.Batches.{CanChange}
+use Rattle.answers.specs.Answers.{CanChange}
 
 -- after some changes: the next may follow, and what is lent has the lengths it had
 pub record Running (heads parents₀ rows₀ counts₀ next₀ book-heads₀ book-rows₀ book-next₀ windows₀ work₀ touched₀ labels₀ : List ℕ) (s : State) (parents rows counts next book-heads book-rows book-next windows work touched labels : List ℕ) : Type 0 where

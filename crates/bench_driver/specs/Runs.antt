@@ -4,8 +4,8 @@ use mathlib.Core.List.{List}
 use Prim.Native.Nat.{ℕ}
 use Rattle.tables.specs.Tables.{Tables, State}
 use Rattle.factor.specs.Entries.{stateOf}
-use Rattle.factor.specs.Admission.{CanUse}
-use Rattle.changes.specs.Batches.{CanChange}
+use Rattle.admission.specs.Admission.{CanUse}
+use Rattle.answers.specs.Answers.{CanChange}
 use Rattle.bench_driver.specs.declared.Ran.{Ran}
 use Rattle.bench_driver.specs.declared.asking.Asked.{Asked}
 

@@ -4,7 +4,7 @@ ghost use Prim.Native.Nat.{_≤_};
 ghost use lib.ListN.{length};
 ghost use Rattle.tables.specs.Tables.{tablesOf};
 ghost use Rattle.factor.specs.Entries.{stateOf};
-ghost use Rattle.factor.specs.Admission.{Usable, CanUse};
+ghost use Rattle.admission.specs.Admission.{Usable, CanUse};
 ghost use Rattle.bench_driver.specs.Runs.{AsksOn};
 use book::Row;
 use factor::Factor;

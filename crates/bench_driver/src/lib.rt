@@ -4,14 +4,14 @@
 ghost use mathlib.Core.Path.{_≡_};
 ghost use Rattle.tables.specs.Tables.{tablesOf};
 ghost use Rattle.factor.specs.Entries.{stateOf};
-ghost use Rattle.changes.specs.Batches.{CanChange};
+ghost use Rattle.answers.specs.Answers.{CanChange};
 ghost use Rattle.bench_driver.specs.Runs.{Continues};
 
 mod asking;
 mod plan;
 mod setting;
 
-use changes::Changed;
+use answers::Changed;
 use factor::Factor;
 
 // How a run of batches or clock changes ended: the number that refused one or 0, how many are done, and the record after them.
@@ -315,7 +315,7 @@ pub extern "C" fn bench_run_batches(
             factor,
         };
     }
-    if refusals::short_lists(touched, labels, factor.m) {
+    if early_refusals::short_lists(touched, labels, factor.m) {
         return Ran {
             number: 5,
             done: 0,

@@ -4,7 +4,7 @@ ghost use Prim.Native.Nat.{_≤_};
 ghost use lib.ListN.{length};
 ghost use Rattle.tables.specs.Tables.{tablesOf};
 ghost use Rattle.factor.specs.Entries.{stateOf};
-ghost use Rattle.changes.specs.Batches.{CanChange};
+ghost use Rattle.answers.specs.Answers.{CanChange};
 ghost use Rattle.bench_driver.specs.Runs.{Continues};
 use crate::Ran;
 use factor::Factor;
@@ -37,7 +37,7 @@ fn clock_each(
     let mut done: usize = 0;
     while done < minutes.len() {
         let minute = minutes[done];
-        let x = changes::set_clock_unchecked(
+        let x = clock::set_clock_unchecked(
             after,
             heads,
             parents,
@@ -110,7 +110,7 @@ pub extern "C" fn bench_clock(
             factor,
         };
     }
-    if refusals::short_lists(touched, labels, factor.m) {
+    if early_refusals::short_lists(touched, labels, factor.m) {
         return Ran {
             number: 5,
             done: 0,

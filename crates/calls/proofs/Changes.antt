@@ -6,7 +6,6 @@ use mathlib.Core.Path.{_≡_, refl, sym, ap, _∙_, subst}
 use mathlib.Core.Bool.{Bool, true, false, _||_, true≢false}
 use mathlib.Core.List.{List, _++_, append-nil}
 use Prim.Native.Nat.{ℕ, _≤_}
-use lib.ListN.{length}
 use Rattle.lists.specs.Lists.{all, among, noRepeats, sumOf, rises}
 use Rattle.lists.proofs.Tests.{refute}
 use Rattle.lists.proofs.Member.{mem-left, mem-right, all-at, all-make}
@@ -19,7 +18,6 @@ use Rattle.symbolic.proofs.Bags.{bag-mem}
 use Rattle.symbolic.proofs.Live.{rows-bag, live-adding, live-removing, live-leaving, live-entering}
 use Rattle.symbolic.proofs.Exchange.{exchanged-entering, exchanged-leaving, exchanged-is, exchanged-rises}
 use Rattle.symbolic.proofs.Theorems.{locality, order-free, removal-splits, rowless-factor, addition-entries, removal-entries}
-use Rattle.book.specs.Book.{columnFits}
 use Rattle.tables.specs.Tables.{Sizes}
 use Rattle.calls.specs.Refusals.{isAccepted, linesOf}
 use Rattle.calls.specs.Calls.{Change, adding, removing, setting}

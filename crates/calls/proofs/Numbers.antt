@@ -5,15 +5,16 @@ use mathlib.Core.Path.{_≡_, refl, sym, ap, _∙_, subst}
 use mathlib.Core.Logic.{inl, inr, _≢_}
 use mathlib.Core.Bool.{Bool, true, false, _&&_, _||_, not, true≢false}
 use mathlib.Core.List.{List, [], _∷_}
-use Prim.Native.Nat.{ℕ, suc, _+_, _≤_}
+use Prim.Native.Nat.{ℕ, suc, _+_, _≤_, _<_}
 use native.Mathlib.Omega.{arith}
 use lib.Dec.{ltb, leb, eqb}
 use lib.ListN.{length, getD, take, drop}
+use borrow.Author.Tests.{le-leb}
 use Rattle.lists.specs.Lists.{isIn, all, among}
-use Rattle.lists.proofs.Tests.{or-right}
+use Rattle.lists.proofs.Tests.{lt-or-le, or-right}
 use Rattle.symbolic.specs.Columns.{isWindow, Register}
 use Rattle.symbolic.specs.Factor.{factorFor, sizeSum}
-use Rattle.symbolic.specs.Change.{added, clocked}
+use Rattle.symbolic.specs.Change.{added, removed, clocked}
 use Rattle.tables.specs.Tables.{Tables, Sizes, State, longEnough, registerOf, isSound}
 use Rattle.calls.specs.Refusals.{Refusal, accepted, isAccepted, orElse, unless, bounds, sizesRefusal, workFor, shortRefusal, linesOf, inRegister, rowsRefusal, columnsRefusal, rowSum, roomRefusal, keepStep, idsRefusal, rowRefusal, roomFor}
 use Rattle.calls.specs.Calls.{Change, adding, removing, setting, Question, askNextRow, askParent, askPath, askColumn, askMeets, askCommon, Entry, opening, changing, checking, asking, Call, isOpening, sizesAfter, keepsRule}
@@ -101,17 +102,29 @@ early-other l t k =
 abbrev pub OwnNumber : ℕ → Type 0
 OwnNumber n = (7 ≤ n) × (n ≤ 21) × (n ≢ 19) × (n ≢ 20)
 
-rows-number : (m p a : ℕ) (is : List ℕ) → NumberOf OwnNumber (rowsRefusal m p a is)
-unfolding rowsRefusal
-rows-number m p a [] = number-none OwnNumber
-rows-number m p a (i ∷ is) =
-    number-or OwnNumber (unless (isIn 1 m i) 13 p) (orElse (unless (ltb a i) 14 p) (rowsRefusal m p i is))
-    (number-unless OwnNumber (isIn 1 m i) 13 p (omega arith))
-    (number-or OwnNumber (unless (ltb a i) 14 p) (rowsRefusal m p i is) (number-unless OwnNumber (ltb a i) 14 p (omega arith)) (rows-number m p i is))
+-- those of a batch's columns, 16 not among them
+abbrev ColumnNumber : ℕ → Type 0
+ColumnNumber n = (7 ≤ n) × (n ≤ 21) × (n ≢ 16) × (n ≢ 19) × (n ≢ 20)
 
-columns-number : (r : Register) (n p : ℕ) (bs is ns rs ps qs : List ℕ) → NumberOf OwnNumber (columnsRefusal r n p bs is ns rs ps qs)
+-- what holds of these holds of all that a batch's columns give
+column-number : {P : ℕ → Type 0} → ((n : ℕ) → ColumnNumber n → P n) → (x : Refusal) → NumberOf ColumnNumber x → NumberOf P x
+column-number h x (inl e) = inl e
+column-number h x (inr k) = inr (h (x .number) k)
+
+own-column : (n : ℕ) → ColumnNumber n → OwnNumber n
+own-column n k = (k .0, k .1, k .3, k .4)
+
+rows-number : (m p a : ℕ) (is : List ℕ) → NumberOf ColumnNumber (rowsRefusal m p a is)
+unfolding rowsRefusal
+rows-number m p a [] = number-none ColumnNumber
+rows-number m p a (i ∷ is) =
+    number-or ColumnNumber (unless (isIn 1 m i) 13 p) (orElse (unless (ltb a i) 14 p) (rowsRefusal m p i is))
+    (number-unless ColumnNumber (isIn 1 m i) 13 p (omega arith))
+    (number-or ColumnNumber (unless (ltb a i) 14 p) (rowsRefusal m p i is) (number-unless ColumnNumber (ltb a i) 14 p (omega arith)) (rows-number m p i is))
+
+columns-number : (r : Register) (n p : ℕ) (bs is ns rs ps qs : List ℕ) → NumberOf ColumnNumber (columnsRefusal r n p bs is ns rs ps qs)
 unfolding columnsRefusal
-columns-number r n p bs [] ns rs ps qs = number-unless OwnNumber (eqb (length rs) 0) 12 0 (omega arith)
+columns-number r n p bs [] ns rs ps qs = number-unless ColumnNumber (eqb (length rs) 0) 12 0 (omega arith)
 columns-number r n p bs (i ∷ is) [] rs ps qs = inr (omega arith)
 columns-number r n p bs (i ∷ is) (k ∷ ns) rs ps qs =
     let a : Refusal = unless (isIn 1 n i) 8 p in
@@ -122,12 +135,12 @@ columns-number r n p bs (i ∷ is) (k ∷ ns) rs ps qs =
     let f : Refusal = unless (isWindow (getD ps 0 0) (getD qs 0 0)) 21 p in
     let g : Refusal = columnsRefusal r n (suc p) (i ∷ bs) is ns (drop k rs) (drop 1 ps) (drop 1 qs) in
     let D : Refusal = orElse d (orElse e (orElse f g)) in
-    number-or OwnNumber a (orElse b (orElse c D)) (number-unless OwnNumber (isIn 1 n i) 8 p (omega arith))
-    (number-or OwnNumber b (orElse c D) (number-unless OwnNumber (not (among i bs)) 9 p (omega arith))
-    (number-or OwnNumber c D (number-unless OwnNumber (not (inRegister r i)) 10 p (omega arith))
-    (number-or OwnNumber d (orElse e (orElse f g)) (number-unless OwnNumber (isIn 1 256 k && leb k (length rs)) 12 p (omega arith))
-    (number-or OwnNumber e (orElse f g) (rows-number (r .m) p 0 (take k rs))
-    (number-or OwnNumber f g (number-unless OwnNumber (isWindow (getD ps 0 0) (getD qs 0 0)) 21 p (omega arith))
+    number-or ColumnNumber a (orElse b (orElse c D)) (number-unless ColumnNumber (isIn 1 n i) 8 p (omega arith))
+    (number-or ColumnNumber b (orElse c D) (number-unless ColumnNumber (not (among i bs)) 9 p (omega arith))
+    (number-or ColumnNumber c D (number-unless ColumnNumber (not (inRegister r i)) 10 p (omega arith))
+    (number-or ColumnNumber d (orElse e (orElse f g)) (number-unless ColumnNumber (isIn 1 256 k && leb k (length rs)) 12 p (omega arith))
+    (number-or ColumnNumber e (orElse f g) (rows-number (r .m) p 0 (take k rs))
+    (number-or ColumnNumber f g (number-unless ColumnNumber (isWindow (getD ps 0 0) (getD qs 0 0)) 21 p (omega arith))
     (columns-number r n (suc p) (i ∷ bs) is ns (drop k rs) (drop 1 ps) (drop 1 qs)))))))
 
 room-number : (l : Sizes) (r : Register) → NumberOf OwnNumber (roomRefusal l r)
@@ -136,17 +149,17 @@ room-number l r =
     (number-unless OwnNumber (leb (rowSum (r .columns)) (l .c)) 15 0 (omega arith))
     (number-unless OwnNumber (leb (sizeSum (factorFor r)) (l .f)) 16 0 (omega arith))
 
-ids-number : (r : Register) (n p : ℕ) (bs is : List ℕ) → NumberOf OwnNumber (idsRefusal r n p bs is)
+ids-number : (r : Register) (n p : ℕ) (bs is : List ℕ) → NumberOf ColumnNumber (idsRefusal r n p bs is)
 unfolding idsRefusal
-ids-number r n p bs [] = number-none OwnNumber
+ids-number r n p bs [] = number-none ColumnNumber
 ids-number r n p bs (i ∷ is) =
     let a : Refusal = unless (isIn 1 n i) 8 p in
     let b : Refusal = unless (not (among i bs)) 9 p in
     let c : Refusal = unless (inRegister r i) 11 p in
     let d : Refusal = idsRefusal r n (suc p) (i ∷ bs) is in
-    number-or OwnNumber a (orElse b (orElse c d)) (number-unless OwnNumber (isIn 1 n i) 8 p (omega arith))
-    (number-or OwnNumber b (orElse c d) (number-unless OwnNumber (not (among i bs)) 9 p (omega arith))
-    (number-or OwnNumber c d (number-unless OwnNumber (inRegister r i) 11 p (omega arith)) (ids-number r n (suc p) (i ∷ bs) is)))
+    number-or ColumnNumber a (orElse b (orElse c d)) (number-unless ColumnNumber (isIn 1 n i) 8 p (omega arith))
+    (number-or ColumnNumber b (orElse c d) (number-unless ColumnNumber (not (among i bs)) 9 p (omega arith))
+    (number-or ColumnNumber c d (number-unless ColumnNumber (inRegister r i) 11 p (omega arith)) (ids-number r n (suc p) (i ∷ bs) is)))
 
 row-number : (m i : ℕ) → NumberOf OwnNumber (rowRefusal m i)
 row-number m i = number-unless OwnNumber (isIn 1 m i) 17 0 (omega arith)
@@ -160,11 +173,44 @@ change-number l r (adding is ns rs ps qs) =
     let y : Refusal = columnsRefusal r (l .n) 1 [] is ns rs ps qs in
     let z : Refusal = roomRefusal l (added r (linesOf is ns rs ps qs)) in
     number-or OwnNumber (unless (keepStep is ns ps qs) 7 0) (orElse y z) (number-unless OwnNumber (keepStep is ns ps qs) 7 0 (omega arith))
-    (number-or OwnNumber y z (columns-number r (l .n) 1 [] is ns rs ps qs) (room-number l (added r (linesOf is ns rs ps qs))))
+    (number-or OwnNumber y z (column-number own-column y (columns-number r (l .n) 1 [] is ns rs ps qs)) (room-number l (added r (linesOf is ns rs ps qs))))
 change-number l r (removing is) =
     number-or OwnNumber (unless (isIn 1 64 (length is)) 7 0) (idsRefusal r (l .n) 1 [] is) (number-unless OwnNumber (isIn 1 64 (length is)) 7 0 (omega arith))
-    (ids-number r (l .n) 1 [] is)
+    (column-number own-column (idsRefusal r (l .n) 1 [] is) (ids-number r (l .n) 1 [] is))
 change-number l r (setting t) = number-unless OwnNumber (leb (sizeSum (factorFor (clocked r t))) (l .f)) 16 0 (omega arith)
+
+-- 16 says that the patterns after the change do not fit
+pub sixteen-full : (l : Sizes) (r : Register) (c : Change) → effect r c .refusal l .number ≡ 16 → l .f < sizeSum (factorFor (effect r c .register))
+sixteen-full l r c h = elim (full c) [ inl z ↦ absurd (omega arith) | inr k ↦ k h ]
+  where
+    Full : Register → ℕ → Type 0
+    Full a n = n ≡ 16 → l .f < sizeSum (factorFor a)
+
+    others : (a : Register) (n : ℕ) → ColumnNumber n → Full a n
+    others a n k e = absurd (k .2 e)
+
+    room : (a : Register) → NumberOf (Full a) (unless (leb (sizeSum (factorFor a)) (l .f)) 16 0)
+    room a =
+        elim (lt-or-le (l .f) (sizeSum (factorFor a))) [
+          | inl h ↦ number-unless (Full a) (leb (sizeSum (factorFor a)) (l .f)) 16 0 (λ e. h)
+          | inr h ↦ inl (ap (λ (x : Refusal). x .number) (unless-true (leb (sizeSum (factorFor a)) (l .f)) 16 0 (le-leb (sizeSum (factorFor a)) (l .f) h)))
+        ]
+
+    full : (c : Change) → NumberOf (Full (effect r c .register)) (effect r c .refusal l)
+    full (adding is ns rs ps qs) =
+        let a : Register = added r (linesOf is ns rs ps qs) in
+        let y : Refusal = columnsRefusal r (l .n) 1 [] is ns rs ps qs in
+        let z : Refusal = unless (leb (rowSum (a .columns)) (l .c)) 15 0 in
+        let w : Refusal = unless (leb (sizeSum (factorFor a)) (l .f)) 16 0 in
+        number-or (Full a) (unless (keepStep is ns ps qs) 7 0) (orElse y (orElse z w)) (number-unless (Full a) (keepStep is ns ps qs) 7 0 (λ e. absurd (omega arith)))
+        (number-or (Full a) y (orElse z w) (column-number (others a) y (columns-number r (l .n) 1 [] is ns rs ps qs))
+        (number-or (Full a) z w (number-unless (Full a) (leb (rowSum (a .columns)) (l .c)) 15 0 (λ e. absurd (omega arith))) (room a)))
+    full (removing is) =
+        let a : Register = removed r is in
+        let y : Refusal = idsRefusal r (l .n) 1 [] is in
+        number-or (Full a) (unless (isIn 1 64 (length is)) 7 0) y (number-unless (Full a) (isIn 1 64 (length is)) 7 0 (λ e. absurd (omega arith)))
+        (column-number (others a) y (ids-number r (l .n) 1 [] is))
+    full (setting t) = room (clocked r t)
 
 -- each question
 question-number : (r : Register) (q : Question) → NumberOf OwnNumber (response r q .refusal)

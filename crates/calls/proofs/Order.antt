@@ -2,7 +2,7 @@
 -- list, and the register after a change (`bag-after`); an accepted change keeps ids distinct (`once-after`). The book lists its columns by rising id and a
 -- register by time, so every theorem about the two passes here. Assumes nothing.
 use mathlib.Core.Path.{_≡_, refl, sym, ap, _∙_, subst}
-use mathlib.Core.Logic.{inl, inr, _≢_}
+use mathlib.Core.Logic.{inl, inr}
 use mathlib.Core.Bool.{Bool, true, false, _||_, true≢false}
 use mathlib.Core.List.{List, [], _∷_, _++_}
 use Prim.Native.Nat.{ℕ, suc, _+_, _≤_}

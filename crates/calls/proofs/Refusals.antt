@@ -13,7 +13,7 @@ use lib.ListN.{length, getD, take, drop, length-drop}
 use lib.Seq.{length-take-le}
 use borrow.Author.Tests.{ltb-true, leb-true, le-leb, eqb-true, eq-eqb, ne-eqb, not-true}
 use Rattle.lists.specs.Lists.{one, isIn, Mem, all, among, noRepeats, times, sumOf, rises}
-use Rattle.lists.proofs.Tests.{eq-or-ne, and-both, both-and, in-range, range-in, one-le, or-right, refute}
+use Rattle.lists.proofs.Tests.{eq-or-ne, and-both, both-and, in-range, one-le, or-right, refute}
 use Rattle.lists.proofs.Times.{times-nil, times-self, times-other, mem-times, of-once}
 use Rattle.symbolic.specs.Columns.{isWindow, Register}
 use Rattle.symbolic.specs.Factor.{factorFor, sizeSum}
@@ -59,15 +59,6 @@ module _ (l : Sizes) where
       let w : Refusal = unless (isIn 1 262144 (l .c)) 4 0 in
       or-whole (unless (isIn 1 4096 (l .m)) 1 0) (orElse y (orElse z w))
       (or-whole y (orElse z w) (or-whole z w (unless-whole (isIn 1 262144 (l .c)) 4 0 refl)))
-
-  pub facts-sizes : InRange l → sizesRefusal bounds l ≡ accepted
-  facts-sizes r =
-      rw (
-        range-in 1 4096 (l .m) (r .m-low) (r .m-high),
-        range-in 1 16384 (l .n) (r .n-low) (r .n-high),
-        range-in (l .m) 1048576 (l .f) (r .f-low) (r .f-high),
-        range-in 1 262144 (l .c) (r .c-low) (r .c-high),
-      ) refl
 
 -- ---- 5: tables and lists
 

@@ -54,10 +54,6 @@ module _ (u : World) (k : Call) (a : Answer) (x : Lent) (v : World) (s : Transit
   pub step-taken : a .number ≡ 0 → Accepted u k a x v
   step-taken e = elim (step-cases u k a x v s) [ inl t ↦ t | inr t ↦ absurd (refused-some t e) ]
 
-  -- any other number: it was refused
-  pub step-refused : a .number ≢ 0 → Refused u k a x v
-  step-refused e = elim (step-cases u k a x v s) [ inl t ↦ absurd (e (taken-zero t)) | inr t ↦ t ]
-
 -- ---- what an accepted call leaves
 
 -- a check or a question leaves record and tables

@@ -160,7 +160,7 @@ pub fn set_clock(host: Host, minute: u32) -> Batched {
     let mut touched = [9u16; 64];
     let mut labels = [9u16; 64];
     let record = host.factor;
-    let changed = changes::set_clock(
+    let changed = clock::set_clock(
         record,
         &heads,
         &mut parents,

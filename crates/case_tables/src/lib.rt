@@ -4,8 +4,8 @@ pub mod changing;
 pub mod meeting;
 
 ghost use Prim.Native.Nat.{_≤_};
+use answers::Changed;
 use book::Row;
-use changes::Changed;
 use factor::Factor;
 use factor::Opening;
 use questions::Found;

@@ -1,68 +1,67 @@
--- The factor's changes from those on tables within their sizes: what the unchecked twin lends can be changed (`change-can`), and its outcome on prefixes is
--- that on the whole tables, of a batch (`change-step`) and of the clock, which leaves the book and the windows (`clock-step`). Assumes nothing.
-use mathlib.Core.Path.{_≡_, sym, ap, _∙_, subst}
-use mathlib.Core.Bool.{true}
-use mathlib.Core.List.{List, _++_}
-use Prim.Native.Nat.{ℕ, _+_}
-use lib.ListN.{length, take, drop, take-append-drop, length-append}
-use Rattle.tables.specs.Tables.{Tables, Sizes}
-use Rattle.tables.proofs.Tables.{Long, long-facts}
-use Rattle.calls.specs.Calls.{Change, Lent}
-use Rattle.steps.specs.Outcome.{cutWorld, CanStep, answerOf, ChangeStep}
-use Rattle.steps.specs.declared.Answered.{Answered}
-use Rattle.steps.proofs.Lifting.{cutTables, joinTables, lift-can}
-use Rattle.steps.proofs.Lifted.{step-lifts}
-use Rattle.steps.proofs.Whole.{joinBut, heads-stay, joinStored, ReadOnly, stored-written}
-use Rattle.factor.specs.Entries.{stateOf, worldOf}
-use Rattle.changes.specs.Batches.{CanChange, changedAnswer}
+-- An unchecked batch from its two parts, of adding and removing alike: a verdict that refuses is the refused change (`batch-refused`), one that accepts can be written
+-- (`batch-can`), and with what is written it is the accepted change (`batch-taken`). Each on tables within their sizes, and so on those that they are cut from.
+-- Assumes nothing.
+use mathlib.Core.Path.{_≡_, refl, sym, ap, subst}
+use mathlib.Core.Logic.{_≢_}
+use mathlib.Core.Bool.{Bool, true, false}
+use mathlib.Core.List.{List}
+use Prim.Native.Nat.{ℕ}
+use lib.ListN.{length, take}
+use Rattle.tables.specs.Tables.{Tables}
+use Rattle.calls.specs.Refusals.{isAccepted}
+use Rattle.calls.specs.Calls.{Change, reportLists}
+use Rattle.calls.specs.Changes.{touchedBy, entriesBy}
+use Rattle.calls.specs.Steps.{refusedBy, World, bookedIn}
+use Rattle.steps.specs.Outcome.{cutWorld, numberFor, reportedBy, withHeads, ChangeOutcome, ChangeStep}
+use Rattle.steps.proofs.Lifting.{cutTables}
+use Rattle.steps.proofs.Whole.{joinBut}
 use Rattle.factor.specs.declared.Factor.{Factor}
-use Rattle.changes.specs.declared.Changed.{Changed}
+use Rattle.factor.specs.Entries.{stateOf}
+use Rattle.answers.specs.declared.Changed.{Changed}
+use Rattle.answers.specs.Answers.{CanChange, AnswerIs, UncheckedChange}
+use Rattle.answers.proofs.Stepping.{worldCut, change-can, whole-refused, whole-batch}
+use Rattle.judging.specs.declared.Verdict.{Verdict}
+use Rattle.judging.specs.Judging.{verdictNumber, BatchPlan, Judged}
+use Rattle.judging.proofs.Verdicts.{judged-taken, judged-not}
+use Rattle.writing.specs.Writing.{CanWriteBatch, BatchWritten}
 
--- ---- the answer with the record after it
+-- ---- a step of any world
 
-abbrev pub changedAt : Factor → (clock : ℕ) → Answered → Changed
-changedAt s o x =
-    record {
-      number = x .number;
-      position = x .position;
-      touched = x .touched;
-      entries = x .entries;
-      grade = x .grade;
-      factor = record { m = s .m; n = s .n; f = s .f; c = s .c; free = x .free .0; «book_free» = x .«book_free» .0; grade2 = s .grade2; grade3 = s .grade3; grade4 = s .grade4; clock = o };
-    }
+module _ {u : World} {c : Change} {before after : List ℕ} {x : Verdict} (j : Judged u c before after x) where
+  -- refused: the verdict's number, and nothing else changed
+  step-refused : x .refusal .number ≢ 0 → (a b : List ℕ) → ChangeStep u c (reportLists before a b) (refusedBy (verdictNumber x)) (reportLists after a b) u
+  step-refused h a b =
+      let n : isAccepted (numberFor u c) ≡ false = judged-not j h in
+      subst (λ (z : Bool). ChangeOutcome z u c (reportLists before a b) (refusedBy (verdictNumber x)) (reportLists after a b) u) (sym n)
+      (ap refusedBy (j .number-is), ap (λ (w : List ℕ). reportLists w a b) (j .unchanged n), refl)
 
--- ---- a change on prefixes
+  -- accepted: the plan's numbers, and what was written
+  step-taken : {v : World} {work a b a′ b′ : List ℕ} → x .refusal .number ≡ 0 → BatchWritten u c before a b v work a′ b′ →
+      ChangeStep u c (reportLists before a b) (reportedBy (u .state .limits) (x .plan .count) (x .plan .entries)) (reportLists work a′ b′) v
+  step-taken {v} {work} {a} {b} {a′} {b′} h w =
+      let n : isAccepted (numberFor u c) ≡ true = judged-taken j h in
+      let p : BatchPlan u c before after (x .plan) = j .plan n in
+      let e : x .plan .count ≡ length (touchedBy (bookedIn u) c) = p .plan .count-is in
+      let d : x .plan .entries ≡ entriesBy (bookedIn u) c = p .plan .entries-is in
+      subst (λ (z : Bool). ChangeOutcome z u c (reportLists before a b) (reportedBy (u .state .limits) (x .plan .count) (x .plan .entries)) (reportLists work a′ b′) v) (sym n) (
+        (λ i. reportedBy (u .state .limits) (e i) (d i)),
+        (λ i. reportLists (w .work-is i) (w .touched-is i) (w .labels-is i)),
+        w .exchanged,
+      )
 
-module _ (s : Factor) (t : Tables) {w a b : List ℕ} (c : CanChange (stateOf s) t w a b) where
-  abbrev l : Sizes
-  l = stateOf s .sizes
+-- ---- of a factor, on the tables that are cut
 
-  pub change-long : Long (stateOf s .sizes) t
-  change-long = long-facts l t (c .can-use .usable .long)
+module _ (s : Factor) (t : Tables) {w a b : List ℕ} (c : CanChange (stateOf s) t w a b) {k : Change} {w′ : List ℕ} {x : Verdict} (j : Judged (worldCut s t) k w w′ x) where
+  pub batch-refused : x .refusal .number ≢ 0 → {r : Changed} → AnswerIs (refusedBy (verdictNumber x)) (stateOf s) r →
+      UncheckedChange s t k (reportLists w a b) r (reportLists w′ a b) t
+  batch-refused h q =
+      whole-refused s t c k (reportLists w a b) (refusedBy (verdictNumber x)) (reportLists w′ a b) (cutTables (stateOf s .sizes) t) (s .clock) (s .free) (s .«book_free») (step-refused j h a b) q refl
 
-  pub change-can : CanStep (cutWorld (cutTables (stateOf s .sizes) t) (stateOf s .limits) (s .clock) (s .free) (s .«book_free»)) w a b
-  change-can =
-      lift-can change-long (stateOf s .limits) (s .clock) (s .free) (s .«book_free») (c .can-use .usable .sizes) (c .can-use .usable .sound) (c .can-use .room) (c .can-use .zero) (c .touched-long) (c .labels-long)
+  pub batch-can : x .refusal .number ≡ 0 → CanWriteBatch (worldCut s t) k w w′ a b (x .plan)
+  batch-can e = record { can = change-can s t c; accepted = judged-taken j e; plan = j .plan (judged-taken j e) }
 
-  module _ (k : Change) (lent : Lent) (y : Tables) (x : Answered) (o : ℕ) (lists : Lent)
-      (step : ChangeStep (cutWorld (cutTables (stateOf s .sizes) t) (stateOf s .limits) (s .clock) (s .free) (s .«book_free»)) k lent (answerOf x) lists
-      (cutWorld y (stateOf s .limits) o (x .free .0) (x .«book_free» .0))) {r : Changed} (q : r ≡ changedAt s o x) where
-    -- the prefixes written back, as whole tables
-    lifted : {v : Tables} → joinTables (stateOf s .sizes) y t ≡ v → ChangeStep (worldOf s t) k lent (changedAnswer r) lists (worldOf (r .factor) v)
-    lifted {v} e =
-        subst (λ (z : Changed). ChangeStep (worldOf s t) k lent (changedAnswer z) lists (worldOf (z .factor) v)) (sym q)
-        (subst (λ (z : Tables). ChangeStep (worldOf s t) k lent (answerOf x) lists (worldOf (changedAt s o x .factor) z)) e
-        (step-lifts change-long (stateOf s .limits) (s .clock) (s .free) (s .«book_free») y o (x .free .0) (x .«book_free» .0) k (answerOf x) lent lists step))
-
-    -- heads were only read
-    pub change-step : y .heads ≡ take (s .m) (t .heads) → ChangeStep (worldOf s t) k lent (changedAnswer r) lists (worldOf (r .factor) (joinBut (stateOf s .sizes) y t))
-    change-step e = lifted (heads-stay l y t e)
-
-    -- nor were the book and the windows written
-    pub clock-step : ReadOnly (stateOf s .sizes) y t → ChangeStep (worldOf s t) k lent (changedAnswer r) lists (worldOf (r .factor) (joinStored (stateOf s .sizes) y t))
-    clock-step e = lifted (stored-written l y t e)
-
--- a prefix of the same length, written back
-pub joined-length : (n : ℕ) (xs ys : List ℕ) → length ys ≡ length (take n xs) → length (ys ++ drop n xs) ≡ length xs
-joined-length n xs ys e =
-    length-append ys (drop n xs) ∙ ap (λ (k : ℕ). k + length (drop n xs)) e ∙ sym (length-append (take n xs) (drop n xs)) ∙ ap length (take-append-drop n xs)
+  pub batch-taken : x .refusal .number ≡ 0 → (y : Tables) (f g : ℕ) {w″ a′ b′ : List ℕ} → BatchWritten (worldCut s t) k w a b (cutWorld y (stateOf s .limits) (s .clock) f g) w″ a′ b′ →
+      y .heads ≡ take (s .m) (t .heads) → {r : Changed} → AnswerIs (reportedBy (stateOf s .limits) (x .plan .count) (x .plan .entries)) (withHeads (stateOf s) f g) r →
+      UncheckedChange s t k (reportLists w a b) r (reportLists w″ a′ b′) (joinBut (stateOf s .sizes) y t)
+  batch-taken e y f g {w″} {a′} {b′} v h q =
+      whole-batch s t c k (reportLists w a b) (reportedBy (stateOf s .limits) (x .plan .count) (x .plan .entries)) (reportLists w″ a′ b′) y (s .clock) f g (step-taken j e v) q h

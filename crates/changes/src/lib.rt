@@ -1,30 +1,14 @@
-// The public entries that change which columns of a factor count: a batch added, a batch removed, the clock set. Each refuses unusable input by number and fixes everything
-// lent: it finds numbers 1 to 6 by the admission of `factor`, and hands on to its unchecked twin. A twin's premise is that sizes are in range, tables and lists long enough,
-// tables sound, and the first W work places zero; a batch costs what it touches, the clock the windows too and, where somebody enters, a copy of the records. A caller that has proved its tables sound uses it.
-ghost use Rattle.tables.specs.Tables.{tablesOf};
-ghost use Rattle.calls.specs.Calls.{callOf, reportLists};
-ghost use Rattle.calls.specs.Calls.Change.{adding, removing, setting};
-ghost use Rattle.calls.specs.Calls.Entry.{changing};
-ghost use Rattle.calls.specs.Steps.{Transition};
-ghost use Rattle.steps.specs.Outcome.{ChangeStep};
-ghost use Rattle.factor.specs.Entries.{stateOf, worldOf};
-ghost use Rattle.changes.specs.Batches.{CanChange, changedAnswer};
-
-mod answers;
-
+// The public entries that change which columns a factor has: a batch added, a batch removed; `clock` has the one that sets the clock. Each refuses unusable input by number
+// and fixes everything lent: it finds numbers 1 to 6 by the admission of `factor`, and hands on to its unchecked twin. That cuts the tables to their sizes, judges the batch
+// and writes it where no number refuses it; it costs what the batch touches. Its premise is that sizes are in range, tables and lists long enough, tables sound, and the
+// first W work places zero: a caller that has proved its tables sound uses it.
+ghost use Rattle.tables.specs.Lent.{tablesIn, tablesOut, tablesNow};
+ghost use Rattle.calls.specs.Lent.{reportIn, reportOut, addingOf, removingOf};
+ghost use Rattle.factor.specs.Entries.{stateOf};
+ghost use Rattle.answers.specs.Answers.{CanChange, ChangeTransition, UncheckedChange};
+use answers::Changed;
 use factor::Factor;
 use pool::Rec;
-
-// What a change answers, with the record after it. The entries are the sum of the touched columns' sizes, of each the larger of before and after.
-#[repr(C)]
-pub struct Changed {
-    pub number: u32,
-    pub position: u32,
-    pub touched: u32,
-    pub entries: u32,
-    pub grade: u32,
-    pub factor: Factor,
-}
 
 // Adds a batch, with all input checked first.
 pub fn add(
@@ -47,11 +31,10 @@ pub fn add(
     firsts: &[u32],
     seconds: &[u32],
 ) -> Changed
-    ensures { λ r. ⌜ Transition (worldOf factor (tablesOf (now (heads .entry)) (now (parents .entry)) (now (rows .entry)) (now (counts .entry)) (now (next .entry)) (now («book_heads» .entry)) (now («book_rows» .entry)) (now («book_next» .entry)) (now (windows .entry)))) (callOf (changing (adding (now (ids .entry)) (now («row_counts» .entry)) (now («row_list» .entry)) (now (firsts .entry)) (now (seconds .entry)))) (reportLists (now (work .entry)) (now (touched .entry)) (now (labels .entry)))) (changedAnswer r) (reportLists (now (work .exit)) (now (touched .exit)) (now (labels .exit))) (worldOf (r .factor) (tablesOf (now (heads .entry)) (now (parents .exit)) (now (rows .exit)) (now (counts .exit)) (now (next .exit)) (now («book_heads» .exit)) (now («book_rows» .exit)) (now («book_next» .exit)) (now (windows .exit)))) ⌝ }
+    ensures { λ r. ⌜ ChangeTransition factor (tablesIn heads parents rows counts next «book_heads» «book_rows» «book_next» windows) (addingOf ids «row_counts» «row_list» firsts seconds) (reportIn work touched labels) r (reportOut work touched labels) (tablesOut heads parents rows counts next «book_heads» «book_rows» «book_next» windows) ⌝ }
 {
-    let short = refusals::short_lists(touched, labels, factor.m);
-    let number = factor::admission::admit(
-        factor,
+    let short = early_refusals::short_lists(touched, labels, factor.m);
+    let number = factor.admit(
         heads,
         parents,
         rows,
@@ -65,7 +48,7 @@ pub fn add(
         !short,
     );
     if number != 0 {
-        return answers::unchanged(factor, number);
+        return answers::refused(factor, number, 0);
     }
     add_unchecked(
         factor,
@@ -106,11 +89,10 @@ pub fn remove(
     labels: &mut [u16],
     ids: &[u32],
 ) -> Changed
-    ensures { λ r. ⌜ Transition (worldOf factor (tablesOf (now (heads .entry)) (now (parents .entry)) (now (rows .entry)) (now (counts .entry)) (now (next .entry)) (now («book_heads» .entry)) (now («book_rows» .entry)) (now («book_next» .entry)) (now (windows .entry)))) (callOf (changing (removing (now (ids .entry)))) (reportLists (now (work .entry)) (now (touched .entry)) (now (labels .entry)))) (changedAnswer r) (reportLists (now (work .exit)) (now (touched .exit)) (now (labels .exit))) (worldOf (r .factor) (tablesOf (now (heads .entry)) (now (parents .exit)) (now (rows .exit)) (now (counts .exit)) (now (next .exit)) (now («book_heads» .exit)) (now («book_rows» .exit)) (now («book_next» .exit)) (now (windows .exit)))) ⌝ }
+    ensures { λ r. ⌜ ChangeTransition factor (tablesIn heads parents rows counts next «book_heads» «book_rows» «book_next» windows) (removingOf ids) (reportIn work touched labels) r (reportOut work touched labels) (tablesOut heads parents rows counts next «book_heads» «book_rows» «book_next» windows) ⌝ }
 {
-    let short = refusals::short_lists(touched, labels, factor.m);
-    let number = factor::admission::admit(
-        factor,
+    let short = early_refusals::short_lists(touched, labels, factor.m);
+    let number = factor.admit(
         heads,
         parents,
         rows,
@@ -124,7 +106,7 @@ pub fn remove(
         !short,
     );
     if number != 0 {
-        return answers::unchanged(factor, number);
+        return answers::refused(factor, number, 0);
     }
     remove_unchecked(
         factor,
@@ -141,61 +123,6 @@ pub fn remove(
         touched,
         labels,
         ids,
-    )
-}
-
-// Sets the clock to a minute, with all input checked first.
-pub fn set_clock(
-    factor: Factor,
-    heads: &[u32],
-    parents: &mut [u16],
-    rows: &mut [u16],
-    counts: &mut [u16],
-    next: &mut [u32],
-    book_heads: &[u32],
-    book_rows: &[u16],
-    book_next: &[u32],
-    windows: &[u32],
-    work: &mut [u32],
-    touched: &mut [u16],
-    labels: &mut [u16],
-    minute: u32,
-) -> Changed
-    ensures { λ r. ⌜ Transition (worldOf factor (tablesOf (now (heads .entry)) (now (parents .entry)) (now (rows .entry)) (now (counts .entry)) (now (next .entry)) (now («book_heads» .entry)) (now («book_rows» .entry)) (now («book_next» .entry)) (now (windows .entry)))) (callOf (changing (setting minute)) (reportLists (now (work .entry)) (now (touched .entry)) (now (labels .entry)))) (changedAnswer r) (reportLists (now (work .exit)) (now (touched .exit)) (now (labels .exit))) (worldOf (r .factor) (tablesOf (now (heads .entry)) (now (parents .exit)) (now (rows .exit)) (now (counts .exit)) (now (next .exit)) (now («book_heads» .entry)) (now («book_rows» .entry)) (now («book_next» .entry)) (now (windows .entry)))) ⌝ }
-{
-    let short = refusals::short_lists(touched, labels, factor.m);
-    let number = factor::admission::admit(
-        factor,
-        heads,
-        parents,
-        rows,
-        counts,
-        next,
-        book_heads,
-        book_rows,
-        book_next,
-        windows,
-        work,
-        !short,
-    );
-    if number != 0 {
-        return answers::unchanged(factor, number);
-    }
-    set_clock_unchecked(
-        factor,
-        heads,
-        parents,
-        rows,
-        counts,
-        next,
-        book_heads,
-        book_rows,
-        book_next,
-        windows,
-        work,
-        touched,
-        labels,
-        minute,
     )
 }
 
@@ -220,14 +147,37 @@ pub fn add_unchecked(
     firsts: &[u32],
     seconds: &[u32],
 ) -> Changed
-    requires { ⌜ CanChange (stateOf factor) (tablesOf (now heads) (now parents) (now rows) (now counts) (now next) (now «book_heads») (now «book_rows») (now «book_next») (now windows)) (now work) (now touched) (now labels) ⌝ }
-    ensures { λ r. ⌜ ChangeStep (worldOf factor (tablesOf (now (heads .entry)) (now (parents .entry)) (now (rows .entry)) (now (counts .entry)) (now (next .entry)) (now («book_heads» .entry)) (now («book_rows» .entry)) (now («book_next» .entry)) (now (windows .entry)))) (adding (now (ids .entry)) (now («row_counts» .entry)) (now («row_list» .entry)) (now (firsts .entry)) (now (seconds .entry))) (reportLists (now (work .entry)) (now (touched .entry)) (now (labels .entry))) (changedAnswer r) (reportLists (now (work .exit)) (now (touched .exit)) (now (labels .exit))) (worldOf (r .factor) (tablesOf (now (heads .entry)) (now (parents .exit)) (now (rows .exit)) (now (counts .exit)) (now (next .exit)) (now («book_heads» .exit)) (now («book_rows» .exit)) (now («book_next» .exit)) (now (windows .exit)))) ⌝ }
+    requires { ⌜ CanChange (stateOf factor) (tablesNow heads parents rows counts next «book_heads» «book_rows» «book_next» windows) (now work) (now touched) (now labels) ⌝ }
+    ensures { λ r. ⌜ UncheckedChange factor (tablesIn heads parents rows counts next «book_heads» «book_rows» «book_next» windows) (addingOf ids «row_counts» «row_list» firsts seconds) (reportIn work touched labels) r (reportOut work touched labels) (tablesOut heads parents rows counts next «book_heads» «book_rows» «book_next» windows) ⌝ }
 {
     let m = factor.m as usize;
     let n = factor.n as usize;
     let f = factor.f as usize;
     let c = factor.c as usize;
-    let x = batch::add(
+    let verdict = judging::judge_add(
+        &heads[..m],
+        &parents[..m],
+        &rows[..f],
+        &counts[..f],
+        &next[..f],
+        &book_heads[..n],
+        &book_next[..c],
+        work,
+        ids,
+        row_counts,
+        row_list,
+        firsts,
+        seconds,
+        Rec(factor.free),
+        Rec(factor.book_free),
+        factor.clock,
+    );
+    let found = verdict.refusal;
+    if found.number != 0 {
+        return answers::refused(factor, found.number, found.position);
+    }
+    let plan = verdict.plan;
+    let after = writing::write_add(
         &heads[..m],
         &mut parents[..m],
         &mut rows[..f],
@@ -245,14 +195,17 @@ pub fn add_unchecked(
         row_list,
         firsts,
         seconds,
+        plan,
         Rec(factor.free),
         Rec(factor.book_free),
-        factor.clock,
-        factor.grade2,
-        factor.grade3,
-        factor.grade4,
     );
-    answers::changed(factor, x)
+    answers::accepted(
+        factor,
+        plan.count,
+        plan.entries,
+        after.free,
+        after.book_free,
+    )
 }
 
 // Removes the columns of a batch of ids. Numbers 7 to 9 and 11 refuse it, and then nothing changes.
@@ -272,14 +225,33 @@ pub fn remove_unchecked(
     labels: &mut [u16],
     ids: &[u32],
 ) -> Changed
-    requires { ⌜ CanChange (stateOf factor) (tablesOf (now heads) (now parents) (now rows) (now counts) (now next) (now «book_heads») (now «book_rows») (now «book_next») (now windows)) (now work) (now touched) (now labels) ⌝ }
-    ensures { λ r. ⌜ ChangeStep (worldOf factor (tablesOf (now (heads .entry)) (now (parents .entry)) (now (rows .entry)) (now (counts .entry)) (now (next .entry)) (now («book_heads» .entry)) (now («book_rows» .entry)) (now («book_next» .entry)) (now (windows .entry)))) (removing (now (ids .entry))) (reportLists (now (work .entry)) (now (touched .entry)) (now (labels .entry))) (changedAnswer r) (reportLists (now (work .exit)) (now (touched .exit)) (now (labels .exit))) (worldOf (r .factor) (tablesOf (now (heads .entry)) (now (parents .exit)) (now (rows .exit)) (now (counts .exit)) (now (next .exit)) (now («book_heads» .exit)) (now («book_rows» .exit)) (now («book_next» .exit)) (now (windows .exit)))) ⌝ }
+    requires { ⌜ CanChange (stateOf factor) (tablesNow heads parents rows counts next «book_heads» «book_rows» «book_next» windows) (now work) (now touched) (now labels) ⌝ }
+    ensures { λ r. ⌜ UncheckedChange factor (tablesIn heads parents rows counts next «book_heads» «book_rows» «book_next» windows) (removingOf ids) (reportIn work touched labels) r (reportOut work touched labels) (tablesOut heads parents rows counts next «book_heads» «book_rows» «book_next» windows) ⌝ }
 {
     let m = factor.m as usize;
     let n = factor.n as usize;
     let f = factor.f as usize;
     let c = factor.c as usize;
-    let x = batch::remove(
+    let verdict = judging::judge_remove(
+        &heads[..m],
+        &parents[..m],
+        &rows[..f],
+        &counts[..f],
+        &next[..f],
+        &book_heads[..n],
+        &book_rows[..c],
+        &book_next[..c],
+        &windows[..2 * n],
+        work,
+        ids,
+        factor.clock,
+    );
+    let found = verdict.refusal;
+    if found.number != 0 {
+        return answers::refused(factor, found.number, found.position);
+    }
+    let plan = verdict.plan;
+    let after = writing::write_remove(
         &heads[..m],
         &mut parents[..m],
         &mut rows[..f],
@@ -293,60 +265,15 @@ pub fn remove_unchecked(
         touched,
         labels,
         ids,
+        plan,
         Rec(factor.free),
         Rec(factor.book_free),
-        factor.clock,
-        factor.grade2,
-        factor.grade3,
-        factor.grade4,
     );
-    answers::changed(factor, x)
-}
-
-// Sets the clock to a minute: columns that fall outside their windows leave, those that begin to count enter. Number 16 refuses it, and then nothing changes.
-pub fn set_clock_unchecked(
-    factor: Factor,
-    heads: &[u32],
-    parents: &mut [u16],
-    rows: &mut [u16],
-    counts: &mut [u16],
-    next: &mut [u32],
-    book_heads: &[u32],
-    book_rows: &[u16],
-    book_next: &[u32],
-    windows: &[u32],
-    work: &mut [u32],
-    touched: &mut [u16],
-    labels: &mut [u16],
-    minute: u32,
-) -> Changed
-    requires { ⌜ CanChange (stateOf factor) (tablesOf (now heads) (now parents) (now rows) (now counts) (now next) (now «book_heads») (now «book_rows») (now «book_next») (now windows)) (now work) (now touched) (now labels) ⌝ }
-    ensures { λ r. ⌜ ChangeStep (worldOf factor (tablesOf (now (heads .entry)) (now (parents .entry)) (now (rows .entry)) (now (counts .entry)) (now (next .entry)) (now («book_heads» .entry)) (now («book_rows» .entry)) (now («book_next» .entry)) (now (windows .entry)))) (setting minute) (reportLists (now (work .entry)) (now (touched .entry)) (now (labels .entry))) (changedAnswer r) (reportLists (now (work .exit)) (now (touched .exit)) (now (labels .exit))) (worldOf (r .factor) (tablesOf (now (heads .entry)) (now (parents .exit)) (now (rows .exit)) (now (counts .exit)) (now (next .exit)) (now («book_heads» .entry)) (now («book_rows» .entry)) (now («book_next» .entry)) (now (windows .entry)))) ⌝ }
-{
-    let m = factor.m as usize;
-    let n = factor.n as usize;
-    let f = factor.f as usize;
-    let c = factor.c as usize;
-    let x = clock::set_clock(
-        &heads[..m],
-        &mut parents[..m],
-        &mut rows[..f],
-        &mut counts[..f],
-        &mut next[..f],
-        &book_heads[..n],
-        &book_rows[..c],
-        &book_next[..c],
-        &windows[..2 * n],
-        work,
-        touched,
-        labels,
-        Rec(factor.free),
-        Rec(factor.book_free),
-        factor.clock,
-        minute,
-        factor.grade2,
-        factor.grade3,
-        factor.grade4,
-    );
-    answers::clocked(factor, x, minute)
+    answers::accepted(
+        factor,
+        plan.count,
+        plan.entries,
+        after.free,
+        after.book_free,
+    )
 }

@@ -4,8 +4,7 @@ use mathlib.Core.Path.{_≡_, refl, sym, ap, _∙_, subst}
 use mathlib.Core.Bool.{true, false, true≢false}
 use mathlib.Core.List.{List, _++_}
 use Prim.Native.Nat.{ℕ, _≤_}
-use native.Mathlib.Omega.{arith}
-use lib.ListN.{length, drop-of-length-le}
+use lib.ListN.{length}
 use Rattle.lists.specs.Lists.{among}
 use Rattle.lists.proofs.Tests.{both-and, refute}
 use Rattle.symbolic.specs.Columns.{Column, Register, live}
@@ -16,7 +15,7 @@ use Rattle.symbolic.specs.Grades.{Limits}
 use Rattle.symbolic.proofs.Exchange.{exchanged-is}
 use Rattle.tables.specs.Stored.{Stored, storedOf, isSoundFor}
 use Rattle.tables.specs.Tables.{Tables, tablesOf, storedIn, isSound}
-use Rattle.tables.specs.Stays.{ColumnStays, EntriesStay, Beyond}
+use Rattle.tables.specs.Stays.{ColumnStays, EntriesStay}
 use Rattle.tables.proofs.Tables.{sound-limits, sound-book, sound-windows}
 use Rattle.calls.specs.Calls.Change.{setting}
 use Rattle.calls.specs.Changes.{effect, touchedBy}
@@ -37,17 +36,6 @@ pub record SameLengths (before after : Tables) : Type 0 where
   pub rows : length (after .rows) ≡ length (before .rows)
   pub counts : length (after .counts) ≡ length (before .counts)
   pub next : length (after .next) ≡ length (before .next)
-
--- beyond the size there is nothing
-beyond-cut : {n : ℕ} (xs ys : List ℕ) → length xs ≡ n → length ys ≡ length xs → Beyond n xs ys
-beyond-cut {n} xs ys p q =
-    let l : length xs ≤ n = omega arith in
-    let h : length ys ≤ n = omega arith in
-    record { same-length = q; same-tail = drop-of-length-le ys h ∙ sym (drop-of-length-le xs l) }
-
--- a fact of two whole things, read of the cut ones
-both-read : {A : Type 0} (P : A → A → Type 0) {a a′ b b′ : A} → a ≡ b → a′ ≡ b′ → P b b′ → P a a′
-both-read P {a} {a′} {b} {b′} e e′ h = subst (λ x. P x a′) (sym e) (subst (λ x. P b x) (sym e′) h)
 
 module _ {t : Tables} {lim : Limits} {o f g : ℕ} {w : List ℕ} (can : CanFind (cutWorld t lim o f g) w) (minute : ℕ) {ps rs cs ns : List ℕ} (l : SameLengths t (written t ps rs cs ns))
     {z : ℕ} {w′ : List ℕ}
@@ -106,18 +94,18 @@ module _ {t : Tables} {lim : Limits} {o f g : ℕ} {w : List ℕ} (can : CanFind
         clock = refl;
         sound = after-sound;
         columns = λ h. refl;
-        others = λ j p q h. both-read (λ (a b : Stored). ColumnStays a b j) (cut.stored-cut can) stored-after (done .others j p q (off-paths j p q h));
-        entries = λ j p q. both-read (λ (a b : Stored). EntriesStay (factorOf m (effect r (setting minute) .stay)) a b j) (cut.stored-cut can) stored-after
+        others = λ j p q h. cut.both-read (λ (a b : Stored). ColumnStays a b j) (cut.stored-cut can) stored-after (done .others j p q (off-paths j p q h));
+        entries = λ j p q. cut.both-read (λ (a b : Stored). EntriesStay (factorOf m (effect r (setting minute) .stay)) a b j) (cut.stored-cut can) stored-after
             (subst (λ (fs : List FactorColumn). EntriesStay fs (storedWhole t f) after j) (sym (moves .stay)) (done .entries j p q));
         book = λ i p q h. record { head = refl; records = refl; rows = refl };
         minutes = λ i p q h. record { first = refl; second = refl };
         still = λ h. record { heads = refl; rows = refl; next = refl; windows = refl; free = refl };
         tails = record {
           heads = record { same-length = refl; same-tail = refl };
-          parents = beyond-cut (t .parents) ps (can .parents) (l .parents);
-          rows = beyond-cut (t .rows) rs (can .rows) (l .rows);
-          counts = beyond-cut (t .counts) cs (can .counts) (l .counts);
-          next = beyond-cut (t .next) ns refl (l .next);
+          parents = cut.beyond-cut (can .parents) (l .parents);
+          rows = cut.beyond-cut (can .rows) (l .rows);
+          counts = cut.beyond-cut (can .counts) (l .counts);
+          next = cut.beyond-cut refl (l .next);
           bookHeads = record { same-length = refl; same-tail = refl };
           bookRows = record { same-length = refl; same-tail = refl };
           bookNext = record { same-length = refl; same-tail = refl };

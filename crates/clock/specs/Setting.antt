@@ -1,18 +1,12 @@
--- The clock after it is set, and the work table cleared of what an exchange left there. Assumes nothing: these are definitions.
+-- The work table cleared of what an exchange left there. Assumes nothing: these are definitions.
 use mathlib.Core.Path.{_≡_}
 use mathlib.Core.Bool.{Bool}
 use mathlib.Core.List.{List}
 use Prim.Native.Nat.{ℕ, _+_, _*_, _≤_}
-use lib.Dec.{eqb}
 use lib.ListN.{length}
 use Rattle.lists.specs.Lists.{pick}
 use Rattle.workspace.specs.Regions.{cleared}
 use Rattle.workspace.specs.Layout.{spare, flagsAt, gatherAt}
-use Rattle.steps.specs.declared.Answered.{Answered}
-
--- the clock after the change: refused it stays, accepted it stands at the minute
-abbrev pub clockAfter : Answered → (clock minute : ℕ) → ℕ
-clockAfter r o t = pick (eqb (r .number) 0) t o
 
 -- a work table with the places of a plan, for m columns, no more than the f records
 pub record CanClear (work : List ℕ) (m f : ℕ) : Type 0 where

@@ -2,47 +2,25 @@
 -- held column (`held-count`) and what may be read of it; a chain that stays, and what it keeps.
 -- Assumes nothing.
 use mathlib.Core.Path.{_≡_, refl, sym, _∙_, subst}
-use mathlib.Core.Bool.{Bool, true, _&&_}
+use mathlib.Core.Bool.{true}
 use mathlib.Core.List.{List}
 use Prim.Native.Nat.{ℕ, _+_, _-_, _≤_}
 use native.Mathlib.Omega.{arith}
-use lib.Dec.{eqb}
 use lib.ListN.{length}
-use borrow.Author.Tests.{eqb-true, eq-eqb}
-use Rattle.lists.specs.Lists.{Mem, at, valuesAt, allZero, same}
+use Rattle.lists.specs.Lists.{Mem, at, valuesAt, allZero}
 use Rattle.lists.proofs.Tests.{and-both, both-and}
-use Rattle.lists.proofs.Member.{same-eq, same-self, zero-at}
+use Rattle.lists.proofs.Member.{zero-at}
 use Rattle.lists.proofs.Times.{times-mem}
 use Rattle.lists.proofs.Place.{values-mem, values-zero}
-use Rattle.symbolic.specs.Factor.{FactorColumn, patternOf, multiplicitiesOf}
 use Rattle.pool.specs.Chains.{chain}
 use Rattle.pool.proofs.Whole.{pool-linked}
-use Rattle.tables.specs.Stored.{Stored, recordsOf, holdsColumn, freeZero}
-use Rattle.tables.specs.Stays.{ColumnStays, EntriesKeep}
+use Rattle.tables.specs.Stored.{Stored, recordsOf, freeZero}
+use Rattle.tables.specs.Stays.{EntriesKeep}
 use Rattle.columns.specs.Search.{countOf, CanSearch, CanRead}
 use Rattle.columns.specs.Commit.{HoldsFrom, Holds, ZeroAt, Ready, ChainStays}
 use Rattle.columns.proofs.Holding.{holds-rises, holds-count, holds-frame, rises-once}
 
 -- ---- what a column holds, as a test and as facts
-
-pub column-holds : (s : Stored) (j : ℕ) (f : FactorColumn) → holdsColumn s j f ≡ true → Holds s j (f .counts) × (at (s .parents) j ≡ f .parent)
-column-holds s j f h =
-    let a : Bool = same (valuesAt (s .rows) (recordsOf s j)) (patternOf f) in
-    let b : Bool = same (valuesAt (s .counts) (recordsOf s j)) (multiplicitiesOf f) in
-    let t : ((a && b) ≡ true) × (eqb (at (s .parents) j) (f .parent) ≡ true) = and-both (a && b) (eqb (at (s .parents) j) (f .parent)) h in
-    let u : (a ≡ true) × (b ≡ true) = and-both a b (t .0) in (
-      record {
-        rows = same-eq (valuesAt (s .rows) (recordsOf s j)) (patternOf f) (u .0);
-        counts = same-eq (valuesAt (s .counts) (recordsOf s j)) (multiplicitiesOf f) (u .1);
-      },
-      eqb-true (at (s .parents) j) (f .parent) (t .1),
-    )
-
-pub holds-column : (s : Stored) (j : ℕ) (f : FactorColumn) → Holds s j (f .counts) → at (s .parents) j ≡ f .parent → holdsColumn s j f ≡ true
-holds-column s j f h p =
-    let a : same (valuesAt (s .rows) (recordsOf s j)) (patternOf f) ≡ true = rw (h .rows) (same-self (patternOf f)) in
-    let b : same (valuesAt (s .counts) (recordsOf s j)) (multiplicitiesOf f) ≡ true = rw (h .counts) (same-self (multiplicitiesOf f)) in
-    both-and (both-and a b) (eq-eqb (at (s .parents) j) (f .parent) p)
 
 -- free records are zero
 pub free-zero : (s : Stored) → freeZero s ≡ true → ZeroAt (s .rows) (s .counts) (chain (s .next) (s .free))
@@ -92,10 +70,6 @@ module _ {s t : Stored} {l : ℕ} (c : ChainStays s t l) where
   stays-holds {ns} h =
       subst (λ (rs : List ℕ). HoldsFrom (t .rows) (t .counts) 1 ns rs) (sym (c .records))
       (holds-frame (λ x n. (c .row x (times-mem x (recordsOf s l) n), c .count x (times-mem x (recordsOf s l) n))) h)
-
-  -- with head and parent it is a column that stays
-  pub stays-column : at (t .heads) l ≡ at (s .heads) l → at (t .parents) l ≡ at (s .parents) l → ColumnStays s t l
-  stays-column a b = record { head = a; parent = b; records = c .records; row = c .row; count = c .count; next = c .next }
 
   -- entries keep their records, also before or after a change that keeps them
   pub keep-stays : (r : Stored) → EntriesKeep r s l → EntriesKeep r t l

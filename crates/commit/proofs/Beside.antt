@@ -1,12 +1,11 @@
 -- A plan beside other places: it stands in a work table that is changed in a region behind it, as it is when touched columns are gathered
 -- (`plan-beside`). Assumes nothing.
 use mathlib.Core.Path.{_≡_, sym, _∙_, subst}
-use mathlib.Core.Logic.{_⊎_, inl, inr}
+use mathlib.Core.Logic.{inl, inr}
 use mathlib.Core.Bool.{true}
 use mathlib.Core.List.{List, [], _∷_}
 use Prim.Native.Nat.{ℕ, _+_, _-_, _≤_, _<_}
 use native.Mathlib.Omega.{arith}
-use lib.ListN.{length}
 use Rattle.lists.specs.Lists.{Mem, first, later, rises}
 use Rattle.lists.proofs.Rising.{rises-in}
 use Rattle.symbolic.specs.Factor.{FactorColumn, columnAt}

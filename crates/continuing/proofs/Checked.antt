@@ -1,17 +1,15 @@
 -- An accepted check leaves tables and a work table that every question may use (`checked-use`), and that a batch may change (`checked-can`) if the lists of the
 -- report have their places (`lists-fit`). Assumes nothing.
-use mathlib.Core.Path.{_≡_, refl, sym, ap, _∙_, subst}
+use mathlib.Core.Path.{_≡_, refl, sym, ap, _∙_}
 use mathlib.Core.Bool.{Bool, true, false, not}
 use mathlib.Core.List.{List}
-use Prim.Native.Nat.{ℕ, _+_, _≤_}
-use native.Mathlib.Omega.{arith}
+use Prim.Native.Nat.{ℕ, _≤_}
 use lib.Dec.{leb}
 use lib.ListN.{length}
 use borrow.Author.Tests.{leb-true, not-false}
 use Rattle.lists.specs.Lists.{pick}
 use Rattle.lists.proofs.Tests.{and-both}
-use Rattle.workspace.specs.Regions.{IsZero, cleared, zeroFirst}
-use Rattle.workspace.proofs.Regions.{cleared-length, cleared-zero, first-cleared}
+use Rattle.workspace.specs.Regions.{zeroFirst}
 use Rattle.tables.specs.Tables.{Tables, Sizes, State, isSound, registerOf}
 use Rattle.calls.specs.Refusals.{Refusal, isAccepted, orElse, unless, workFor, listsLong}
 use Rattle.calls.specs.Calls.{checking, Lent, workOnly, Call, callOf}
@@ -20,8 +18,9 @@ use Rattle.calls.specs.Steps.{Answer, World, Transition}
 use Rattle.calls.proofs.Choices.{or-both, unless-holds}
 use Rattle.calls.proofs.Numbers.{Ready, early-facts}
 use Rattle.calls.proofs.Steps.{Accepted, step-taken}
-use Rattle.factor.specs.Admission.{CanUse}
-use Rattle.changes.specs.Batches.{CanChange}
+use Rattle.admission.specs.Admission.{CanUse}
+use Rattle.admission.proofs.Admitting.{cleared-use}
+use Rattle.answers.specs.Answers.{CanChange}
 
 pub lists-fit : (m : ℕ) (a b : List ℕ) {y : Bool} → y ≡ not (listsLong m a b) → y ≡ false → (m ≤ length a) × (m ≤ length b)
 lists-fit m a b e f =
@@ -46,13 +45,7 @@ module _ (s : State) (t : Tables) (w : List ℕ) where
       let r : Ready l t call = early-facts l t call early in
       let first : w′ ≡ zeroFirst (workFor l) w =
       ap (λ (v : Lent). v .work) (g .lists) ∙ ap (λ (p : Bool). pick p (zeroFirst (workFor l) w) w) early in
-      let all : w′ ≡ cleared w 0 (workFor l) = first ∙ first-cleared (workFor l) w (r .room .work) in
-      let h : 0 + workFor l ≤ length w = omega (arith, r .room .work) in
-      record {
-        usable = record { sizes = r .sizes; long = r .room .tables; sound = unless-holds (isSound s t) 6 0 refl sound };
-        room = subst (λ (n : ℕ). workFor l ≤ n) (sym (ap length all ∙ cleared-length w 0 (workFor l) h)) (r .room .work);
-        zero = subst (λ (v : List ℕ). IsZero v 0 (workFor l)) (sym all) (cleared-zero w 0 (workFor l) h);
-      }
+      cleared-use (record { sizes = r .sizes; long = r .room .tables; sound = unless-holds (isSound s t) 6 0 refl sound }) w (r .room .work) first
 
   pub checked-can : (z : Answer) (w′ : List ℕ) → Transition here call z (workOnly w′) here → z .number ≡ 0 →
       (a b : List ℕ) → s .sizes .m ≤ length a → s .sizes .m ≤ length b → CanChange s t w′ a b

@@ -5,14 +5,13 @@ use mathlib.Core.Path.{_≡_, refl, sym, ap, _∙_, subst}
 use mathlib.Core.Logic.{_⊎_, inl, inr, _≢_}
 use mathlib.Core.Bool.{Bool, true, false, true≢false}
 use mathlib.Core.List.{List}
-use Prim.Native.Nat.{ℕ, _+_, _≤_}
+use Prim.Native.Nat.{ℕ, _≤_}
 use native.Mathlib.Omega.{arith}
-use lib.Dec.{leb}
 use lib.ListN.{length}
 use borrow.Author.Tests.{le-leb}
 use Rattle.lists.specs.Lists.{pick}
-use Rattle.workspace.specs.Regions.{IsZero, cleared, zeroFirst}
-use Rattle.workspace.proofs.Regions.{cleared-length, cleared-zero, first-cleared, first-same}
+use Rattle.workspace.specs.Regions.{zeroFirst}
+use Rattle.workspace.proofs.Regions.{first-same}
 use Rattle.lists.proofs.Tests.{cases}
 use Rattle.symbolic.specs.Grades.{Limits, limitsFor}
 use Rattle.tables.specs.Tables.{Tables, Sizes, State, longEnough, registerOf, isSound}
@@ -30,12 +29,11 @@ use Rattle.calls.proofs.Numbers.{Ready, early-facts}
 use Rattle.calls.proofs.Steps.{Accepted, Refused, step-cases, step-taken, refused-some}
 use Rattle.steps.specs.Outcome.{ChangeOutcome, ChangeStep}
 use Rattle.steps.proofs.Whole.{change-whole}
-use Rattle.factor.specs.Entries.{stateOf, openingAnswer, stateAfter, OpenStep}
-use Rattle.factor.specs.Admission.{Usable}
+use Rattle.factor.specs.Entries.{stateOf, openingAnswer, OpenStep}
+use Rattle.admission.proofs.Admitting.{cleared-use}
 use Rattle.factor.specs.declared.Factor.{Factor}
-use Rattle.factor.specs.declared.Opening.{Opening}
 use Rattle.factor.specs.declared.Opening.the-variants as answers
-use Rattle.changes.specs.Batches.{CanChange}
+use Rattle.answers.specs.Answers.{CanChange}
 
 -- ---- after an opening
 
@@ -49,14 +47,8 @@ module _ (l : Sizes) (g : Limits) (t : Tables) (w : List ℕ) where
   fresh-can k r a b x y =
       let d : Sizes = withDefault l in
       let f : InRange d = sizes-facts d (ap isAccepted (r .sizes)) in
-      let e : zeroFirst (workFor d) w ≡ cleared w 0 (workFor d) = first-cleared (workFor d) w (r .room .work) in
-      let h : 0 + workFor d ≤ length w = omega (arith, r .room .work) in
       record {
-        can-use = record {
-          usable = record { sizes = r .sizes; long = opened-long d t (f .f-low) (r .room .tables); sound = opened-sound d (limitsFor g) t (f .f-low) (r .limits) };
-          room = subst (λ (n : ℕ). workFor d ≤ n) (sym (ap length e ∙ cleared-length w 0 (workFor d) h)) (r .room .work);
-          zero = subst (λ (z : List ℕ). IsZero z 0 (workFor d)) (sym e) (cleared-zero w 0 (workFor d) h);
-        };
+        can-use = cleared-use (record { sizes = r .sizes; long = opened-long d t (f .f-low) (r .room .tables); sound = opened-sound d (limitsFor g) t (f .f-low) (r .limits) }) w (r .room .work) refl;
         touched-long = x;
         labels-long = y;
       }

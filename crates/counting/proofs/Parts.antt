@@ -5,9 +5,9 @@ use mathlib.Core.List.{List, _++_}
 use Prim.Native.Nat.{ℕ, _+_, _-_, _≤_}
 use native.Mathlib.Omega.{arith}
 use lib.ListN.{length, getD, take, List·getD-append}
-use lib.Seq.{getD-take, getD-drop, length-take-le, take-at, drop-at}
+use lib.Seq.{getD-take, getD-drop, length-take-le}
 use borrow.Rule.Slice.PartMut.{putMid, postOf, same-len-mid, mid-len, drop-put}
-use Rattle.workspace.specs.Regions.{region, OnlyIn}
+use Rattle.workspace.specs.Regions.{OnlyIn}
 
 module _ (w ys : List ℕ) (a e : ℕ) (low : a ≤ e) (high : e ≤ length w) (long : length ys ≡ e - a) where
   pub part-only : OnlyIn a (e - a) w (putMid a (e - a) w ys)
@@ -22,7 +22,3 @@ module _ (w ys : List ℕ) (a e : ℕ) (low : a ≤ e) (high : e ≤ length w) (
               (sym (getD-drop e (putMid a (e - a) w ys) (k - e) 0) ∙ ap (λ (l : List ℕ). getD l (k - e) 0) (drop-put a e w ys low high long) ∙ getD-drop e w (k - e) 0)
         ];
       }
-
-  pub part-region : region (putMid a (e - a) w ys) a (e - a) ≡ ys
-  part-region =
-      ap (take (e - a)) (drop-at (take a w) (ys ++ postOf a (e - a) w) a (length-take-le a w (omega arith))) ∙ take-at ys (postOf a (e - a) w) (e - a) long

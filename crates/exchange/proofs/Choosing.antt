@@ -1,6 +1,5 @@
--- The columns that stay, leave and enter between two minutes: what an exchange asks of them (`can-swap`), and that the tables after it are sound for those that count
--- at the minute after (`exchanged-sound`). Assumes nothing.
-use mathlib.Core.Path.{_≡_, refl, ap, _∙_, subst}
+-- The columns that stay, leave and enter between two minutes: what an exchange asks of them (`can-swap`). Assumes nothing.
+use mathlib.Core.Path.{_≡_, refl, ap, subst}
 use mathlib.Core.Logic.{inl, inr}
 use mathlib.Core.Bool.{Bool, true, _&&_}
 use mathlib.Core.List.{List, _∷_, _++_}
@@ -13,13 +12,12 @@ use Rattle.lists.proofs.Member.{mem-either, all-at, all-make}
 use Rattle.symbolic.specs.Columns.{Column, fitsRows}
 use Rattle.symbolic.specs.Change.{Bag}
 use Rattle.book.specs.Book.{Book, bookOf, isBooked, columnFor}
-use Rattle.tables.specs.Stored.{Stored, isSoundFor}
-use Rattle.tables.proofs.Stored.{sound-bag}
+use Rattle.tables.specs.Stored.{Stored}
 use Rattle.updown.specs.Entries.{Booked}
 use Rattle.windows.specs.Windows.{countsAt, movesFrom, staysBetween}
 use Rattle.windows.specs.Chosen.{idsFrom, chosenFrom, chosenIds, chosen, CanCollect}
 use Rattle.windows.proofs.Chosen.{stays-both, chosen-splits, chosen-fits, chosen-few}
-use Rattle.exchange.specs.Exchange.{staying, leaving, entering, CanExchange, Done}
+use Rattle.exchange.specs.Exchange.{staying, leaving, entering, CanExchange}
 use Rattle.exchange.specs.Stages.{movingIds, CanSwap}
 
 -- ---- the columns that a choice takes
@@ -118,8 +116,3 @@ count-after b windows t u =
     let n : ℕ = length (b .heads) in
     subst (λ (cs : List Column). Bag (chosen b (countsAt windows n u)) (cs ++ entering b windows t u)) (stays-both b windows n u t)
     (chosen-splits b (countsAt windows n u) (countsAt windows n t))
-
-pub exchanged-sound : (b : Book) (windows : List ℕ) (t u : ℕ) {s after : Stored} {work : List ℕ} →
-    Done s (staying b windows t u) (leaving b windows t u) (entering b windows t u) after work → isSoundFor (chosen b (countsAt windows (length (b .heads)) u)) after ≡ true
-exchanged-sound b windows t u {after = after} d =
-    sound-bag (chosen b (countsAt windows (length (b .heads)) u)) (staying b windows t u ++ entering b windows t u) after (count-after b windows t u) ∙ d .sound

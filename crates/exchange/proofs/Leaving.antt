@@ -1,7 +1,7 @@
 -- The loop in which all groups leave: the columns before place a have left (`Leaving`). Start, what a group asks, what it leaves, the end. Assumes nothing.
 use mathlib.Core.Path.{_≡_, refl, sym, ap, _∙_, subst}
 use mathlib.Core.List.{List, _++_, append-nil}
-use Prim.Native.Nat.{ℕ, _+_, _-_, _≤_}
+use Prim.Native.Nat.{ℕ, _-_, _≤_}
 use native.Mathlib.Omega.{arith}
 use lib.ListN.{length, take, drop, take-append-drop, length-append, length-take, length-drop, drop-of-length-le}
 use lib.Seq.{take-all}

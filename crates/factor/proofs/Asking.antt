@@ -19,8 +19,8 @@ use Rattle.calls.specs.Steps.{Answer, refusedBy, acceptedBy, listsAfter, workAf
 use Rattle.calls.proofs.Choices.{or-first, or-second, or-assoc}
 use Rattle.calls.proofs.Steps.{accepted-step, refused-step}
 use Rattle.questions.specs.Asked.{replyOf, repliedTo, replied, listLeft}
-use Rattle.factor.specs.Admission.{admission, Admitted}
-use Rattle.factor.proofs.Admitting.{admitted-some, admitted-none}
+use Rattle.admission.specs.Admission.{admission, Admitted}
+use Rattle.admission.proofs.Admitting.{admitted-some, admitted-none}
 
 -- ---- positions: 1 to 6 and 20 have none
 

@@ -1,5 +1,3 @@
-pub mod Admitting
 pub mod Asking
-pub mod Cutting
 pub mod Openings
-pub mod Writing
+pub mod Using

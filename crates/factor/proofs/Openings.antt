@@ -19,11 +19,11 @@ use Rattle.calls.specs.Steps.{refusedBy, World}
 use Rattle.calls.proofs.Choices.{or-first}
 use Rattle.calls.proofs.Refusals.{HasRoom, sizes-facts, early-passed}
 use Rattle.calls.proofs.Steps.{accepted-step, refused-step}
-use Rattle.refusals.specs.Early.{recordsFor}
-use Rattle.refusals.proofs.Early.{default-allowed, default-refusal}
+use Rattle.early_refusals.specs.Early.{recordsFor}
+use Rattle.early_refusals.proofs.Early.{default-allowed, default-refusal}
 use Rattle.factor.specs.Entries.{stateOf, openingAnswer, OpenStep}
-use Rattle.factor.specs.Admission.{HasPlaces}
-use Rattle.factor.specs.Written.{OpeningWritten}
+use Rattle.admission.specs.Admission.{HasPlaces}
+use Rattle.opening.specs.Written.{OpeningWritten}
 use Rattle.factor.specs.declared.Factor.{Factor}
 use Rattle.factor.specs.declared.Opening.the-variants.{Opened, Refused}
 use Rattle.factor.proofs.Asking.{flat-early, refused-flat}

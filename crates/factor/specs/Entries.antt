@@ -1,10 +1,10 @@
 -- The public entries' records as the definitions of calls/ have them: the factor as sizes, limits, free heads and clock, tables, answers. A contract is `Transition`
--- of the entry's call over these, and nothing else. Assumes nothing: these are definitions.
+-- of the entry's call over these (`OpenStep`, `ReadStep`), and nothing else. Assumes nothing: these are definitions.
 use mathlib.Core.List.{List}
 use Prim.Native.Nat.{ℕ}
 use Rattle.symbolic.specs.Grades.{Limits, limitsOf}
 use Rattle.tables.specs.Tables.{Tables, Sizes, State, sizesOf}
-use Rattle.calls.specs.Calls.{opening, workOnly, callOf}
+use Rattle.calls.specs.Calls.{opening, Lent, workOnly, Call, callOf}
 use Rattle.calls.specs.Steps.{Answer, World, Transition}
 use Rattle.factor.specs.declared.Factor.{Factor}
 use Rattle.factor.specs.declared.Opening.{Opening}
@@ -39,3 +39,7 @@ stateAfter (Refused n) s = s
 abbrev pub OpenStep : (asked : Sizes) (limits : Limits) (t : Tables) (work : List ℕ) (r : Opening) (t′ : Tables) (work′ : List ℕ) → Type 0
 OpenStep l g t w r t′ w′ =
     (s : State) → Transition (record { state = s; tables = t }) (callOf (opening l g) (workOnly w)) (openingAnswer r) (workOnly w′) (record { state = stateAfter r s; tables = t′ })
+
+-- a check or a question: record and tables are as before
+abbrev pub ReadStep : World → Call → Answer → Lent → Type 0
+ReadStep u k a x = Transition u k a x u

@@ -1,23 +1,25 @@
-// A factor's record, and the public entries that open it, check its tables and answer questions, two of these in meeting.rt; `changes` has those that add, remove and set the clock.
-// Each refuses unusable input by number and fixes everything lent; an opening writes all tables, the others none but the work table. admission.rt finds numbers 1 to 6
-// and 20, for `changes` too. A caller that has proved its tables sound uses the unchecked twins of unchecked.rt.
+// A factor's record, and the public entries that open it, check its tables and answer questions, two of these in meeting.rt; `changes` has those that add and remove, `clock` the one that sets the clock.
+// Each refuses unusable input by number and fixes everything lent; an opening writes all tables, the others none but the work table. Numbers 1 to 6 and 20 are found by
+// `admission`, what an opening writes is written by `opening`. A caller that has proved its tables sound uses the unchecked twins of unchecked.rt.
 ghost use Rattle.symbolic.specs.Grades.{limitsOf};
-ghost use Rattle.tables.specs.Tables.{sizesOf, tablesOf};
+ghost use Rattle.tables.specs.Tables.{sizesOf};
+ghost use Rattle.tables.specs.Lent.{tablesIn, tablesOut};
 ghost use Rattle.questions.specs.Asked.{replyOf, foundOf};
-ghost use Rattle.calls.specs.Calls.{callOf, workOnly, workAndList};
+ghost use Rattle.calls.specs.Calls.{callOf};
 ghost use Rattle.calls.specs.Calls.Entry.{checking, asking};
 ghost use Rattle.calls.specs.Calls.Question.{askNextRow, askParent, askPath, askColumn};
-ghost use Rattle.calls.specs.Steps.{Transition};
-ghost use Rattle.factor.specs.Entries.{worldOf, OpenStep};
+ghost use Rattle.calls.specs.Lent.{workIn, workOut, listIn, listOut};
+ghost use Rattle.factor.specs.Entries.{worldOf, OpenStep, ReadStep};
 
-pub mod admission;
-mod fresh;
+mod admitting;
 mod meeting;
 mod unchecked;
 
 use book::Row;
+use pool::Rec;
 use questions::Found;
 use questions::Reply;
+use state::State;
 
 // The record of sizes, free heads, limits and clock: from so many entries on a grade is 2, 3 and 4; the clock is the minute at which the factor stands.
 #[repr(C)]
@@ -42,15 +44,15 @@ pub enum Opening {
 
 impl Factor {
     // The largest m.
-    pub const MOST_ROWS: u32 = 4096;
+    pub const MOST_ROWS: u32 = State::MOST_ROWS;
     // The largest n.
-    pub const MOST_IDS: u32 = 16384;
+    pub const MOST_IDS: u32 = State::MOST_IDS;
     // The largest F.
-    pub const MOST_RECORDS: u32 = 1048576;
+    pub const MOST_RECORDS: u32 = State::MOST_RECORDS;
     // The largest C.
-    pub const MOST_BOOKED: u32 = 262144;
+    pub const MOST_BOOKED: u32 = State::MOST_BOOKED;
 
-    // A fresh factor at minute 0: writes all tables. F = 0 means as many records as `refusals::default_records` says. From grade2, grade3 and grade4 entries on a grade is 2, 3
+    // A fresh factor at minute 0: writes all tables. F = 0 means as many records as `early_refusals::default_records` says. From grade2, grade3 and grade4 entries on a grade is 2, 3
     // and 4: the first is at least 2, each above the one before, or 20 refuses the opening; three zeros mean 256, 4,096 and 65,536.
     pub fn open(
         m: u32,
@@ -71,23 +73,27 @@ impl Factor {
         windows: &mut [u32],
         work: &mut [u32],
     ) -> Opening
-        ensures { λ r. ⌜ OpenStep (sizesOf m n f c) (limitsOf grade2 grade3 grade4) (tablesOf (now (heads .entry)) (now (parents .entry)) (now (rows .entry)) (now (counts .entry)) (now (next .entry)) (now («book_heads» .entry)) (now («book_rows» .entry)) (now («book_next» .entry)) (now (windows .entry))) (now (work .entry)) r (tablesOf (now (heads .exit)) (now (parents .exit)) (now (rows .exit)) (now (counts .exit)) (now (next .exit)) (now («book_heads» .exit)) (now («book_rows» .exit)) (now («book_next» .exit)) (now (windows .exit))) (now (work .exit)) ⌝ }
+        ensures { λ r. ⌜ OpenStep (sizesOf m n f c) (limitsOf grade2 grade3 grade4) (tablesIn heads parents rows counts next «book_heads» «book_rows» «book_next» windows) (now (work .entry)) r (tablesOut heads parents rows counts next «book_heads» «book_rows» «book_next» windows) (now (work .exit)) ⌝ }
     {
-        let records = refusals::default_records(m, f);
-        let limits = refusals::limits::default_limits(grade2, grade3, grade4);
-        let asked = Factor {
+        let records = early_refusals::default_records(m, f);
+        let limits = early_refusals::limits::default_limits(grade2, grade3, grade4);
+        let asked = State {
             m,
             n,
             f: records,
             c,
-            free: 0,
-            book_free: 0,
+            free: Rec(0),
+            book_free: Rec(0),
             grade2: limits.grade2,
             grade3: limits.grade3,
             grade4: limits.grade4,
             clock: 0,
         };
-        let keeps_rule = refusals::limits::are_limits(asked.grade2, asked.grade3, asked.grade4);
+        let keeps_rule = early_refusals::limits::are_limits(
+            asked.grade2,
+            asked.grade3,
+            asked.grade4,
+        );
         let number = admission::early(
             asked,
             heads,
@@ -106,7 +112,7 @@ impl Factor {
         if number != 0 {
             return Opening::Refused(number);
         }
-        let free = fresh::write(
+        let free = opening::write(
             heads,
             parents,
             rows,
@@ -150,10 +156,9 @@ impl Factor {
         windows: &[u32],
         work: &mut [u32],
     ) -> Reply
-        ensures { λ r. ⌜ Transition (worldOf self (tablesOf (now (heads .entry)) (now (parents .entry)) (now (rows .entry)) (now (counts .entry)) (now (next .entry)) (now («book_heads» .entry)) (now («book_rows» .entry)) (now («book_next» .entry)) (now (windows .entry)))) (callOf checking (workOnly (now (work .entry)))) (replyOf r) (workOnly (now (work .exit))) (worldOf self (tablesOf (now (heads .entry)) (now (parents .entry)) (now (rows .entry)) (now (counts .entry)) (now (next .entry)) (now («book_heads» .entry)) (now («book_rows» .entry)) (now («book_next» .entry)) (now (windows .entry)))) ⌝ }
+        ensures { λ r. ⌜ ReadStep (worldOf self (tablesIn heads parents rows counts next «book_heads» «book_rows» «book_next» windows)) (callOf checking (workIn work)) (replyOf r) (workOut work) ⌝ }
     {
-        let number = admission::admit(
-            self,
+        let number = self.admit(
             heads,
             parents,
             rows,
@@ -185,10 +190,9 @@ impl Factor {
         i: Row,
         j: Row,
     ) -> Found
-        ensures { λ r. ⌜ Transition (worldOf self (tablesOf (now (heads .entry)) (now (parents .entry)) (now (rows .entry)) (now (counts .entry)) (now (next .entry)) (now («book_heads» .entry)) (now («book_rows» .entry)) (now («book_next» .entry)) (now (windows .entry)))) (callOf (asking (askNextRow (i .0) (j .0)) 0) (workOnly (now (work .entry)))) (foundOf r) (workOnly (now (work .exit))) (worldOf self (tablesOf (now (heads .entry)) (now (parents .entry)) (now (rows .entry)) (now (counts .entry)) (now (next .entry)) (now («book_heads» .entry)) (now («book_rows» .entry)) (now («book_next» .entry)) (now (windows .entry)))) ⌝ }
+        ensures { λ r. ⌜ ReadStep (worldOf self (tablesIn heads parents rows counts next «book_heads» «book_rows» «book_next» windows)) (callOf (asking (askNextRow (i .0) (j .0)) 0) (workIn work)) (foundOf r) (workOut work) ⌝ }
     {
-        let number = admission::admit(
-            self,
+        let number = self.admit(
             heads,
             parents,
             rows,
@@ -238,10 +242,9 @@ impl Factor {
         work: &mut [u32],
         j: Row,
     ) -> Reply
-        ensures { λ r. ⌜ Transition (worldOf self (tablesOf (now (heads .entry)) (now (parents .entry)) (now (rows .entry)) (now (counts .entry)) (now (next .entry)) (now («book_heads» .entry)) (now («book_rows» .entry)) (now («book_next» .entry)) (now (windows .entry)))) (callOf (asking (askParent (j .0)) 0) (workOnly (now (work .entry)))) (replyOf r) (workOnly (now (work .exit))) (worldOf self (tablesOf (now (heads .entry)) (now (parents .entry)) (now (rows .entry)) (now (counts .entry)) (now (next .entry)) (now («book_heads» .entry)) (now («book_rows» .entry)) (now («book_next» .entry)) (now (windows .entry)))) ⌝ }
+        ensures { λ r. ⌜ ReadStep (worldOf self (tablesIn heads parents rows counts next «book_heads» «book_rows» «book_next» windows)) (callOf (asking (askParent (j .0)) 0) (workIn work)) (replyOf r) (workOut work) ⌝ }
     {
-        let number = admission::admit(
-            self,
+        let number = self.admit(
             heads,
             parents,
             rows,
@@ -288,10 +291,9 @@ impl Factor {
         j: Row,
         place: usize,
     ) -> Reply
-        ensures { λ r. ⌜ Transition (worldOf self (tablesOf (now (heads .entry)) (now (parents .entry)) (now (rows .entry)) (now (counts .entry)) (now (next .entry)) (now («book_heads» .entry)) (now («book_rows» .entry)) (now («book_next» .entry)) (now (windows .entry)))) (callOf (asking (askPath (j .0)) place) (workAndList (now (work .entry)) (now (list .entry)))) (replyOf r) (workAndList (now (work .exit)) (now (list .exit))) (worldOf self (tablesOf (now (heads .entry)) (now (parents .entry)) (now (rows .entry)) (now (counts .entry)) (now (next .entry)) (now («book_heads» .entry)) (now («book_rows» .entry)) (now («book_next» .entry)) (now (windows .entry)))) ⌝ }
+        ensures { λ r. ⌜ ReadStep (worldOf self (tablesIn heads parents rows counts next «book_heads» «book_rows» «book_next» windows)) (callOf (asking (askPath (j .0)) place) (listIn work list)) (replyOf r) (listOut work list) ⌝ }
     {
-        let number = admission::admit(
-            self,
+        let number = self.admit(
             heads,
             parents,
             rows,
@@ -340,10 +342,9 @@ impl Factor {
         j: Row,
         place: usize,
     ) -> Reply
-        ensures { λ r. ⌜ Transition (worldOf self (tablesOf (now (heads .entry)) (now (parents .entry)) (now (rows .entry)) (now (counts .entry)) (now (next .entry)) (now («book_heads» .entry)) (now («book_rows» .entry)) (now («book_next» .entry)) (now (windows .entry)))) (callOf (asking (askColumn (j .0)) place) (workAndList (now (work .entry)) (now (list .entry)))) (replyOf r) (workAndList (now (work .exit)) (now (list .exit))) (worldOf self (tablesOf (now (heads .entry)) (now (parents .entry)) (now (rows .entry)) (now (counts .entry)) (now (next .entry)) (now («book_heads» .entry)) (now («book_rows» .entry)) (now («book_next» .entry)) (now (windows .entry)))) ⌝ }
+        ensures { λ r. ⌜ ReadStep (worldOf self (tablesIn heads parents rows counts next «book_heads» «book_rows» «book_next» windows)) (callOf (asking (askColumn (j .0)) place) (listIn work list)) (replyOf r) (listOut work list) ⌝ }
     {
-        let number = admission::admit(
-            self,
+        let number = self.admit(
             heads,
             parents,
             rows,

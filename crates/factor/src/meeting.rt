@@ -1,13 +1,12 @@
 // Public questions about a delivery run, which is a row: the columns that meet it, and the row where the paths of some rows join.
-ghost use Rattle.tables.specs.Tables.{tablesOf};
+ghost use Rattle.tables.specs.Lent.{tablesIn};
 ghost use Rattle.questions.specs.Asked.{replyOf};
-ghost use Rattle.calls.specs.Calls.{callOf, workOnly, workAndList};
+ghost use Rattle.calls.specs.Calls.{callOf};
 ghost use Rattle.calls.specs.Calls.Entry.{asking};
 ghost use Rattle.calls.specs.Calls.Question.{askMeets, askCommon};
-ghost use Rattle.calls.specs.Steps.{Transition};
-ghost use Rattle.factor.specs.Entries.{worldOf};
+ghost use Rattle.calls.specs.Lent.{workIn, workOut, listIn, listOut};
+ghost use Rattle.factor.specs.Entries.{worldOf, ReadStep};
 use crate::Factor;
-use crate::admission;
 use book::Row;
 use questions::Reply;
 
@@ -29,10 +28,9 @@ impl Factor {
         i: Row,
         place: usize,
     ) -> Reply
-        ensures { λ r. ⌜ Transition (worldOf self (tablesOf (now (heads .entry)) (now (parents .entry)) (now (rows .entry)) (now (counts .entry)) (now (next .entry)) (now («book_heads» .entry)) (now («book_rows» .entry)) (now («book_next» .entry)) (now (windows .entry)))) (callOf (asking (askMeets (i .0)) place) (workAndList (now (work .entry)) (now (list .entry)))) (replyOf r) (workAndList (now (work .exit)) (now (list .exit))) (worldOf self (tablesOf (now (heads .entry)) (now (parents .entry)) (now (rows .entry)) (now (counts .entry)) (now (next .entry)) (now («book_heads» .entry)) (now («book_rows» .entry)) (now («book_next» .entry)) (now (windows .entry)))) ⌝ }
+        ensures { λ r. ⌜ ReadStep (worldOf self (tablesIn heads parents rows counts next «book_heads» «book_rows» «book_next» windows)) (callOf (asking (askMeets (i .0)) place) (listIn work list)) (replyOf r) (listOut work list) ⌝ }
     {
-        let number = admission::admit(
-            self,
+        let number = self.admit(
             heads,
             parents,
             rows,
@@ -80,10 +78,9 @@ impl Factor {
         work: &mut [u32],
         row_list: &[u32],
     ) -> Reply
-        ensures { λ r. ⌜ Transition (worldOf self (tablesOf (now (heads .entry)) (now (parents .entry)) (now (rows .entry)) (now (counts .entry)) (now (next .entry)) (now («book_heads» .entry)) (now («book_rows» .entry)) (now («book_next» .entry)) (now (windows .entry)))) (callOf (asking (askCommon (now («row_list» .entry))) 0) (workOnly (now (work .entry)))) (replyOf r) (workOnly (now (work .exit))) (worldOf self (tablesOf (now (heads .entry)) (now (parents .entry)) (now (rows .entry)) (now (counts .entry)) (now (next .entry)) (now («book_heads» .entry)) (now («book_rows» .entry)) (now («book_next» .entry)) (now (windows .entry)))) ⌝ }
+        ensures { λ r. ⌜ ReadStep (worldOf self (tablesIn heads parents rows counts next «book_heads» «book_rows» «book_next» windows)) (callOf (asking (askCommon (now («row_list» .entry))) 0) (workIn work)) (replyOf r) (workOut work) ⌝ }
     {
-        let number = admission::admit(
-            self,
+        let number = self.admit(
             heads,
             parents,
             rows,

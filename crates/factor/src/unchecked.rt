@@ -2,11 +2,12 @@
 // W work places are zero. Other questions take no work table. A question costs what it reads; include/nigvalds.h says what the columns that meet a row and a common
 // row cost after the read-through.
 ghost use mathlib.Core.Path.{_≡_};
-ghost use Rattle.tables.specs.Tables.{registerOf, tablesOf};
+ghost use Rattle.tables.specs.Tables.{registerOf};
+ghost use Rattle.tables.specs.Lent.{tablesIn, tablesNow};
 ghost use Rattle.calls.specs.Calls.Question.{askNextRow, askParent, askPath, askColumn, askMeets, askCommon};
 ghost use Rattle.questions.specs.Asked.{replyOf, foundOf, repliedTo, replied, listLeft};
 ghost use Rattle.factor.specs.Entries.{stateOf};
-ghost use Rattle.factor.specs.Admission.{Usable, CanUse};
+ghost use Rattle.admission.specs.Admission.{Usable, CanUse};
 use crate::Factor;
 use book::Row;
 use questions::Found;
@@ -28,8 +29,8 @@ impl Factor {
         i: Row,
         j: Row,
     ) -> Found
-        requires { ⌜ Usable (stateOf self) (tablesOf (now heads) (now parents) (now rows) (now counts) (now next) (now «book_heads») (now «book_rows») (now «book_next») (now windows)) ⌝ }
-        ensures { λ a. ⌜ foundOf a ≡ replied (registerOf (stateOf self) (tablesOf (now (heads .entry)) (now (parents .entry)) (now (rows .entry)) (now (counts .entry)) (now (next .entry)) (now («book_heads» .entry)) (now («book_rows» .entry)) (now («book_next» .entry)) (now (windows .entry)))) (askNextRow (i .0) (j .0)) ⌝ }
+        requires { ⌜ Usable (stateOf self) (tablesNow heads parents rows counts next «book_heads» «book_rows» «book_next» windows) ⌝ }
+        ensures { λ a. ⌜ foundOf a ≡ replied (registerOf (stateOf self) (tablesIn heads parents rows counts next «book_heads» «book_rows» «book_next» windows)) (askNextRow (i .0) (j .0)) ⌝ }
     {
         let m = self.m as usize;
         let f = self.f as usize;
@@ -50,8 +51,8 @@ impl Factor {
         windows: &[u32],
         j: Row,
     ) -> Reply
-        requires { ⌜ Usable (stateOf self) (tablesOf (now heads) (now parents) (now rows) (now counts) (now next) (now «book_heads») (now «book_rows») (now «book_next») (now windows)) ⌝ }
-        ensures { λ a. ⌜ replyOf a ≡ replied (registerOf (stateOf self) (tablesOf (now (heads .entry)) (now (parents .entry)) (now (rows .entry)) (now (counts .entry)) (now (next .entry)) (now («book_heads» .entry)) (now («book_rows» .entry)) (now («book_next» .entry)) (now (windows .entry)))) (askParent (j .0)) ⌝ }
+        requires { ⌜ Usable (stateOf self) (tablesNow heads parents rows counts next «book_heads» «book_rows» «book_next» windows) ⌝ }
+        ensures { λ a. ⌜ replyOf a ≡ replied (registerOf (stateOf self) (tablesIn heads parents rows counts next «book_heads» «book_rows» «book_next» windows)) (askParent (j .0)) ⌝ }
     {
         let m = self.m as usize;
         questions::parent(&parents[..m], j)
@@ -73,9 +74,9 @@ impl Factor {
         j: Row,
         place: usize,
     ) -> Reply
-        requires { ⌜ Usable (stateOf self) (tablesOf (now heads) (now parents) (now rows) (now counts) (now next) (now «book_heads») (now «book_rows») (now «book_next») (now windows)) ⌝ }
-        ensures reply { λ a. ⌜ replyOf a ≡ repliedTo (registerOf (stateOf self) (tablesOf (now (heads .entry)) (now (parents .entry)) (now (rows .entry)) (now (counts .entry)) (now (next .entry)) (now («book_heads» .entry)) (now («book_rows» .entry)) (now («book_next» .entry)) (now (windows .entry)))) (askPath (j .0)) place (now (list .entry)) ⌝ }
-        ensures written { λ a. ⌜ now (list .exit) ≡ listLeft (registerOf (stateOf self) (tablesOf (now (heads .entry)) (now (parents .entry)) (now (rows .entry)) (now (counts .entry)) (now (next .entry)) (now («book_heads» .entry)) (now («book_rows» .entry)) (now («book_next» .entry)) (now (windows .entry)))) (askPath (j .0)) place (now (list .entry)) ⌝ }
+        requires { ⌜ Usable (stateOf self) (tablesNow heads parents rows counts next «book_heads» «book_rows» «book_next» windows) ⌝ }
+        ensures reply { λ a. ⌜ replyOf a ≡ repliedTo (registerOf (stateOf self) (tablesIn heads parents rows counts next «book_heads» «book_rows» «book_next» windows)) (askPath (j .0)) place (now (list .entry)) ⌝ }
+        ensures written { λ a. ⌜ now (list .exit) ≡ listLeft (registerOf (stateOf self) (tablesIn heads parents rows counts next «book_heads» «book_rows» «book_next» windows)) (askPath (j .0)) place (now (list .entry)) ⌝ }
     {
         let m = self.m as usize;
         questions::path(&parents[..m], list, j, place)
@@ -97,9 +98,9 @@ impl Factor {
         j: Row,
         place: usize,
     ) -> Reply
-        requires { ⌜ Usable (stateOf self) (tablesOf (now heads) (now parents) (now rows) (now counts) (now next) (now «book_heads») (now «book_rows») (now «book_next») (now windows)) ⌝ }
-        ensures reply { λ a. ⌜ replyOf a ≡ repliedTo (registerOf (stateOf self) (tablesOf (now (heads .entry)) (now (parents .entry)) (now (rows .entry)) (now (counts .entry)) (now (next .entry)) (now («book_heads» .entry)) (now («book_rows» .entry)) (now («book_next» .entry)) (now (windows .entry)))) (askColumn (j .0)) place (now (list .entry)) ⌝ }
-        ensures written { λ a. ⌜ now (list .exit) ≡ listLeft (registerOf (stateOf self) (tablesOf (now (heads .entry)) (now (parents .entry)) (now (rows .entry)) (now (counts .entry)) (now (next .entry)) (now («book_heads» .entry)) (now («book_rows» .entry)) (now («book_next» .entry)) (now (windows .entry)))) (askColumn (j .0)) place (now (list .entry)) ⌝ }
+        requires { ⌜ Usable (stateOf self) (tablesNow heads parents rows counts next «book_heads» «book_rows» «book_next» windows) ⌝ }
+        ensures reply { λ a. ⌜ replyOf a ≡ repliedTo (registerOf (stateOf self) (tablesIn heads parents rows counts next «book_heads» «book_rows» «book_next» windows)) (askColumn (j .0)) place (now (list .entry)) ⌝ }
+        ensures written { λ a. ⌜ now (list .exit) ≡ listLeft (registerOf (stateOf self) (tablesIn heads parents rows counts next «book_heads» «book_rows» «book_next» windows)) (askColumn (j .0)) place (now (list .entry)) ⌝ }
     {
         let m = self.m as usize;
         let f = self.f as usize;
@@ -131,9 +132,9 @@ impl Factor {
         i: Row,
         place: usize,
     ) -> Reply
-        requires { ⌜ CanUse (stateOf self) (tablesOf (now heads) (now parents) (now rows) (now counts) (now next) (now «book_heads») (now «book_rows») (now «book_next») (now windows)) (now work) ⌝ }
-        ensures reply { λ a. ⌜ replyOf a ≡ repliedTo (registerOf (stateOf self) (tablesOf (now (heads .entry)) (now (parents .entry)) (now (rows .entry)) (now (counts .entry)) (now (next .entry)) (now («book_heads» .entry)) (now («book_rows» .entry)) (now («book_next» .entry)) (now (windows .entry)))) (askMeets (i .0)) place (now (list .entry)) ⌝ }
-        ensures written { λ a. ⌜ now (list .exit) ≡ listLeft (registerOf (stateOf self) (tablesOf (now (heads .entry)) (now (parents .entry)) (now (rows .entry)) (now (counts .entry)) (now (next .entry)) (now («book_heads» .entry)) (now («book_rows» .entry)) (now («book_next» .entry)) (now (windows .entry)))) (askMeets (i .0)) place (now (list .entry)) ⌝ }
+        requires { ⌜ CanUse (stateOf self) (tablesNow heads parents rows counts next «book_heads» «book_rows» «book_next» windows) (now work) ⌝ }
+        ensures reply { λ a. ⌜ replyOf a ≡ repliedTo (registerOf (stateOf self) (tablesIn heads parents rows counts next «book_heads» «book_rows» «book_next» windows)) (askMeets (i .0)) place (now (list .entry)) ⌝ }
+        ensures written { λ a. ⌜ now (list .exit) ≡ listLeft (registerOf (stateOf self) (tablesIn heads parents rows counts next «book_heads» «book_rows» «book_next» windows)) (askMeets (i .0)) place (now (list .entry)) ⌝ }
         ensures kept { λ a. ⌜ now (work .exit) ≡ now (work .entry) ⌝ }
     {
         let m = self.m as usize;
@@ -165,8 +166,8 @@ impl Factor {
         windows: &[u32],
         row_list: &[u32],
     ) -> Reply
-        requires { ⌜ Usable (stateOf self) (tablesOf (now heads) (now parents) (now rows) (now counts) (now next) (now «book_heads») (now «book_rows») (now «book_next») (now windows)) ⌝ }
-        ensures { λ a. ⌜ replyOf a ≡ replied (registerOf (stateOf self) (tablesOf (now (heads .entry)) (now (parents .entry)) (now (rows .entry)) (now (counts .entry)) (now (next .entry)) (now («book_heads» .entry)) (now («book_rows» .entry)) (now («book_next» .entry)) (now (windows .entry)))) (askCommon (now («row_list» .entry))) ⌝ }
+        requires { ⌜ Usable (stateOf self) (tablesNow heads parents rows counts next «book_heads» «book_rows» «book_next» windows) ⌝ }
+        ensures { λ a. ⌜ replyOf a ≡ replied (registerOf (stateOf self) (tablesIn heads parents rows counts next «book_heads» «book_rows» «book_next» windows)) (askCommon (now («row_list» .entry))) ⌝ }
     {
         let m = self.m as usize;
         questions::ancestors::common(&parents[..m], row_list)

@@ -4,12 +4,11 @@
 use mathlib.Core.Path.{_≡_, refl, sym, ap, _∙_, subst}
 use mathlib.Core.Logic.{_⊎_, inl, inr, _≢_, _↔_}
 use mathlib.Core.Bool.{Bool, true, false, _&&_, _||_, not}
-use mathlib.Core.List.{List}
 use Prim.Native.Nat.{ℕ, _+_, _≤_, _<_}
 use native.Mathlib.Omega.{arith}
 use lib.Dec.{eqb}
 use borrow.Author.Tests.{eqb-true, eqb-false, eq-eqb, ne-eqb, not-true}
-use Rattle.lists.specs.Lists.{Mem, all, any, among, upFrom}
+use Rattle.lists.specs.Lists.{Mem, all, any, upFrom}
 use Rattle.lists.proofs.Tests.{and-both, both-and, or-either, or-left, or-right, both-ways}
 use Rattle.lists.proofs.Member.{any-find, any-has}
 use Rattle.lists.proofs.Rising.{up-from, from-up}

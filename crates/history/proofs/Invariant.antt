@@ -8,7 +8,7 @@ use mathlib.Core.List.{List, []}
 use Prim.Native.Nat.{ℕ}
 use lib.ListN.{length}
 use Rattle.lists.specs.Lists.{all, noRepeats, sumOf}
-use Rattle.symbolic.specs.Columns.{Column, Register, live}
+use Rattle.symbolic.specs.Columns.{Column, live}
 use Rattle.symbolic.specs.Factor.{FactorColumn, factorOf, factorFor}
 use Rattle.symbolic.specs.Change.{idsOf, Bag}
 use Rattle.symbolic.specs.Grades.{Limits, areLimits, limitsFor}

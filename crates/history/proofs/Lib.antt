@@ -1,6 +1,7 @@
 pub mod Reports
 pub mod Invariant
 pub mod Counts
+pub mod Labels
 pub mod Clock
 pub mod Steps
 pub mod Asking

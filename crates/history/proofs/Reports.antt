@@ -2,19 +2,19 @@
 -- are just those on its paths in every tree that meets the definition (`reports-exactly`). Assumes nothing.
 use mathlib.Core.Path.{_≡_, refl, sym, ap, _∙_, subst}
 use mathlib.Core.Logic.{_⊎_, inl, inr, _↔_}
-use mathlib.Core.Bool.{Bool, true, false, _&&_, _||_, not}
+use mathlib.Core.Bool.{Bool, true, _&&_, _||_, not}
 use mathlib.Core.List.{List, [], _∷_}
 use Prim.Native.Nat.{ℕ, suc, _+_, _-_, _≤_, _<_}
 use native.Mathlib.Omega.{arith}
 use lib.Dec.{eqb}
-use lib.ListN.{length, getD}
+use lib.ListN.{getD}
 use borrow.Author.Tests.{eq-eqb, ne-eqb}
-use Rattle.lists.specs.Lists.{pick, Mem, one, count, at, among, valuesAt}
+use Rattle.lists.specs.Lists.{Mem, one, among, valuesAt}
 use Rattle.lists.proofs.Tests.{eq-or-ne, or-either, or-left, or-right}
 use Rattle.lists.proofs.Member.{among-mem, mem-among}
 use Rattle.lists.proofs.Count.{count-ext}
 use Rattle.symbolic.specs.Columns.{Column, smallest, startingWith, Register, live}
-use Rattle.symbolic.specs.Factor.{FactorColumn, factorOf, factorFor, columnAt, countIn, multiplicity, parentOf, patternFrom, nonZero, patternOf, multiplicitiesOf}
+use Rattle.symbolic.specs.Factor.{FactorColumn, factorOf, factorFor, columnAt, multiplicity, parentOf, patternFrom, nonZero, patternOf}
 use Rattle.symbolic.specs.Definition.{IsFactor, childWith, OnPath, here, up}
 use Rattle.symbolic.specs.Batch.{isTouched, isExchanged, exchanged}
 use Rattle.symbolic.proofs.Touched.{touched-by, touched-has}
@@ -91,7 +91,7 @@ held-factor r v h =
 -- ---- paths
 
 -- a path in one tree is a path in every tree with the same parents within 1 to m
-path-same : (m : ℕ) (P Q : ℕ → ℕ) → ((j : ℕ) → 1 ≤ j → j ≤ m → P j ≡ Q j) → ((j : ℕ) → 1 ≤ j → j ≤ m → 0 < P j → P j ≤ m) → {s j : ℕ} → 1 ≤ s → s ≤ m →
+pub path-same : (m : ℕ) (P Q : ℕ → ℕ) → ((j : ℕ) → 1 ≤ j → j ≤ m → P j ≡ Q j) → ((j : ℕ) → 1 ≤ j → j ≤ m → 0 < P j → P j ≤ m) → {s j : ℕ} → 1 ≤ s → s ≤ m →
     OnPath P s j → OnPath Q s j
 path-same m P Q e f a b here = here
 path-same m P Q e f {s} {j} a b (up z u) =
@@ -99,7 +99,7 @@ path-same m P Q e f {s} {j} a b (up z u) =
     up {j = s} (omega arith) (subst (λ (k : ℕ). OnPath Q k j) q (path-same m P Q e f z (f s a b z) u))
 
 module _ (r : Register) (M : ℕ → ℕ → ℕ) (P : ℕ → ℕ) (h : IsFactorOf r M P) where
-  parents-agree : (j : ℕ) → 1 ≤ j → j ≤ r .m → P j ≡ parentOf (factorFor r) j
+  pub parents-agree : (j : ℕ) → 1 ≤ j → j ≤ r .m → P j ≡ parentOf (factorFor r) j
   parents-agree j a b = unique (r .m) (live r) M P h j j a b a b .1
 
   touched-on : (cs : List Column) (j : ℕ) → j ≤ r .m → isTouched (factorFor r) cs j ≡ true → OnPathOf (r .m) P cs j
@@ -112,7 +112,7 @@ module _ (r : Register) (M : ℕ → ℕ → ℕ) (P : ℕ → ℕ) (h : IsFacto
         path-same (r .m) (parentOf (factorFor r)) P (λ k x y. sym (parents-agree k x y)) (λ k x y z. defined (r .m) (live r) .parent-in k x y z .1) (u .2) (u .3) (u .4),
       )
 
-  on-touched : (cs : List Column) (j : ℕ) → OnPathOf (r .m) P cs j → isTouched (factorFor r) cs j ≡ true
+  pub on-touched : (cs : List Column) (j : ℕ) → OnPathOf (r .m) P cs j → isTouched (factorFor r) cs j ≡ true
   on-touched cs j u =
       touched-has (r .m) (live r) cs j (u .1) (u .2) (u .3)
       (path-same (r .m) P (parentOf (factorFor r)) parents-agree (λ k x y z. h .parent-in k x y z .1) (u .2) (u .3) (u .4))

@@ -3,20 +3,22 @@
 -- Assumes nothing.
 use mathlib.Core.Path.{_≡_, refl, sym, ap, _∙_, subst}
 use mathlib.Core.Logic.{_⊎_, inl, inr, _≢_, _↔_}
-use mathlib.Core.Bool.{Bool, true, false}
+use mathlib.Core.Bool.{Bool, true, false, not}
 use mathlib.Core.List.{List, [], _∷_}
-use Prim.Native.Nat.{ℕ, _≤_}
+use Prim.Native.Nat.{ℕ, _≤_, _<_}
 use native.Mathlib.Omega.{arith}
+use lib.Dec.{eqb}
 use borrow.Author.Tests.{eq-eqb, ne-eqb}
-use lib.ListN.{length, take, drop, replicate, length-replicate}
+use lib.ListN.{length, take, drop, replicate}
 use lib.Seq.{take-at}
-use Rattle.lists.specs.Lists.{pick, Mem, all, among, sumOf, rises, over}
+use Rattle.lists.specs.Lists.{pick, Mem, all, among, count, sumOf, rises, upFrom, over}
 use Rattle.lists.proofs.Tests.{cases, refute}
 use Rattle.lists.proofs.Member.{among-mem}
-use Rattle.symbolic.specs.Columns.{Register}
-use Rattle.symbolic.specs.Factor.{FactorColumn, factorOf, factorFor}
+use Rattle.symbolic.specs.Columns.{Register, live}
+use Rattle.symbolic.specs.Factor.{FactorColumn, factorOf, factorFor, sizeSum}
 use Rattle.symbolic.specs.Batch.{entriesOf}
 use Rattle.symbolic.specs.Grades.{Limits, gradeOf}
+use Rattle.symbolic.proofs.Theorems.{sizes-are}
 use Rattle.book.specs.Book.{columnFits}
 use Rattle.tables.specs.Tables.{Sizes, storedIn, windowsIn}
 use Rattle.tables.specs.Stays.{EntriesStay, MinutesStay, TailsStay}
@@ -27,14 +29,15 @@ use Rattle.calls.specs.Changes.{effect, touchedBy, labelsBy, registerAfter}
 use Rattle.calls.specs.Numbers.{callEarly, callRefusal, refusalOf}
 use Rattle.calls.specs.Steps.{Answer, refusedBy, resultOf, acceptedBy, listsAfter, workAfter, World, bookedIn, Exchanged, AcceptedWorld, Transition}
 use Rattle.calls.proofs.Choices.{or-both, or-first, or-second}
-use Rattle.calls.proofs.Numbers.{early-facts, early-number, early-other, call-number, sound-number}
-use Rattle.calls.proofs.Order.{bag-clock, bag-after, bag-number, bag-ids, bag-touched, bag-entries, bag-answer, bag-lists, once-after}
+use Rattle.calls.proofs.Numbers.{early-facts, early-number, early-other, call-number, sixteen-full, sound-number}
+use Rattle.calls.proofs.Order.{bag-clock, bag-after, bag-number, bag-ids, bag-touched, bag-labels, bag-entries, bag-answer, bag-lists, once-after}
 use Rattle.calls.proofs.Steps.{Accepted, Refused, step-cases, taken-zero, refused-some, quiet-world, change-world}
 use Rattle.calls.proofs.Changes.{rows-stay, touched-rise, effect-exchanges}
 use Rattle.calls.proofs.Exchanges.{exchanged-keeps}
 use Rattle.history.specs.Runs.{Event, Run, Plain, plainNext, plainAfter}
-use Rattle.history.specs.Statements.{heldCount, heldParent, Consistent, plainRefusal, OnPathOf, reported, ReportsJust, CountsJust, AltersJust, SetsJust, Justified}
+use Rattle.history.specs.Statements.{valueFor, heldCount, heldParent, IsFactorOf, Consistent, plainRefusal, OnPathOf, reported, ReportsJust, reportedLabels, IsLabel, LabelsJust, CountsJust, AltersJust, SetsJust, Justified}
 use Rattle.history.proofs.Reports.{reports-exactly}
+use Rattle.history.proofs.Labels.{labelled-length, label-beside, labels-largest}
 use Rattle.history.proofs.Counts.{counts-held}
 use Rattle.history.proofs.Clock.{batch-clock, stay-factor, path-only, only-path, zero-labels}
 use Rattle.history.proofs.Invariant.{Inv, book-once, inv-rows, inv-long, inv-holds, inv-fits, inv-consistent, openedPlain, openedWorld, inv-opened}
@@ -91,6 +94,26 @@ module _ {p : Plain} {u : World} (i : Inv p u) where
             elim (early-number (p .sizes) (u .tables) (i .in-range) k o) [ inl n ↦ inl (q ∙ n) | inr n ↦ inr (omega arith, λ z. omega arith) ]
       ]
 
+  -- 16 is a change's own, and says that the definition's entries after it are more than F
+  sixteen-plain : (k : Call) (c : Change) → k .entry ≡ changing c → plainRefusal p (u .tables) k .number ≡ 16 → (M : ℕ → ℕ → ℕ) (P : ℕ → ℕ) →
+      IsFactorOf (effect (p .register) c .register) M P → p .sizes .f < sumOf (λ j. count (λ i. not (eqb (M i j) 0)) (p .register .m)) (upFrom 1 (p .register .m))
+  sixteen-plain k c q h M P f =
+      let x : Refusal = callEarly (p .sizes) (u .tables) k in
+      let y : Refusal = callRefusal (p .sizes) (p .register) k in
+      let a : Register = effect (p .register) c .register in
+      let s : sizeSum (factorFor a) ≡ sumOf (λ j. count (λ i. not (eqb (M i j) 0)) (p .register .m)) (upFrom 1 (p .register .m)) =
+      sizes-are (a .m) (live a) M P f ∙ ap (λ (n : ℕ). sumOf (λ j. count (λ i. not (eqb (M i j) 0)) n) (upFrom 1 n)) (rows-stay (p .register) c) in
+      elim (cases (isAccepted x)) [
+        | inl e ↦
+            let n : y .number ≡ 16 = ap (λ (z : Refusal). z .number) (sym (or-second x y e)) ∙ h in
+            let o : effect (p .register) c .refusal (p .sizes) .number ≡ 16 =
+            subst (λ (j : Entry). callRefusal (p .sizes) (p .register) (callOf j (k .lent)) .number ≡ 16) q n in
+            omega (arith, s, sixteen-full (p .sizes) (p .register) c o)
+        | inr e ↦
+            let n : x .number ≡ 16 = ap (λ (z : Refusal). z .number) (sym (or-first x y e)) ∙ h in
+            elim (early-number (p .sizes) (u .tables) (i .in-range) k (ap isOpening q)) [ inl z ↦ absurd (omega arith) | inr z ↦ absurd (omega arith) ]
+      ]
+
   -- ---- the answer and the lists
 
   work-plain : (k : Call) → workAfter (u .state .sizes) (u .tables) k ≡ workAfter (p .sizes) (u .tables) k
@@ -118,6 +141,32 @@ module _ {p : Plain} {u : World} (i : Inv p u) where
         ascending = ap (λ (js : List ℕ). rises 1 (p .register .m) js) r ∙ touched-rise (p .register) c;
         exactly = λ M N P Q f g j b d. subst (λ (js : List ℕ). Mem j js ↔ (OnPathOf (p .register .m) P (effect (p .register) c .leave) j ⊎ OnPathOf (p .register .m) Q (effect (p .register) c .enter) j)) (sym r)
             (reports-exactly (p .register) c M N P Q f g j b d);
+      }
+
+  -- the front of the lent list for labels
+  labels-are : (e : Event) (c : Change) → e .call .entry ≡ changing c → e .answer ≡ acceptedBy (u .state .limits) (bookedIn u) (e .call .entry) →
+      e .left ≡ listsAfter (bookedIn u) (e .call) (workAfter (u .state .sizes) (u .tables) (e .call)) → reportedLabels e ≡ labelsBy (p .register) c
+  labels-are e c q a x =
+      let js : List ℕ = touchedBy (bookedIn u) c in
+      let zs : List ℕ = labelsBy (bookedIn u) c in
+      let n : e .answer .touched ≡ length js = ap (λ (y : Answer). y .touched) a ∙ ap (λ (k : Entry). length (resultOf (bookedIn u) k .touched)) q in
+      let l : e .left .labels ≡ over zs (e .call .lent .labels) =
+      ap (λ (y : Lent). y .labels) x ∙ ap (λ (k : Entry). over (resultOf (bookedIn u) k .labels) (e .call .lent .labels)) q in
+      ap (λ (k : ℕ). take k (e .left .labels)) n ∙ ap (λ (ys : List ℕ). take (length js) ys) l ∙
+      take-at zs (drop (length zs) (e .call .lent .labels)) (length js) (labelled-length (effect (bookedIn u) c .label) js) ∙
+      bag-labels (bookedIn u) (p .register) (inv-rows i) (i .clock) (i .bag) (book-once u) c
+
+  change-labels : (e : Event) (c : Change) → reported e ≡ touchedBy (p .register) c → length (reported e) ≡ e .answer .touched → reportedLabels e ≡ labelsBy (p .register) c →
+      LabelsJust p e c
+  change-labels e c t n l =
+      let r : Register = p .register in
+      let beside : (j : ℕ) → Mem j (touchedBy r c) → effect r c .label j ≡ valueFor (reported e) (reportedLabels e) j =
+      λ j y. sym (label-beside (effect r c .label) (touchedBy r c) j y) ∙ sym (λ k. valueFor (t k) (l k) j) in
+      record {
+        counted = ap length l ∙ labelled-length (effect r c .label) (touchedBy r c) ∙ ap length (sym t) ∙ n;
+        largest = λ z M N P Q f g j y.
+            let w : Mem j (touchedBy r c) = subst (λ (js : List ℕ). Mem j js) t y in
+            subst (λ (k : ℕ). IsLabel (r .m) P (effect r c .leave) j k ⊎ IsLabel (r .m) Q (effect r c .enter) j k) (beside j w) (labels-largest r c z M N P Q f g j w);
       }
 
   among-plain : (c : Change) (d : ℕ) → among d (effect (bookedIn u) c .ids) ≡ among d (effect (p .register) c .ids)
@@ -170,19 +219,6 @@ module _ {p : Plain} {u : World} (i : Inv p u) where
       bag-entries (bookedIn u) (p .register) (inv-rows i) (i .clock) (i .bag) (book-once u) c)
 
   -- a clock change
-  labels-are : (e : Event) (t : ℕ) → e .call .entry ≡ changing (setting t) → e .answer ≡ acceptedBy (u .state .limits) (bookedIn u) (e .call .entry) →
-      e .left ≡ listsAfter (bookedIn u) (e .call) (workAfter (u .state .sizes) (u .tables) (e .call)) →
-      take (e .answer .touched) (e .left .labels) ≡ replicate (e .answer .touched) 0
-  labels-are e t q a x =
-      let js : List ℕ = touchedBy (bookedIn u) (setting t) in
-      let zs : List ℕ = labelsBy (bookedIn u) (setting t) in
-      let n : e .answer .touched ≡ length js = ap (λ (y : Answer). y .touched) a ∙ ap (λ (k : Entry). length (resultOf (bookedIn u) k .touched)) q in
-      let l : e .left .labels ≡ over zs (e .call .lent .labels) =
-      ap (λ (y : Lent). y .labels) x ∙ ap (λ (k : Entry). over (resultOf (bookedIn u) k .labels) (e .call .lent .labels)) q in
-      let m : length zs ≡ length js = ap length (zero-labels js) ∙ length-replicate (length js) 0 in
-      ap (λ (k : ℕ). take k (e .left .labels)) n ∙ ap (λ (ys : List ℕ). take (length js) ys) l ∙
-      take-at zs (drop (length zs) (e .call .lent .labels)) (length js) m ∙ zero-labels js ∙ ap (λ (k : ℕ). replicate k 0) (sym n)
-
   change-sets : {v : World} (e : Event) (t : ℕ) → e .call .entry ≡ changing (setting t) → e .answer ≡ acceptedBy (u .state .limits) (bookedIn u) (e .call .entry) →
       e .left ≡ listsAfter (bookedIn u) (e .call) (workAfter (u .state .sizes) (u .tables) (e .call)) → isAccepted (effect (p .register) (setting t) .refusal (p .sizes)) ≡ true →
       Exchanged u (setting t) v → SetsJust p u e t v
@@ -208,7 +244,8 @@ module _ {p : Plain} {u : World} (i : Inv p u) where
             | inr y ↦ inr (only-path (r .m) (heldParent v) t (r .clock) (r .columns) j fits y)
           ]),
         );
-        labels = labels-are e t q a x;
+        labels = labels-are e (setting t) q a x ∙ zero-labels (touchedBy (p .register) (setting t)) ∙
+            ap (λ (k : ℕ). replicate k 0) (ap length (sym (report-is e (setting t) q a x)) ∙ change-reports e (setting t) q a x .counted);
       }
 
   module _ {e : Event} {v : World} where
@@ -232,8 +269,10 @@ module _ {p : Plain} {u : World} (i : Inv p u) where
           ungraded = λ h. let d : e .answer .entries ≡ 0 = ap (λ (y : Answer). y .entries) (s .answer) ∙
               none-entries (bookedIn u) (k .entry) (sym (ap (λ (y : Answer). y .touched) (s .answer)) ∙ h) in
               (d, ap (λ (y : Answer). y .grade) (s .answer) ∙ ap (gradeOf (u .state .limits)) (ap (λ (y : Answer). y .entries) (sym (s .answer)) ∙ d));
+          full = λ h. absurd (omega arith);
           unchanged = λ h. elim h [ inl q ↦ absurd (q n) | inr q ↦ quiet-world u (k .entry) v q (s .world) ];
           reports = λ q c h. change-reports e c h (s .answer) (s .lists);
+          labels = λ q c h. change-labels e c (report-is e c h (s .answer) (s .lists)) (change-reports e c h (s .answer) (s .lists) .counted) (labels-are e c h (s .answer) (s .lists));
           counts = λ q c h. change-counts e c h (s .answer) (report-is e c h (s .answer) (s .lists)) (own c h) (change-world h (s .world));
           alters = λ q c h. change-alters e c (report-is e c h (s .answer) (s .lists)) (own c h) (change-world h (s .world));
           sets = λ q t h. change-sets e t h (s .answer) (s .lists) (own (setting t) h) (change-world h (s .world));
@@ -253,8 +292,10 @@ module _ {p : Plain} {u : World} (i : Inv p u) where
           left = rw z (s .lists ∙ ap (λ (w : List ℕ). withWork (k .lent) w) (work-plain k));
           graded = ap (λ (y : Answer). y .grade) a ∙ sym (ap (λ (y : Answer). gradeOf (p .limits) (y .entries)) a);
           ungraded = λ h. (ap (λ (y : Answer). y .entries) a, ap (λ (y : Answer). y .grade) a);
+          full = λ h c r M P f. sixteen-plain k c r (sym q ∙ h) M P f;
           unchanged = λ h. s .world;
           reports = λ h c q. absurd (n h);
+          labels = λ h c q. absurd (n h);
           counts = λ h c q. absurd (n h);
           alters = λ h c q. absurd (n h);
           sets = λ h t q. absurd (n h);

@@ -4,16 +4,17 @@
 -- Assumes nothing: these are definitions.
 use mathlib.Core.Path.{_≡_}
 use mathlib.Core.Logic.{_⊎_, _≢_, _↔_}
-use mathlib.Core.Bool.{true, false, _&&_, _||_}
+use mathlib.Core.Bool.{true, false, _&&_, _||_, not}
 use mathlib.Core.List.{List, [], _∷_, _++_}
 use Prim.Native.Nat.{ℕ, _+_, _*_, _≤_, _<_, max}
 use lib.Dec.{eqb}
 use lib.ListN.{length, take, drop, replicate}
-use Rattle.lists.specs.Lists.{pick, one, isIn, Mem, all, same, among, noRepeats, sumOf, at, valuesAt, rises}
+use Rattle.lists.specs.Lists.{pick, one, isIn, Mem, all, same, among, noRepeats, count, sumOf, at, valuesAt, rises, upFrom}
 use Rattle.symbolic.specs.Columns.{Column, smallest, holds, startingWith, inWindow, Register, live}
 use Rattle.symbolic.specs.Definition.{IsFactor, OnPath}
 use Rattle.symbolic.specs.Factor.{factorOf, factorFor}
 use Rattle.symbolic.specs.Chains.{share, ChainTo}
+use Rattle.symbolic.specs.Batch.{atPosition}
 use Rattle.symbolic.specs.Change.{idsOf}
 use Rattle.symbolic.specs.Grades.{Limits, limitsOf, areLimits, limitsFor, gradeOf}
 use Rattle.symbolic.specs.Meeting.{IsCommon}
@@ -111,6 +112,28 @@ pub record ReportsJust (p : Plain) (e : Event) (c : Change) : Type 0 where
       (j : ℕ) → 1 ≤ j → j ≤ p .register .m →
       Mem j (reported e) ↔ (OnPathOf (p .register .m) P (effect (p .register) c .leave) j ⊎ OnPathOf (p .register .m) Q (effect (p .register) c .enter) j)
 
+-- the labels of the reported columns, in their order: the front of the lent list
+abbrev pub reportedLabels : Event → List ℕ
+reportedLabels e = take (e .answer .touched) (e .left .labels)
+
+-- the path of the column at position k of a batch passes through j, in the tree of parents P
+abbrev pub PassesAt : (m : ℕ) (P : ℕ → ℕ) → (batch : List Column) → (j k : ℕ) → Type 0
+PassesAt m P cs j k =
+    (1 ≤ k) × (k ≤ length cs) × (1 ≤ smallest (atPosition cs k)) × (smallest (atPosition cs k) ≤ m) × OnPath P (smallest (atPosition cs k)) j
+
+-- "the largest position whose path passes through it"
+abbrev pub IsLabel : (m : ℕ) (P : ℕ → ℕ) → (batch : List Column) → (j label : ℕ) → Type 0
+IsLabel m P cs j k = PassesAt m P cs j k × ((i : ℕ) → PassesAt m P cs j i → i ≤ k)
+
+-- an accepted batch gives each reported column its label: of a removal, in which none enters, in the tree before the call, of an addition, in which none leaves,
+-- in the tree after it, whatever parents P and Q meet the definition there. A column outside its window keeps its position
+pub record LabelsJust (p : Plain) (e : Event) (c : Change) : Type 0 where
+  pub counted : length (reportedLabels e) ≡ e .answer .touched
+  pub largest : isBatch c ≡ true → (M N : ℕ → ℕ → ℕ) (P Q : ℕ → ℕ) → IsFactorOf (p .register) M P → IsFactorOf (effect (p .register) c .register) N Q →
+      (j : ℕ) → Mem j (reported e) →
+      IsLabel (p .register .m) P (effect (p .register) c .leave) j (valueFor (reported e) (reportedLabels e) j) ⊎
+      IsLabel (p .register .m) Q (effect (p .register) c .enter) j (valueFor (reported e) (reportedLabels e) j)
+
 -- the entries that an accepted change answers, from the chains that the tables have before it (u) and after it (v)
 pub record CountsJust (u : World) (e : Event) (c : Change) (v : World) : Type 0 where
   -- document 02: "Entries take the larger of a column's sizes before and after"
@@ -155,7 +178,7 @@ pub record SetsJust (p : Plain) (u : World) (e : Event) (minute : ℕ) (v : Worl
   -- that the tables hold before and after
   pub listed : (j : ℕ) → 1 ≤ j → j ≤ p .sizes .m →
       Mem j (reported e) ↔ (OnPathOnly u (p .register) (p .register .clock) minute j ⊎ OnPathOnly v (p .register) minute (p .register .clock) j)
-  pub labels : take (e .answer .touched) (e .left .labels) ≡ replicate (e .answer .touched) 0
+  pub labels : reportedLabels e ≡ replicate (e .answer .touched) 0
 
 -- what holds of one call, from world u to world v, against the register before it
 pub record Justified (p : Plain) (u : World) (e : Event) (v : World) : Type 0 where
@@ -175,8 +198,12 @@ pub record Justified (p : Plain) (u : World) (e : Event) (v : World) : Type 0 wh
   -- "every grade is read from" the limits; "A call that touches nothing has grade 0"
   pub graded : e .answer .grade ≡ gradeOf (p .limits) (e .answer .entries)
   pub ungraded : e .answer .touched ≡ 0 → (e .answer .entries ≡ 0) × (e .answer .grade ≡ 0)
-  -- what an accepted change reports, counts and alters
+  -- 16: "the sum of all pattern sizes would exceed F", of the register after the change, by all multiplicities M that are as the definition says
+  pub full : e .answer .number ≡ 16 → (c : Change) → e .call .entry ≡ changing c → (M : ℕ → ℕ → ℕ) (P : ℕ → ℕ) →
+      IsFactorOf (effect (p .register) c .register) M P → p .sizes .f < sumOf (λ j. count (λ i. not (eqb (M i j) 0)) (p .register .m)) (upFrom 1 (p .register .m))
+  -- what an accepted change reports, labels, counts and alters
   pub reports : e .answer .number ≡ 0 → (c : Change) → e .call .entry ≡ changing c → ReportsJust p e c
+  pub labels : e .answer .number ≡ 0 → (c : Change) → e .call .entry ≡ changing c → LabelsJust p e c
   pub counts : e .answer .number ≡ 0 → (c : Change) → e .call .entry ≡ changing c → CountsJust u e c v
   pub alters : e .answer .number ≡ 0 → (c : Change) → e .call .entry ≡ changing c → AltersJust p u e c v
   pub sets : e .answer .number ≡ 0 → (minute : ℕ) → e .call .entry ≡ changing (setting minute) → SetsJust p u e minute v

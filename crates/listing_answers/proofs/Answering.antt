@@ -1,27 +1,27 @@
 -- What a line answers, by its command: the answer of the function that was called is that of the line (`opens`, `adds`, `drops`, `shows`, `unknown`).
 -- Assumes nothing.
-use mathlib.Core.Path.{_≡_, refl, sym, ap, _∙_, subst}
+use mathlib.Core.Path.{_≡_, refl, sym, ap, subst}
 use mathlib.Core.Logic.{inl, inr}
 use mathlib.Core.List.{List, [], _∷_}
 use Prim.Native.Nat.{ℕ, _≤_}
 use native.Mathlib.Omega.{arith}
-use lib.ListN.{length, take}
-use Rattle.tables.specs.Tables.{Tables, Sizes, State, sizesOf}
+use lib.ListN.{length}
+use Rattle.tables.specs.Tables.{Tables, Sizes, State}
 use Rattle.calls.specs.Calls.{adding}
 use Rattle.symbolic.specs.Grades.{limitsOf}
-use Rattle.factor.specs.Entries.{stateOf, worldOf, openingAnswer, OpenStep}
+use Rattle.factor.specs.Entries.{stateOf, openingAnswer, OpenStep}
 use Rattle.factor.specs.declared.Factor.{Factor}
 use Rattle.factor.specs.declared.Opening.{Opening}
 use Rattle.factor.specs.declared.Opening.the-variants.{Opened, Refused}
-use Rattle.changes.specs.Batches.{CanChange}
 use Rattle.continuing.proofs.Continuing.{opened-can, opened-fits, refused-number, refused-tables, refused-work}
 use Rattle.listing_text.specs.Command.{commandOf, rowsOf}
 use Rattle.listing_text.specs.Text.{noLine, Written}
 use Rattle.listing_text.specs.declared.command.Command.{Command}
-use Rattle.listing_text.specs.declared.command.Command.the-variants.{Open, Add, Drop, Show, Unknown}
-use Rattle.listing_show.specs.Showing.{answerLine, noState, shownBy, CanShowAll}
-use Rattle.listing_answers.specs.Listing.{Memory, memoryOf, Lengths, IsReady, Ready, factorAfter, openingLine, OpenAnswered, CommandAnswered, Answered, BatchAnswered, OpeningPrinted, OpenPrinted, Answers}
-use Rattle.listing_answers.specs.declared.Printed.{Printed}
+use Rattle.listing_text.specs.declared.command.Command.the-variants.{Open, Add, Show, Unknown}
+use Rattle.listing_show.specs.Showing.{shownBy, CanShowAll}
+use Rattle.listing_memory.specs.Memory.{Memory, memoryOf, Lengths, openingLine, OpeningPrinted}
+use Rattle.listing_answers.specs.Listing.{IsReady, Ready, OpenAnswered, CommandAnswered, Answered, BatchAnswered, OpenPrinted, Answers}
+use Rattle.listing_memory.specs.declared.Printed.{Printed}
 use Rattle.listing_answers.proofs.Changes.{no-answer}
 
 -- an answer to the command is one to the line

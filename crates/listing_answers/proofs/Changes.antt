@@ -4,27 +4,27 @@ use mathlib.Core.Path.{_≡_, refl, sym, ap, subst}
 use mathlib.Core.Logic.{inl, inr, _≢_}
 use mathlib.Core.Bool.{Bool}
 use mathlib.Core.List.{List}
-use Prim.Native.Nat.{ℕ, _≤_}
+use Prim.Native.Nat.{ℕ}
 use native.Mathlib.Omega.{arith}
 use lib.ListN.{length}
 use borrow.Author.Tests.{eq-eqb, ne-eqb}
 use Rattle.lists.specs.Lists.{pick}
 use Rattle.tables.specs.Tables.{Tables, State}
-use Rattle.calls.specs.Refusals.{refusal, isAccepted}
+use Rattle.calls.specs.Refusals.{refusal}
 use Rattle.calls.specs.Calls.{Change, changing, reportLists, callOf}
 use Rattle.calls.specs.Steps.{Answer, refusedBy, World, Transition}
 use Rattle.calls.proofs.Steps.{refused-step}
 use Rattle.steps.specs.Outcome.{ChangeStep}
 use Rattle.factor.specs.Entries.{stateOf, worldOf}
 use Rattle.factor.specs.declared.Factor.{Factor}
-use Rattle.changes.specs.Batches.{CanChange, changedAnswer}
-use Rattle.changes.specs.declared.Changed.{Changed}
+use Rattle.answers.specs.Answers.{CanChange, changedAnswer}
+use Rattle.answers.specs.declared.Changed.{Changed}
 use Rattle.continuing.proofs.Continuing.{change-step, change-can}
 use Rattle.listing_text.specs.Text.{okLine, noLine, Written}
 use Rattle.listing_show.specs.Showing.{answerLine, noState}
 use Rattle.listing_show.proofs.Showing.{usable-some}
-use Rattle.listing_answers.specs.Listing.{Memory, memoryOf, IsReady, BatchAnswered, Answers}
-use Rattle.listing_answers.specs.declared.Printed.{Printed}
+use Rattle.listing_memory.specs.Memory.{Memory, memoryOf}
+use Rattle.listing_answers.specs.Listing.{IsReady, BatchAnswered, Answers}
 
 -- ---- the line of an answer
 

@@ -3,15 +3,16 @@ ghost use mathlib.Core.List.{[], _∷_};
 ghost use Prim.Native.Nat.{_≤_};
 ghost use lib.ListN.{length, take};
 ghost use Rattle.calls.specs.Calls.Change.{adding, removing};
-ghost use Rattle.tables.specs.Tables.{sizesOf, tablesOf};
-ghost use Rattle.changes.specs.Batches.{changedAnswer};
+ghost use Rattle.tables.specs.Tables.{sizesOf};
+ghost use Rattle.tables.specs.Lent.{tablesIn, tablesOut};
+ghost use Rattle.answers.specs.Answers.{changedAnswer};
 ghost use Rattle.listing_text.specs.Text.{Written};
-ghost use Rattle.listing_answers.specs.Listing.{memoryOf, BatchAnswered, IsReady, OpeningPrinted, OpenPrinted, Answers};
+ghost use Rattle.listing_answers.specs.Listing.{BatchAnswered, IsReady, OpenPrinted, Answers};
+ghost use Rattle.listing_memory.specs.Lent.{memoryIn, memoryOut, memoryNow};
 ghost use Rattle.listing_show.specs.Showing.{answerLine};
-use crate::Printed;
-use changes::Changed;
+use answers::Changed;
 use factor::Factor;
-use factor::Opening;
+use listing_memory::Printed;
 use listing_text::text;
 
 // The line of a batch's answer.
@@ -23,23 +24,6 @@ fn changed_line(out: &mut [u8], x: Changed) -> usize
         return text::ok_line(out, 0, x.touched, x.entries, x.grade);
     }
     text::no_line(out, 0, x.number, x.position)
-}
-
-// The line of an opening's answer, and the factor after it: refused, the one before stays.
-fn opened_line(out: &mut [u8], factor: Factor, opened: Opening) -> Printed
-    requires { ⌜ 40 ≤ length (now out) ⌝ }
-    ensures { λ r. ⌜ OpeningPrinted factor opened (now (out .entry)) (now (out .exit)) r ⌝ }
-{
-    match opened {
-        Opening::Opened(fresh) => {
-            let end = text::ok_line(out, 0, 0, 0, 0);
-            Printed { factor: fresh, end }
-        }
-        Opening::Refused(number) => {
-            let end = text::no_line(out, 0, number, 0);
-            Printed { factor, end }
-        }
-    }
 }
 
 // Opens a factor, with the default limits of grades; refused, the one before stays.
@@ -62,7 +46,7 @@ pub fn open_line(
     c: u32,
 ) -> Printed
     requires { ⌜ 40 ≤ length (now out) ⌝ }
-    ensures { λ r. ⌜ OpenPrinted (sizesOf m n f c) (tablesOf (now (heads .entry)) (now (parents .entry)) (now (rows .entry)) (now (counts .entry)) (now (next .entry)) (now («book_heads» .entry)) (now («book_rows» .entry)) (now («book_next» .entry)) (now (windows .entry))) (now (work .entry)) factor (now (out .entry)) (tablesOf (now (heads .exit)) (now (parents .exit)) (now (rows .exit)) (now (counts .exit)) (now (next .exit)) (now («book_heads» .exit)) (now («book_rows» .exit)) (now («book_next» .exit)) (now (windows .exit))) (now (work .exit)) (now (out .exit)) r ⌝ }
+    ensures { λ r. ⌜ OpenPrinted (sizesOf m n f c) (tablesIn heads parents rows counts next «book_heads» «book_rows» «book_next» windows) (now (work .entry)) factor (now (out .entry)) (tablesOut heads parents rows counts next «book_heads» «book_rows» «book_next» windows) (now (work .exit)) (now (out .exit)) r ⌝ }
 {
     let opened = Factor::open(
         m,
@@ -83,7 +67,7 @@ pub fn open_line(
         windows,
         work,
     );
-    opened_line(out, factor, opened)
+    listing_memory::opened_line(out, factor, opened)
 }
 
 // Adds a column without a window: an id with the rows at the front of the list.
@@ -108,8 +92,8 @@ pub fn add_line(
 ) -> Printed
     requires room { ⌜ 40 ≤ length (now out) ⌝ }
     requires listed { ⌜ count ≤ length (now list) ⌝ }
-    requires usable { ⌜ IsReady (memoryOf factor (tablesOf (now heads) (now parents) (now rows) (now counts) (now next) (now «book_heads») (now «book_rows») (now «book_next») (now windows)) (now work) (now touched) (now labels)) ⌝ }
-    ensures { λ r. ⌜ Answers (BatchAnswered (memoryOf factor (tablesOf (now (heads .entry)) (now (parents .entry)) (now (rows .entry)) (now (counts .entry)) (now (next .entry)) (now («book_heads» .entry)) (now («book_rows» .entry)) (now («book_next» .entry)) (now (windows .entry))) (now (work .entry)) (now (touched .entry)) (now (labels .entry))) (adding (id ∷ []) (count ∷ []) (take count (now (list .entry))) (0 ∷ []) (0 ∷ []))) (now (out .entry)) (now (out .exit)) r (memoryOf (r .factor) (tablesOf (now (heads .entry)) (now (parents .exit)) (now (rows .exit)) (now (counts .exit)) (now (next .exit)) (now («book_heads» .exit)) (now («book_rows» .exit)) (now («book_next» .exit)) (now (windows .exit))) (now (work .exit)) (now (touched .exit)) (now (labels .exit))) ⌝ }
+    requires usable { ⌜ IsReady (memoryNow factor heads parents rows counts next «book_heads» «book_rows» «book_next» windows work touched labels) ⌝ }
+    ensures { λ r. ⌜ Answers (BatchAnswered (memoryIn factor heads parents rows counts next «book_heads» «book_rows» «book_next» windows work touched labels) (adding (id ∷ []) (count ∷ []) (take count (now (list .entry))) (0 ∷ []) (0 ∷ []))) (now (out .entry)) (now (out .exit)) r (memoryOut (r .factor) heads parents rows counts next «book_heads» «book_rows» «book_next» windows work touched labels) ⌝ }
 {
     if factor.m == 0 {
         let end = text::no_line(out, 0, 1, 0);
@@ -164,8 +148,8 @@ pub fn drop_line(
     id: u32,
 ) -> Printed
     requires room { ⌜ 40 ≤ length (now out) ⌝ }
-    requires usable { ⌜ IsReady (memoryOf factor (tablesOf (now heads) (now parents) (now rows) (now counts) (now next) (now «book_heads») (now «book_rows») (now «book_next») (now windows)) (now work) (now touched) (now labels)) ⌝ }
-    ensures { λ r. ⌜ Answers (BatchAnswered (memoryOf factor (tablesOf (now (heads .entry)) (now (parents .entry)) (now (rows .entry)) (now (counts .entry)) (now (next .entry)) (now («book_heads» .entry)) (now («book_rows» .entry)) (now («book_next» .entry)) (now (windows .entry))) (now (work .entry)) (now (touched .entry)) (now (labels .entry))) (removing (id ∷ []))) (now (out .entry)) (now (out .exit)) r (memoryOf (r .factor) (tablesOf (now (heads .entry)) (now (parents .exit)) (now (rows .exit)) (now (counts .exit)) (now (next .exit)) (now («book_heads» .exit)) (now («book_rows» .exit)) (now («book_next» .exit)) (now (windows .exit))) (now (work .exit)) (now (touched .exit)) (now (labels .exit))) ⌝ }
+    requires usable { ⌜ IsReady (memoryNow factor heads parents rows counts next «book_heads» «book_rows» «book_next» windows work touched labels) ⌝ }
+    ensures { λ r. ⌜ Answers (BatchAnswered (memoryIn factor heads parents rows counts next «book_heads» «book_rows» «book_next» windows work touched labels) (removing (id ∷ []))) (now (out .entry)) (now (out .exit)) r (memoryOut (r .factor) heads parents rows counts next «book_heads» «book_rows» «book_next» windows work touched labels) ⌝ }
 {
     if factor.m == 0 {
         let end = text::no_line(out, 0, 1, 0);

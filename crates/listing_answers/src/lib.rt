@@ -2,41 +2,15 @@
 // calls the unchecked entries, whose premise holds from an accepted opening on.
 mod changing;
 
-ghost use mathlib.Core.Path.{_≡_};
 ghost use Prim.Native.Nat.{_≤_};
 ghost use lib.ListN.{length};
-ghost use Rattle.tables.specs.Tables.{tablesOf};
-ghost use Rattle.factor.specs.Entries.{stateOf};
-ghost use Rattle.listing_answers.specs.Listing.{memoryOf, Ready, Answered, Answers};
-ghost use Rattle.listing_show.specs.Showing.{noState};
+ghost use Rattle.listing_answers.specs.Listing.{Ready, Answered, Answers};
+ghost use Rattle.listing_memory.specs.Lent.{memoryIn, memoryOut, memoryNow};
 use factor::Factor;
+use listing_memory::Printed;
 use listing_text::command;
 use listing_text::command::Command;
 use listing_text::text;
-
-// The factor after a line, and the end of the bytes written.
-pub struct Printed {
-    pub factor: Factor,
-    pub end: usize,
-}
-
-// The factor before an accepted opening: all numbers 0.
-pub fn closed() -> Factor
-    ensures { λ r. ⌜ stateOf r ≡ noState ⌝ }
-{
-    Factor {
-        m: 0,
-        n: 0,
-        f: 0,
-        c: 0,
-        free: 0,
-        book_free: 0,
-        grade2: 0,
-        grade3: 0,
-        grade4: 0,
-        clock: 0,
-    }
-}
 
 // Answers a line, without its newline: the bytes stand at the front of out.
 pub fn answer(
@@ -59,9 +33,9 @@ pub fn answer(
 ) -> Printed
     requires places { ⌜ 1000 ≤ length (now list) ⌝ }
     requires room { ⌜ 91520 ≤ length (now out) ⌝ }
-    requires ready { ⌜ Ready (memoryOf factor (tablesOf (now heads) (now parents) (now rows) (now counts) (now next) (now «book_heads») (now «book_rows») (now «book_next») (now windows)) (now work) (now touched) (now labels)) ⌝ }
-    ensures answered { λ r. ⌜ Answers (Answered (memoryOf factor (tablesOf (now (heads .entry)) (now (parents .entry)) (now (rows .entry)) (now (counts .entry)) (now (next .entry)) (now («book_heads» .entry)) (now («book_rows» .entry)) (now («book_next» .entry)) (now (windows .entry))) (now (work .entry)) (now (touched .entry)) (now (labels .entry))) (now (line .entry))) (now (out .entry)) (now (out .exit)) r (memoryOf (r .factor) (tablesOf (now (heads .exit)) (now (parents .exit)) (now (rows .exit)) (now (counts .exit)) (now (next .exit)) (now («book_heads» .exit)) (now («book_rows» .exit)) (now («book_next» .exit)) (now (windows .exit))) (now (work .exit)) (now (touched .exit)) (now (labels .exit))) ⌝ }
-    ensures ready { λ r. ⌜ Ready (memoryOf (r .factor) (tablesOf (now (heads .exit)) (now (parents .exit)) (now (rows .exit)) (now (counts .exit)) (now (next .exit)) (now («book_heads» .exit)) (now («book_rows» .exit)) (now («book_next» .exit)) (now (windows .exit))) (now (work .exit)) (now (touched .exit)) (now (labels .exit))) ⌝ }
+    requires ready { ⌜ Ready (memoryNow factor heads parents rows counts next «book_heads» «book_rows» «book_next» windows work touched labels) ⌝ }
+    ensures answered { λ r. ⌜ Answers (Answered (memoryIn factor heads parents rows counts next «book_heads» «book_rows» «book_next» windows work touched labels) (now (line .entry))) (now (out .entry)) (now (out .exit)) r (memoryOut (r .factor) heads parents rows counts next «book_heads» «book_rows» «book_next» windows work touched labels) ⌝ }
+    ensures ready { λ r. ⌜ Ready (memoryOut (r .factor) heads parents rows counts next «book_heads» «book_rows» «book_next» windows work touched labels) ⌝ }
 {
     let asked = command::parse(line, list);
     match asked {

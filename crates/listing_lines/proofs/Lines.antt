@@ -147,17 +147,5 @@ unfolding beforeNewline hasNewline
 passed-most [] = omega arith
 passed-most (b ∷ bs) = elim (cases (eqb b 10)) [ inl e ↦ rw e (omega arith) | inr e ↦ rw e (omega (arith, passed-most bs)) ]
 
-passed-some : (bs : List ℕ) → 0 < length bs → 1 ≤ length (beforeNewline bs) + one (hasNewline bs)
-unfolding beforeNewline hasNewline
-passed-some [] h = absurd (omega arith)
-passed-some (b ∷ bs) h = elim (cases (eqb b 10)) [ inl e ↦ rw e (omega arith) | inr e ↦ rw e (omega arith) ]
-
-module _ {piece line₀ : List ℕ} {place filled : ℕ} {line : List ℕ} {r : Taken} (g : Grown piece line₀ place filled line r) (h : place < length piece) where
-  pub grown-within : r .place ≤ length piece
-  grown-within =
-      omega (arith, g .place-is, ap one (g .ended-is), passed-most (drop place piece), length-drop place piece)
-
-  pub grown-moves : place < r .place
-  grown-moves =
-      let d : 0 < length (drop place piece) = omega (arith, length-drop place piece) in
-      omega (arith, g .place-is, ap one (g .ended-is), passed-some (drop place piece) d)
+pub grown-within : {piece line₀ : List ℕ} {place filled : ℕ} {line : List ℕ} {r : Taken} → Grown piece line₀ place filled line r → place ≤ length piece → r .place ≤ length piece
+grown-within {piece} {place = place} g h = omega (arith, g .place-is, ap one (g .ended-is), passed-most (drop place piece), length-drop place piece)

@@ -1,5 +1,5 @@
 -- A line that grows piece by piece. What it has so far stands at the front of a list; what is added are the bytes before the piece's first newline (10), and
--- no more than the list has places. Laws: proofs/Lines.antt. Assumes nothing: these are definitions.
+-- no more than the list has places. Then the lines of a whole text. Laws: proofs/Lines.antt and proofs/Texts.antt. Assumes nothing: these are definitions.
 use mathlib.Core.Path.{_≡_}
 use mathlib.Core.Bool.{Bool, true, false}
 use mathlib.Core.List.{List, [], _∷_, _++_}
@@ -30,3 +30,19 @@ pub record Grown (piece line₀ : List ℕ) (place filled : ℕ) (line : List �
   pub fits : r .length ≤ length line₀
   pub ended-is : r .ended ≡ hasNewline (drop place piece)
   pub place-is : r .place ≡ place + length (beforeNewline (drop place piece)) + one (r .ended)
+
+-- ---- the lines of a text
+
+-- the line after the last newline, if it is not empty
+abbrev pub lastLine : (held : List ℕ) → List (List ℕ)
+lastLine [] = []
+lastLine (b ∷ bs) = (b ∷ bs) ∷ []
+
+-- "A newline ends a line": the lines of a text, the first of them with the bytes held before it
+unfoldable pub linesFrom : (held text : List ℕ) → List (List ℕ)
+linesFrom h [] = lastLine h
+linesFrom h (b ∷ bs) = pick (eqb b 10) (h ∷ linesFrom [] bs) (linesFrom (h ++ (b ∷ [])) bs)
+
+-- all lines of a text: the last may lack its newline
+abbrev pub linesOf : (text : List ℕ) → List (List ℕ)
+linesOf t = linesFrom [] t

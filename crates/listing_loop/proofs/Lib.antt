@@ -1,2 +1,3 @@
-pub mod Keeping
+pub mod Cutting
+pub mod Behind
 pub mod Running

@@ -1,172 +1,191 @@
--- The listing program step by step: a piece answered as far as a place, with bytes that wait (`Underway`); pieces one after another; the last line. Assumes
--- nothing.
+-- The listing program line by line: the next line is found (`Found`), answered behind what waits (`Given`), and the next one is found; where there is none, all lines are
+-- answered. Assumes nothing.
 use mathlib.Core.Path.{_≡_, refl, sym, ap, subst, _∙_}
-use mathlib.Core.Logic.{inl, inr}
+use mathlib.Core.Bool.{Bool, true, false}
 use mathlib.Core.List.{List, [], _∷_, _++_, append-assoc, append-nil}
-use Prim.Native.Nat.{ℕ, _+_, _-_, _≤_, _<_}
+use Prim.Native.Nat.{ℕ, _+_, _-_, _≤_}
 use native.Mathlib.Omega.{arith}
-use lib.ListN.{length, take, drop, length-append}
-use lib.Seq.{length-take-le, take-all}
-use Rattle.lists.proofs.Tests.{lt-or-le}
+use lib.ListN.{length, take, drop}
+use lib.Seq.{length-take-le}
+use borrow.Rule.Slice.PartMut.{putMid, same-len-mid}
+use Rattle.lists.specs.Lists.{pick}
 use Rattle.listing_text.specs.Text.{Written}
+use Rattle.listing_lines.specs.Lines.{linesFrom, linesOf}
 use Rattle.listing_show.specs.Showing.{noState}
-use Rattle.listing_answers.specs.Listing.{Memory}
-use Rattle.listing_output.specs.Collecting.{endedLines, heldAfter, AnsweredInTurn, Holds, TextAnswered, LineCollected, Collected}
-use Rattle.listing_output.proofs.Collecting.{turn-joins, one-turn, text-none, text-joins, text-more, text-all, held-answered, waits-more}
-use Rattle.streams.specs.Passing.{Passed, Read, Wrote, Issued, Flushed}
+use Rattle.listing_memory.specs.Memory.{Memory, Lengths}
+use Rattle.listing_memory.specs.declared.Printed.{Printed}
+use Rattle.listing_answers.specs.Listing.{Ready, Answered, Answers}
+use Rattle.streams.specs.Passing.{Passed, Finished, Issued}
 use Rattle.streams.specs.declared.Streams.{Streams}
-use Rattle.streams.specs.declared.Reading.{Reading}
-use Rattle.streams.specs.declared.Waiting.{Waiting}
-use Rattle.streams.proofs.Passing.{issued-written, issued-none, issued-more}
-use Rattle.listing_loop.specs.Running.{lastLine, linesOf, PieceAnswered, InputAnswered, AllAnswered, Listed}
+use Rattle.streams.proofs.Passing.{issued-none, issued-more}
+use Rattle.listing_input.specs.Input.{leftOf, CanCome, Holds, Between, NextLine}
+use Rattle.listing_input.specs.declared.Input.{Input}
+use Rattle.listing_loop.specs.Running.{AnsweredInTurn, AllAnswered, Listed}
+use Rattle.listing_loop.proofs.Cutting.{cut-answered}
+use Rattle.listing_loop.proofs.Behind.{waits-more, part-room, answer-within, written-behind}
 
--- ---- one piece
+-- ---- lines in turn
 
--- a piece is answered as far as a place; the answers are written or wait
-pub record Underway (piece list₀ : List ℕ) (filled₀ : ℕ) (s₀ : Streams) (u : Memory) (place : ℕ) (list : List ℕ) (filled : ℕ) (out : List ℕ) (waiting : ℕ) (s : Streams) (v : Memory) : Type 0 where
+turn-joins : (ls ms : List (List ℕ)) (u v w : Memory) (bs cs : List ℕ) → AnsweredInTurn ls u bs v → AnsweredInTurn ms v cs w → AnsweredInTurn (ls ++ ms) u (bs ++ cs) w
+unfolding AnsweredInTurn
+turn-joins [] ms u v w bs cs a b =
+    subst (λ (x : List ℕ). AnsweredInTurn ms u (x ++ cs) w) (sym (a .0)) (subst (λ (x : Memory). AnsweredInTurn ms x cs w) (sym (a .1)) b)
+turn-joins (l ∷ ls) ms u v w bs cs (x, (first, (rest, (e, (p, q))))) b = (
+  x,
+  (first, (rest ++ cs, (ap (λ (z : List ℕ). z ++ cs) e ∙ append-assoc first rest cs, (p, turn-joins ls ms x v w rest cs q b)))),
+)
+
+one-turn : (u v : Memory) (bs l : List ℕ) → Answered u l bs v → AnsweredInTurn (l ∷ []) u bs v
+unfolding AnsweredInTurn
+one-turn u v bs l a = (v, (bs, ([], (sym (append-nil bs), (a, (refl, refl))))))
+
+no-turn : (u : Memory) → AnsweredInTurn [] u [] u
+unfolding AnsweredInTurn
+no-turn u = (refl, refl)
+
+no-lines : linesOf [] ≡ []
+unfolding linesFrom
+no-lines = refl
+
+-- a line that is held is answered as the whole line is
+held-answered : (u v : Memory) (xs line bytes : List ℕ) → xs ≡ take 2000 line → Answered u xs bytes v → Answered u line bytes v
+held-answered u v xs line bs e a = subst (λ (A : Type 0). A) (cut-answered u line bs v) (subst (λ (l : List ℕ). Answered u l bs v) e a)
+
+-- ---- what the loop keeps
+
+-- beside what is answered: the state between lines, and the lengths of the lists beside it
+pub record Keeping (u : Memory) (list₀ out₀ list out line piece : List ℕ) : Type 0 where
+  pub ready : Ready u
+  pub list-long : length list ≡ length list₀
+  pub out-long : length out ≡ length out₀
+  pub line-long : length line ≡ 2000
+  pub piece-long : length piece ≡ 4096
+
+-- the lines so far are answered, by bytes that are written or wait; the others are those of what is left and what comes
+pub record Given (u : Memory) (x : Input) (added : ℕ) (piece out : List ℕ) (v : Memory) : Type 0 where
+  pub text : List ℕ
+  pub lines : List (List ℕ)
   pub bytes : List ℕ
-  pub within : place ≤ length piece
-  pub room : waiting ≤ length out
-  pub answered : TextAnswered (take place piece) list₀ filled₀ u bytes list filled v
-  pub issued : (i o : List ℕ) → Passed s₀ i o → Issued s out waiting i (o ++ bytes)
+  pub issued : Issued (x .streams) out (x .waiting + added) text bytes
+  pub answered : AnsweredInTurn lines u bytes v
+  pub to-come : (more : List ℕ) → CanCome (x .streams) more → linesOf (text ++ more) ≡ lines ++ linesOf (leftOf piece x ++ more)
 
-pub underway-start : (piece list : List ℕ) (filled : ℕ) (out : List ℕ) (s : Streams) (u : Memory) → Underway piece list filled s u 0 list filled out 0 s u
-underway-start piece list n out s u =
+-- and the next line is found, or there is none
+pub record Found (u : Memory) (piece line out : List ℕ) (x : Input) (v : Memory) : Type 0 where
+  pub text : List ℕ
+  pub lines : List (List ℕ)
+  pub bytes : List ℕ
+  pub next : List ℕ
+  pub issued : Issued (x .streams) out (x .waiting) text bytes
+  pub answered : AnsweredInTurn lines u bytes v
+  pub to-come : (more : List ℕ) → CanCome (x .streams) more → linesOf (text ++ more) ≡ lines ++ (pick (x .found) (next ∷ []) [] ++ linesOf (leftOf piece x ++ more))
+  pub held : Holds line (x .filled) next
+  pub none : x .found ≡ false → Finished (x .streams) × ((x .waiting ≡ 0) × (leftOf piece x ≡ []))
+  pub within : x .place ≤ x .count
+  pub fits : x .count ≤ length piece
+  pub cut : x .filled ≤ 2000
+  pub room : x .waiting + 91520 ≤ length out
+
+-- nothing is read yet
+pub given-start : {s : Streams} → Passed s [] [] → (piece out : List ℕ) (u : Memory) →
+    Given u (record { streams = s; place = 0; count = 0; waiting = 0; filled = 0; found = false }) 0 piece out u
+given-start p piece out u =
+    record { text = []; lines = []; bytes = []; issued = issued-none p; answered = no-turn u; to-come = λ more c. refl }
+
+-- a line is found
+pub given-next : {u v : Memory} {x₀ x : Input} {added : ℕ} {piece₀ piece line out : List ℕ} → Given u x₀ added piece₀ out v → NextLine piece₀ out x₀ added piece line x →
+    Found u piece line out x v
+given-next g n =
     record {
-      bytes = [];
-      within = omega arith;
-      room = omega arith;
-      answered = text-none list n u;
-      issued = λ i o p. issued-none (subst (λ (x : List ℕ). Passed s i x) (sym (append-nil o)) p);
+      text = g .text ++ n .got;
+      lines = g .lines;
+      bytes = g .bytes;
+      next = n .bytes;
+      issued = n .issued (g .text) (g .bytes) (g .issued);
+      answered = g .answered;
+      to-come = λ more c.
+          ap linesOf (append-assoc (g .text) (n .got) more) ∙ g .to-come (n .got ++ more) (n .later more c) ∙ ap (λ (ls : List (List ℕ)). g .lines ++ ls) (n .first more c);
+      held = n .held;
+      none = n .none;
+      within = n .within;
+      fits = n .fits;
+      cut = n .cut;
+      room = n .room;
     }
 
--- bytes written behind others lie within the list
-written-within : {out₀ out bs : List ℕ} {waiting₀ waiting : ℕ} → waiting₀ ≤ length out₀ → Written out₀ waiting₀ bs out waiting → waiting ≤ length out
-written-within {out₀} {out} {bs} {waiting₀ = k} h w =
-    omega (arith, w .next-is, ap length (w .out-is), length-append (take k out₀) (bs ++ drop (k + length bs) out₀), length-append bs (drop (k + length bs) out₀), length-take-le k out₀ h)
+module _ {u : Memory} {piece line out : List ℕ} {x : Input} {v : Memory} (f : Found u piece line out x v) where
+  -- the line is one that its list holds
+  pub found-fits : length line ≡ 2000 → x .filled ≤ length line
+  found-fits e = omega (arith, f .cut)
 
-module _ {piece list₀ : List ℕ} {filled₀ : ℕ} {s₀ : Streams} {u : Memory} {place : ℕ} {list : List ℕ} {filled : ℕ} {out : List ℕ} {waiting : ℕ} {s : Streams} {v : Memory} (a : Underway piece list₀ filled₀ s₀ u place list filled out waiting s v) where
-  pub underway-waits : waiting ≡ length (take waiting out)
-  underway-waits = sym (length-take-le waiting out (a .room))
+  pub found-long : length line ≡ 2000 → x .filled ≡ length (take (x .filled) line)
+  found-long e = sym (length-take-le (x .filled) line (found-fits e))
 
-  -- room is made, and a line or a part of one is answered
-  pub underway-next : {r : Waiting} {needed next : ℕ} {list′ : List ℕ} {filled′ : ℕ} {out′ : List ℕ} {waiting′ : ℕ} {w : Memory} → Flushed s out waiting needed r → place ≤ next → next ≤ length piece →
-      Collected (take (next - place) (drop place piece)) list filled out (r .count) v list′ filled′ out′ waiting′ w →
-      Underway piece list₀ filled₀ s₀ u next list′ filled′ out′ waiting′ (r .streams) w
-  underway-next {r} {next = next} {out′ = out′} {waiting′ = waiting′} f h m b =
-      let k : r .count ≤ length out = omega (arith, f .room) in
+  -- what waits lies within the list
+  pub found-waits : x .waiting ≤ length out
+  found-waits = omega (arith, f .room)
+
+  -- there is room for an answer behind it
+  pub found-room : 91520 ≤ length (take (length out - x .waiting) (drop (x .waiting) out))
+  found-room = part-room out (x .waiting) 91520 (f .room)
+
+  -- an answer put there leaves the list as long
+  pub found-same : (part : List ℕ) → length part ≡ length (take (length out - x .waiting) (drop (x .waiting) out)) → length (putMid (x .waiting) (length out - x .waiting) out part) ≡ length out
+  found-same part e = same-len-mid (x .waiting) (length out - x .waiting) out part e
+
+  -- it is answered behind what waits
+  pub found-given : {part : List ℕ} {y : Printed} {w : Memory} → x .found ≡ true →
+      Answers (Answered v (take (x .filled) line)) (take (length out - x .waiting) (drop (x .waiting) out)) part y w →
+      Given u x (y .end) piece (putMid (x .waiting) (length out - x .waiting) out part) w
+  found-given {part} {y} {w} e a =
+      let written : Written out (x .waiting) (a .bytes) (putMid (x .waiting) (length out - x .waiting) out part) (x .waiting + y .end) =
+      written-behind out part (a .bytes) (x .waiting) (y .end) found-waits (a .written) in
       record {
-        bytes = a .bytes ++ b .bytes;
-        within = m;
-        room = written-within k (b .written);
-        answered = text-more piece place next h (a .answered) (b .answered);
-        issued = λ i o p.
-            subst (λ (x : List ℕ). Issued (r .streams) out′ waiting′ i x) (append-assoc o (a .bytes) (b .bytes))
-            (issued-more (b .bytes) (waits-more k (b .written)) (f .issued i (o ++ a .bytes) (a .issued i o p)));
+        text = f .text;
+        lines = f .lines ++ (f .next ∷ []);
+        bytes = f .bytes ++ a .bytes;
+        issued = issued-more (a .bytes) (waits-more found-waits written) (f .issued);
+        answered = turn-joins (f .lines) (f .next ∷ []) u v w (f .bytes) (a .bytes) (f .answered)
+            (one-turn v w (a .bytes) (f .next) (held-answered v w (take (x .filled) line) (f .next) (a .bytes) (f .held) (a .says)));
+        to-come = λ more c.
+            f .to-come more c ∙ ap (λ (b : Bool). f .lines ++ (pick b (f .next ∷ []) [] ++ linesOf (leftOf piece x ++ more))) e ∙
+            sym (append-assoc (f .lines) (f .next ∷ []) (linesOf (leftOf piece x ++ more)));
       }
 
-  -- the piece ends, and what waits is written
-  pub underway-end : (r : Streams) → length piece ≤ place → Wrote s (take waiting out) r → PieceAnswered piece list₀ filled₀ s₀ u list filled r v
-  underway-end r h w =
-      record { bytes = a .bytes; answered = text-all place h (a .answered); wrote = λ i o p. issued-written r w (a .issued i o p) }
-
--- ---- piece by piece
-
-pub input-none : (list : List ℕ) (s : Streams) (u : Memory) → InputAnswered list s u list 0 s u
-input-none list s u =
-    record {
-      text = [];
-      bytes = [];
-      answered = text-none list 0 u;
-      passed = λ i o p. subst (λ (x : List ℕ). Passed s x (o ++ [])) (sym (append-nil i)) (subst (λ (x : List ℕ). Passed s i x) (sym (append-nil o)) p);
-    }
-
-module _ {list₀ : List ℕ} {s₀ : Streams} {u : Memory} {list : List ℕ} {filled : ℕ} {s : Streams} {v : Memory} (a : InputAnswered list₀ s₀ u list filled s v) {piece : List ℕ} {got : Reading} (g : Read s piece got) where
-  -- the input ends
-  pub input-end : got .count ≡ 0 → InputAnswered list₀ s₀ u list filled (got .streams) v
-  input-end e =
+  -- and the next one may be found
+  pub found-between : {part : List ℕ} {y : Printed} {w : Memory} {line′ : List ℕ} → Answers (Answered v (take (x .filled) line)) (take (length out - x .waiting) (drop (x .waiting) out)) part y w →
+      length part ≡ length (take (length out - x .waiting) (drop (x .waiting) out)) → length piece ≡ 4096 → length line′ ≡ 2000 →
+      Between piece line′ (putMid (x .waiting) (length out - x .waiting) out part) x (y .end)
+  found-between {part} {y} a e p l =
+      let long : length (putMid (x .waiting) (length out - x .waiting) out part) ≡ length out = found-same part e in
       record {
-        text = a .text;
-        bytes = a .bytes;
-        answered = a .answered;
-        passed = λ i o p.
-            subst (λ (x : List ℕ). Passed (got .streams) x (o ++ a .bytes)) (ap (λ (n : ℕ). (i ++ a .text) ++ take n piece) e ∙ append-nil (i ++ a .text))
-            (g .passed (i ++ a .text) (o ++ a .bytes) (a .passed i o p));
+        within = f .within;
+        fits = f .fits;
+        waits = omega (arith, answer-within out (x .waiting) found-waits e a);
+        room = omega (arith, f .room);
+        piece-long = p;
+        line-long = l;
       }
 
-  -- a piece is read and answered
-  pub input-more : {list′ : List ℕ} {filled′ : ℕ} {r : Streams} {w : Memory} → PieceAnswered (take (got .count) piece) list filled (got .streams) v list′ filled′ r w → InputAnswered list₀ s₀ u list′ filled′ r w
-  input-more {r = r} b =
+  -- there is none: all lines are answered, and the answers written
+  pub found-end : x .found ≡ false → AllAnswered u (x .streams)
+  found-end e =
+      let o = f .none e in
+      let i : Issued (x .streams) out 0 (f .text) (f .bytes) = subst (λ (n : ℕ). Issued (x .streams) out n (f .text) (f .bytes)) (o .1 .0) (f .issued) in
+      let last : f .lines ++ (pick (x .found) (f .next ∷ []) [] ++ linesOf (leftOf piece x ++ [])) ≡ f .lines =
+      ap (λ (b : Bool). f .lines ++ (pick b (f .next ∷ []) [] ++ linesOf (leftOf piece x ++ []))) e ∙ ap (λ (l : List ℕ). f .lines ++ linesOf (l ++ [])) (o .1 .1) ∙
+      ap (λ (ls : List (List ℕ)). f .lines ++ ls) no-lines ∙ append-nil (f .lines) in
+      let all : linesOf (f .text) ≡ f .lines = ap linesOf (sym (append-nil (f .text))) ∙ f .to-come [] (λ h. refl) ∙ last in
       record {
-        text = a .text ++ take (got .count) piece;
-        bytes = a .bytes ++ b .bytes;
-        answered = text-joins (a .answered) (b .answered);
-        passed = λ i o p.
-            subst (λ (x : List ℕ). Passed r x (o ++ (a .bytes ++ b .bytes))) (append-assoc i (a .text) (take (got .count) piece))
-            (subst (λ (x : List ℕ). Passed r ((i ++ a .text) ++ take (got .count) piece) x) (append-assoc o (a .bytes) (b .bytes))
-            (b .wrote ((i ++ a .text) ++ take (got .count) piece) (o ++ a .bytes) (g .passed (i ++ a .text) (o ++ a .bytes) (a .passed i o p))));
-      }
-
--- ---- the last line
-
--- its answer lies within the list
-pub line-within : {u v : Memory} {line out₀ out : List ℕ} {k n : ℕ} → k ≤ length out₀ → LineCollected u line out₀ k out n v → n ≤ length out
-line-within h a = written-within h (a .written)
-
-no-length : (h : List ℕ) → length h ≡ 0 → lastLine h ≡ []
-no-length [] e = refl
-no-length (b ∷ h) e = absurd (omega arith)
-
-some-length : (h : List ℕ) → 0 < length h → lastLine h ≡ h ∷ []
-some-length [] e = absurd (omega arith)
-some-length (b ∷ h) e = refl
-
--- a cut line is empty just if the line is
-cut-none : (h : List ℕ) → length (take 2000 h) ≡ 0 → length h ≡ 0
-cut-none h e = elim (lt-or-le (length h) 2000) [ inl l ↦ sym (ap length (take-all 2000 h (omega arith))) ∙ e | inr l ↦ absurd (omega (arith, length-take-le 2000 h l)) ]
-
-cut-some : (h : List ℕ) → 0 < length (take 2000 h) → 0 < length h
-cut-some [] e = absurd (omega arith)
-cut-some (b ∷ h) e = omega arith
-
-module _ {list₀ : List ℕ} {s₀ : Streams} {u : Memory} {list : List ℕ} {filled : ℕ} {s : Streams} {v : Memory} (fresh : Passed s₀ [] []) (a : InputAnswered list₀ s₀ u list filled s v) where
-  -- what is held at the end
-  abbrev left : List ℕ
-  left = heldAfter [] (a .text)
-
-  left-held : take filled list ≡ take 2000 left
-  left-held = a .answered .held [] refl
-
-  ended : AnsweredInTurn (endedLines [] (a .text)) u (a .bytes) v
-  ended = a .answered .answered [] refl
-
-  -- none
-  pub all-ended : filled ≡ 0 → AllAnswered u s
-  all-ended e =
-      let n : lastLine left ≡ [] = no-length left (cut-none left (ap length (sym left-held ∙ ap (λ (k : ℕ). take k list) e))) in
-      record {
-        text = a .text;
-        bytes = a .bytes;
+        text = f .text;
+        bytes = f .bytes;
         last = v;
-        passed = a .passed [] [] fresh;
-        answered = subst (λ (ls : List (List ℕ)). AnsweredInTurn ls u (a .bytes) v) (sym (ap (λ (ls : List (List ℕ)). endedLines [] (a .text) ++ ls) n ∙ append-nil (endedLines [] (a .text)))) ended;
-      }
-
-  -- it is answered, and the answer is written
-  pub all-last : {out₀ out : List ℕ} {waiting : ℕ} {w : Memory} (r : Streams) → 0 < filled → filled ≤ length list → LineCollected v (take filled list) out₀ 0 out waiting w → Wrote s (take waiting out) r → AllAnswered u r
-  all-last {out₀ = out₀} {out = out} {w = w} r h m b wrote =
-      let some : 0 < length left = cut-some left (omega (arith, ap length left-held, length-take-le filled list m)) in
-      let ls : linesOf (a .text) ≡ endedLines [] (a .text) ++ (left ∷ []) = ap (λ (x : List (List ℕ)). endedLines [] (a .text) ++ x) (some-length left some) in
-      record {
-        text = a .text;
-        bytes = a .bytes ++ b .bytes;
-        last = w;
-        passed = subst (λ (x : List ℕ). Passed r (a .text) (a .bytes ++ x)) (waits-more {out₀ = out₀} (omega arith) (b .written)) (wrote (a .text) (a .bytes) (a .passed [] [] fresh));
-        answered = subst (λ (x : List (List ℕ)). AnsweredInTurn x u (a .bytes ++ b .bytes) w) (sym ls)
-            (turn-joins (endedLines [] (a .text)) (left ∷ []) u v w (a .bytes) (b .bytes) ended (one-turn v w (b .bytes) left (held-answered left b left-held)));
+        finished = o .0;
+        passed = subst (λ (l : List ℕ). Passed (x .streams) (f .text) l) (sym (i .all ∙ append-nil (i .sent))) (i .passed);
+        answered = subst (λ (ls : List (List ℕ)). AnsweredInTurn ls u (f .bytes) v) (sym all) (f .answered);
       }
 
 -- ---- the whole program
 
-pub listed : {u : Memory} {r : Streams} → AllAnswered u r → u .world .state ≡ noState → Listed r
-listed {u} a e = record { first = u; closed = e; all = a }
+pub listed : {u : Memory} {r : Streams} → AllAnswered u r → Lengths u → u .world .state ≡ noState → Listed r
+listed {u} a l e = record { first = u; lengths = l; closed = e; all = a }

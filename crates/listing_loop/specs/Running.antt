@@ -1,46 +1,33 @@
--- The listing program as a whole: pieces that are read, answered and written, and the last line. What the reads gave and what the writes were handed is `Passed` of
--- crates/streams. Laws: proofs/Running.antt. Assumes nothing: these are definitions.
+-- The listing program as a whole: lines answered in turn, by bytes in order. What the reads gave and what the writes were handed is `Passed` of crates/streams, which lines
+-- a text has `linesOf` of crates/listing_lines. Laws: proofs/Running.antt. Assumes nothing: these are definitions.
 use mathlib.Core.Path.{_≡_}
 use mathlib.Core.List.{List, [], _∷_, _++_}
 use Prim.Native.Nat.{ℕ}
+use Rattle.listing_lines.specs.Lines.{linesOf}
 use Rattle.listing_show.specs.Showing.{noState}
-use Rattle.listing_answers.specs.Listing.{Memory}
-use Rattle.listing_output.specs.Collecting.{endedLines, heldAfter, AnsweredInTurn, TextAnswered}
-use Rattle.streams.specs.Passing.{Passed, Wrote}
+use Rattle.listing_memory.specs.Memory.{Memory, Lengths}
+use Rattle.listing_answers.specs.Listing.{Answered}
+use Rattle.streams.specs.Passing.{Passed, Finished}
 use Rattle.streams.specs.declared.Streams.{Streams}
 
--- the line after the last newline, if it is not empty
-abbrev pub lastLine : (held : List ℕ) → List (List ℕ)
-lastLine [] = []
-lastLine (b ∷ bs) = (b ∷ bs) ∷ []
+-- lines answered one after another, each in the memory that the line before it left, by these bytes in order
+unfoldable pub AnsweredInTurn : List (List ℕ) → Memory → (bytes : List ℕ) → Memory → Type 0
+AnsweredInTurn [] u bs v = (bs ≡ []) × (u ≡ v)
+AnsweredInTurn (l ∷ ls) u bs v =
+    (w : Memory) × ((first : List ℕ) × ((rest : List ℕ) × ((bs ≡ first ++ rest) × (Answered u l first w × AnsweredInTurn ls w rest v))))
 
--- all lines of a text: those that a newline ends, then the last
-abbrev pub linesOf : (text : List ℕ) → List (List ℕ)
-linesOf t = endedLines [] t ++ lastLine (heldAfter [] t)
-
--- a piece is answered, and the answers are written
-pub record PieceAnswered (piece list₀ : List ℕ) (filled₀ : ℕ) (s : Streams) (u : Memory) (list : List ℕ) (filled : ℕ) (r : Streams) (v : Memory) : Type 0 where
-  pub bytes : List ℕ
-  pub answered : TextAnswered piece list₀ filled₀ u bytes list filled v
-  pub wrote : Wrote s bytes r
-
--- some text is read, piece by piece, from no held line on; its answers are written
-pub record InputAnswered (list₀ : List ℕ) (s : Streams) (u : Memory) (list : List ℕ) (filled : ℕ) (r : Streams) (v : Memory) : Type 0 where
-  pub text : List ℕ
-  pub bytes : List ℕ
-  pub answered : TextAnswered text list₀ 0 u bytes list filled v
-  pub passed : (i o : List ℕ) → Passed s i o → Passed r (i ++ text) (o ++ bytes)
-
--- all lines that the reads gave are answered in turn, and the writes were handed the answers
+-- no read gives any more; all lines that the reads gave are answered in turn, and the writes were handed the answers
 pub record AllAnswered (u : Memory) (r : Streams) : Type 0 where
   pub text : List ℕ
   pub bytes : List ℕ
   pub last : Memory
+  pub finished : Finished r
   pub passed : Passed r text bytes
   pub answered : AnsweredInTurn (linesOf text) u bytes last
 
--- THE PROMISE OF THE PROGRAM: so it is from a memory in which no factor is open
+-- THE PROMISE OF THE PROGRAM: so it is from a memory in which no factor is open, with the tables of document 01
 pub record Listed (r : Streams) : Type 0 where
   pub first : Memory
+  pub lengths : Lengths first
   pub closed : first .world .state ≡ noState
   pub all : AllAnswered first r

@@ -1,25 +1,20 @@
 -- Lines written one after another: the pairs of a column (`Pairing`), the line of a column from its parts (`line-whole`), the lines of columns 1 to j (`Lines`).
 -- Assumes nothing.
 use mathlib.Core.Path.{_≡_, refl, sym, ap, _∙_, subst}
-use mathlib.Core.Logic.{_⊎_, inl, inr}
-use mathlib.Core.Bool.{Bool, true, false}
-use mathlib.Core.List.{List, [], _∷_, _++_, append-assoc}
-use Prim.Native.Nat.{ℕ, zero, suc, _+_, _*_, _^_, _≤_, _<_}
+use mathlib.Core.Logic.{inl, inr}
+use mathlib.Core.List.{List, [], _++_}
+use Prim.Native.Nat.{ℕ, _+_, _*_, _^_, _≤_, _<_}
 use native.Mathlib.Omega.{arith}
 use native.Mathlib.Numerals.{add-one}
 use lib.ListN.{length, getD, take, drop, take-append-drop}
-use Rattle.lists.specs.Lists.{pick}
 use Rattle.symbolic.specs.Columns.{Register}
-use Rattle.symbolic.specs.Factor.{factorFor, parentOf}
 use Rattle.tables.specs.Tables.{Tables, State, registerOf}
-use Rattle.calls.specs.Refusals.{accepted, isAccepted, bounds, sizesRefusal}
-use Rattle.calls.specs.Questions.{columnList}
-use Rattle.calls.specs.Steps.{refusedBy, World}
-use Rattle.calls.proofs.Refusals.{InRange, sizes-facts}
-use Rattle.factor.specs.Admission.{Usable}
+use Rattle.calls.specs.Refusals.{isAccepted}
+use Rattle.calls.proofs.Refusals.{sizes-facts}
+use Rattle.admission.specs.Admission.{Usable}
 use Rattle.listing_text.specs.Text.{newline, okLine, noLine, showHead, showPair, showPairs, showLine, Room, Written}
 use Rattle.listing_text.proofs.Printing.{written-join, pairs-push, ok-room, no-room, head-room, pair-room}
-use Rattle.listing_show.specs.Showing.{answerLine, shownLine, shownTo, shownBy, noState, PairsRoom, PairsWritten, CanShowAll, LineWritten}
+use Rattle.listing_show.specs.Showing.{shownLine, shownTo, shownBy, noState, PairsRoom, PairsWritten, CanShowAll, LineWritten}
 
 -- nothing is written
 pub written-none : (out : List ℕ) (at : ℕ) → at ≤ length out → Written out at [] out at

@@ -15,7 +15,7 @@ use Rattle.tables.specs.Tables.{Tables, State, registerOf, sizesOf}
 use Rattle.calls.specs.Refusals.{isAccepted, bounds, sizesRefusal}
 use Rattle.calls.specs.Questions.{columnList}
 use Rattle.calls.specs.Steps.{Answer, refusedBy, World}
-use Rattle.factor.specs.Admission.{Usable}
+use Rattle.admission.specs.Admission.{Usable}
 use Rattle.listing_text.specs.Text.{okLine, noLine, showPairs, showLine, Written}
 
 -- ---- what it prints

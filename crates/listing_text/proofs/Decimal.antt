@@ -94,9 +94,6 @@ reads (suc k) n h =
           )
     ]
 
-pub decimal-value : (n : ℕ) → valueOf (decimal n) ≡ n
-decimal-value n = reads (suc n) n (omega arith) .0
-
 pub decimal-number : (n : ℕ) → n < 2 ^ 32 → isNumber (decimal n) ≡ true
 unfolding isNumber
 decimal-number n h =

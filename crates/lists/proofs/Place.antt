@@ -7,8 +7,8 @@ use mathlib.Core.List.{List, [], _∷_, _++_, append-assoc}
 use Prim.Native.Nat.{ℕ, zero, suc, _+_, _-_, _≤_, _<_}
 use native.Mathlib.Omega.{arith}
 use native.Mathlib.Numerals.{add-one}
-use lib.ListN.{length, getD, take, drop, set, length-append, length-drop, length-set, replicate, length-replicate, getD-replicate}
-use lib.Seq.{getD-set-same, getD-set-other, set-getD, drop-cons, set-at, take-suc, getD-append-add}
+use lib.ListN.{length, getD, drop, set, length-append, length-drop, length-set, replicate, length-replicate, getD-replicate}
+use lib.Seq.{getD-set-same, getD-set-other, set-getD, drop-cons, set-at, getD-append-add}
 use borrow.Author.Tests.{eq-eqb}
 use Rattle.lists.specs.Lists.{Mem, first, later, allZero, times, at, put, valuesAt, over}
 use Rattle.lists.proofs.Tests.{both-and}
@@ -72,11 +72,6 @@ unfolding valuesAt
 values-frame xs ys [] same = refl
 values-frame xs ys (r ∷ rs) same =
     rw (same r (omega (arith, times-self r rs)), values-frame xs ys rs (λ x q. same x (omega (arith, times-cons x r rs)))) refl
-
--- one value more, of a list whose first k are there
-pub values-more : (xs rs : List ℕ) (q : ℕ) (ps : List ℕ) (k : ℕ) → valuesAt xs rs ≡ take k ps → at xs q ≡ getD ps k 0 → k < length ps → valuesAt xs (rs ++ (q ∷ [])) ≡ take (k + 1) ps
-values-more xs rs q ps k e f h =
-    values-append xs rs (q ∷ []) ∙ ap (λ (l : List ℕ). valuesAt xs rs ++ l) (values-one xs q) ∙ rw (e, f, add-one k, take-suc ps k 0 h) refl
 
 -- values that a replaced one is not among
 pub values-put : (xs rs : List ℕ) (q v : ℕ) → 1 ≤ q → ((x : ℕ) → 1 ≤ times x rs → 1 ≤ x) → times q rs ≡ 0 → valuesAt (put xs q v) rs ≡ valuesAt xs rs

@@ -1,11 +1,11 @@
 // Check and questions for hosts. Row numbers cross as plain numbers.
-ghost use Rattle.tables.specs.Tables.{tablesOf};
+ghost use Rattle.tables.specs.Lent.{tablesIn};
 ghost use Rattle.questions.specs.Asked.{replyOf, foundOf};
-ghost use Rattle.calls.specs.Calls.{callOf, workOnly, workAndList};
+ghost use Rattle.calls.specs.Calls.{callOf};
 ghost use Rattle.calls.specs.Calls.Entry.{checking, asking};
 ghost use Rattle.calls.specs.Calls.Question.{askNextRow, askParent, askPath, askColumn, askMeets, askCommon};
-ghost use Rattle.calls.specs.Steps.{Transition};
-ghost use Rattle.factor.specs.Entries.{worldOf};
+ghost use Rattle.calls.specs.Lent.{workIn, workOut, listIn, listOut};
+ghost use Rattle.factor.specs.Entries.{worldOf, ReadStep};
 use book::Row;
 use factor::Factor;
 use questions::Found;
@@ -13,7 +13,7 @@ use questions::Reply;
 
 // Whether the tables are sound, and the record's limits: 0, 6 for no, or 1 to 5.
 #[no_mangle]
-pub extern "C" fn nigvalds_check(
+pub extern "C" fn nigvalds_check_0_7(
     factor: Factor,
     heads: &[u32],
     parents: &[u16],
@@ -26,7 +26,7 @@ pub extern "C" fn nigvalds_check(
     windows: &[u32],
     work: &mut [u32],
 ) -> Reply
-    ensures { λ r. ⌜ Transition (worldOf factor (tablesOf (now (heads .entry)) (now (parents .entry)) (now (rows .entry)) (now (counts .entry)) (now (next .entry)) (now («book_heads» .entry)) (now («book_rows» .entry)) (now («book_next» .entry)) (now (windows .entry)))) (callOf checking (workOnly (now (work .entry)))) (replyOf r) (workOnly (now (work .exit))) (worldOf factor (tablesOf (now (heads .entry)) (now (parents .entry)) (now (rows .entry)) (now (counts .entry)) (now (next .entry)) (now («book_heads» .entry)) (now («book_rows» .entry)) (now («book_next» .entry)) (now (windows .entry)))) ⌝ }
+    ensures { λ r. ⌜ ReadStep (worldOf factor (tablesIn heads parents rows counts next «book_heads» «book_rows» «book_next» windows)) (callOf checking (workIn work)) (replyOf r) (workOut work) ⌝ }
 {
     factor.check(
         heads,
@@ -44,7 +44,7 @@ pub extern "C" fn nigvalds_check(
 
 // The first row at or above i in column j and its multiplicity, both 0 if the column ends before.
 #[no_mangle]
-pub extern "C" fn nigvalds_next_row(
+pub extern "C" fn nigvalds_next_row_0_7(
     factor: Factor,
     heads: &[u32],
     parents: &[u16],
@@ -59,7 +59,7 @@ pub extern "C" fn nigvalds_next_row(
     i: u32,
     j: u32,
 ) -> Found
-    ensures { λ r. ⌜ Transition (worldOf factor (tablesOf (now (heads .entry)) (now (parents .entry)) (now (rows .entry)) (now (counts .entry)) (now (next .entry)) (now («book_heads» .entry)) (now («book_rows» .entry)) (now («book_next» .entry)) (now (windows .entry)))) (callOf (asking (askNextRow i j) 0) (workOnly (now (work .entry)))) (foundOf r) (workOnly (now (work .exit))) (worldOf factor (tablesOf (now (heads .entry)) (now (parents .entry)) (now (rows .entry)) (now (counts .entry)) (now (next .entry)) (now («book_heads» .entry)) (now («book_rows» .entry)) (now («book_next» .entry)) (now (windows .entry)))) ⌝ }
+    ensures { λ r. ⌜ ReadStep (worldOf factor (tablesIn heads parents rows counts next «book_heads» «book_rows» «book_next» windows)) (callOf (asking (askNextRow i j) 0) (workIn work)) (foundOf r) (workOut work) ⌝ }
 {
     factor.next_row(
         heads,
@@ -79,7 +79,7 @@ pub extern "C" fn nigvalds_next_row(
 
 // The parent of j, 0 for a root.
 #[no_mangle]
-pub extern "C" fn nigvalds_parent(
+pub extern "C" fn nigvalds_parent_0_7(
     factor: Factor,
     heads: &[u32],
     parents: &[u16],
@@ -93,7 +93,7 @@ pub extern "C" fn nigvalds_parent(
     work: &mut [u32],
     j: u32,
 ) -> Reply
-    ensures { λ r. ⌜ Transition (worldOf factor (tablesOf (now (heads .entry)) (now (parents .entry)) (now (rows .entry)) (now (counts .entry)) (now (next .entry)) (now («book_heads» .entry)) (now («book_rows» .entry)) (now («book_next» .entry)) (now (windows .entry)))) (callOf (asking (askParent j) 0) (workOnly (now (work .entry)))) (replyOf r) (workOnly (now (work .exit))) (worldOf factor (tablesOf (now (heads .entry)) (now (parents .entry)) (now (rows .entry)) (now (counts .entry)) (now (next .entry)) (now («book_heads» .entry)) (now («book_rows» .entry)) (now («book_next» .entry)) (now (windows .entry)))) ⌝ }
+    ensures { λ r. ⌜ ReadStep (worldOf factor (tablesIn heads parents rows counts next «book_heads» «book_rows» «book_next» windows)) (callOf (asking (askParent j) 0) (workIn work)) (replyOf r) (workOut work) ⌝ }
 {
     factor.parent(
         heads,
@@ -112,7 +112,7 @@ pub extern "C" fn nigvalds_parent(
 
 // The path of j, a row to a place from the given place of the list on, and its length.
 #[no_mangle]
-pub extern "C" fn nigvalds_path(
+pub extern "C" fn nigvalds_path_0_7(
     factor: Factor,
     heads: &[u32],
     parents: &[u16],
@@ -128,7 +128,7 @@ pub extern "C" fn nigvalds_path(
     j: u32,
     place: usize,
 ) -> Reply
-    ensures { λ r. ⌜ Transition (worldOf factor (tablesOf (now (heads .entry)) (now (parents .entry)) (now (rows .entry)) (now (counts .entry)) (now (next .entry)) (now («book_heads» .entry)) (now («book_rows» .entry)) (now («book_next» .entry)) (now (windows .entry)))) (callOf (asking (askPath j) place) (workAndList (now (work .entry)) (now (list .entry)))) (replyOf r) (workAndList (now (work .exit)) (now (list .exit))) (worldOf factor (tablesOf (now (heads .entry)) (now (parents .entry)) (now (rows .entry)) (now (counts .entry)) (now (next .entry)) (now («book_heads» .entry)) (now («book_rows» .entry)) (now («book_next» .entry)) (now (windows .entry)))) ⌝ }
+    ensures { λ r. ⌜ ReadStep (worldOf factor (tablesIn heads parents rows counts next «book_heads» «book_rows» «book_next» windows)) (callOf (asking (askPath j) place) (listIn work list)) (replyOf r) (listOut work list) ⌝ }
 {
     factor.path(
         heads,
@@ -149,7 +149,7 @@ pub extern "C" fn nigvalds_path(
 
 // Column j, row then multiplicity from the given place of the list on, and its number of entries.
 #[no_mangle]
-pub extern "C" fn nigvalds_column(
+pub extern "C" fn nigvalds_column_0_7(
     factor: Factor,
     heads: &[u32],
     parents: &[u16],
@@ -165,7 +165,7 @@ pub extern "C" fn nigvalds_column(
     j: u32,
     place: usize,
 ) -> Reply
-    ensures { λ r. ⌜ Transition (worldOf factor (tablesOf (now (heads .entry)) (now (parents .entry)) (now (rows .entry)) (now (counts .entry)) (now (next .entry)) (now («book_heads» .entry)) (now («book_rows» .entry)) (now («book_next» .entry)) (now (windows .entry)))) (callOf (asking (askColumn j) place) (workAndList (now (work .entry)) (now (list .entry)))) (replyOf r) (workAndList (now (work .exit)) (now (list .exit))) (worldOf factor (tablesOf (now (heads .entry)) (now (parents .entry)) (now (rows .entry)) (now (counts .entry)) (now (next .entry)) (now («book_heads» .entry)) (now («book_rows» .entry)) (now («book_next» .entry)) (now (windows .entry)))) ⌝ }
+    ensures { λ r. ⌜ ReadStep (worldOf factor (tablesIn heads parents rows counts next «book_heads» «book_rows» «book_next» windows)) (callOf (asking (askColumn j) place) (listIn work list)) (replyOf r) (listOut work list) ⌝ }
 {
     factor.column(
         heads,
@@ -186,7 +186,7 @@ pub extern "C" fn nigvalds_column(
 
 // The columns whose pattern holds row i, ascending, a column to a place from the given place of the list on, and the number of places filled.
 #[no_mangle]
-pub extern "C" fn nigvalds_meets(
+pub extern "C" fn nigvalds_meets_0_7(
     factor: Factor,
     heads: &[u32],
     parents: &[u16],
@@ -202,7 +202,7 @@ pub extern "C" fn nigvalds_meets(
     i: u32,
     place: usize,
 ) -> Reply
-    ensures { λ r. ⌜ Transition (worldOf factor (tablesOf (now (heads .entry)) (now (parents .entry)) (now (rows .entry)) (now (counts .entry)) (now (next .entry)) (now («book_heads» .entry)) (now («book_rows» .entry)) (now («book_next» .entry)) (now (windows .entry)))) (callOf (asking (askMeets i) place) (workAndList (now (work .entry)) (now (list .entry)))) (replyOf r) (workAndList (now (work .exit)) (now (list .exit))) (worldOf factor (tablesOf (now (heads .entry)) (now (parents .entry)) (now (rows .entry)) (now (counts .entry)) (now (next .entry)) (now («book_heads» .entry)) (now («book_rows» .entry)) (now («book_next» .entry)) (now (windows .entry)))) ⌝ }
+    ensures { λ r. ⌜ ReadStep (worldOf factor (tablesIn heads parents rows counts next «book_heads» «book_rows» «book_next» windows)) (callOf (asking (askMeets i) place) (listIn work list)) (replyOf r) (listOut work list) ⌝ }
 {
     factor.meets(
         heads,
@@ -223,7 +223,7 @@ pub extern "C" fn nigvalds_meets(
 
 // The smallest row that lies on the paths of all of the rows, 1 to 64 of them; 0 where there is none.
 #[no_mangle]
-pub extern "C" fn nigvalds_common(
+pub extern "C" fn nigvalds_common_0_7(
     factor: Factor,
     heads: &[u32],
     parents: &[u16],
@@ -237,7 +237,7 @@ pub extern "C" fn nigvalds_common(
     work: &mut [u32],
     row_list: &[u32],
 ) -> Reply
-    ensures { λ r. ⌜ Transition (worldOf factor (tablesOf (now (heads .entry)) (now (parents .entry)) (now (rows .entry)) (now (counts .entry)) (now (next .entry)) (now («book_heads» .entry)) (now («book_rows» .entry)) (now («book_next» .entry)) (now (windows .entry)))) (callOf (asking (askCommon (now («row_list» .entry))) 0) (workOnly (now (work .entry)))) (replyOf r) (workOnly (now (work .exit))) (worldOf factor (tablesOf (now (heads .entry)) (now (parents .entry)) (now (rows .entry)) (now (counts .entry)) (now (next .entry)) (now («book_heads» .entry)) (now («book_rows» .entry)) (now («book_next» .entry)) (now (windows .entry)))) ⌝ }
+    ensures { λ r. ⌜ ReadStep (worldOf factor (tablesIn heads parents rows counts next «book_heads» «book_rows» «book_next» windows)) (callOf (asking (askCommon (now («row_list» .entry))) 0) (workIn work)) (replyOf r) (workOut work) ⌝ }
 {
     factor.common(
         heads,

@@ -1,17 +1,14 @@
 // Batches and the clock for hosts.
-ghost use Rattle.tables.specs.Tables.{tablesOf};
-ghost use Rattle.calls.specs.Calls.{callOf, reportLists};
-ghost use Rattle.calls.specs.Calls.Change.{adding, removing, setting};
-ghost use Rattle.calls.specs.Calls.Entry.{changing};
-ghost use Rattle.calls.specs.Steps.{Transition};
-ghost use Rattle.factor.specs.Entries.{worldOf};
-ghost use Rattle.changes.specs.Batches.{changedAnswer};
-use changes::Changed;
+ghost use Rattle.tables.specs.Lent.{tablesIn, tablesOut};
+ghost use Rattle.calls.specs.Calls.Change.{setting};
+ghost use Rattle.calls.specs.Lent.{reportIn, reportOut, addingOf, removingOf};
+ghost use Rattle.answers.specs.Answers.{ChangeTransition};
+use answers::Changed;
 use factor::Factor;
 
 // Adds a batch: each id with as many rows of the list as its count says, and a window by its two minutes; minutes 0 and 0 mean none.
 #[no_mangle]
-pub extern "C" fn nigvalds_add(
+pub extern "C" fn nigvalds_add_0_7(
     factor: Factor,
     heads: &[u32],
     parents: &mut [u16],
@@ -31,7 +28,7 @@ pub extern "C" fn nigvalds_add(
     firsts: &[u32],
     seconds: &[u32],
 ) -> Changed
-    ensures { λ r. ⌜ Transition (worldOf factor (tablesOf (now (heads .entry)) (now (parents .entry)) (now (rows .entry)) (now (counts .entry)) (now (next .entry)) (now («book_heads» .entry)) (now («book_rows» .entry)) (now («book_next» .entry)) (now (windows .entry)))) (callOf (changing (adding (now (ids .entry)) (now («row_counts» .entry)) (now («row_list» .entry)) (now (firsts .entry)) (now (seconds .entry)))) (reportLists (now (work .entry)) (now (touched .entry)) (now (labels .entry)))) (changedAnswer r) (reportLists (now (work .exit)) (now (touched .exit)) (now (labels .exit))) (worldOf (r .factor) (tablesOf (now (heads .entry)) (now (parents .exit)) (now (rows .exit)) (now (counts .exit)) (now (next .exit)) (now («book_heads» .exit)) (now («book_rows» .exit)) (now («book_next» .exit)) (now (windows .exit)))) ⌝ }
+    ensures { λ r. ⌜ ChangeTransition factor (tablesIn heads parents rows counts next «book_heads» «book_rows» «book_next» windows) (addingOf ids «row_counts» «row_list» firsts seconds) (reportIn work touched labels) r (reportOut work touched labels) (tablesOut heads parents rows counts next «book_heads» «book_rows» «book_next» windows) ⌝ }
 {
     changes::add(
         factor,
@@ -57,7 +54,7 @@ pub extern "C" fn nigvalds_add(
 
 // Removes the columns of a batch of ids.
 #[no_mangle]
-pub extern "C" fn nigvalds_remove(
+pub extern "C" fn nigvalds_remove_0_7(
     factor: Factor,
     heads: &[u32],
     parents: &mut [u16],
@@ -73,7 +70,7 @@ pub extern "C" fn nigvalds_remove(
     labels: &mut [u16],
     ids: &[u32],
 ) -> Changed
-    ensures { λ r. ⌜ Transition (worldOf factor (tablesOf (now (heads .entry)) (now (parents .entry)) (now (rows .entry)) (now (counts .entry)) (now (next .entry)) (now («book_heads» .entry)) (now («book_rows» .entry)) (now («book_next» .entry)) (now (windows .entry)))) (callOf (changing (removing (now (ids .entry)))) (reportLists (now (work .entry)) (now (touched .entry)) (now (labels .entry)))) (changedAnswer r) (reportLists (now (work .exit)) (now (touched .exit)) (now (labels .exit))) (worldOf (r .factor) (tablesOf (now (heads .entry)) (now (parents .exit)) (now (rows .exit)) (now (counts .exit)) (now (next .exit)) (now («book_heads» .exit)) (now («book_rows» .exit)) (now («book_next» .exit)) (now (windows .exit)))) ⌝ }
+    ensures { λ r. ⌜ ChangeTransition factor (tablesIn heads parents rows counts next «book_heads» «book_rows» «book_next» windows) (removingOf ids) (reportIn work touched labels) r (reportOut work touched labels) (tablesOut heads parents rows counts next «book_heads» «book_rows» «book_next» windows) ⌝ }
 {
     changes::remove(
         factor,
@@ -95,7 +92,7 @@ pub extern "C" fn nigvalds_remove(
 
 // Sets the clock to a minute, forward or back: columns that fall outside their windows leave, those that begin to count enter.
 #[no_mangle]
-pub extern "C" fn nigvalds_set_clock(
+pub extern "C" fn nigvalds_set_clock_0_7(
     factor: Factor,
     heads: &[u32],
     parents: &mut [u16],
@@ -111,9 +108,9 @@ pub extern "C" fn nigvalds_set_clock(
     labels: &mut [u16],
     minute: u32,
 ) -> Changed
-    ensures { λ r. ⌜ Transition (worldOf factor (tablesOf (now (heads .entry)) (now (parents .entry)) (now (rows .entry)) (now (counts .entry)) (now (next .entry)) (now («book_heads» .entry)) (now («book_rows» .entry)) (now («book_next» .entry)) (now (windows .entry)))) (callOf (changing (setting minute)) (reportLists (now (work .entry)) (now (touched .entry)) (now (labels .entry)))) (changedAnswer r) (reportLists (now (work .exit)) (now (touched .exit)) (now (labels .exit))) (worldOf (r .factor) (tablesOf (now (heads .entry)) (now (parents .exit)) (now (rows .exit)) (now (counts .exit)) (now (next .exit)) (now («book_heads» .entry)) (now («book_rows» .entry)) (now («book_next» .entry)) (now (windows .entry)))) ⌝ }
+    ensures { λ r. ⌜ ChangeTransition factor (tablesIn heads parents rows counts next «book_heads» «book_rows» «book_next» windows) (setting minute) (reportIn work touched labels) r (reportOut work touched labels) (tablesOut heads parents rows counts next «book_heads» «book_rows» «book_next» windows) ⌝ }
 {
-    changes::set_clock(
+    clock::set_clock(
         factor,
         heads,
         parents,

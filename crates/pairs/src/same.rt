@@ -1,5 +1,5 @@
 // Whether both gave the same; where not, a line says what differs.
-use changes::Changed;
+use answers::Changed;
 use factor::Factor;
 use reference::Answer;
 use reference::Limits;

@@ -14,7 +14,7 @@ use Rattle.lists.proofs.Times.{times-nil, times-self, times-append, times-mem}
 use Rattle.pool.specs.Chains.{chain, lastOf, Linked}
 use Rattle.pool.specs.Whole.{chains, AllLinked}
 use Rattle.pool.specs.Ends.{lastFrom, lasts, NoneTwice}
-use Rattle.pool.proofs.Chains.{last-split, last-append, linked-in, After, linked-after, linked-unique, linked-once, linked-chain}
+use Rattle.pool.proofs.Chains.{last-split, last-append, linked-in, After, linked-after, linked-unique, linked-once}
 use Rattle.pool.proofs.Whole.{chains-nil, chains-times, place-two, place-linked, all-parts}
 
 -- ---- the last record of a chain that ends

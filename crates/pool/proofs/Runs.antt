@@ -2,16 +2,15 @@
 -- then how it ends. A walk keeps `Runs next head records r`. At r = 0 the chain is `records` (runs-end); past the pool the chain does not end (runs-out); a
 -- test of its own fails at r: were the chain to end, it would go on through r (runs-split). Assumes nothing.
 use mathlib.Core.Path.{_≡_, refl, sym, ap, subst, _∙_}
-use mathlib.Core.Logic.{_≢_}
 use mathlib.Core.Bool.{false}
 use mathlib.Core.List.{List, [], _∷_, _++_, append-nil}
-use Prim.Native.Nat.{ℕ, zero, suc, _-_, _≤_, _<_}
+use Prim.Native.Nat.{ℕ, _≤_, _<_}
 use native.Mathlib.Omega.{arith}
-use lib.ListN.{length, length-append}
+use lib.ListN.{length}
 use Rattle.lists.specs.Lists.{at}
 use Rattle.lists.proofs.Tests.{refute}
-use Rattle.pool.specs.Chains.{chainFrom, chain, lastOf, ends, Linked}
-use Rattle.pool.proofs.Chains.{chain-in, last-append, linked-nil, linked-head, Step, linked-step, linked-short, linked-chain, chain-linked}
+use Rattle.pool.specs.Chains.{chain, lastOf, ends, Linked}
+use Rattle.pool.proofs.Chains.{last-append, linked-nil, linked-head, linked-chain, chain-linked}
 
 -- ---- a run, one record more, and what is linked from its end on
 

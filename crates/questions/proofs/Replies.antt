@@ -18,7 +18,7 @@ use Rattle.calls.specs.Refusals.{refusal, accepted, isAccepted, orElse, unless,
 use Rattle.calls.specs.Calls.{Question}
 use Rattle.calls.specs.Questions.{response}
 use Rattle.calls.specs.Numbers.{askRefusal}
-use Rattle.refusals.specs.Early.{NoRoom}
+use Rattle.question_refusals.specs.Room.{NoRoom}
 use Rattle.questions.specs.Asked.{replyOf, answeredBy, repliedTo, listLeft}
 
 -- ---- one test

@@ -61,7 +61,7 @@ pub fn common(parents: &[u16], row_list: &[u32]) -> Reply
     ensures { λ a. ⌜ Replies (ParentsFor (now (parents .entry))) (askCommon (now («row_list» .entry))) a ⌝ }
 {
     let m = parents.len() as u32;
-    let number = refusals::asked::named(m, row_list);
+    let number = question_refusals::named(m, row_list);
     if number != 0 {
         return Reply { number, value: 0 };
     }

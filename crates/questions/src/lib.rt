@@ -37,7 +37,7 @@ pub fn next_row(heads: &[u32], rows: &[u16], counts: &[u16], next: &[u32], i: Ro
     ensures { λ a. ⌜ Finds (ColumnsFor (now (heads .entry)) (now (rows .entry)) (now (counts .entry)) (now (next .entry))) (askNextRow (i .0) (j .0)) a ⌝ }
 {
     let m = heads.len() as u32;
-    if refusals::asked::row_outside(m, i.0) {
+    if question_refusals::row_outside(m, i.0) {
         return Found {
             number: 17,
             row: 0,
@@ -45,7 +45,7 @@ pub fn next_row(heads: &[u32], rows: &[u16], counts: &[u16], next: &[u32], i: Ro
         };
     }
     let k = j.0;
-    if refusals::asked::row_outside(m, k) {
+    if question_refusals::row_outside(m, k) {
         return Found {
             number: 17,
             row: 0,
@@ -79,7 +79,7 @@ pub fn parent(parents: &[u16], j: Row) -> Reply
 {
     let m = parents.len() as u32;
     let k = j.0;
-    if refusals::asked::row_outside(m, k) {
+    if question_refusals::row_outside(m, k) {
         return Reply {
             number: 17,
             value: 0,
@@ -127,14 +127,14 @@ pub fn path(parents: &[u16], list: &mut [u32], j: Row, place: usize) -> Reply
     ensures written { λ a. ⌜ Leaves (ParentsFor (now (parents .entry))) (askPath (j .0)) place (now (list .entry)) (now (list .exit)) ⌝ }
 {
     let m = parents.len() as u32;
-    if refusals::asked::row_outside(m, j.0) {
+    if question_refusals::row_outside(m, j.0) {
         return Reply {
             number: 17,
             value: 0,
         };
     }
     let n = path_length(parents, j);
-    if refusals::asked::room_outside(list.len(), place, n) {
+    if question_refusals::room_outside(list.len(), place, n) {
         return Reply {
             number: 18,
             value: 0,
@@ -164,7 +164,7 @@ pub fn column(
 {
     let m = heads.len() as u32;
     let k = j.0;
-    if refusals::asked::row_outside(m, k) {
+    if question_refusals::row_outside(m, k) {
         return Reply {
             number: 17,
             value: 0,
@@ -173,7 +173,7 @@ pub fn column(
     let head = Rec(heads[(k - 1) as usize]);
     let n = pool::count(next, head, m);
     let places = 2 * n as usize;
-    if refusals::asked::room_outside(list.len(), place, places) {
+    if question_refusals::room_outside(list.len(), place, places) {
         return Reply {
             number: 18,
             value: 0,

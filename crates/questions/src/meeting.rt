@@ -116,7 +116,7 @@ pub fn meets(
     ensures kept { λ a. ⌜ now (work .exit) ≡ now (work .entry) ⌝ }
 {
     let m = heads.len() as u32;
-    if refusals::asked::row_outside(m, i.0) {
+    if question_refusals::row_outside(m, i.0) {
         return Reply {
             number: 17,
             value: 0,
@@ -124,7 +124,7 @@ pub fn meets(
     }
     let marks = i.0 as usize;
     let n = mark(heads, parents, rows, counts, next, work, i);
-    if refusals::asked::room_outside(list.len(), place, n) {
+    if question_refusals::room_outside(list.len(), place, n) {
         workspace::clear(work, 0, marks);
         return Reply {
             number: 18,

@@ -1,14 +1,13 @@
 -- For callers: how the found refusal is part of the whole one of calls, Refusals; what an addition that is not refused by 7 to 15 or 21 has
--- (`AddReady`), with its columns by place; what a removal that is not refused has (`RemoveReady`).
+-- (`AddReady`); what a removal that is not refused has (`RemoveReady`).
 -- Assumes nothing.
-use mathlib.Core.Path.{_≡_, refl, sym, ap, subst, _∙_}
+use mathlib.Core.Path.{_≡_, refl, sym, ap, _∙_}
 use mathlib.Core.Bool.{Bool, true, false, _&&_, not}
 use mathlib.Core.List.{List, [], _∷_, _++_}
 use Prim.Native.Nat.{ℕ, suc, _+_, _*_, _≤_, _<_}
 use native.Mathlib.Omega.{arith}
 use lib.Dec.{leb, eqb}
 use lib.ListN.{length, getD, take, drop, length-drop}
-use lib.Seq.{length-take-le}
 use borrow.Author.Tests.{leb-true, le-leb, eqb-true}
 use Rattle.lists.specs.Lists.{isIn, all, among, noRepeats}
 use Rattle.lists.proofs.Tests.{and-both, in-range}
@@ -22,7 +21,7 @@ use Rattle.symbolic.proofs.Minutes.{minutes-rows-sum}
 use Rattle.pool.specs.Chains.{chain}
 use Rattle.book.specs.Book.{Book, isBooked, columnsIn, columnFits, isSound}
 use Rattle.book.proofs.Columns.{ids-booked}
-use Rattle.book.proofs.Sound.{Fitting, fitting, rows-room}
+use Rattle.book.proofs.Sound.{rows-room}
 use Rattle.windows.specs.Windowed.{linesIn, registerIn}
 use Rattle.windows.proofs.Windowed.{windowed-ids, windowed-sum}
 use Rattle.tables.specs.Tables.{Sizes}
@@ -30,10 +29,10 @@ use Rattle.calls.specs.Refusals as calls
 use Rattle.calls.specs.Refusals.{isAccepted, orElse, unless, inRegister, rowsRefusal, columnsRefusal, rowSum, addRefusal, idsRefusal, removeRefusal, keepStep, batchOf, linesOf}
 use Rattle.calls.proofs.Choices.{or-both, unless-holds, or-assoc}
 use Rattle.calls.proofs.Refusals.{InStep, step-facts, ColumnsFit, columns-facts, columns-once, columns-new, IdsFit, ids-facts}
-use Rattle.refusals.specs.Offsets.{offsetOf, columnLent}
+use Rattle.refusals.specs.Offsets.{offsetOf}
 use Rattle.refusals.specs.Found.{bareIn, addFound, removeFound}
 use Rattle.refusals.proofs.Finding.{rows-few}
-use Rattle.refusals.proofs.Offsets.{offset-first, offset-rises, batch-length, batch-at}
+use Rattle.refusals.proofs.Offsets.{offset-first, batch-length}
 
 -- ---- the whole refusal
 
@@ -170,28 +169,6 @@ module _ {m : ℕ} {b : Book} {is ns rs ps qs : List ℕ} (a : AddReady m b is n
 
   pub ready-length : length (batchOf is ns rs) ≡ length is
   ready-length = batch-length is ns rs (a .counted)
-
-  module _ (k : ℕ) (h : k < length is) where
-    -- the column at a place is the batch's, and fits
-    pub ready-at : (d : Column) → getD (batchOf is ns rs) k d ≡ columnLent is ns rs k
-    ready-at d = batch-at is ns rs k d (a .counted) h
-
-    pub ready-fits : columnFits m (columnLent is ns rs k) ≡ true
-    ready-fits =
-        let d : Column = columnLent is ns rs k in
-        subst (λ (c : Column). columnFits m c ≡ true) (ready-at d) (all-at (columnFits m) (place-mem (batchOf is ns rs) k d (omega (arith, ready-length))) (a .batch-fits))
-
-    -- its rows lie within the list, and are as many as its count says: 1 to 256
-    pub ready-within : offsetOf ns k + getD ns k 0 ≤ length rs
-    ready-within = omega (arith, offset-rises ns k (length is) h (omega (arith, a .counted)), a .used)
-
-    pub ready-count : length (columnLent is ns rs k .rows) ≡ getD ns k 0
-    ready-count = length-take-le (getD ns k 0) (drop (offsetOf ns k) rs) (omega (arith, ready-within, length-drop (offsetOf ns k) rs))
-
-    pub ready-range : (1 ≤ getD ns k 0) × (getD ns k 0 ≤ 256)
-    ready-range =
-        let f : Fitting m (columnLent is ns rs k .rows) = fitting m (columnLent is ns rs k) ready-fits in
-        (omega (arith, f .some, ready-count), omega (arith, f .few, ready-count))
 
 -- ---- a removal
 

@@ -1,5 +1,5 @@
 -- The order of a batch's refusal: its lists in step, its positions, and for an addition the room in the book. Each law is one return. Before them: that a found
--- refusal is accepted exactly if the definition's is, and that accepted columns have few rows.
+-- refusal of number 0 is accepted, and that accepted columns have few rows.
 -- Assumes nothing.
 use mathlib.Core.Path.{_≡_, refl, sym, ap, _∙_}
 use mathlib.Core.Logic.{_≢_}
@@ -9,7 +9,7 @@ use Prim.Native.Nat.{ℕ, suc, _+_, _*_, _≤_}
 use native.Mathlib.Omega.{arith}
 use lib.Dec.{leb, eqb}
 use lib.ListN.{length}
-use borrow.Author.Tests.{eq-eqb, ne-eqb, eqb-true}
+use borrow.Author.Tests.{eq-eqb, ne-eqb}
 use Rattle.lists.specs.Lists.{isIn, all, sumOf}
 use Rattle.lists.proofs.Tests.{and-both}
 use Rattle.lists.proofs.Sum.{sum-append}
@@ -24,7 +24,7 @@ use Rattle.calls.proofs.Choices.{or-first, or-second, unless-true, unless-false
 use Rattle.calls.proofs.Refusals.{ColumnsFit, columns-facts}
 use Rattle.refusals.specs.declared.Refusal.{Refusal}
 use Rattle.refusals.specs.Found.{found, bareIn, addFound, removeFound}
-use Rattle.refusals.proofs.Tests.{is-out, is-in, unless-accepted}
+use Rattle.early_refusals.proofs.Tests.{is-out, is-in, unless-accepted}
 
 -- ---- a refusal that is found, or not
 
@@ -33,13 +33,6 @@ found-accepted x e = eq-eqb (x .number) 0 e
 
 pub found-refused : (x : Refusal) → x .number ≢ 0 → isAccepted (found x) ≡ false
 found-refused x e = ne-eqb (x .number) 0 e
-
--- what is found is accepted exactly if the definition's refusal is
-pub found-taken : {x : Refusal} {y : calls.Refusal} → found x ≡ y → x .number ≡ 0 → isAccepted y ≡ true
-found-taken {x} e n = ap isAccepted (sym e) ∙ found-accepted x n
-
-pub taken-found : {x : Refusal} {y : calls.Refusal} → found x ≡ y → isAccepted y ≡ true → x .number ≡ 0
-taken-found {x} e h = eqb-true (x .number) 0 (ap isAccepted e ∙ h)
 
 -- ---- the rows of accepted columns
 

@@ -1,6 +1,3 @@
-pub mod Tests
-pub mod Early
-pub mod Named
 pub mod Parts
 pub mod Positions
 pub mod Finding

@@ -2,13 +2,11 @@
 -- is a matter of accepted batches: Accepted.antt.
 -- Assumes nothing.
 use mathlib.Core.Path.{_≡_, refl, ap, _∙_}
-use mathlib.Core.Logic.{inl, inr}
 use mathlib.Core.List.{List, [], _∷_}
-use Prim.Native.Nat.{ℕ, zero, suc, _+_, _≤_, _<_}
+use Prim.Native.Nat.{ℕ, zero, suc, _+_, _<_}
 use native.Mathlib.Omega.{arith}
 use lib.ListN.{length, getD, take, drop}
 use lib.Seq.{drop-drop}
-use Rattle.lists.proofs.Tests.{eq-or-ne}
 use Rattle.symbolic.specs.Columns.{Column, columnWith}
 use Rattle.calls.specs.Refusals.{batchOf}
 use Rattle.refusals.specs.Offsets.{offsetOf, columnLent}
@@ -25,15 +23,6 @@ unfolding offsetOf
 offset-next [] k h = absurd (omega arith)
 offset-next (n ∷ ns) zero h = omega (arith, offset-first ns)
 offset-next (n ∷ ns) (suc k) h = omega (arith, offset-next ns k (omega arith))
-
--- a column's rows end before those of a later one start
-pub offset-rises : (ns : List ℕ) (k l : ℕ) → k < l → l ≤ length ns → offsetOf ns k + getD ns k 0 ≤ offsetOf ns l
-offset-rises ns k zero h g = absurd (omega arith)
-offset-rises ns k (suc l) h g =
-    elim (eq-or-ne k l) [
-      | inl e ↦ rw e (omega (arith, offset-next ns l (omega arith)))
-      | inr e ↦ omega (arith, offset-next ns l (omega arith), offset-rises ns k l (omega arith) (omega arith))
-    ]
 
 -- ---- the columns of a batch, by place
 

@@ -19,7 +19,7 @@ use Rattle.symbolic.specs.Columns.{isWindow}
 use Rattle.calls.specs.Refusals.{Refusal, refusal, accepted, isAccepted, orElse, unless, rowsRefusal}
 use Rattle.calls.proofs.Choices.{or-both, unless-holds, or-first, or-second, unless-true, unless-false}
 use Rattle.refusals.specs.Parts.{placed, IsNumber, before, idRefusal, rowsPart, countRefusal, windowRefusal, columnRefusal, leavingRefusal}
-use Rattle.refusals.proofs.Tests.{is-out, is-in}
+use Rattle.early_refusals.proofs.Tests.{is-out, is-in}
 
 -- ---- numbers at every position
 

@@ -21,7 +21,7 @@ use Rattle.calls.specs.Refusals.{Refusal, refusal, accepted, isAccepted, orElse
 use Rattle.calls.proofs.Choices.{or-both, unless-holds, or-first, or-assoc}
 use Rattle.refusals.specs.Parts.{placed, IsNumber, before, idRefusal, countRefusal, windowRefusal, columnRefusal, leavingRefusal, InStep}
 use Rattle.refusals.specs.Found.{bareIn}
-use Rattle.refusals.proofs.Tests.{unless-accepted}
+use Rattle.early_refusals.proofs.Tests.{unless-accepted}
 use Rattle.refusals.proofs.Parts.{placed-none}
 
 -- ---- one position

@@ -51,7 +51,7 @@ abbrev pub AddFound : (m : ℕ) → (heads next : List ℕ) → (free : ℕ) →
 AddFound m hs ns f is cs rs ps qs x =
     (rows : List ℕ) → isSound m (bookOf hs rows ns f) ≡ true → found x ≡ addFound m (bookOf hs rows ns f) is cs rs ps qs
 
--- 8 to 11, of every book with these heads
+-- 8, 9 and 11, of every book with these heads
 abbrev pub IdsFound : (heads ids : List ℕ) → Refusal → Type 0
 IdsFound hs is x =
     (m : ℕ) (rows next : List ℕ) (free : ℕ) → found x ≡ idsRefusal (bareIn m (bookOf hs rows next free)) (length hs) 1 [] is

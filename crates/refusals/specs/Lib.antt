@@ -1,4 +1,3 @@
-pub mod Early
 pub mod Parts
 pub mod Found
 pub mod Offsets

@@ -50,7 +50,7 @@ fn rows_refusal(rows: &[u32], m: u32) -> u32
     let mut i: usize = 0;
     while i < rows.len() {
         let row = rows[i];
-        if crate::outside(1, m, row) {
+        if early_refusals::outside(1, m, row) {
             return 13;
         }
         if row <= above {
@@ -67,7 +67,7 @@ fn count_refusal(row_list: &[u32], from: usize, count: u32, m: u32) -> u32
     requires { ⌜ from ≤ length (now «row_list») ⌝ }
     ensures { λ a. ⌜ IsNumber a (countRefusal m count (drop from (now («row_list» .entry)))) ⌝ }
 {
-    if crate::outside(1, crate::MOST_COUNT, count) {
+    if early_refusals::outside(1, crate::MOST_COUNT, count) {
         return 12;
     }
     if row_list.len() - from < count as usize {

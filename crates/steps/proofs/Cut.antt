@@ -1,11 +1,11 @@
 -- Tables that are cut to their sizes are read whole: the stored columns (`stored-whole`), the book (`book-whole`), the register; what `CanFind`
--- says of them, each fact in the form that the parts of a change ask. Assumes nothing.
-use mathlib.Core.Path.{_≡_, refl, sym, ap, _∙_, subst}
+-- says of them, each fact in the form that the parts of a change ask; facts of whole things read of the cut ones (`both-read`, `beyond-cut`). Assumes nothing.
+use mathlib.Core.Path.{_≡_, sym, ap, _∙_, subst}
 use mathlib.Core.Bool.{true}
 use mathlib.Core.List.{List}
 use Prim.Native.Nat.{ℕ, _+_, _*_, _≤_}
 use native.Mathlib.Omega.{arith}
-use lib.ListN.{length}
+use lib.ListN.{length, drop-of-length-le}
 use lib.Seq.{take-all}
 use Rattle.lists.specs.Lists.{all, noRepeats}
 use Rattle.symbolic.specs.Columns.{fitsRows, Register, live}
@@ -19,9 +19,10 @@ use Rattle.book.proofs.Columns.{columns-count, ids-distinct}
 use Rattle.windows.specs.Windowed.{registerIn, areSound}
 use Rattle.windows.proofs.Windowed.{windowed-ids, windowed-length}
 use Rattle.tables.specs.Stored.{Stored, Sized, isSoundFor}
+use Rattle.tables.specs.Stays.{Beyond}
 use Rattle.tables.specs.Tables.{Tables, bookIn, storedIn, windowsIn}
 use Rattle.tables.proofs.Tables.{sound-book, sound-windows, sound-stored, sound-rows}
-use Rattle.calls.specs.Refusals.{isAccepted, bounds, sizesRefusal, workFor}
+use Rattle.calls.specs.Refusals.{isAccepted, workFor}
 use Rattle.calls.specs.Steps.{bookedIn}
 use Rattle.calls.proofs.Refusals.{InRange, sizes-facts}
 use Rattle.steps.specs.Outcome.{cutSizes, cutWorld, storedWhole, bookWhole, CanFind}
@@ -47,6 +48,17 @@ book-whole t lim o f g z = λ i.
       next = take-all (length (t .bookNext)) (t .bookNext) (omega arith) i;
       free = g;
     }
+
+-- a fact of two whole things, read of the cut ones
+pub both-read : {A : Type 0} (P : A → A → Type 0) {a a′ b b′ : A} → a ≡ b → a′ ≡ b′ → P b b′ → P a a′
+both-read P {a} {a′} {b} {b′} e e′ h = subst (λ x. P x a′) (sym e) (subst (λ x. P b x) (sym e′) h)
+
+-- beyond the size there is nothing
+pub beyond-cut : {n : ℕ} {xs ys : List ℕ} → length xs ≡ n → length ys ≡ length xs → Beyond n xs ys
+beyond-cut {n} {xs} {ys} p q =
+    let l : length xs ≤ n = omega arith in
+    let h : length ys ≤ n = omega arith in
+    record { same-length = q; same-tail = drop-of-length-le ys h ∙ sym (drop-of-length-le xs l) }
 
 module _ {t : Tables} {lim : Limits} {o f g : ℕ} {w : List ℕ} (can : CanFind (cutWorld t lim o f g) w) where
   pub sizes-are : InRange (cutSizes t)

@@ -8,19 +8,18 @@ use Prim.Native.Nat.{ℕ, _*_, _≤_}
 use native.Mathlib.Omega.{arith}
 use lib.ListN.{length, take, drop, take-append-drop, length-append, length-drop}
 use lib.Seq.{length-take-le, take-all, take-at, drop-at}
-use Rattle.lists.proofs.Tests.{both-and}
-use Rattle.symbolic.specs.Columns.{Register, live}
+use Rattle.symbolic.specs.Columns.{live}
 use Rattle.symbolic.specs.Grades.{Limits, areLimits}
 use Rattle.workspace.specs.Regions.{IsZero}
 use Rattle.book.specs.Book as book
 use Rattle.windows.specs.Windowed.{registerIn, areSound}
-use Rattle.tables.specs.Stored.{Stored, Sized, isSoundFor}
+use Rattle.tables.specs.Stored.{isSoundFor}
 use Rattle.tables.specs.Stays.{Beyond, TailsStay}
-use Rattle.tables.specs.Tables.{Tables, Sizes, State, storedIn, bookIn, windowsIn, registerOf, isSound}
+use Rattle.tables.specs.Tables.{Tables, Sizes, storedIn, bookIn, windowsIn, registerOf, isSound}
 use Rattle.tables.proofs.Tables.{Long}
 use Rattle.calls.specs.Refusals.{accepted, bounds, sizesRefusal, workFor}
 use Rattle.calls.specs.Steps.{World}
-use Rattle.steps.specs.Outcome.{cutSizes, cutWorld, storedWhole, bookWhole, CanFind, CanStep}
+use Rattle.steps.specs.Outcome.{cutSizes, cutWorld, storedWhole, bookWhole, CanStep}
 use Rattle.steps.proofs.Cut.{stored-whole, book-whole}
 
 -- ---- tables cut to sizes, and put back

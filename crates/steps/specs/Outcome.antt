@@ -5,16 +5,15 @@ use mathlib.Core.Bool.{Bool, true, false}
 use mathlib.Core.List.{List}
 use Prim.Native.Nat.{ℕ, _*_, _≤_}
 use lib.ListN.{length}
-use Rattle.symbolic.specs.Grades.{Limits}
+use Rattle.symbolic.specs.Grades.{Limits, gradeOf}
 use Rattle.workspace.specs.Regions.{IsZero}
 use Rattle.book.specs.Book as book
 use Rattle.tables.specs.Stored.{Stored, storedOf}
-use Rattle.tables.specs.Tables.{Tables, Sizes, isSound}
+use Rattle.tables.specs.Tables.{Tables, Sizes, State, isSound}
 use Rattle.calls.specs.Refusals.{Refusal, accepted, isAccepted, bounds, sizesRefusal, workFor}
 use Rattle.calls.specs.Calls.{Change, changing, Lent, callOf}
 use Rattle.calls.specs.Changes.{effect}
 use Rattle.calls.specs.Steps.{Answer, refusedBy, acceptedBy, listsAfter, World, bookedIn, Exchanged}
-use Rattle.steps.specs.declared.Answered.{Answered}
 
 -- ---- tables that are cut to their sizes: a size is a length
 
@@ -66,9 +65,17 @@ pub record CanStep (u : World) (work touched labels : List ℕ) : Type 0 where
 
 -- ---- what it promises
 
--- the numbers of a change's answer
-abbrev pub answerOf : Answered → Answer
-answerOf x = record { number = x .number; position = x .position; touched = x .touched; entries = x .entries; grade = x .grade; row = 0; value = 0 }
+-- the answer of an accepted change that touched so many columns, with so many entries
+abbrev pub reportedBy : Limits → (touched entries : ℕ) → Answer
+reportedBy h n e = record { number = 0; position = 0; touched = n; entries = e; grade = gradeOf h e; row = 0; value = 0 }
+
+-- a record with other free heads
+abbrev pub withHeads : State → (free bookFree : ℕ) → State
+withHeads s f g = record { sizes = s .sizes; limits = s .limits; free = f; bookFree = g; clock = s .clock }
+
+-- a record at another minute
+abbrev pub atMinute : State → (minute : ℕ) → State
+atMinute s o = record { sizes = s .sizes; limits = s .limits; free = s .free; bookFree = s .bookFree; clock = o }
 
 -- answer, lists (the work table as it was) and world, by the number that the register gives
 abbrev pub ChangeOutcome : (isTaken : Bool) → World → Change → Lent → Answer → Lent → World → Type 0

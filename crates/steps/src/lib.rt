@@ -1,21 +1,9 @@
-// A change on sound tables that are cut to their sizes: what it answers, with the grade of its entries; in specs/ its promise (`ChangeStep`), in proofs/ that such a
-// step is one on the tables that they are cut from.
+// The grade of a change's entries; in specs/ what a change on sound tables promises (`ChangeStep`), in proofs/ that such a step on tables cut to their sizes is one on the
+// tables that they are cut from.
 ghost use mathlib.Core.Path.{_≡_};
 ghost use lib.Dec.{leb};
 ghost use Rattle.lists.specs.Lists.{one};
 ghost use Rattle.symbolic.specs.Grades.{limitsOf, gradeOf};
-use pool::Rec;
-
-// What a change answers, with the free heads after it.
-pub struct Answered {
-    pub number: u32,
-    pub position: u32,
-    pub touched: u32,
-    pub entries: u32,
-    pub grade: u32,
-    pub free: Rec,
-    pub book_free: Rec,
-}
 
 // 1 where the entries reach a limit, otherwise 0.
 fn reaches(entries: u32, limit: u32) -> u32

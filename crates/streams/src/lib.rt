@@ -1,22 +1,25 @@
-// Standard input and output with a record of what went through them. `Passed` says of the record which bytes the reads gave and which the writes were handed.
-// Its fields are private, so no other crate makes a record but by these functions. After a failed write nothing is read or written any more.
-ghost use mathlib.Core.List.{[]};
+// Standard input and output with a record of what went through them. `Passed` says of the record how many bytes the reads gave and how many the writes were handed,
+// `Finished` that no read gives any more. Its fields are private, so no other crate makes a record but by these functions. After a read that gave nothing nothing
+// is read any more, after a failed write nothing is read or written; at most 2^64 - 1 reads are made.
 ghost use Prim.Native.Nat.{_≤_};
 ghost use lib.ListN.{length};
-ghost use Rattle.streams.specs.Passing.{Passed, Read, Wrote, Flushed};
+ghost use Rattle.streams.specs.Passing.{Started, Read, Wrote, Flushed};
 use libc::STDERR_FILENO;
 use libc::STDIN_FILENO;
 use libc::STDOUT_FILENO;
 
-// How many bytes were read and written, modulo 2^64, whether a write failed, and whether the last read did.
+// How many bytes were read and written, modulo 2^64, how many reads were made, whether the last of them gave nothing, whether a write failed, and whether the
+// last read did.
 pub struct Streams {
     read: u64,
     written: u64,
+    reads: u64,
+    ended: bool,
     failed: bool,
     broken: bool,
 }
 
-// After a read: how many bytes it gave. None are the end, as is a read that fails.
+// After a read: how many bytes it gave. None are the end, as is a read that fails: of such a read no bytes are known.
 pub struct Reading {
     pub streams: Streams,
     pub count: usize,
@@ -30,11 +33,13 @@ pub struct Waiting {
 
 // Before anything is read or written.
 pub fn start() -> Streams
-    ensures { λ r. ⌜ Passed r [] [] ⌝ }
+    ensures { λ r. ⌜ Started r ⌝ }
 {
     Streams {
         read: 0,
         written: 0,
+        reads: 0,
+        ended: false,
         failed: false,
         broken: false,
     }
@@ -44,7 +49,16 @@ pub fn start() -> Streams
 pub fn read(streams: Streams, piece: &mut [u8]) -> Reading
     ensures { λ r. ⌜ Read streams (now (piece .exit)) r ⌝ }
 {
+    if streams.ended {
+        return Reading { streams, count: 0 };
+    }
     if streams.failed {
+        return Reading { streams, count: 0 };
+    }
+    if streams.reads == 18446744073709551615 {
+        return Reading { streams, count: 0 };
+    }
+    if piece.len() == 0 {
         return Reading { streams, count: 0 };
     }
     let got = libc::read(STDIN_FILENO, piece);
@@ -52,6 +66,8 @@ pub fn read(streams: Streams, piece: &mut [u8]) -> Reading
     let after = Streams {
         read: std::num::wrapping_add_u64(streams.read, count as u64),
         written: streams.written,
+        reads: streams.reads + 1,
+        ended: count == 0,
         failed: false,
         broken: got < 0,
     };
@@ -72,6 +88,8 @@ pub fn write(streams: Streams, bytes: &[u8]) -> Streams
     Streams {
         read: streams.read,
         written: std::num::wrapping_add_u64(streams.written, bytes.len() as u64),
+        reads: streams.reads,
+        ended: streams.ended,
         failed: !done,
         broken: streams.broken,
     }

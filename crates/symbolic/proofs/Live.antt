@@ -62,12 +62,6 @@ rows-sum f (c ∷ cs) =
       | inr e ↦ rw e (omega (arith, rows-sum f cs))
     ]
 
-pub rows-append : (cs ds : List Column) → Bag (withRows (cs ++ ds)) (withRows cs ++ withRows ds)
-rows-append cs ds f =
-    let g : Column → ℕ = λ c. pick (hasRows c) (f c) 0 in
-    rows-sum f (cs ++ ds) ∙ sum-append g cs ds ∙ ap (λ (n : ℕ). n + sumOf g ds) (sym (rows-sum f cs)) ∙ ap (λ (n : ℕ). sumOf f (withRows cs) + n) (sym (rows-sum f ds)) ∙
-    sym (sum-append f (withRows cs) (withRows ds))
-
 pub rows-bag : (cs ds : List Column) → Bag cs ds → Bag (withRows cs) (withRows ds)
 rows-bag cs ds b f = rows-sum f cs ∙ b (λ c. pick (hasRows c) (f c) 0) ∙ sym (rows-sum f ds)
 
@@ -95,6 +89,11 @@ counted-splits p q cs f =
 -- ---- the columns that count
 
 module _ (r : Register) where
+  -- each has its position
+  pub live-length : (cs : List Column) → length (liveOf r cs) ≡ length cs
+  unfolding liveOf
+  live-length = counted-length (inWindow (r .clock))
+
   pub live-nil : liveOf r [] ≡ []
   unfolding liveOf countedBy
   live-nil = refl
@@ -102,10 +101,6 @@ module _ (r : Register) where
   pub live-append : (cs ds : List Column) → liveOf r (cs ++ ds) ≡ liveOf r cs ++ liveOf r ds
   unfolding liveOf
   live-append = counted-append (inWindow (r .clock))
-
-  pub live-length : (cs : List Column) → length (liveOf r cs) ≡ length cs
-  unfolding liveOf
-  live-length = counted-length (inWindow (r .clock))
 
   -- the order of columns does not matter
   pub live-bag : (cs ds : List Column) → Bag cs ds → Bag (liveOf r cs) (liveOf r ds)

@@ -1,26 +1,23 @@
--- Sizes of patterns: as counts of rows; a child's against its parent's (`parent-size`), and where they allow it the two patterns are one but for the
--- child (`same-by-size`); the sum of all sizes grows with the columns, and changes by the touched columns alone; the entries of an addition and of a removal
--- are the sizes with the batch. Assumes nothing.
+-- Sizes of patterns: as counts of rows; the sum of all sizes grows with the columns, and changes by the touched columns alone; the entries of an addition and
+-- of a removal are the sizes with the batch. Assumes nothing.
 use mathlib.Core.Path.{_≡_, refl, sym, ap, _∙_, subst}
-use mathlib.Core.Logic.{inl, inr, _≢_}
-use mathlib.Core.Bool.{Bool, true, false, _&&_, not}
+use mathlib.Core.Logic.{inl, inr}
+use mathlib.Core.Bool.{Bool, not}
 use mathlib.Core.List.{List, [], _∷_, _++_}
 use Prim.Native.Nat.{ℕ, zero, suc, _+_, _-_, _≤_, _<_}
 use native.Mathlib.Nat.{max-eq-left, max-eq-right}
 use native.Mathlib.Omega.{arith}
 use lib.Dec.{eqb}
 use lib.ListN.{length, getD, List·getD-eq-default}
-use borrow.Author.Tests.{eqb-false, eq-eqb, ne-eqb, not-true}
 use Rattle.lists.specs.Lists.{one, count, sumOf, upFrom}
-use Rattle.lists.proofs.Tests.{cases, lt-or-le, and-both, and-not}
-use Rattle.lists.proofs.Count.{count-ext, count-sub, count-full, count-at, count-shift}
+use Rattle.lists.proofs.Tests.{cases, lt-or-le}
+use Rattle.lists.proofs.Count.{count-ext, count-sub, count-shift}
 use Rattle.lists.proofs.Sum.{sum-le, sum-ext, sum-places}
 use Rattle.lists.proofs.Rising.{from-up}
 use Rattle.symbolic.specs.Columns.{Column}
-use Rattle.symbolic.specs.Factor.{FactorColumn, factorOf, noColumn, columnAt, multiplicity, parentOf, inPattern, patternFrom, sizeOf, sizeSum}
+use Rattle.symbolic.specs.Factor.{FactorColumn, factorOf, noColumn, columnAt, inPattern, patternFrom, sizeOf, sizeSum}
 use Rattle.symbolic.specs.Batch.{isTouched, touchedFrom, touched, sizeSumOf, entriesOf}
-use Rattle.symbolic.proofs.Laws.{diagonal-in, row-above, parent-contains}
-use Rattle.symbolic.proofs.Build.{laws, factor-length, counts-length}
+use Rattle.symbolic.proofs.Build.{factor-length, counts-length}
 use Rattle.symbolic.proofs.Patterns.{in-pattern, pattern-in}
 use Rattle.symbolic.proofs.Locality.{multiplicity-stays, untouched-column}
 
@@ -44,51 +41,6 @@ pub size-is : (m : ℕ) (cs : List Column) (j : ℕ) → 1 ≤ j → j ≤ m →
     sizeOf (columnAt (factorOf m cs) j) ≡ count (λ i. inPattern (factorOf m cs) i j) m
 size-is m cs j a b =
     pattern-count 1 (columnAt (factorOf m cs) j .counts) ∙ ap (λ (n : ℕ). count (λ i. inPattern (factorOf m cs) i j) n) (counts-length m cs j a b)
-
--- ---- a child and its parent: the parent's pattern is the child's without the child exactly if it is one smaller
-
-module _ (m : ℕ) (cs : List Column) (c : ℕ) (a : 1 ≤ c) (b : c ≤ m) (p : 0 < parentOf (factorOf m cs) c) where
-  rest-size : count (λ i. inPattern (factorOf m cs) i c && not (eqb i c)) m + 1 ≡ sizeOf (columnAt (factorOf m cs) c)
-  rest-size =
-      let d : inPattern (factorOf m cs) c c ≡ true = in-pattern (factorOf m cs) c c (diagonal-in (laws m cs) c a b) in
-      let e : (inPattern (factorOf m cs) c c && not (eqb c c)) ≡ false = rw (d, eq-eqb c c refl) in
-      omega (
-        arith,
-        size-is m cs c a b,
-        ap one d,
-        ap one e,
-        count-at (λ i. inPattern (factorOf m cs) i c && not (eqb i c)) (λ i. inPattern (factorOf m cs) i c) m c a b
-            (λ i x y n. and-not (inPattern (factorOf m cs) i c) (eqb i c) (ne-eqb i c n)),
-      )
-
-  rest-in : (i : ℕ) → 1 ≤ i → i ≤ m → (inPattern (factorOf m cs) i c && not (eqb i c)) ≡ true →
-      inPattern (factorOf m cs) i (parentOf (factorOf m cs) c) ≡ true
-  rest-in i x y h =
-      let t : (inPattern (factorOf m cs) i c ≡ true) × (not (eqb i c) ≡ true) = and-both (inPattern (factorOf m cs) i c) (not (eqb i c)) h in
-      let n : i ≢ c = eqb-false i c (not-true (eqb i c) (t .1)) in
-      let q : c ≤ i = row-above (laws m cs) i c x b (pattern-in (factorOf m cs) i c (t .0)) in
-      in-pattern (factorOf m cs) i (parentOf (factorOf m cs) c)
-      (parent-contains (laws m cs) i c a (omega arith) y (pattern-in (factorOf m cs) i c (t .0)) .2)
-
-  pub parent-size : sizeOf (columnAt (factorOf m cs) c) ≤ suc (sizeOf (columnAt (factorOf m cs) (parentOf (factorOf m cs) c)))
-  parent-size =
-      let v : (c < parentOf (factorOf m cs) c) × (parentOf (factorOf m cs) c ≤ m) × (0 < multiplicity (factorOf m cs) (parentOf (factorOf m cs) c) c) =
-      laws m cs .parent-in c a b p in
-      omega (
-        arith,
-        rest-size,
-        size-is m cs (parentOf (factorOf m cs) c) p (v .1),
-        count-sub (λ i. inPattern (factorOf m cs) i c && not (eqb i c)) (λ i. inPattern (factorOf m cs) i (parentOf (factorOf m cs) c)) m rest-in,
-      )
-
-  pub same-by-size : sizeOf (columnAt (factorOf m cs) c) ≡ suc (sizeOf (columnAt (factorOf m cs) (parentOf (factorOf m cs) c))) →
-      (i : ℕ) → 1 ≤ i → i ≤ m → inPattern (factorOf m cs) i (parentOf (factorOf m cs) c) ≡ true → inPattern (factorOf m cs) i c ≡ true
-  same-by-size e i x y h =
-      let v : (c < parentOf (factorOf m cs) c) × (parentOf (factorOf m cs) c ≤ m) × (0 < multiplicity (factorOf m cs) (parentOf (factorOf m cs) c) c) =
-      laws m cs .parent-in c a b p in
-      and-both (inPattern (factorOf m cs) i c) (not (eqb i c))
-      (count-full (λ i. inPattern (factorOf m cs) i c && not (eqb i c)) (λ i. inPattern (factorOf m cs) i (parentOf (factorOf m cs) c)) m rest-in
-      (omega (arith, rest-size, size-is m cs (parentOf (factorOf m cs) c) p (v .1))) i x y h) .0
 
 -- ---- sums of sizes
 

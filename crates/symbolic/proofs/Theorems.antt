@@ -1,19 +1,23 @@
 -- A term of every statement of specs/Statements.antt, in its order. The mathematics stands in the other files, over the definition's sentences alone
 -- (Laws, Walks, Two, Steps) or over the computed factor (Build, Columns, Patterns, Paths, Passing, Common, Touched, Meeting, NextRow, Locality, Labels, Bags, Order, Sizes, Groups); Grades is about numbers alone. Assumes nothing.
-use mathlib.Core.Path.{_≡_, refl, sym, subst}
+use mathlib.Core.Path.{_≡_, refl, sym, ap, _∙_, subst}
 use mathlib.Core.Logic.{_⊎_, inl, inr, _≢_}
-use mathlib.Core.Bool.{true}
+use mathlib.Core.Bool.{true, not}
 use mathlib.Core.List.{List, _++_}
-use Prim.Native.Nat.{ℕ, _≤_, _<_}
+use Prim.Native.Nat.{ℕ, _+_, _≤_, _<_}
 use native.Mathlib.Omega.{arith}
+use lib.Dec.{eqb}
 use borrow.Author.Tests.{eqb-true, eq-eqb}
-use Rattle.lists.specs.Lists.{Mem, all}
+use Rattle.lists.specs.Lists.{Mem, all, upFrom}
 use Rattle.lists.proofs.Tests.{zero-or-pos}
 use Rattle.lists.proofs.Member.{all-at}
+use Rattle.lists.proofs.Count.{count-ext}
+use Rattle.lists.proofs.Sum.{sum-ext}
+use Rattle.lists.proofs.Rising.{from-up}
 use Rattle.symbolic.specs.Columns.{Column, smallest, holds, fitsRows}
 use Rattle.symbolic.specs.Factor.{factorOf, multiplicity, parentOf, inPattern, isChild}
 use Rattle.symbolic.specs.Batch.{passes, atPosition, labelOf}
-use Rattle.symbolic.specs.Statements.{Defined, Unique, DiagonalStands, ParentAbove, ParentHolds, Equation31, Growth, Locality, UpdateSteps, DowndateSteps, OrderFree, RemovalSplits, MultiplicityBound, ChainRule, PatternClosed, PatternLeast, PathIs, TouchedIs, TouchedRises, LabelIs, LabelsFollow, SizesGrow, SizesLocal, AdditionEntries, RemovalEntries, GradeFrom, OldGrades, MeetingIs, MeetingRises, MeetingEnds, CommonIs, NextIs, NextIsDiagonal, NextIsParent, WalkIsColumn, EnterSplits, LeaveSplits, FitsAlong, RowlessFactor, RowlessTouch}
+use Rattle.symbolic.specs.Statements.{Defined, Unique, DiagonalStands, ParentAbove, ParentHolds, Equation31, Growth, Locality, UpdateSteps, DowndateSteps, OrderFree, RemovalSplits, MultiplicityBound, ChainRule, PatternClosed, PatternLeast, PathIs, TouchedIs, TouchedRises, LabelIs, LabelsFollow, SizesAre, SizesGrow, SizesLocal, AdditionEntries, RemovalEntries, GradeFrom, OldGrades, MeetingIs, MeetingRises, MeetingEnds, CommonIs, NextIs, NextIsDiagonal, NextIsParent, WalkIsColumn, EnterSplits, LeaveSplits, FitsAlong, RowlessFactor, RowlessTouch}
 use Rattle.symbolic.proofs.Laws.{diagonal-in, start-in, pattern-cases, row-above, parent-contains, pattern-fill}
 use Rattle.symbolic.proofs.Walks.{walk-of, edge-in, walk-in, pattern-within}
 use Rattle.symbolic.proofs.Two.{Agree, factor-agrees}
@@ -26,7 +30,7 @@ use Rattle.symbolic.proofs.Locality.{multiplicity-stays, untouched-colu
 use Rattle.symbolic.proofs.Labels.{label-passes, label-largest, touched-label, label-follows}
 use Rattle.symbolic.proofs.Bags.{bag-splits}
 use Rattle.symbolic.proofs.Order.{factor-bag, factor-rows, count-bound}
-use Rattle.symbolic.proofs.Sizes.{sizes-grow-sum, sizes-local-sum, entries-after, entries-before}
+use Rattle.symbolic.proofs.Sizes.{size-is, size-sum-of, sizes-grow-sum, sizes-local-sum, entries-after, entries-before}
 use Rattle.symbolic.proofs.Groups.{entering-splits, leaving-splits, fitting-along}
 use Rattle.symbolic.proofs.Grades.{grade-begins, old-grade}
 use Rattle.symbolic.proofs.Meeting.{meeting-defined, meeting-rise, meeting-last}
@@ -164,6 +168,13 @@ pub labels-follow : LabelsFollow
 labels-follow m cs batch a b x l y h k e = label-follows m cs batch a b x l y (touched-label (factorOf m cs) batch a h) e
 
 -- ---- 8. sizes
+
+pub sizes-are : SizesAre
+sizes-are m cs M P h =
+    size-sum-of m cs ∙ sum-ext _ _ (upFrom 1 m) (λ j n.
+    let t : (1 ≤ j) × (j < 1 + m) = from-up 1 m n in
+    let b : j ≤ m = omega arith in
+    size-is m cs j (t .0) b ∙ count-ext _ _ m (λ i x y. ap (λ (k : ℕ). not (eqb k 0)) (sym (unique m cs M P h i j x y (t .0) b .0))))
 
 pub sizes-grow : SizesGrow
 sizes-grow = sizes-grow-sum

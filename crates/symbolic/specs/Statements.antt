@@ -2,12 +2,12 @@
 -- rise (fitsRows) is a premise only where a statement needs it. Assumes nothing.
 use mathlib.Core.Path.{_≡_}
 use mathlib.Core.Logic.{_⊎_, _≢_, _↔_}
-use mathlib.Core.Bool.{true, false}
+use mathlib.Core.Bool.{true, false, not}
 use mathlib.Core.List.{List, [], _∷_, _++_}
 use Prim.Native.Nat.{ℕ, suc, _+_, _≤_, _<_}
 use lib.Dec.{ltb, leb, eqb}
 use lib.ListN.{length}
-use Rattle.lists.specs.Lists.{pick, isIn, Mem, all, among, noRepeats, rises}
+use Rattle.lists.specs.Lists.{pick, isIn, Mem, all, among, noRepeats, count, sumOf, rises, upFrom}
 use Rattle.symbolic.specs.Columns.{Column, smallest, holds, withRows, fitsRows, startingWith}
 use Rattle.symbolic.specs.Factor.{FactorColumn, factorOf, columnAt, multiplicity, parentOf, inPattern, isChild, patternOf, multiplicitiesOf, pathOf, sizeSum}
 use Rattle.symbolic.specs.Definition.{IsFactor, OnPath}
@@ -158,6 +158,13 @@ LabelsFollow =
     OnPath (parentOf (factorOf m cs)) a b × (labelOf (factorOf m cs) batch (parentOf (factorOf m cs) a) ≡ labelOf (factorOf m cs) batch a)
 
 -- ---- 8. sizes
+
+-- "the sum of all pattern sizes", which 16 compares with F, without computing: over the columns j of 1 to m, the number of rows i of 1 to m whose multiplicity is not
+-- 0, by all multiplicities M that are as the definition says
+abbrev pub SizesAre : Type 0
+SizesAre =
+    (m : ℕ) (cs : List Column) (M : ℕ → ℕ → ℕ) (P : ℕ → ℕ) → IsFactor m (λ j i. startingWith j i cs) M P →
+    sizeSum (factorOf m cs) ≡ sumOf (λ j. count (λ i. not (eqb (M i j) 0)) m) (upFrom 1 m)
 
 -- more columns never make the sum of all pattern sizes smaller
 abbrev pub SizesGrow : Type 0

@@ -7,16 +7,16 @@ use mathlib.Core.Bool.{true}
 use mathlib.Core.List.{List, [], _∷_}
 use Prim.Native.Nat.{ℕ, zero, suc, _+_, _-_, _≤_, _<_}
 use native.Mathlib.Omega.{arith}
-use lib.Dec.{leb, eqb}
+use lib.Dec.{eqb}
 use lib.ListN.{length, getD}
-use borrow.Author.Tests.{leb-true, le-leb, eq-eqb, ne-eqb}
+use borrow.Author.Tests.{eq-eqb, ne-eqb}
 use Rattle.lists.specs.Lists.{at, sumOf, upFrom}
-use Rattle.lists.proofs.Tests.{zero-or-pos, both-ways}
+use Rattle.lists.proofs.Tests.{zero-or-pos}
 use Rattle.lists.proofs.Rising.{from-up}
-use Rattle.lists.proofs.Place.{values-length, values-place}
+use Rattle.lists.proofs.Place.{values-length}
 use Rattle.lists.proofs.Sum.{sum-ext, sum-places}
 use Rattle.symbolic.specs.Columns.{Column}
-use Rattle.symbolic.specs.Factor.{FactorColumn, countIn, factorOf, columnAt, patternFrom, nonZero, patternOf, multiplicitiesOf, sizeOf, sizeSum}
+use Rattle.symbolic.specs.Factor.{FactorColumn, factorOf, columnAt, patternFrom, nonZero, sizeOf, sizeSum}
 use Rattle.symbolic.proofs.Build.{factor-length}
 use Rattle.symbolic.proofs.Sizes.{size-sum}
 use Rattle.pool.specs.Chains.{chain}
@@ -57,18 +57,6 @@ module _ {s : Stored} {j : ℕ} {f : FactorColumn} (h : Holds s j f) where
   pub holds-size : length (recordsOf s j) ≡ sizeOf f
   holds-size = sym (values-length (s .rows) (recordsOf s j)) ∙ ap length (h .rows)
 
-  -- the k-th record has a row of the pattern and its multiplicity
-  pub entry-count : (k : ℕ) → k < length (recordsOf s j) →
-      (1 ≤ at (s .rows) (getD (recordsOf s j) k 0)) × (at (s .counts) (getD (recordsOf s j) k 0) ≡ countIn f (at (s .rows) (getD (recordsOf s j) k 0)))
-  entry-count k l =
-      let r : ℕ = getD (recordsOf s j) k 0 in
-      let x : at (s .rows) r ≡ getD (patternOf f) k 0 = sym (values-place (s .rows) (recordsOf s j) k l) ∙ ap (λ (xs : List ℕ). getD xs k 0) (h .rows) in
-      let y : at (s .counts) r ≡ getD (multiplicitiesOf f) k 0 =
-      sym (values-place (s .counts) (recordsOf s j) k l) ∙ ap (λ (xs : List ℕ). getD xs k 0) (h .counts) in
-      let t : (1 ≤ getD (patternOf f) k 0) × (getD (multiplicitiesOf f) k 0 ≡ getD (f .counts) (getD (patternOf f) k 0 - 1) 0) =
-      pattern-entry 1 (f .counts) k (omega (arith, holds-size)) in
-      (omega arith, y ∙ t .1 ∙ ap (λ (i : ℕ). countIn f i) (sym x))
-
 -- ---- all of them
 
 chains-sum : (ns hs : List ℕ) → length (chains ns hs) ≡ sumOf (λ h. length (chain ns h)) hs
@@ -90,12 +78,3 @@ module _ (cs : List Column) (s : Stored) (z : isSoundFor cs s ≡ true) where
   -- with the free ones they are all there are
   pub stored-full : sizeSum (factorOf (length (s .heads)) cs) + length (chain (s .next) (s .free)) ≡ length (s .next)
   stored-full = omega (arith, sound-facts cs s z .pool .size, stored-size)
-
-  -- k more entries fit into the free records just where the sum of sizes would not exceed the records
-  pub sizes-room : (k : ℕ) → leb k (length (chain (s .next) (s .free))) ≡ leb (sizeSum (factorOf (length (s .heads)) cs) + k) (length (s .next))
-  sizes-room k =
-      let n : ℕ = sizeSum (factorOf (length (s .heads)) cs) in
-      let f : ℕ = length (chain (s .next) (s .free)) in
-      let e : n + f ≡ length (s .next) = stored-full in
-      both-ways (leb k f) (leb (n + k) (length (s .next))) (λ h. le-leb (n + k) (length (s .next)) (omega (arith, leb-true k f h)))
-      (λ h. le-leb k f (omega (arith, leb-true (n + k) (length (s .next)) h)))

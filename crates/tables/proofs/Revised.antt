@@ -1,15 +1,13 @@
 -- Tables revised column by column: what stays is reflexive and composes (`stays-self`, `stays-joins`), a column that stays
 -- holds what it held (`stays-holds`), and tables whose columns are the factor's are sound (`revised-sound`). Assumes nothing.
-use mathlib.Core.Path.{_≡_, refl, sym, ap, _∙_, subst}
+use mathlib.Core.Path.{_≡_, refl, sym, _∙_, subst}
 use mathlib.Core.Bool.{true}
 use mathlib.Core.List.{List}
 use Prim.Native.Nat.{ℕ, _≤_}
 use lib.ListN.{length}
 use Rattle.lists.specs.Lists.{Mem, valuesAt, allZero}
-use Rattle.lists.proofs.Times.{times-mem}
-use Rattle.lists.proofs.Place.{values-frame}
 use Rattle.symbolic.specs.Columns.{Column}
-use Rattle.symbolic.specs.Factor.{FactorColumn, factorOf, columnAt}
+use Rattle.symbolic.specs.Factor.{factorOf, columnAt}
 use Rattle.pool.specs.Chains.{chain}
 use Rattle.pool.specs.Whole.{Pool}
 use Rattle.tables.specs.Stored.{Stored, recordsOf, isSoundFor}
@@ -34,16 +32,6 @@ stays-joins {a} {b} {c} {j} s t =
     }
 
 -- ---- a column that stays
-
-pub stays-holds : {a b : Stored} {j : ℕ} {f : FactorColumn} → ColumnStays a b j → Holds a j f → Holds b j f
-stays-holds {a} {b} {j} {f} s h =
-    record {
-      rows = ap (λ (rs : List ℕ). valuesAt (b .rows) rs) (s .records) ∙
-          values-frame (a .rows) (b .rows) (recordsOf a j) (λ x m. s .row x (times-mem x (recordsOf a j) m)) ∙ h .rows;
-      counts = ap (λ (rs : List ℕ). valuesAt (b .counts) rs) (s .records) ∙
-          values-frame (a .counts) (b .counts) (recordsOf a j) (λ x m. s .count x (times-mem x (recordsOf a j) m)) ∙ h .counts;
-      parent = s .parent ∙ h .parent;
-    }
 
 -- ---- all columns
 

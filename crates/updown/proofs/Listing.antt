@@ -11,7 +11,7 @@ use lib.ListN.{length, getD, take, drop, set, length-drop, length-set}
 use lib.Dec.{eqb}
 use lib.Seq.{drop-cons, drop-drop, getD-set-same, getD-set-other}
 use borrow.Author.Tests.{eq-eqb, ne-eqb}
-use Rattle.lists.specs.Lists.{pick, among, rises, all, first}
+use Rattle.lists.specs.Lists.{pick, among, rises, all}
 use Rattle.lists.proofs.Tests.{eq-or-ne, refute}
 use Rattle.lists.proofs.Member.{all-at, place-mem, among-mem}
 use Rattle.lists.proofs.Rising.{rises-first, rises-high}

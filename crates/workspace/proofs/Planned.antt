@@ -1,7 +1,7 @@
 -- Laws of a planned entry in one place: what was packed is read back, what is read of any place is within its bounds. The parts are digits
 -- (row − 1 below 4,096, multiplicity below 262,144, kind below 4), so all is linear arithmetic with division by numerals. Assumes nothing.
 use mathlib.Core.Path.{_≡_}
-use Prim.Native.Nat.{ℕ, _≤_, _<_}
+use Prim.Native.Nat.{ℕ, _≤_}
 use native.Mathlib.Omega.{arith}
 use Rattle.workspace.specs.Planned.{packed, rowOf, multiplicityOf, kindOf, FitsEntry}
 
@@ -21,12 +21,3 @@ module _ {row multiplicity kind : ℕ} (e : FitsEntry row multiplicity kind) whe
 
 pub row-bounds : (x : ℕ) → (1 ≤ rowOf x) × (rowOf x ≤ 4096)
 row-bounds x = omega arith
-
-pub multiplicity-bound : (x : ℕ) → multiplicityOf x < 262144
-multiplicity-bound x = omega arith
-
-pub kind-bound : (x : ℕ) → x < 4294967296 → kindOf x < 4
-kind-bound x h = omega arith
-
-pub entry-fits : (x : ℕ) → x < 4294967296 → FitsEntry (rowOf x) (multiplicityOf x) (kindOf x)
-entry-fits x h = record { row-low = omega arith; row-high = omega arith; multiplicity-fits = multiplicity-bound x; kind-fits = kind-bound x h }

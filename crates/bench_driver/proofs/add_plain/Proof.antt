@@ -9,7 +9,7 @@ use Rattle.tables.specs.Tables.{Tables, tablesOf}
 use Rattle.calls.specs.Calls.{adding}
 use Rattle.factor.specs.Entries.{stateOf, worldOf}
 use Rattle.factor.specs.declared.Factor.{Factor}
-use Rattle.changes.specs.Batches.{CanChange, changedAnswer}
+use Rattle.answers.specs.Answers.{CanChange, changedAnswer}
 use Rattle.continuing.proofs.Continuing.{change-can}
 use Rattle.bench_driver.proofs.add_plain.Statement.{statement}
 use Rattle.bench_driver.proofs.add_plain.Tie as tie

@@ -3,7 +3,7 @@ use Rattle.tables.specs.Tables.{Tables, tablesOf}
 use Rattle.continuing.proofs.Continuing.{change-can}
 use Rattle.calls.specs.Calls.{removing}
 use Rattle.factor.specs.Entries.{worldOf}
-use Rattle.changes.specs.Batches.{changedAnswer}
+use Rattle.answers.specs.Answers.{changedAnswer}
 use Rattle.bench_driver.proofs.change.Statement.{statement}
 use Rattle.bench_driver.proofs.change.Tie as tie
 

@@ -3,12 +3,12 @@ use mathlib.Core.Path.{_≡_, sym, subst}
 use native.Mathlib.Omega.{arith}
 use borrow.Author.Needs.{needs}
 use borrow.Author.Tests.{not-false}
-use Prim.Native.Nat.{ℕ, _≤_}
+use Prim.Native.Nat.{_≤_}
 use lib.ListN.{length}
 use Rattle.tables.specs.Tables.{tablesOf}
 use Rattle.factor.specs.Entries.{stateOf}
 use Rattle.factor.specs.declared.Factor.{Factor}
-use Rattle.changes.specs.Batches.{CanChange}
+use Rattle.answers.specs.Answers.{CanChange}
 use Rattle.bench_driver.proofs.step.Statement.{statement}
 use Rattle.bench_driver.proofs.step.Tie as tie
 

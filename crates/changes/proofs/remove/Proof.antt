@@ -1,11 +1,11 @@
--- `remove` meets its contract: refused by its admission, or handed on to the unchecked twin, by the laws of Changing.antt. Assumes nothing.
+-- `remove` meets its contract: refused by its admission, or handed on to the unchecked twin, by the laws of `answers`. Assumes nothing.
 use mathlib.Core.Path.{refl, _∙_}
 use borrow.Author.Needs.{needs}
 use Rattle.tables.specs.Tables.{Tables, State, tablesOf}
 use Rattle.calls.specs.Calls.{removing, reportLists}
 use Rattle.factor.specs.Entries.{stateOf, worldOf}
-use Rattle.changes.specs.Batches.{changedAnswer}
-use Rattle.changes.proofs.Changing.{admits-change, change-refused, admitted-can, changed-whole}
+use Rattle.answers.specs.Answers.{changedAnswer}
+use Rattle.answers.proofs.Changing.{admits-change, change-refused, admitted-can, changed-whole}
 use Rattle.changes.proofs.remove.Statement.{statement}
 use Rattle.changes.proofs.remove.Tie as tie
 
@@ -38,8 +38,8 @@ short-lists-requires c κs = search needs
 admit-requires : tie.Need-admit-requires
 admit-requires c κs = search needs
 
-unchanged-requires : tie.Need-unchanged-requires
-unchanged-requires c κs = search needs
+refused-requires : tie.Need-refused-requires
+refused-requires c κs = search needs
 
 same-length : tie.Need-same-length
 same-length c = refl
@@ -80,7 +80,7 @@ returns c =
     let h : tie.After-short-lists = listed d in
     let s : tie.Start = entry h in
     change-refused (s .args .factor) (tablesAt s) (admits-change (stateAt s) (tablesAt s) (s .args .work .now) (s .args .touched .now) (s .args .labels .now) (h .short-lists .ensures) (removing (s .args .ids .now))) (d .admit .ensures)
-    (c .before .if1 .taken) (reportLists (d .admit .last .1 .1 .1 .1 .1 .1 .1 .1 .1 .1 .0) (s .args .touched .now) (s .args .labels .now)) refl (c .unchanged .ensures)
+    (c .before .if1 .taken) (reportLists (d .admit .last .1 .1 .1 .1 .1 .1 .1 .1 .1 .1 .0) (s .args .touched .now) (s .args .labels .now)) refl (c .refused .ensures)
 
 remove-unchecked-requires : tie.Need-remove-unchecked-requires
 remove-unchecked-requires c κs =
@@ -140,7 +140,7 @@ remove-spec =
     (tie.spec
     short-lists-requires
     admit-requires
-    unchanged-requires
+    refused-requires
     same-length
     same-length-2
     same-length-3

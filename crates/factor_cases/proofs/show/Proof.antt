@@ -1,7 +1,6 @@
 -- `factor_cases::show` is safe and ends: the outer loop's table is at most 9, the inner one's place at most the table's places. The measures are what is
 -- left of these. Assumes nothing.
 use Prim.Native.Nat.{_≤_, _-_}
-use native.Mathlib.Omega.{arith}
 use borrow.Author.Needs.{needs}
 use Rattle.factor_cases.proofs.show.Statement.{statement}
 use Rattle.factor_cases.proofs.show.Tie as tie

@@ -2,16 +2,14 @@
 -- arm ends in the same two facts: the answer, and that the lengths stay. That each list keeps its length is said where the parts are put together. Assumes
 -- nothing.
 use mathlib.Core.Path.{_≡_, refl, sym, _∙_}
-use mathlib.Core.List.{List}
-use Prim.Native.Nat.{ℕ, _≤_}
 use native.Mathlib.Omega.{arith}
 use borrow.Author.Needs.{needs}
-use lib.ListN.{length, take}
+use lib.ListN.{take}
 use Rattle.tables.specs.Tables.{Tables, sizesOf, tablesOf}
 use Rattle.listing_text.specs.Command.{commandOf}
 use Rattle.listing_text.specs.declared.command.Command.the-variants.{Open, Add, Drop, Show, Unknown}
 use Rattle.listing_show.proofs.Showing.{no-fits}
-use Rattle.listing_answers.specs.Listing.{Memory, memoryOf, Lengths}
+use Rattle.listing_memory.specs.Memory.{Memory, memoryOf}
 use Rattle.listing_answers.proofs.Lines.{rows-fit, rows-listed}
 use Rattle.listing_answers.proofs.Answering.{by-command, unknown, shows, can-show, adds, opens}
 use Rattle.listing_answers.proofs.answer.Statement.{statement}

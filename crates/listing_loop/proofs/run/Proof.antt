@@ -3,10 +3,31 @@ use mathlib.Core.Logic.{inl}
 use Prim.Native.Nat.{ℕ}
 use native.Mathlib.Omega.{arith}
 use borrow.Author.Needs.{needs}
-use lib.ListN.{length-replicate}
+use lib.ListN.{replicate, length-replicate}
+use Rattle.tables.specs.Tables.{tablesOf}
+use Rattle.factor.specs.declared.Factor.{Factor}
+use Rattle.listing_memory.specs.Memory.{Lengths, memoryOf}
 use Rattle.listing_loop.proofs.Running.{listed}
 use Rattle.listing_loop.proofs.run.Statement.{statement}
 use Rattle.listing_loop.proofs.run.Tie as tie
+
+-- tables of zeros with the listing's lengths
+zero-lengths : (x : Factor) → Lengths (memoryOf x (tablesOf (replicate 64 0) (replicate 64 0) (replicate 2048 0) (replicate 2048 0) (replicate 2048 0) (replicate 256 0) (replicate 2048 0) (replicate 2048 0) (replicate 512 0)) (replicate 12032 0) (replicate 64 0) (replicate 64 0))
+zero-lengths x =
+    record {
+      heads = length-replicate {A = ℕ} 64 0;
+      parents = length-replicate {A = ℕ} 64 0;
+      rows = length-replicate {A = ℕ} 2048 0;
+      counts = length-replicate {A = ℕ} 2048 0;
+      next = length-replicate {A = ℕ} 2048 0;
+      book-heads = length-replicate {A = ℕ} 256 0;
+      book-rows = length-replicate {A = ℕ} 2048 0;
+      book-next = length-replicate {A = ℕ} 2048 0;
+      windows = length-replicate {A = ℕ} 512 0;
+      work = length-replicate {A = ℕ} 12032 0;
+      touched = length-replicate {A = ℕ} 64 0;
+      labels = length-replicate {A = ℕ} 64 0;
+    }
 
 closed-requires : tie.Need-closed-requires
 closed-requires c κs = search needs
@@ -68,30 +89,14 @@ serve-requires c κs = (
   (
     omega (arith, length-replicate {A = ℕ} 131072 0),
     (
-      record {
-        lengths = record {
-          heads = length-replicate {A = ℕ} 64 0;
-          parents = length-replicate {A = ℕ} 64 0;
-          rows = length-replicate {A = ℕ} 2048 0;
-          counts = length-replicate {A = ℕ} 2048 0;
-          next = length-replicate {A = ℕ} 2048 0;
-          book-heads = length-replicate {A = ℕ} 256 0;
-          book-rows = length-replicate {A = ℕ} 2048 0;
-          book-next = length-replicate {A = ℕ} 2048 0;
-          windows = length-replicate {A = ℕ} 512 0;
-          work = length-replicate {A = ℕ} 12032 0;
-          touched = length-replicate {A = ℕ} 64 0;
-          labels = length-replicate {A = ℕ} 64 0;
-        };
-        usable = inl (c .before .before .before .before .before .before .before .before .before .before .before .before .before .before .before .before .before .closed .ensures);
-      },
-      (length-replicate {A = ℕ} 2000 0, c .before .before .before .before .before .before .before .before .before .before .before .before .before .before .before .before .start .ensures),
+      record { lengths = zero-lengths _; usable = inl (c .before .before .before .before .before .before .before .before .before .before .before .before .before .before .before .before .before .closed .ensures) },
+      (length-replicate {A = ℕ} 2000 0, (length-replicate {A = ℕ} 4096 0, c .before .before .before .before .before .before .before .before .before .before .before .before .before .before .before .before .start .ensures .passed)),
     ),
   ),
 )
 
 returns : tie.Need-returns
-returns c = listed (c .before .before .before .before .before .before .before .before .before .before .before .before .before .before .before .before .serve .ensures) (c .before .before .before .before .before .before .before .before .before .before .before .before .before .before .before .before .before .before .before .before .before .before .before .before .before .before .before .before .before .before .before .before .before .before .closed .ensures)
+returns c = listed (c .before .before .before .before .before .before .before .before .before .before .before .before .before .before .before .before .serve .ensures) (zero-lengths _) (c .before .before .before .before .before .before .before .before .before .before .before .before .before .before .before .before .before .before .before .before .before .before .before .before .before .before .before .before .before .before .before .before .before .before .closed .ensures)
 
 pub run-spec : {M : Type 1} → statement M
 run-spec =

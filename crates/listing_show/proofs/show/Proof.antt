@@ -1,7 +1,7 @@
 -- `show` meets its contract. The loop's invariant: the lines of columns 1 to j are written (`Lines`). The measure is m less j. Assumes nothing.
 use mathlib.Core.Path.{_≡_, refl, ap, _∙_, subst}
 use mathlib.Core.List.{List}
-use Prim.Native.Nat.{ℕ, _+_, _*_, _-_, _≤_, _<_}
+use Prim.Native.Nat.{ℕ, _+_, _-_, _≤_, _<_}
 use native.Mathlib.Omega.{arith}
 use lib.ListN.{length}
 use Rattle.tables.specs.Tables.{Tables, registerOf, tablesOf}
@@ -11,10 +11,6 @@ use Rattle.listing_show.specs.Showing.{shownTo}
 use Rattle.listing_show.proofs.Showing.{no-fits, Lines, lines-start, lines-keep, shown-closed, usable-shown, shows-none, shows-some}
 use Rattle.listing_show.proofs.show.Statement.{statement}
 use Rattle.listing_show.proofs.show.Tie as tie
-use Rattle.listing_show.proofs.show.Reads as reads
-use Rattle.listing_show.proofs.show.Lts as lts
-use Rattle.listing_show.proofs.show_column.Reads as show-column-reads
-use Rattle.listing_text.proofs.text.no_line.Reads as no-line-reads
 
 abbrev Inv-loop : tie.InvT-loop
 Inv-loop factor heads parents rows counts next book-heads book-rows book-next windows list₀ out₀ m end₀ j₀ list out end j =

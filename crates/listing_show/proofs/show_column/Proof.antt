@@ -1,5 +1,5 @@
 -- `show_column` meets its contract: parent and entries are those of the register (proofs/Asking.antt), the line is head, pairs and newline. Assumes nothing.
-use mathlib.Core.Path.{_≡_, ap, sym, subst}
+use mathlib.Core.Path.{_≡_, subst}
 use mathlib.Core.List.{List}
 use Prim.Native.Nat.{ℕ, _+_, _*_, _^_, _≤_, _<_}
 use native.Mathlib.Omega.{arith}
@@ -7,7 +7,7 @@ use borrow.Author.Needs.{needs}
 use lib.ListN.{length, take}
 use Rattle.symbolic.specs.Columns.{Register}
 use Rattle.symbolic.specs.Factor.{factorFor, columnAt, parentOf, sizeOf}
-use Rattle.tables.specs.Tables.{Tables, registerOf, tablesOf}
+use Rattle.tables.specs.Tables.{registerOf, tablesOf}
 use Rattle.calls.specs.Questions.{columnList}
 use Rattle.factor.specs.Entries.{stateOf}
 use Rattle.listing_text.specs.Text.{showHead, showPairs, Written}

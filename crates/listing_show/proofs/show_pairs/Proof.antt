@@ -6,9 +6,6 @@ use lib.ListN.{length}
 use Rattle.listing_show.proofs.Showing.{Pairing, pairing-start, pairing-end, pairing-room, pairing-keep}
 use Rattle.listing_show.proofs.show_pairs.Statement.{statement}
 use Rattle.listing_show.proofs.show_pairs.Tie as tie
-use Rattle.listing_show.proofs.show_pairs.Reads as reads
-use Rattle.listing_show.proofs.show_pairs.Lts as lts
-use Rattle.listing_text.proofs.text.show_pair.Reads as show-pair-reads
 
 abbrev Inv-loop : tie.InvT-loop
 Inv-loop out₀ list at count end₀ i₀ out end i = Pairing out₀ list at count out end i

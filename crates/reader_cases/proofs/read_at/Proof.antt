@@ -18,7 +18,7 @@ use ghost.Atoms.{Atoms, sem}
 use contract.BorrowLft.{meet-⊑-right}
 use contract.Monad.{Fun, fact, fact-mono}
 use contract.Running.{givenOf, tables, tablesOf}
-use types.Kit.{Given, ‵, raw, _⊛_, ⋆, some, later, _$_, _∵_, !, qed, by, move, keep, drop, use1, use2, use3, split, join, pick, fsplit, fpick, fjoin, fpack, suffices, frame, await, updating, now as at-once, show, done}
+use types.Kit.{Given, ‵, raw, _⊛_, ⋆, some, later, _$_, _∵_, !, qed, by, move, keep, use1, use2, use3, split, join, pick, fsplit, fpick, fjoin, fpack, suffices, frame, await, updating, now as at-once, show, done}
 use types.Run.{look, init, forget, stop, from, load, of-opd, addr, and-then, no-more, assigns, land, returns, enter, alloc1, alloc0, params1, pass1, pass0, free1, free0}
 use types.SemTy.{Body}
 use types.Tokens.{lft-new, lent-back}
@@ -50,7 +50,6 @@ use denote.Exit.{yes}
 use Rattle.pool.specs.declared.Rec.{Rec}
 use Rattle.pool.proofs.Rec as R
 use Rattle.pool.proofs.Rec.Laws as R′
-use Rattle.reader.specs.Reading.{entryAt}
 use Rattle.reader.specs.Reader.{begun, entryOf, moved}
 use Rattle.reader.specs.declared.Entry.{Entry}
 use Rattle.reader.specs.declared.Reader.{Reader}

@@ -10,7 +10,7 @@ use Rattle.book.proofs.Sound.{free-linked}
 use Rattle.calls.specs.Refusals.{isAccepted, keepStep}
 use Rattle.calls.proofs.Refusals.{InStep, step-facts}
 use Rattle.refusals.specs.Found.{bareIn}
-use Rattle.refusals.proofs.Tests.{is-in}
+use Rattle.early_refusals.proofs.Tests.{is-in}
 use Rattle.refusals.proofs.Finding.{found-accepted, rows-few, add-step, add-positions, add-fits, add-full}
 use Rattle.refusals.proofs.find_add.Statement.{statement}
 use Rattle.refusals.proofs.find_add.Tie as tie

@@ -6,7 +6,7 @@ use lib.ListN.{length}
 use Rattle.lists.specs.Lists.{isIn}
 use Rattle.lists.proofs.Tests.{in-range}
 use Rattle.book.specs.Book.{bookOf}
-use Rattle.refusals.proofs.Tests.{is-in}
+use Rattle.early_refusals.proofs.Tests.{is-in}
 use Rattle.refusals.proofs.Finding.{remove-shape, remove-positions}
 use Rattle.refusals.proofs.find_remove.Statement.{statement}
 use Rattle.refusals.proofs.find_remove.Tie as tie

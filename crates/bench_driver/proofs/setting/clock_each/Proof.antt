@@ -6,7 +6,7 @@ use lib.ListN.{length, getD}
 use Rattle.tables.specs.Tables.{Tables, tablesOf}
 use Rattle.calls.specs.Calls.{setting}
 use Rattle.factor.specs.Entries.{stateOf, worldOf}
-use Rattle.changes.specs.Batches.{changedAnswer}
+use Rattle.answers.specs.Answers.{changedAnswer}
 use Rattle.continuing.proofs.Continuing.{change-can}
 use Rattle.bench_driver.proofs.Running.{Running}
 use Rattle.bench_driver.proofs.setting.clock_each.Statement.{statement}

@@ -4,7 +4,7 @@ use borrow.Author.Needs.{needs}
 use Rattle.tables.specs.Tables.{Tables, State, tablesOf}
 use Rattle.calls.specs.Calls.{askMeets, workAndList}
 use Rattle.factor.specs.Entries.{stateOf}
-use Rattle.factor.proofs.Admitting.{admitted-use}
+use Rattle.admission.proofs.Admitting.{admitted-use}
 use Rattle.factor.proofs.Asking.{admits-ask, refused-early, kept-step}
 use Rattle.factor.proofs.Factor.meets.Statement.{statement}
 use Rattle.factor.proofs.Factor.meets.Tie as tie

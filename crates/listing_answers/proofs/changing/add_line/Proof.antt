@@ -7,9 +7,9 @@ use lib.ListN.{take}
 use lib.Seq.{length-take-le}
 use Rattle.tables.specs.Tables.{Tables, tablesOf}
 use Rattle.factor.specs.Entries.{stateOf}
-use Rattle.changes.specs.Batches.{CanChange}
+use Rattle.answers.specs.Answers.{CanChange}
 use Rattle.listing_text.proofs.Printing.{no-room}
-use Rattle.listing_answers.specs.Listing.{Memory, memoryOf}
+use Rattle.listing_memory.specs.Memory.{Memory, memoryOf}
 use Rattle.calls.specs.Calls.{Change, adding}
 use Rattle.listing_answers.proofs.Changes.{ready-none, ready-some, closed-changes, open-changes}
 use Rattle.listing_answers.proofs.changing.add_line.Statement.{statement}

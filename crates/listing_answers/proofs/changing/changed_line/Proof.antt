@@ -3,7 +3,7 @@ use mathlib.Core.Path.{subst}
 use mathlib.Core.List.{List}
 use Prim.Native.Nat.{ℕ, _^_, _<_}
 use native.Mathlib.Omega.{arith}
-use Rattle.changes.specs.Batches.{changedAnswer}
+use Rattle.answers.specs.Answers.{changedAnswer}
 use Rattle.listing_text.specs.Text.{Written}
 use Rattle.listing_text.proofs.Printing.{ok-room, no-room}
 use Rattle.listing_answers.proofs.Changes.{ok-answer, no-answer}

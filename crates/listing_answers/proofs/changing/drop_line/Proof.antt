@@ -1,13 +1,12 @@
 -- `drop_line` meets its contract: before an accepted opening the refusal by 1, after it the unchecked batch, whose premise is kept. Assumes nothing.
-use mathlib.Core.List.{List, [], _∷_}
+use mathlib.Core.List.{[], _∷_}
 use native.Mathlib.Omega.{arith}
 use borrow.Author.Needs.{needs}
-use lib.ListN.{length, take}
 use Rattle.tables.specs.Tables.{Tables, tablesOf}
 use Rattle.factor.specs.Entries.{stateOf}
-use Rattle.changes.specs.Batches.{CanChange}
+use Rattle.answers.specs.Answers.{CanChange}
 use Rattle.listing_text.proofs.Printing.{no-room}
-use Rattle.listing_answers.specs.Listing.{Memory, memoryOf}
+use Rattle.listing_memory.specs.Memory.{Memory, memoryOf}
 use Rattle.calls.specs.Calls.{removing}
 use Rattle.listing_answers.proofs.Changes.{ready-none, ready-some, closed-changes, open-changes}
 use Rattle.listing_answers.proofs.changing.drop_line.Statement.{statement}

@@ -1,5 +1,5 @@
 -- `meeting::mark` meets its contract. The loop's invariant is `Marking`: the columns above j are marked and counted. The measure is j. Assumes nothing.
-use mathlib.Core.Path.{_≡_, sym, _∙_}
+use mathlib.Core.Path.{sym, _∙_}
 use Prim.Native.Nat.{_-_, _≤_, _<_}
 use native.Mathlib.Omega.{arith}
 use lib.ListN.{length, set, length-set}

@@ -1,0 +1,4 @@
+pub mod Planning
+pub mod Verdicts
+pub mod Adding
+pub mod Removing
