@@ -1,7 +1,8 @@
 /* Nigvalds: the pattern of the sparse Cholesky factor of I + AA^T, kept while columns of A enter and leave.
  *
- * README.md says what it is for and has the table of sizes and refusals; examples/host.c is a whole program. C99 and later, C++11 and later.
- * Link with libnigvalds.a (`make install PREFIX=..` puts it with this header and a pkg-config file; x86-64, System V calling convention). It needs memset alone.
+ * README.md says what it is for, docs/REFERENCE.md has the tables of sizes and refusals; examples/ has whole programs: host.c makes every call, restore.c stops
+ * and goes on from a file, grow.c moves to larger tables. C99 and later, C++11 and later. Link with libnigvalds.a (`make install PREFIX=..` puts it with this
+ * header and a pkg-config file; x86-64, System V calling convention). It needs memset alone.
  *
  * EXAMPLE. A factor of 5 rows, two columns added as one batch, one question.
  *
@@ -39,10 +40,18 @@
  *     they touch, a question for what it reads;
  *   - constant: a few loads.
  *
+ * STORING. Record and tables are plain numbers, without pointers: store the record's ten numbers and the nine tables, heads to windows, after an accepted call;
+ * the work table and the lists of a report need not be kept. After a restart lend what was stored again; nigvalds_check says whether it is sound, and the next
+ * call goes on. What an older version stored serves on, with what it lacks added:
+ *   - before 0.7: clock 0, the last field of the record, and windows of 2 x n zeros, the last table;
+ *   - 0.1 besides: the limits of the grades, the host's own or the default ones.
+ *
  * AFTER NUMBER 6 the tables are as they were lent: something else has written them, or the record is not theirs, or its limits of the grades break the rule.
- * No call mends tables. Go back to the last good copy of tables and record (one taken after an accepted call), or open anew and add the columns again;
- * nigvalds_check says whether a copy is sound. What an older version stored serves on: to a record of before 0.7 add clock 0, and to its tables windows of 2 x n
- * zeros; to one of 0.1 limits of the grades too, the host's own or the default ones.
+ * No call mends tables. Go back to the last good copy of tables and record (one taken after an accepted call), or open anew and add the columns again.
+ *
+ * AFTER NUMBERS 15 AND 16 nothing has changed either: C or F is too small for the batch, F for the minute. A factor keeps its sizes. A host grows by opening
+ * larger tables, setting their clock, and adding its booked columns again, with their windows: the pattern is that of the live columns, so values of L stay
+ * good, but its records have other numbers. No question reads a booked column back, so a host that wants to grow keeps its columns.
  */
 #ifndef NIGVALDS_H
 #define NIGVALDS_H
@@ -54,7 +63,24 @@
 extern "C" {
 #endif
 
-#define NIGVALDS_VERSION "0.7.0"
+#define NIGVALDS_VERSION "0.8.0"
+
+/* ---- the interface. The names that the archive defines carry the version in which a prototype, record, table, size or number last changed, so a host compiled
+   with an older or newer header does not link, whichever function it calls. tools/check-header sees that the version changes with them. */
+
+#define NIGVALDS_ENTRY(name) name##_0_7
+#define nigvalds_open NIGVALDS_ENTRY(nigvalds_open)
+#define nigvalds_add NIGVALDS_ENTRY(nigvalds_add)
+#define nigvalds_remove NIGVALDS_ENTRY(nigvalds_remove)
+#define nigvalds_set_clock NIGVALDS_ENTRY(nigvalds_set_clock)
+#define nigvalds_check NIGVALDS_ENTRY(nigvalds_check)
+#define nigvalds_next_row NIGVALDS_ENTRY(nigvalds_next_row)
+#define nigvalds_parent NIGVALDS_ENTRY(nigvalds_parent)
+#define nigvalds_path NIGVALDS_ENTRY(nigvalds_path)
+#define nigvalds_column NIGVALDS_ENTRY(nigvalds_column)
+#define nigvalds_meets NIGVALDS_ENTRY(nigvalds_meets)
+#define nigvalds_common NIGVALDS_ENTRY(nigvalds_common)
+#define nigvalds_read NIGVALDS_ENTRY(nigvalds_read)
 
 /* ---- sizes */
 
@@ -307,6 +333,93 @@ typedef struct nigvalds_tables {
                                    name##_book_heads, (n), name##_book_rows, (c), name##_book_next, (c), name##_windows,                            \
                                    NIGVALDS_WINDOW_PLACES(n), name##_work, NIGVALDS_WORK_PLACES(m, n, f, c), name##_touched, (m),                   \
                                    name##_labels, (m)}
+
+/* F as an opening takes it: f, or the default for 0. */
+static inline uint32_t nigvalds_records(uint32_t m, uint32_t f) { return f == 0 ? NIGVALDS_DEFAULT_RECORDS(m) : f; }
+
+/* Whether an opening takes these sizes; otherwise it gives 1 to 4. */
+static inline int nigvalds_sizes_fit(uint32_t m, uint32_t n, uint32_t f, uint32_t c) {
+    if (m < 1 || m > NIGVALDS_MOST_ROWS || n < 1 || n > NIGVALDS_MOST_IDS || c < 1 || c > NIGVALDS_MOST_BOOKED) {
+        return 0;
+    }
+    return nigvalds_records(m, f) >= m && nigvalds_records(m, f) <= NIGVALDS_MOST_RECORDS;
+}
+
+/* Tables for sizes known when running: the bytes of one block for all of them and the lists of a report, 28,225,536 at most; f = 0 means the default, as at
+   opening. 0 for sizes that an opening refuses.
+
+       void *memory = malloc(nigvalds_bytes(m, n, f, c));
+       nigvalds_tables t = nigvalds_lay_out(memory, m, n, f, c);
+       nigvalds_opened o = nigvalds_open_in(&t, m, n, f, c);       // 5 where there was no memory, 1 to 4 for the sizes */
+static inline size_t nigvalds_bytes(uint32_t m, uint32_t n, uint32_t f, uint32_t c) {
+    const size_t records = nigvalds_records(m, f);
+    if (!nigvalds_sizes_fit(m, n, f, c)) {
+        return 0;
+    }
+    return sizeof(uint32_t) * ((size_t)m + records + n + c + NIGVALDS_WINDOW_PLACES((size_t)n) + NIGVALDS_WORK_PLACES(m, n, records, c)) +
+           sizeof(uint16_t) * (3 * (size_t)m + 2 * records + c);
+}
+
+/* The tables in such a block, aligned for uint32_t as malloc's are, each just as long as needed. They take no place of it, and have none, where memory is NULL or an
+   opening refuses the sizes: every call may be lent them, and is refused. The block is the host's, to free after the last call. */
+static inline nigvalds_tables nigvalds_lay_out(void *memory, uint32_t m, uint32_t n, uint32_t f, uint32_t c) {
+    static uint32_t nowhere[1]; /* a pointer must not be NULL, also where the length is 0 */
+    const int fits = memory != NULL && nigvalds_sizes_fit(m, n, f, c);
+    const size_t rows = fits ? m : 0, ids = fits ? n : 0, records = fits ? nigvalds_records(m, f) : 0, booked = fits ? c : 0;
+    nigvalds_tables t;
+    t.heads_length = t.parents_length = t.touched_length = t.labels_length = rows;
+    t.rows_length = t.counts_length = t.next_length = records;
+    t.book_heads_length = ids;
+    t.book_rows_length = t.book_next_length = booked;
+    t.windows_length = NIGVALDS_WINDOW_PLACES(ids);
+    t.work_length = fits ? NIGVALDS_WORK_PLACES(rows, ids, records, booked) : 0;
+    t.heads = fits ? (uint32_t *)memory : nowhere;
+    t.next = t.heads + t.heads_length;
+    t.book_heads = t.next + t.next_length;
+    t.book_next = t.book_heads + t.book_heads_length;
+    t.windows = t.book_next + t.book_next_length;
+    t.work = t.windows + t.windows_length;
+    t.parents = (uint16_t *)(t.work + t.work_length);
+    t.rows = t.parents + t.parents_length;
+    t.counts = t.rows + t.rows_length;
+    t.book_rows = t.counts + t.counts_length;
+    t.touched = t.book_rows + t.book_rows_length;
+    t.labels = t.touched + t.touched_length;
+    return t;
+}
+
+/* A table or list that is too short: its name, the places it has and those it needs. Where none is, "", 0 and 0. */
+typedef struct nigvalds_short {
+    const char *name;
+    size_t has, needs;
+} nigvalds_short;
+
+/* After number 5: the first table or list that is too short for the sizes asked, f = 0 as at opening, or for those in the record of the call. touched and labels
+   come last; batches and clock changes alone need them. None for sizes that an opening refuses: 1 to 4 come before 5. */
+static inline nigvalds_short nigvalds_first_short(const nigvalds_tables *t, uint32_t m, uint32_t n, uint32_t f, uint32_t c) {
+    const size_t records = nigvalds_records(m, f);
+    const nigvalds_short none = {"", 0, 0};
+    const nigvalds_short all[] = {{"heads", t->heads_length, m},
+                                  {"parents", t->parents_length, m},
+                                  {"rows", t->rows_length, records},
+                                  {"counts", t->counts_length, records},
+                                  {"next", t->next_length, records},
+                                  {"book_heads", t->book_heads_length, n},
+                                  {"book_rows", t->book_rows_length, c},
+                                  {"book_next", t->book_next_length, c},
+                                  {"windows", t->windows_length, NIGVALDS_WINDOW_PLACES((size_t)n)},
+                                  {"work", t->work_length, NIGVALDS_WORK_PLACES(m, n, records, c)},
+                                  {"touched", t->touched_length, m},
+                                  {"labels", t->labels_length, m}};
+    if (nigvalds_sizes_fit(m, n, f, c)) {
+        for (size_t k = 0; k < sizeof all / sizeof all[0]; k++) {
+            if (all[k].has < all[k].needs) {
+                return all[k];
+            }
+        }
+    }
+    return none;
+}
 
 #define NIGVALDS_PARTS(t)                                                                                                                           \
     (t)->heads, (t)->heads_length, (t)->parents, (t)->parents_length, (t)->rows, (t)->rows_length, (t)->counts, (t)->counts_length, (t)->next,      \

@@ -16,7 +16,8 @@ fn main() {
         // Without the toolchain nothing runs, and the message below says so.
         let _ = Command::new("rt").args(["staticlib", "nigvalds"]).current_dir(repository).status();
     }
-    match archive::find(folder, repository) {
+    println!("cargo:rustc-env=NIGVALDS_INTERFACE={}", archive::INTERFACE);
+    match archive::find(folder, repository).and_then(|found| archive::fits(&found).map(|()| found)) {
         Ok(found) => {
             println!("cargo:rerun-if-changed={}", found.display());
             println!("cargo:rustc-link-search=native={}", found.parent().expect("a file has a folder").display());

@@ -1,5 +1,6 @@
 //! The library's functions as `include/nigvalds.h` declares them; `tools/check-header` compares both with crates/nigvalds/src.
-//! A slice crosses as a pointer and a length in places; structs cross by value.
+//! A slice crosses as a pointer and a length in places; structs cross by value. The archive's names end in the interface's version (`INTERFACE` in
+//! `build/archive.rs`), so a package of another interface does not link.
 
 /// The record of sizes, free heads, limits of the grades and clock. It goes with the tables.
 #[repr(C)]
@@ -95,6 +96,7 @@ macro_rules! declare {
     ($($(#[$doc:meta])* fn $name:ident($($first:ident: $first_type:ty),*; $heads:ident $stored:ident $book:ident; $($last:ident: $last_type:ty),*) -> $answer:ty;)*) => {
         extern "C" {
             $($(#[$doc])*
+            #[link_name = concat!(stringify!($name), env!("NIGVALDS_INTERFACE"))]
             pub fn $name(
                 $($first: $first_type,)*
                 heads: pointer!($heads u32), heads_length: usize,
@@ -138,6 +140,7 @@ declare! {
 }
 
 extern "C" {
+    #[link_name = concat!("nigvalds_read", env!("NIGVALDS_INTERFACE"))]
     pub fn nigvalds_read(
         rows: *const u16,
         rows_length: usize,

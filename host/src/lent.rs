@@ -1,7 +1,8 @@
 //! The calls over tables of any lengths and contents, as numbers: safe, since the library asks nothing of what is lent, and Rust's references are valid and
 //! apart. [`crate::Factor`] stands on these; a host that keeps its tables elsewhere uses them itself.
-use crate::ffi;
 pub use crate::ffi::{Changed, Found, Opened, Read, Record, Reply};
+use crate::{ffi, Factor};
+use std::fmt;
 
 /// W, the places of the work table; f is F itself, not 0.
 pub fn work_places(m: u32, n: u32, f: u32, c: u32) -> usize {
@@ -31,6 +32,52 @@ impl Default for Limits {
     fn default() -> Limits {
         Limits { grade2: 256, grade3: 4096, grade4: 65536 }
     }
+}
+
+/// The record's numbers in order, to store: m, n, F, C, both free heads, the three limits, the clock. Before 0.7 there was no clock, in 0.1 no limits either.
+impl From<Record> for [u32; 10] {
+    fn from(r: Record) -> [u32; 10] {
+        [r.m, r.n, r.f, r.c, r.free, r.book_free, r.grade2, r.grade3, r.grade4, r.clock]
+    }
+}
+
+/// The record of these numbers; what an older version stored gets the default limits and clock 0 for those that it lacks.
+impl From<[u32; 10]> for Record {
+    fn from([m, n, f, c, free, book_free, grade2, grade3, grade4, clock]: [u32; 10]) -> Record {
+        Record { m, n, f, c, free, book_free, grade2, grade3, grade4, clock }
+    }
+}
+
+/// A table or list that is too short.
+#[derive(Clone, Copy, Debug, PartialEq, Eq, Hash)]
+pub struct Short {
+    /// Its name, as [`Tables`] has it, `work`, `touched` or `labels`.
+    pub name: &'static str,
+    /// The places that it has.
+    pub has: usize,
+    /// The places that it needs.
+    pub needs: usize,
+}
+
+impl fmt::Display for Short {
+    fn fmt(&self, f: &mut fmt::Formatter<'_>) -> fmt::Result {
+        write!(f, "{} has {} of {} places", self.name, self.has, self.needs)
+    }
+}
+
+// F as an opening takes it.
+pub(crate) fn records(m: u32, f: u32) -> u32 {
+    if f == 0 {
+        m.saturating_mul(Factor::RECORDS_PER_ROW)
+    } else {
+        f
+    }
+}
+
+// Whether an opening takes these sizes; otherwise it gives 1 to 4.
+fn sizes_fit(m: u32, n: u32, f: u32, c: u32) -> bool {
+    let within = |x: u32, most: u32| (1..=most).contains(&x);
+    within(m, Factor::MOST_ROWS) && within(n, Factor::MOST_IDS) && (m..=Factor::MOST_RECORDS).contains(&f) && within(c, Factor::MOST_BOOKED)
 }
 
 /// The nine tables; what belongs to number k stands at place k - 1.
@@ -100,6 +147,35 @@ impl Tables {
             book_next: vec![0; c],
             windows: vec![0; 2 * n],
         }
+    }
+
+    /// After number 5: the first table or list that is too short for these sizes, f = 0 as at an opening, or for those in the record of the call. `work` is the length
+    /// of the work table, `report` those of the lists of touched columns and labels, for a batch or a clock change. None for sizes that an opening refuses: 1 to 4
+    /// come before 5.
+    pub fn first_short(&self, m: u32, n: u32, f: u32, c: u32, work: usize, report: Option<(usize, usize)>) -> Option<Short> {
+        let f = records(m, f);
+        if !sizes_fit(m, n, f, c) {
+            return None;
+        }
+        let (rows, ids, factor, booked) = (m as usize, n as usize, f as usize, c as usize);
+        let (touched, labels) = report.unwrap_or((rows, rows));
+        [
+            ("heads", self.heads.len(), rows),
+            ("parents", self.parents.len(), rows),
+            ("rows", self.rows.len(), factor),
+            ("counts", self.counts.len(), factor),
+            ("next", self.next.len(), factor),
+            ("book_heads", self.book_heads.len(), ids),
+            ("book_rows", self.book_rows.len(), booked),
+            ("book_next", self.book_next.len(), booked),
+            ("windows", self.windows.len(), 2 * ids),
+            ("work", work, work_places(m, n, f, c)),
+            ("touched", touched, rows),
+            ("labels", labels, rows),
+        ]
+        .into_iter()
+        .find(|(_, has, needs)| has < needs)
+        .map(|(name, has, needs)| Short { name, has, needs })
     }
 
     /// Opens a fresh factor at minute 0: writes all tables. f = 0 means [`crate::Factor::RECORDS_PER_ROW`] × m, three zeros for limits mean the default ones.

@@ -12,7 +12,8 @@
 //! # Ok::<(), nigvalds::Refusal>(())
 //! ```
 //!
-//! A column may be booked with a window, and counts while the factor's clock stands in it ([`Factor::add_with_windows`], [`Factor::set_clock`]).
+//! A column may be booked with a window, and counts while the factor's clock stands in it ([`Factor::add_with_windows`], [`Factor::set_clock`]). A factor can be stored
+//! and [restored](Factor::restore), and a larger one takes its place when it is full ([growing](Factor#growing)).
 //!
 //! `cargo run --example planner` runs an active-set loop over it, values and all.
 #![warn(missing_docs)]
@@ -23,8 +24,8 @@ pub mod lent;
 mod refusal;
 
 pub use columns::{Column, Columns, Entries, Entry, Meets, Path, Walk};
-pub use lent::Limits;
-pub use refusal::Refusal;
+pub use lent::{Limits, Short};
+pub use refusal::{Refusal, Refused};
 
 use lent::{Changed, Found, Record, Tables};
 use std::cell::RefCell;
@@ -38,6 +39,36 @@ use std::ops::Range;
 pub type Window = Option<Range<u32>>;
 
 /// A factor of m rows for columns with ids 1 to n, in F factor records and C book records.
+///
+/// # Growing
+///
+/// A factor keeps its sizes. Where C or F is too small ([`Refusal::BookFull`], [`Refusal::FactorFull`]) nothing has changed; a host grows by opening a larger factor
+/// and adding its columns again. The pattern is the same, in records of other numbers. No question reads a booked column back, so the host keeps its columns:
+///
+/// ```
+/// # use nigvalds::{Factor, Refusal, Window};
+/// // A larger factor with the same limits, clock and columns. The clock is set before columns come, so that just those count that counted before.
+/// fn grown(factor: &Factor, f: u32, c: u32, booked: &[(u32, &[u32], Window)]) -> Result<Factor, Refusal> {
+///     let record = factor.record();
+///     let mut larger = Factor::open_with_limits(record.m, record.n, f, c, factor.limits())?;
+///     larger.set_clock(record.clock)?;
+///     for batch in booked.chunks(64) {
+///         larger.add_with_windows(batch)?;
+///     }
+///     Ok(larger)
+/// }
+///
+/// let lines: [(u32, &[u32], Window); 3] = [(1, &[1, 3], None), (2, &[1, 4], Some(480..720)), (3, &[2, 3, 5], None)];
+/// let mut factor = Factor::open(5, 8, 6, 16)?;
+/// factor.add_with_windows(&lines[..2])?;
+/// assert_eq!(factor.add_with_windows(&lines[2..]).unwrap_err(), Refusal::FactorFull);
+/// factor = grown(&factor, 12, 16, &lines[..2])?;
+/// factor.add_with_windows(&lines[2..])?;
+/// # assert_eq!(factor.check(), Ok(()));
+/// # Ok::<(), Refusal>(())
+/// ```
+///
+/// # Threads
 ///
 /// It is `Send`: it owns all that the library works on, and the library has no global state, so a factor may move to another thread and different factors may
 /// be used in parallel. It is not `Sync`: a question needs the work table, which every call fills and clears, so two questions at once would write the same places.
@@ -95,32 +126,103 @@ impl Factor {
     /// A fresh factor with these limits, which it keeps until it is opened anew; three zeros mean the default ones. Limits that break the rule are refused by
     /// [`Refusal::Limits`]. f = 0 means [`Factor::RECORDS_PER_ROW`] × m.
     pub fn open_with_limits(m: u32, n: u32, f: u32, c: u32, limits: Limits) -> Result<Factor, Refusal> {
-        let places = |x: u32, most: u32| x.min(most);
-        let (rows, ids, booked) = (places(m, Self::MOST_ROWS), places(n, Self::MOST_IDS), places(c, Self::MOST_BOOKED));
-        let records = if f == 0 { Self::RECORDS_PER_ROW * rows } else { places(f, Self::MOST_RECORDS) };
-        let mut factor = Factor {
-            record: Record::default(),
-            tables: Tables::for_sizes(rows, ids, records, booked),
-            work: RefCell::new(vec![0; lent::work_places(rows, ids, records, booked)]),
-            touched: vec![0; rows as usize],
-            labels: vec![0; rows as usize],
-        };
+        let [rows, ids, records, booked] = at_most(m, n, f, c);
+        let mut factor = Factor::over(Record { m, n, f, c, ..Record::default() }, Tables::for_sizes(rows, ids, records, booked));
         factor.reopen_with_limits(m, n, f, c, limits)?;
         Ok(factor)
     }
 
+    // Over tables that may be too short, and a record that may not be theirs. The lists of a report serve as many rows as the tables do.
+    fn over(record: Record, tables: Tables) -> Factor {
+        let [rows, ids, records, booked] = at_most(record.m, record.n, record.f, record.c);
+        let report = tables.heads.len().min(Self::MOST_ROWS as usize);
+        let work = RefCell::new(vec![0; lent::work_places(rows, ids, records, booked)]);
+        Factor { record, tables, work, touched: vec![0; report], labels: vec![0; report] }
+    }
+
     /// Opens anew in the tables there are, without a column, at minute 0 and with the default limits; f = 0 as in [`Factor::open`]. Where it is refused, for the sizes or
     /// since the tables are too short for them, the factor stays.
-    pub fn reopen(&mut self, m: u32, n: u32, f: u32, c: u32) -> Result<(), Refusal> {
+    pub fn reopen(&mut self, m: u32, n: u32, f: u32, c: u32) -> Result<(), Refused> {
         self.reopen_with_limits(m, n, f, c, Limits::default())
     }
 
     /// Opens anew likewise, with these limits, three zeros for the default ones; limits that break the rule are refused too.
-    pub fn reopen_with_limits(&mut self, m: u32, n: u32, f: u32, c: u32, limits: Limits) -> Result<(), Refusal> {
+    pub fn reopen_with_limits(&mut self, m: u32, n: u32, f: u32, c: u32, limits: Limits) -> Result<(), Refused> {
         let opened = self.tables.open(m, n, f, c, limits, self.work.get_mut());
-        answered(opened.number, 0)?;
+        answered(opened.number, 0).map_err(|refusal| self.refused(refusal, m, n, f, c))?;
         self.record = opened.record;
         Ok(())
+    }
+
+    // A refusal in the tables there are, with the one that is too short.
+    fn refused(&self, refusal: Refusal, m: u32, n: u32, f: u32, c: u32) -> Refused {
+        let short = self.tables.first_short(m, n, f, c, self.work.borrow().len(), None);
+        Refused { refusal, short: short.filter(|_| refusal == Refusal::Short) }
+    }
+
+    /// A factor from a record and tables that were stored: those of [`record`](Factor::record) and [`tables`](Factor::tables). They are read through first; what is
+    /// damaged, or belongs to another record, is refused by [`Refusal::Unsound`], sizes and lengths that cannot be used by 1 to 5.
+    ///
+    /// To what a version before 0.7 stored add clock 0, the last number of the record, and windows of 2 × n zeros; to a record of 0.1 also limits of the grades.
+    ///
+    /// ```
+    /// use nigvalds::lent::{Record, Tables};
+    /// use nigvalds::{Factor, Refusal};
+    ///
+    /// // A file: the record's ten numbers, the tables of 32-bit places, then those of 16-bit places.
+    /// fn stored(factor: &Factor) -> Vec<u8> {
+    ///     let (record, t) = (<[u32; 10]>::from(factor.record()), factor.tables());
+    ///     let wide = [&record[..], &t.heads, &t.next, &t.book_heads, &t.book_next, &t.windows].concat();
+    ///     let narrow = [&t.parents[..], &t.rows, &t.counts, &t.book_rows].concat();
+    ///     wide.iter().flat_map(|x| x.to_le_bytes()).chain(narrow.iter().flat_map(|x| x.to_le_bytes())).collect()
+    /// }
+    ///
+    /// // So many places from the front of a file; none where it ends early.
+    /// fn places<T, const N: usize>(file: &mut &[u8], length: u32, number: fn([u8; N]) -> T) -> Option<Vec<T>> {
+    ///     let mut place = || {
+    ///         let (place, rest) = file.split_first_chunk()?;
+    ///         *file = rest;
+    ///         Some(number(*place))
+    ///     };
+    ///     (0..length).map(|_| place()).collect()
+    /// }
+    ///
+    /// fn fetched(mut file: &[u8]) -> Option<(Record, Tables)> {
+    ///     let record = Record::from(<[u32; 10]>::try_from(places(&mut file, 10, u32::from_le_bytes)?).ok()?);
+    ///     let Record { m, n, f, c, .. } = record;
+    ///     let mut wide = |length| places(&mut file, length, u32::from_le_bytes);
+    ///     let (heads, next, book_heads, book_next, windows) = (wide(m)?, wide(f)?, wide(n)?, wide(c)?, wide(2 * n)?);
+    ///     let mut narrow = |length| places(&mut file, length, u16::from_le_bytes);
+    ///     let (parents, rows, counts, book_rows) = (narrow(m)?, narrow(f)?, narrow(f)?, narrow(c)?);
+    ///     Some((record, Tables { heads, parents, rows, counts, next, book_heads, book_rows, book_next, windows }))
+    /// }
+    ///
+    /// let mut factor = Factor::open(5, 8, 80, 16)?;
+    /// factor.add_with_windows(&[(1, &[1, 3], None), (2, &[1, 4], Some(480..720))])?;
+    /// let path = std::env::temp_dir().join(format!("nigvalds-{}", std::process::id()));
+    /// std::fs::write(&path, stored(&factor))?;
+    ///
+    /// let mut file = std::fs::read(&path)?; // after a restart
+    /// let (record, tables) = fetched(&file).ok_or("the file ends early")?;
+    /// let mut factor = Factor::restore(record, tables)?;
+    /// assert_eq!(factor.set_clock(500)?.touched, [1, 3, 4]);
+    ///
+    /// file[40] = 2; // the first record of column 1
+    /// let (record, tables) = fetched(&file).ok_or("the file ends early")?;
+    /// assert_eq!(Factor::restore(record, tables).unwrap_err(), Refusal::Unsound);
+    /// # std::fs::remove_file(&path)?;
+    /// # Ok::<(), Box<dyn std::error::Error>>(())
+    /// ```
+    pub fn restore(record: Record, tables: Tables) -> Result<Factor, Refused> {
+        let Record { m, n, f, c, .. } = record;
+        let factor = Factor::over(record, tables);
+        factor.check().map_err(|refusal| factor.refused(refusal, m, n, f, c))?;
+        Ok(factor)
+    }
+
+    /// Record and tables, to store or to lend elsewhere.
+    pub fn into_parts(self) -> (Record, Tables) {
+        (self.record, self.tables)
     }
 
     /// Adds columns, each an id with its rows, as one batch. They always count.
@@ -304,6 +406,14 @@ impl Factor {
     }
 }
 
+/// Record and tables are copied; the copy has a work table of its own.
+impl Clone for Factor {
+    fn clone(&self) -> Factor {
+        let places = self.work.borrow().len();
+        Factor { work: RefCell::new(vec![0; places]), ..Factor::over(self.record, self.tables.clone()) }
+    }
+}
+
 /// The listing: a line for each column.
 impl fmt::Debug for Factor {
     fn fmt(&self, f: &mut fmt::Formatter<'_>) -> fmt::Result {
@@ -329,6 +439,12 @@ fn minutes(window: &Window) -> (u32, u32) {
         Some(Range { start: 0, end: 0 }) => (1, 1),
         Some(range) => (range.start, range.end),
     }
+}
+
+// The sizes to make tables for, F = 0 as at an opening: those beyond the largest need none, since the library refuses them.
+fn at_most(m: u32, n: u32, f: u32, c: u32) -> [u32; 4] {
+    let rows = m.min(Factor::MOST_ROWS);
+    [rows, n.min(Factor::MOST_IDS), lent::records(rows, f).min(Factor::MOST_RECORDS), c.min(Factor::MOST_BOOKED)]
 }
 
 // Accepted, or the refusal of an answer.

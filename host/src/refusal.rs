@@ -1,4 +1,5 @@
-//! The numbers by which a call is turned down, as a type.
+//! The numbers by which a call is turned down, as a type; and an error that says which table is too short.
+use crate::lent::Short;
 use std::fmt;
 
 // A line for each number: its name, whether it comes with a position, its words.
@@ -35,7 +36,7 @@ macro_rules! refusals {
                 }
             }
 
-            /// Its number, as README's table has it.
+            /// Its number, as the table of docs/REFERENCE.md has it.
             pub fn number(self) -> u32 {
                 match self {
                     $(Refusal::$name { .. } => $number,)*
@@ -97,3 +98,42 @@ impl fmt::Display for Refusal {
 }
 
 impl std::error::Error for Refusal {}
+
+/// Why opening anew or restoring was turned down, in tables that are there: the refusal and, where that is [`Refusal::Short`], the first table that is too short. It
+/// is equal to its refusal, and `?` turns it into that.
+///
+/// ```
+/// let mut factor = nigvalds::Factor::open(5, 8, 80, 16)?;
+/// let refused = factor.reopen(5, 8, 100, 16).unwrap_err();
+/// assert_eq!(refused, nigvalds::Refusal::Short);
+/// assert_eq!(refused.to_string(), "refused by 5: a table or list that is needed is too short: rows has 80 of 100 places");
+/// # Ok::<(), nigvalds::Refusal>(())
+/// ```
+#[derive(Clone, Copy, Debug, PartialEq, Eq, Hash)]
+pub struct Refused {
+    /// The refusal.
+    pub refusal: Refusal,
+    /// The first table that is too short.
+    pub short: Option<Short>,
+}
+
+impl fmt::Display for Refused {
+    fn fmt(&self, f: &mut fmt::Formatter<'_>) -> fmt::Result {
+        self.refusal.fmt(f)?;
+        self.short.map_or(Ok(()), |short| write!(f, ": {short}"))
+    }
+}
+
+impl std::error::Error for Refused {}
+
+impl PartialEq<Refusal> for Refused {
+    fn eq(&self, refusal: &Refusal) -> bool {
+        self.refusal == *refusal
+    }
+}
+
+impl From<Refused> for Refusal {
+    fn from(refused: Refused) -> Refusal {
+        refused.refusal
+    }
+}

@@ -69,7 +69,7 @@ fn how_long_it_stays() {
     factor.remove(&[3]).unwrap();
     factor.add(&[(3, &[5])]).unwrap();
     assert_eq!(factor.add(&[(3, &[5])]).err(), Some(Refusal::IdBooked { position: 1 }));
-    assert_eq!(factor.reopen(6, 8, 9, 16), Err(Refusal::Short));
+    assert_eq!(factor.reopen(6, 8, 9, 16).unwrap_err(), Refusal::Short);
     assert_eq!((factor.clock(), factor.record().clock, factor.parent(1)), (6, 6, Ok(Some(3))));
     factor.reopen(5, 8, 9, 16).unwrap();
     assert_eq!((factor.clock(), format!("{factor:?}")), (0, FRESH.into()));

@@ -130,7 +130,7 @@ fn how_long_they_stay() {
         ((6, 8, 9, 16), ZEROS, Refusal::Short),
     ] {
         let (m, n, f, c) = sizes;
-        assert_eq!(factor.reopen_with_limits(m, n, f, c, handed(limits)), Err(refusal));
+        assert_eq!(factor.reopen_with_limits(m, n, f, c, handed(limits)).unwrap_err(), refusal);
         assert_eq!(kept(factor.record()), OWN);
     }
     assert_eq!(factor.add(&[(2, &[1, 4])]).unwrap().grade, 2);

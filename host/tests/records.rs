@@ -108,7 +108,7 @@ fn tables_for_fewer() {
     assert!(tables == Tables::for_sizes(5, 8, 80, 16) && work_stays(Record::default(), 5, &work));
     assert_eq!(open(&mut tables, 80, &mut work).record.f, 80);
     let mut factor = Factor::open(5, 8, 80, 16).unwrap();
-    assert_eq!(factor.reopen(5, 8, 0, 16), Err(Refusal::Short));
+    assert_eq!(factor.reopen(5, 8, 0, 16).unwrap_err(), Refusal::Short);
     assert_eq!((factor.record().f, factor.reopen(5, 8, 80, 16)), (80, Ok(())));
 }
 

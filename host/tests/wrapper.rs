@@ -48,7 +48,7 @@ fn iterators() {
 fn reopening() {
     let mut factor = Factor::open(5, 8, 9, 16).unwrap();
     factor.add(&[(1, &[1, 3]), (2, &[1, 4]), (3, &[2, 3])]).unwrap();
-    assert_eq!(factor.reopen(6, 8, 9, 16), Err(Refusal::Short));
+    assert_eq!(factor.reopen(6, 8, 9, 16).unwrap_err(), Refusal::Short);
     assert_eq!(format!("{factor:?}"), LISTING);
     assert_eq!(factor.reopen(3, 8, 9, 16), Ok(()));
     assert_eq!(format!("{factor:?}"), "1 0 1:1\n2 0 2:1\n3 0 3:1\n");
