@@ -23,20 +23,6 @@ static uint32_t *there_and_back(uint32_t last)
     return t;
 }
 
-static void booked(const Load *w, Fac *f, Fac *g)
-{
-    Flat x = flatten(w, 0, w->nb);
-    fac_alloc(f, w->m, w->n, w->F, w->C); fac_alloc(g, w->m, w->n, w->F, w->C);
-    fac_open(f, w->m, w->n, w->F, w->C); fac_open(g, w->m, w->n, w->F, w->C);
-    for (size_t b = 0; b < x.batches; b++) {
-        Lists y = lists_of(&x, b);
-        if (inner_add(f, &y, touched, labels).number) die("plain fill");
-        if (ours_add(g, &y, touched, labels).number) die("fill");
-    }
-    if (!same(f, g)) die("the factors differ");
-    free_flat(&x);
-}
-
 /* all changes by the inner way, a mean; the library's list of minutes begins with a check, whose time is taken off. Plain C's tables are read through before, too */
 static void inner_pass(Fac *f, Fac *g, const uint32_t *minutes, size_t n, double *t)
 {
@@ -74,7 +60,7 @@ static void line(int shape, const Line *l, uint64_t seed, size_t passes)
     double *t[KINDS], one[KINDS], mid[KINDS], nt = 0, ne = 0;
     uint32_t *minutes = there_and_back(l->last); size_t n = 2 * (size_t)l->last;
     make_timed(&w, shape, M, l->moved, l->last, seed);
-    booked(&w, &f, &g);
+    fill_both(&w, w.nb, &f, &g);
     for (int k = 0; k < KINDS; k++) t[k] = calloc(passes, sizeof(double));
     for (size_t p = 0; p < passes; p++) {
         inner_pass(&f, &g, minutes, n, one); public_pass(&f, &g, minutes, n, one, &nt, &ne);

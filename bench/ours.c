@@ -1,6 +1,7 @@
-/* The public entries of the proved library over the tables of plain.h, by the host interface. */
+/* The public entries of the proved library over the tables of plain.h, by the host interface; plain C and the library filled alike. */
 #include "measure.h"
 #include "ours.h"
+#include <stdlib.h>
 
 static Ans answer(Fac *f, nigvalds_changed a)
 { Ans y = {a.number, a.position, a.touched, a.entries, a.grade}; keep(f, a.factor); return y; }
@@ -27,5 +28,20 @@ uint32_t ours_check(Fac *f) { return nigvalds_check(record(f), TABLES(f)).number
 uint32_t ours_meets(Fac *f, uint32_t i, uint32_t *list, size_t places) { return nigvalds_meets(record(f), TABLES(f), list, places, i, 0).value; }
 
 nigvalds_found ours_next(Fac *f, uint32_t i, uint32_t j) { return nigvalds_next_row(record(f), TABLES(f), i, j); }
+
+void fill_both(const Load *w, size_t batches, Fac *f, Fac *g)
+{
+    uint16_t *touched = calloc(w->m, 2), *labels = calloc(w->m, 2);
+    Flat x = flatten(w, 0, batches);
+    fac_alloc(f, w->m, w->n, w->F, w->C); fac_alloc(g, w->m, w->n, w->F, w->C);
+    fac_open(f, w->m, w->n, w->F, w->C); fac_open(g, w->m, w->n, w->F, w->C);
+    for (size_t b = 0; b < x.batches; b++) {
+        Lists y = lists_of(&x, b);
+        if (inner_add(f, &y, touched, labels).number) die("plain fill");
+        if (ours_add(g, &y, touched, labels).number) die("fill");
+    }
+    if (!same(f, g)) die("the factors differ");
+    free_flat(&x); free(touched); free(labels);
+}
 
 const Way ours_way = {"", ours_check, ours_add, ours_remove};

@@ -51,6 +51,8 @@ uint32_t ours_check(Fac *f);
 uint32_t ours_meets(Fac *f, uint32_t i, uint32_t *list, size_t places);
 /* the first row at or above i in column j */
 nigvalds_found ours_next(Fac *f, uint32_t i, uint32_t j);
+/* two new factors with the first batches of a workload, which add: f by plain C's inner way, g by the library; the work tables are zero afterwards */
+void fill_both(const Load *w, size_t batches, Fac *f, Fac *g);
 
 /* ---- the unchecked entries (unchecked.c) */
 

@@ -19,22 +19,6 @@ static const Line lines[] = {{"meets", MEETS, 1, 1}, {"common", COMMON, 2, 2}, {
 /* what one way of asking gave: the sum of its values, how many rows or columns were found, microseconds in all */
 typedef struct { uint64_t sum; double found, time; } Run;
 
-/* the fill of a workload, by both; the work tables are zero afterwards */
-static void fill_both(const Load *w, Fac *f, Fac *g)
-{
-    static uint16_t touched[M], labels[M];
-    Flat x = flatten(w, 0, w->fill);
-    fac_alloc(f, w->m, w->n, w->F, w->C); fac_alloc(g, w->m, w->n, w->F, w->C);
-    fac_open(f, w->m, w->n, w->F, w->C); fac_open(g, w->m, w->n, w->F, w->C);
-    for (size_t b = 0; b < x.batches; b++) {
-        Lists y = lists_of(&x, b);
-        if (inner_add(f, &y, touched, labels).number) die("plain fill");
-    }
-    if (ours_run(g, &x, touched, labels)) die("fill");
-    if (!same(f, g)) die("the factors differ");
-    free_flat(&x);
-}
-
 /* every row's columns by the public entry are plain C's, from place 0 on, with nothing written beyond */
 static void compare_lists(Fac *f, Fac *g)
 {
@@ -124,7 +108,7 @@ void questions(uint64_t seed, size_t passes)
     for (int shape = 0; shape < 2; shape++) {
         Load w; Fac f, g;
         make_load(&w, shape, M, 1, 1, seed, 0);
-        fill_both(&w, &f, &g);
+        fill_both(&w, w.fill, &f, &g);
         compare_lists(&f, &g); compare_walks(&f, &g);
         for (size_t z = 0; z < sizeof lines / sizeof *lines; z++) line(&w, &f, &g, &lines[z], passes);
         fac_free(&f); fac_free(&g); free_load(&w);
