@@ -13,7 +13,7 @@ VERSION = $(shell sed -n 's/^\#define NIGVALDS_VERSION "\(.*\)"$$/\1/p' include/
 EXAMPLE = crates/listing/stdin crates/listing/stdout
 STATES = host/examples/drawing.out
 TRY = $(CURDIR)/target/try
-RT_JOBS ?= 4
+RT_JOBS ?= 6
 TESTS = test-header test-c test-rust test-python test-install test-picture test-paths test-crates test-streams test-unused test-toolchain
 MAKEFLAGS += --no-print-directory
 
@@ -23,7 +23,7 @@ check:
 
 # The gate removes target/ first, so the rest waits for it. Its own last line comes last.
 test:
-	@RT_JOBS=$(RT_JOBS) tools/gate && $(MAKE) $(TESTS) && tail -n 1 target/log/gate.log
+	@RT_JOBS=$(RT_JOBS) tools/gate && $(MAKE) -j2 -O $(TESTS) && tail -n 1 target/log/gate.log
 
 test-header: $(ARCHIVE)
 	tools/check-header $(ARCHIVE)
