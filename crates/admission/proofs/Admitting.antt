@@ -10,93 +10,93 @@ use lib.ListN.{length}
 use borrow.Author.Tests.{eq-eqb, ne_eqb, not-true, not-false}
 use Rattle.lists.specs.Lists.{pick}
 use Rattle.lists.proofs.Tests.{refute}
-use Rattle.workspace.specs.Regions.{IsZero, cleared, zeroFirst}
+use Rattle.workspace.specs.Regions.{IsZero, cleared, zero_first}
 use Rattle.workspace.proofs.Regions.{cleared-length, cleared-zero, first-cleared}
-use Rattle.tables.specs.Tables.{Tables, Sizes, State, longEnough, isSound}
-use Rattle.calls.specs.Refusals.{Refusal, accepted, isAccepted, or_else, unless, bounds, sizesRefusal, workFor, shortRefusal, earlyRefusal}
+use Rattle.tables.specs.Tables.{Tables, Sizes, State, long_enough, is_sound}
+use Rattle.calls.specs.Refusals.{Refusal, accepted, is_accepted, or_else, unless, bounds, sizes_refusal, work_for, short_refusal, early_refusal}
 use Rattle.calls.proofs.Choices.{or-both, or-first, or-second, unless_holds, unless-false}
 use Rattle.calls.proofs.Refusals.{HasRoom, early-passed}
 use Rattle.admission.specs.Admission.{admission, Admitted, HasPlaces, Usable, CanUse}
 
 -- ---- a choice by its number
 
-number-zero : (x : Refusal) → 0 ≡ x.number → isAccepted x ≡ true
+number-zero : (x : Refusal) → 0 ≡ x.number → is_accepted x ≡ true
 number-zero x e = eq-eqb x.number 0 (sym e)
 
-number-some : (x : Refusal) {n : ℕ} → n ≡ x.number → n ≢ 0 → isAccepted x ≡ false
+number-some : (x : Refusal) {n : ℕ} → n ≡ x.number → n ≢ 0 → is_accepted x ≡ false
 number-some x {n} e d = ne_eqb x.number 0 (λ z. d (e ∙ z))
 
 -- ---- 1 to 5 and 20
 
 module _ (l : Sizes) (g : Bool) (t : Tables) (w : List ℕ) (z : Bool) where
   abbrev short : Refusal
-  short = or_else (shortRefusal l t w) (unless z 5 0)
+  short = or_else (short_refusal l t w) (unless z 5 0)
 
   -- the sizes are refused
-  pub early-sizes : {n : ℕ} → n ≡ (sizesRefusal bounds l).number → n ≢ 0 → n ≡ (earlyRefusal l g t w z).number
+  pub early-sizes : {n : ℕ} → n ≡ (sizes_refusal bounds l).number → n ≢ 0 → n ≡ (early_refusal l g t w z).number
   early-sizes e d =
-      e ∙ sym (ap (λ (x : Refusal). x.number) (or-first (sizesRefusal bounds l) (or_else (unless g 20 0) short) (number-some (sizesRefusal bounds l) e d)))
+      e ∙ sym (ap (λ (x : Refusal). x.number) (or-first (sizes_refusal bounds l) (or_else (unless g 20 0) short) (number-some (sizes_refusal bounds l) e d)))
 
-  module _ {n : ℕ} (e : n ≡ (sizesRefusal bounds l).number) (d : n ≡ 0) where
-    past-sizes : earlyRefusal l g t w z ≡ or_else (unless g 20 0) short
-    past-sizes = or-second (sizesRefusal bounds l) (or_else (unless g 20 0) short) (number-zero (sizesRefusal bounds l) (sym d ∙ e))
+  module _ {n : ℕ} (e : n ≡ (sizes_refusal bounds l).number) (d : n ≡ 0) where
+    past-sizes : early_refusal l g t w z ≡ or_else (unless g 20 0) short
+    past-sizes = or-second (sizes_refusal bounds l) (or_else (unless g 20 0) short) (number-zero (sizes_refusal bounds l) (sym d ∙ e))
 
     -- the limits are
-    pub early-limits : g ≡ false → 20 ≡ (earlyRefusal l g t w z).number
+    pub early-limits : g ≡ false → 20 ≡ (early_refusal l g t w z).number
     early-limits k = sym (ap (λ (y : Refusal). y.number) (past-sizes ∙ ap (λ (b : Bool). or_else (unless b 20 0) short) k))
 
-    module _ (k : g ≡ true) {x : Bool} (f : x ≡ not (isAccepted (shortRefusal l t w))) where
-      past-limits : earlyRefusal l g t w z ≡ short
+    module _ (k : g ≡ true) {x : Bool} (f : x ≡ not (is_accepted (short_refusal l t w))) where
+      past-limits : early_refusal l g t w z ≡ short
       past-limits = past-sizes ∙ ap (λ (b : Bool). or_else (unless b 20 0) short) k
 
-      pub early-short : x ≡ true → 5 ≡ (earlyRefusal l g t w z).number
+      pub early-short : x ≡ true → 5 ≡ (early_refusal l g t w z).number
       early-short h =
-          let s : isAccepted (shortRefusal l t w) ≡ false = not-true (isAccepted (shortRefusal l t w)) (sym f ∙ h) in
-          let b : Bool = longEnough l t && leb (workFor l) (length w) in
-          let short-is : b ≡ false = refute b (λ z. true≢false (sym (ap (λ (y : Bool). isAccepted (unless y 5 0)) z) ∙ s)) in
-          sym (ap (λ (y : Refusal). y.number) (past-limits ∙ or-first (shortRefusal l t w) (unless z 5 0) s ∙ unless-false b 5 0 short-is))
+          let s : is_accepted (short_refusal l t w) ≡ false = not-true (is_accepted (short_refusal l t w)) (sym f ∙ h) in
+          let b : Bool = long_enough l t && leb (work_for l) (length w) in
+          let short-is : b ≡ false = refute b (λ z. true≢false (sym (ap (λ (y : Bool). is_accepted (unless y 5 0)) z) ∙ s)) in
+          sym (ap (λ (y : Refusal). y.number) (past-limits ∙ or-first (short_refusal l t w) (unless z 5 0) s ∙ unless-false b 5 0 short-is))
 
       module _ (h : x ≡ false) where
-        past-short : earlyRefusal l g t w z ≡ unless z 5 0
-        past-short = past-limits ∙ or-second (shortRefusal l t w) (unless z 5 0) (not-false (isAccepted (shortRefusal l t w)) (sym f ∙ h))
+        past-short : early_refusal l g t w z ≡ unless z 5 0
+        past-short = past-limits ∙ or-second (short_refusal l t w) (unless z 5 0) (not-false (is_accepted (short_refusal l t w)) (sym f ∙ h))
 
-        pub early-none : z ≡ true → 0 ≡ (earlyRefusal l g t w z).number
+        pub early-none : z ≡ true → 0 ≡ (early_refusal l g t w z).number
         early-none e = sym (ap (λ (y : Refusal). y.number) (past-short ∙ ap (λ (b : Bool). unless b 5 0) e))
 
-        pub early-lists : z ≡ false → 5 ≡ (earlyRefusal l g t w z).number
+        pub early-lists : z ≡ false → 5 ≡ (early_refusal l g t w z).number
         early-lists e = sym (ap (λ (y : Refusal). y.number) (past-short ∙ ap (λ (b : Bool). unless b 5 0) e))
 
 -- ---- 6
 
 module _ (s : State) (t : Tables) (w : List ℕ) (z : Bool) where
   abbrev early : Refusal
-  early = earlyRefusal s.sizes true t w z
+  early = early_refusal s.sizes true t w z
 
-  pub admit-early : {n : ℕ} → n ≡ (earlyRefusal s.sizes true t w z).number → n ≢ 0 → Admitted s t w z n w
+  pub admit-early : {n : ℕ} → n ≡ (early_refusal s.sizes true t w z).number → n ≢ 0 → Admitted s t w z n w
   admit-early {n} e d =
-      let q : isAccepted early ≡ false = number-some early e d in
+      let q : is_accepted early ≡ false = number-some early e d in
       record {
-        found = e ∙ sym (ap (λ (x : Refusal). x.number) (or-first early (unless (isSound s t) 6 0) q));
-        left = sym (ap (λ (b : Bool). pick b (zeroFirst (workFor s.sizes) w) w) q);
+        found = e ∙ sym (ap (λ (x : Refusal). x.number) (or-first early (unless (is_sound s t) 6 0) q));
+        left = sym (ap (λ (b : Bool). pick b (zero_first (work_for s.sizes) w) w) q);
       }
 
-  module _ {n : ℕ} (e : n ≡ (earlyRefusal s.sizes true t w z).number) (d : n ≡ 0) where
-    passed : isAccepted early ≡ true
+  module _ {n : ℕ} (e : n ≡ (early_refusal s.sizes true t w z).number) (d : n ≡ 0) where
+    passed : is_accepted early ≡ true
     passed = number-zero early (sym d ∙ e)
 
     -- the tables can be read through
     pub admit-reads : HasPlaces s.sizes t w
     admit-reads =
-        let p : (sizesRefusal bounds s.sizes ≡ accepted) × (true ≡ true) × HasRoom s.sizes t w × (z ≡ true) = early-passed s.sizes true t w z passed in
+        let p : (sizes_refusal bounds s.sizes ≡ accepted) × (true ≡ true) × HasRoom s.sizes t w × (z ≡ true) = early-passed s.sizes true t w z passed in
         record { sizes = p.0; long = p.2.tables; room = p.2.work }
 
-    module _ {a : Bool} {w' : List ℕ} (f : a ≡ isSound s t) (g : w' ≡ zeroFirst (workFor s.sizes) w) where
-      admitted : (b : Bool) → isSound s t ≡ b → (k : ℕ) → (unless b 6 0).number ≡ k → Admitted s t w z k w'
+    module _ {a : Bool} {w' : List ℕ} (f : a ≡ is_sound s t) (g : w' ≡ zero_first (work_for s.sizes) w) where
+      admitted : (b : Bool) → is_sound s t ≡ b → (k : ℕ) → (unless b 6 0).number ≡ k → Admitted s t w z k w'
       admitted b h k q =
           record {
             found =
-                sym (ap (λ (x : Refusal). x.number) (or-second early (unless (isSound s t) 6 0) passed ∙ ap (λ (c : Bool). unless c 6 0) h) ∙ q);
-            left = g ∙ sym (ap (λ (c : Bool). pick c (zeroFirst (workFor s.sizes) w) w) passed);
+                sym (ap (λ (x : Refusal). x.number) (or-second early (unless (is_sound s t) 6 0) passed ∙ ap (λ (c : Bool). unless c 6 0) h) ∙ q);
+            left = g ∙ sym (ap (λ (c : Bool). pick c (zero_first (work_for s.sizes) w) w) passed);
           }
 
       pub admit-sound : a ≡ true → Admitted s t w z 0 w'
@@ -107,9 +107,9 @@ module _ (s : State) (t : Tables) (w : List ℕ) (z : Bool) where
 
 -- ---- usable tables with a work table whose first W places are cleared
 
-pub cleared-use : {s : State} {t : Tables} → Usable s t → (w : List ℕ) → workFor s.sizes ≤ length w → {w' : List ℕ} → w' ≡ zeroFirst (workFor s.sizes) w → CanUse s t w'
+pub cleared-use : {s : State} {t : Tables} → Usable s t → (w : List ℕ) → work_for s.sizes ≤ length w → {w' : List ℕ} → w' ≡ zero_first (work_for s.sizes) w → CanUse s t w'
 cleared-use {s} {t} u w long {w'} e =
-    let W : ℕ = workFor s.sizes in
+    let W : ℕ = work_for s.sizes in
     let all : w' ≡ cleared w 0 W = e ∙ first-cleared W w long in
     let room : 0 + W ≤ length w = omega (arith, long) in
     record {
@@ -125,30 +125,30 @@ admitted-as e {t} {w} {z} {n} {w'} a = subst (λ (y : State). Admitted y t w z n
 -- ---- what an admitted call relies on
 
 module _ {s : State} {t : Tables} {w : List ℕ} {z : Bool} {n : ℕ} {w' : List ℕ} (a : Admitted s t w z n w') where
-  pub admitted-some : n ≢ 0 → isAccepted (admission s t w z) ≡ false
+  pub admitted-some : n ≢ 0 → is_accepted (admission s t w z) ≡ false
   admitted-some d = number-some (admission s t w z) a.found d
 
   module _ (d : n ≡ 0) where
-    pub admitted-none : isAccepted (admission s t w z) ≡ true
+    pub admitted-none : is_accepted (admission s t w z) ≡ true
     admitted-none = number-zero (admission s t w z) (sym d ∙ a.found)
 
-    both : (isAccepted (earlyRefusal s.sizes true t w z) ≡ true) × (isAccepted (unless (isSound s t) 6 0) ≡ true)
-    both = or-both (earlyRefusal s.sizes true t w z) (unless (isSound s t) 6 0) admitted-none
+    both : (is_accepted (early_refusal s.sizes true t w z) ≡ true) × (is_accepted (unless (is_sound s t) 6 0) ≡ true)
+    both = or-both (early_refusal s.sizes true t w z) (unless (is_sound s t) 6 0) admitted-none
 
-    pub admitted-early : isAccepted (earlyRefusal s.sizes true t w z) ≡ true
+    pub admitted-early : is_accepted (early_refusal s.sizes true t w z) ≡ true
     admitted-early = both.0
 
     pub admitted-usable : Usable s t
     admitted-usable =
-        let p : (sizesRefusal bounds s.sizes ≡ accepted) × (true ≡ true) × HasRoom s.sizes t w × (z ≡ true) = early-passed s.sizes true t w z both.0 in
-        record { sizes = p.0; long = p.2.tables; sound = unless_holds (isSound s t) 6 0 refl both.1 }
+        let p : (sizes_refusal bounds s.sizes ≡ accepted) × (true ≡ true) × HasRoom s.sizes t w × (z ≡ true) = early-passed s.sizes true t w z both.0 in
+        record { sizes = p.0; long = p.2.tables; sound = unless_holds (is_sound s t) 6 0 refl both.1 }
 
     -- and its work table is the lent one with the first W places zero
     has_room : HasRoom s.sizes t w
     has_room = (early-passed s.sizes true t w z both.0).2
 
-    pub admitted-work : w' ≡ zeroFirst (workFor s.sizes) w
-    admitted-work = a.left ∙ ap (λ (q : Bool). pick q (zeroFirst (workFor s.sizes) w) w) both.0
+    pub admitted-work : w' ≡ zero_first (work_for s.sizes) w
+    admitted-work = a.left ∙ ap (λ (q : Bool). pick q (zero_first (work_for s.sizes) w) w) both.0
 
     pub admitted-use : CanUse s t w'
     admitted-use = cleared-use admitted-usable w has_room.work admitted-work

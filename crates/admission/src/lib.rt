@@ -1,10 +1,10 @@
 // Numbers 1 to 6 and 20, of every call: sizes, limits, tables and lists by their lengths, then limits and tables read through within their sizes for number 6. The
 // first number in document 01's order is given, and from number 6 on the first W work places are zero.
 ghost use Rattle.std.specs.Prelude.{◌≡◌};
-ghost use Rattle.workspace.specs.Regions.{zeroFirst};
-ghost use Rattle.tables.specs.Tables.{isSound};
-ghost use Rattle.tables.specs.Lent.{tablesIn, tablesNow};
-ghost use Rattle.calls.specs.Refusals.{workFor, earlyRefusal};
+ghost use Rattle.workspace.specs.Regions.{zero_first};
+ghost use Rattle.tables.specs.Tables.{is_sound};
+ghost use Rattle.tables.specs.Lent.{tables_in, tables_now};
+ghost use Rattle.calls.specs.Refusals.{work_for, early_refusal};
 ghost use Rattle.state.specs.Record.{state_of};
 ghost use Rattle.admission.specs.Admission.{Admitted, HasPlaces};
 
@@ -26,7 +26,7 @@ pub fn early(
     keeps_rule: bool,
     lists: bool,
 ) -> u32
-    ensures { result ≡ (earlyRefusal (state_of state).sizes keeps_rule (tablesIn heads parents rows counts next book_heads book_rows book_next windows) work.now lists).number }
+    ensures { result ≡ (early_refusal (state_of state).sizes keeps_rule (tables_in heads parents rows counts next book_heads book_rows book_next windows) work.now lists).number }
 {
     let number = early_refusals::sizes(
         state.m,
@@ -70,9 +70,9 @@ fn read_through(
     windows: &[u32],
     work: &mut [u32],
 ) -> bool
-    requires { HasPlaces (state_of state).sizes (tablesNow heads parents rows counts next book_heads book_rows book_next windows) work.old }
-    ensures answer { result ≡ isSound (state_of state) (tablesIn heads parents rows counts next book_heads book_rows book_next windows) }
-    ensures work { work.new ≡ zeroFirst (workFor (state_of state).sizes) work.old }
+    requires { HasPlaces (state_of state).sizes (tables_now heads parents rows counts next book_heads book_rows book_next windows) work.old }
+    ensures answer { result ≡ is_sound (state_of state) (tables_in heads parents rows counts next book_heads book_rows book_next windows) }
+    ensures work { work.new ≡ zero_first (work_for (state_of state).sizes) work.old }
 {
     let m = state.m as usize;
     let n = state.n as usize;
@@ -120,7 +120,7 @@ pub fn admit(
     work: &mut [u32],
     lists: bool,
 ) -> u32
-    ensures { Admitted (state_of state) (tablesIn heads parents rows counts next book_heads book_rows book_next windows) work.old lists result work.new }
+    ensures { Admitted (state_of state) (tables_in heads parents rows counts next book_heads book_rows book_next windows) work.old lists result work.new }
 {
     let number = early(
         state, heads, parents, rows, counts, next, book_heads, book_rows, book_next, windows, work,

@@ -8,18 +8,18 @@ use Rattle.tables.specs.Tables.{Tables, Sizes, State}
 use Rattle.tables.proofs.Tables.{Long, long-facts}
 use Rattle.calls.specs.Calls.{Change, Lent}
 use Rattle.calls.specs.Steps.{Answer, World}
-use Rattle.steps.specs.Outcome.{cutWorld, CanStep, ChangeStep}
-use Rattle.steps.proofs.Lifting.{cutTables, joinTables, worldFor, join-cut, lift-can}
+use Rattle.steps.specs.Outcome.{cut_world, CanStep, ChangeStep}
+use Rattle.steps.proofs.Lifting.{cut_tables, join_tables, world_for, join-cut, lift-can}
 use Rattle.steps.proofs.Lifted.{step-lifts}
-use Rattle.steps.proofs.Whole.{joinBut, heads-stay, joinStored, ReadOnly, stored-written}
+use Rattle.steps.proofs.Whole.{join_but, heads-stay, join_stored, ReadOnly, stored-written}
 use Rattle.factor.specs.declared.Factor.{Factor}
-use Rattle.factor.specs.Entries.{state_of, worldOf}
+use Rattle.factor.specs.Entries.{state_of, world_of}
 use Rattle.answers.specs.Answers.{CanChange, AnswerIs, UncheckedChange}
 use Rattle.answers.specs.declared.Changed.{Changed}
 
 -- the world of a factor whose tables are cut to its sizes
-abbrev pub worldCut : Factor → Tables → World
-worldCut s t = cutWorld (cutTables (state_of s).sizes t) (state_of s).limits s.clock s.free s.book_free
+abbrev pub world_cut : Factor → Tables → World
+world_cut s t = cut_world (cut_tables (state_of s).sizes t) (state_of s).limits s.clock s.free s.book_free
 
 module _ (s : Factor) (t : Tables) {w a b : List ℕ} (c : CanChange (state_of s) t w a b) where
   abbrev l : Sizes
@@ -28,31 +28,31 @@ module _ (s : Factor) (t : Tables) {w a b : List ℕ} (c : CanChange (state_of s
   pub change-long : Long (state_of s).sizes t
   change-long = long-facts l t c.can-use.usable.long
 
-  pub change-can : CanStep (worldCut s t) w a b
+  pub change-can : CanStep (world_cut s t) w a b
   change-can =
       lift-can change-long (state_of s).limits s.clock s.free s.book_free c.can-use.usable.sizes c.can-use.usable.sound c.can-use.room c.can-use.zero c.touched-long c.labels-long
 
   module _ (k : Change) (lent : Lent) (x : Answer) (lists : Lent) (y : Tables) (o f g : ℕ)
-      (step : ChangeStep (worldCut s t) k lent x lists (cutWorld y (state_of s).limits o f g)) {r : Changed}
-      (q : AnswerIs x (record { sizes = (state_of s).sizes; limits = (state_of s).limits; free = f; bookFree = g; clock = o }) r) where
+      (step : ChangeStep (world_cut s t) k lent x lists (cut_world y (state_of s).limits o f g)) {r : Changed}
+      (q : AnswerIs x (record { sizes = (state_of s).sizes; limits = (state_of s).limits; free = f; book_free = g; clock = o }) r) where
     -- the prefixes written back, as whole tables
-    lifted : {v : Tables} → joinTables (state_of s).sizes y t ≡ v → UncheckedChange s t k lent r lists v
+    lifted : {v : Tables} → join_tables (state_of s).sizes y t ≡ v → UncheckedChange s t k lent r lists v
     lifted {v} e =
-        subst (λ (n : Answer). ChangeStep (worldOf s t) k lent n lists (worldOf r.factor v)) (sym q.numbers-are)
-        (subst (λ (z : State). ChangeStep (worldOf s t) k lent x lists (record { state = z; tables = v })) (sym q.record_is)
-        (subst (λ (z : Tables). ChangeStep (worldOf s t) k lent x lists (worldFor l (state_of s).limits o f g z)) e
+        subst (λ (n : Answer). ChangeStep (world_of s t) k lent n lists (world_of r.factor v)) (sym q.numbers-are)
+        (subst (λ (z : State). ChangeStep (world_of s t) k lent x lists (record { state = z; tables = v })) (sym q.record_is)
+        (subst (λ (z : Tables). ChangeStep (world_of s t) k lent x lists (world_for l (state_of s).limits o f g z)) e
         (step-lifts change-long (state_of s).limits s.clock s.free s.book_free y o f g k x lent lists step)))
 
     -- nothing was written
-    pub whole-refused : y ≡ cutTables (state_of s).sizes t → UncheckedChange s t k lent r lists t
-    whole-refused e = lifted (ap (λ (z : Tables). joinTables l z t) e ∙ join-cut l t)
+    pub whole-refused : y ≡ cut_tables (state_of s).sizes t → UncheckedChange s t k lent r lists t
+    whole-refused e = lifted (ap (λ (z : Tables). join_tables l z t) e ∙ join-cut l t)
 
     -- heads were only read
-    pub whole-batch : y.heads ≡ take s.m t.heads → UncheckedChange s t k lent r lists (joinBut (state_of s).sizes y t)
+    pub whole-batch : y.heads ≡ take s.m t.heads → UncheckedChange s t k lent r lists (join_but (state_of s).sizes y t)
     whole-batch e = lifted (heads-stay l y t e)
 
     -- nor were the book and the windows written
-    pub whole-clock : ReadOnly (state_of s).sizes y t → UncheckedChange s t k lent r lists (joinStored (state_of s).sizes y t)
+    pub whole-clock : ReadOnly (state_of s).sizes y t → UncheckedChange s t k lent r lists (join_stored (state_of s).sizes y t)
     whole-clock e = lifted (stored-written l y t e)
 
 -- a prefix of the same length, written back

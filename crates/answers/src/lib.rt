@@ -1,8 +1,8 @@
 // What a change answers, with the record after it, and the three ways to make it: refused, accepted, accepted at a minute. In specs/ what a change of a factor asks and
 // promises (`CanChange`, `ChangeTransition`, `UncheckedChange`), in proofs/ how a checked change comes from its admission and an unchecked one from its step on cut tables.
 ghost use Rattle.calls.specs.Refusals.{refusal};
-ghost use Rattle.calls.specs.Steps.{refusedBy};
-ghost use Rattle.steps.specs.Outcome.{reportedBy, withHeads, atMinute};
+ghost use Rattle.calls.specs.Steps.{refused_by};
+ghost use Rattle.steps.specs.Outcome.{reported_by, with_heads, at_minute};
 ghost use Rattle.factor.specs.Entries.{state_of};
 ghost use Rattle.answers.specs.Answers.{AnswerIs};
 
@@ -23,7 +23,7 @@ pub struct Changed {
 
 // The answer of a change that a number refuses, at a position: the record is as it was.
 pub fn refused(factor: Factor, number: u32, position: u32) -> Changed
-    ensures { AnswerIs (refusedBy (refusal number position)) (state_of factor) result }
+    ensures { AnswerIs (refused_by (refusal number position)) (state_of factor) result }
 {
     Changed {
         number,
@@ -37,7 +37,7 @@ pub fn refused(factor: Factor, number: u32, position: u32) -> Changed
 
 // The answer of an accepted change that touched so many columns, with so many entries: the grade by the record's limits, and the free heads after it in the record.
 pub fn accepted(factor: Factor, touched: u32, entries: u32, free: Rec, book_free: Rec) -> Changed
-    ensures { AnswerIs (reportedBy (state_of factor).limits touched entries) (withHeads (state_of factor) free.0 book_free.0) result }
+    ensures { AnswerIs (reported_by (state_of factor).limits touched entries) (with_heads (state_of factor) free.0 book_free.0) result }
 {
     let grade = steps::grade_of(entries, factor.grade2, factor.grade3, factor.grade4);
     let mut after = factor;
@@ -55,7 +55,7 @@ pub fn accepted(factor: Factor, touched: u32, entries: u32, free: Rec, book_free
 
 // The answer of an accepted clock change: the record stands at the minute, and its book has the free head that it had.
 pub fn clocked(factor: Factor, minute: u32, touched: u32, entries: u32, free: Rec) -> Changed
-    ensures { AnswerIs (reportedBy (state_of factor).limits touched entries) (withHeads (atMinute (state_of factor) minute) free.0 factor.book_free) result }
+    ensures { AnswerIs (reported_by (state_of factor).limits touched entries) (with_heads (at_minute (state_of factor) minute) free.0 factor.book_free) result }
 {
     let mut after = factor;
     after.clock = minute;

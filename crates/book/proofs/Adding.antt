@@ -8,17 +8,17 @@ use mathlib.Core.List.{List, [], ◌∷◌, ◌++◌}
 use Prim.Native.Nat.{ℕ, ◌+◌, ◌≤◌}
 use native.Mathlib.Omega.{arith}
 use lib.ListN.{length, take}
-use Rattle.lists.specs.Lists.{at, put, times, valuesAt}
+use Rattle.lists.specs.Lists.{at, put, times, values_at}
 use Rattle.lists.proofs.Tests.{eq-or-ne}
 use Rattle.lists.proofs.Times.{times-mid, times-append, UpTo}
 use Rattle.lists.proofs.Place.{put-length}
 use Rattle.lists.proofs.Rising.{rises-high}
-use Rattle.symbolic.specs.Columns.{Column, columnWith}
+use Rattle.symbolic.specs.Columns.{Column, column_with}
 use Rattle.pool.specs.Chains.{chain, Linked}
 use Rattle.pool.specs.Changes.{Has, Changed}
 use Rattle.pool.proofs.Chains.{After, linked-after, linked-in, linked-once, linked-some}
 use Rattle.pool.proofs.Changes.{changed-cut, PoolAfter, pool-changed}
-use Rattle.book.specs.Book.{bookOf, isBooked, columnFor, columnFits, isSound, ColumnStays}
+use Rattle.book.specs.Book.{book_of, is_booked, column_for, column_fits, is_sound, ColumnStays}
 use Rattle.book.specs.Records.{CanWrite, RowsWritten}
 use Rattle.book.specs.Entries.{CanAdd, Added}
 use Rattle.book.proofs.Columns.{absent-zero, some-booked, booked-within}
@@ -26,12 +26,12 @@ use Rattle.book.proofs.Sound.{Sound, sound-of, of-sound, Fitting, fitting}
 use Rattle.book.proofs.Writing.{put-all-length, put-all-other, put-all-values}
 use Rattle.book.proofs.Staying.{Cut, cut_at, column-stays, stays-column, stays-booked}
 
-module _ {hs xs ns : List ℕ} {f id : ℕ} {list : List ℕ} (q : CanAdd (bookOf hs xs ns f) id list) where
-  before : Sound q.has.m (bookOf hs xs ns f)
-  before = sound-of q.has.m (bookOf hs xs ns f) q.has.sound
+module _ {hs xs ns : List ℕ} {f id : ℕ} {list : List ℕ} (q : CanAdd (book_of hs xs ns f) id list) where
+  before : Sound q.has.m (book_of hs xs ns f)
+  before = sound-of q.has.m (book_of hs xs ns f) q.has.sound
 
   fit : Fitting q.has.m list
-  fit = fitting q.has.m (columnWith id list) q.fits
+  fit = fitting q.has.m (column_with id list) q.fits
 
   free-linked : Linked ns f (chain ns f)
   free-linked = before.pool.unused
@@ -77,22 +77,22 @@ module _ {hs xs ns : List ℕ} {f id : ℕ} {list : List ℕ} (q : CanAdd (bookO
     rows_other : (x : ℕ) → 1 ≤ x → times x (take (length list) (chain ns f)) ≡ 0 → at ys x ≡ at xs x
     rows_other x low n = ap (λ (l : List ℕ). at l x) w.rows_are ∙ put-all-other xs (chain ns f) list x free-within low n
 
-    column-after : valuesAt ys (chain (put ns p 0) (at (put hs id f) id)) ≡ list
+    column-after : values_at ys (chain (put ns p 0) (at (put hs id f) id)) ≡ list
     column-after =
-        ap (λ (h : ℕ). valuesAt ys (chain (put ns p 0) h)) pool-after.head-is ∙ ap (valuesAt ys) (pool-after.chain-is ∙ sym cut.taken) ∙
-        ap (λ (l : List ℕ). valuesAt l (take (length list) (chain ns f))) w.rows_are ∙
+        ap (λ (h : ℕ). values_at ys (chain (put ns p 0) h)) pool-after.head-is ∙ ap (values_at ys) (pool-after.chain-is ∙ sym cut.taken) ∙
+        ap (λ (l : List ℕ). values_at l (take (length list) (chain ns f))) w.rows_are ∙
         put-all-values xs (chain ns f) list free-within (linked-once ns f (chain ns f) free-linked) q.room
 
-    others-after : (l : ℕ) → 1 ≤ l → l ≤ length hs → l ≢ id → ColumnStays (bookOf hs xs ns f) (bookOf (put hs id f) ys (put ns p 0) (at ns p)) l
+    others-after : (l : ℕ) → 1 ≤ l → l ≤ length hs → l ≢ id → ColumnStays (book_of hs xs ns f) (book_of (put hs id f) ys (put ns p 0) (at ns p)) l
     others-after = column-stays before.pool pool-after xs ys (λ x low n. rows_other x low (omega (arith, shared x)))
 
-    column-is : columnFor (bookOf (put hs id f) ys (put ns p 0) (at ns p)) id ≡ columnWith id list
-    column-is = ap {B = Column} (λ rows. columnWith id rows) column-after
+    column-is : column_for (book_of (put hs id f) ys (put ns p 0) (at ns p)) id ≡ column_with id list
+    column-is = ap {B = Column} (λ rows. column_with id rows) column-after
 
-    sound-after : (m : ℕ) → isSound m (bookOf hs xs ns f) ≡ true → columnFits m (columnWith id list) ≡ true → isSound m (bookOf (put hs id f) ys (put ns p 0) (at ns p)) ≡ true
+    sound-after : (m : ℕ) → is_sound m (book_of hs xs ns f) ≡ true → column_fits m (column_with id list) ≡ true → is_sound m (book_of (put hs id f) ys (put ns p 0) (at ns p)) ≡ true
     sound-after m e fits =
-        let s : Sound m (bookOf hs xs ns f) = sound-of m (bookOf hs xs ns f) e in
-        of-sound m (bookOf (put hs id f) ys (put ns p 0) (at ns p))
+        let s : Sound m (book_of hs xs ns f) = sound-of m (book_of hs xs ns f) e in
+        of-sound m (book_of (put hs id f) ys (put ns p 0) (at ns p))
         (record {
           pool = pool-after.pool;
           zero = λ x n.
@@ -101,17 +101,17 @@ module _ {hs xs ns : List ℕ} {f id : ℕ} {list : List ℕ} (q : CanAdd (bookO
               rows_other x (linked-in ns f (chain ns f) free-linked x (omega (arith, shared x))).0 (omega (arith, shared x)) ∙ s.zero x (omega (arith, shared x));
           fits = λ l low k.
               elim (eq-or-ne l id) [
-                | inl z ↦ rw z (subst (λ (c : Column). columnFits m c ≡ true) (sym column-is) fits)
+                | inl z ↦ rw z (subst (λ (c : Column). column_fits m c ≡ true) (sym column-is) fits)
                 | inr z ↦
-                    let o : ColumnStays (bookOf hs xs ns f) (bookOf (put hs id f) ys (put ns p 0) (at ns p)) l = others-after l low (omega (arith, in-heads l low k)) z in
-                    subst (λ (c : Column). columnFits m c ≡ true) (sym (stays-column o)) (s.fits l low (sym (stays-booked o) ∙ k))
+                    let o : ColumnStays (book_of hs xs ns f) (book_of (put hs id f) ys (put ns p 0) (at ns p)) l = others-after l low (omega (arith, in-heads l low k)) z in
+                    subst (λ (c : Column). column_fits m c ≡ true) (sym (stays-column o)) (s.fits l low (sym (stays-booked o) ∙ k))
               ];
         })
       where
-        in-heads : (l : ℕ) → 1 ≤ l → isBooked (put hs id f) l ≡ true → l ≤ length hs
+        in-heads : (l : ℕ) → 1 ≤ l → is_booked (put hs id f) l ≡ true → l ≤ length hs
         in-heads l low k = omega (arith, booked-within (put hs id f) l low k, put-length hs id f)
 
-    pub added : {ms : List ℕ} {g : ℕ} → ms ≡ put ns p 0 → g ≡ at ns p → Added (bookOf hs xs ns f) id list (bookOf (put hs id f) ys ms g)
+    pub added : {ms : List ℕ} {g : ℕ} → ms ≡ put ns p 0 → g ≡ at ns p → Added (book_of hs xs ns f) id list (book_of (put hs id f) ys ms g)
     added {ms} {g} e d =
         rw (e, d)
         (record {

@@ -8,10 +8,10 @@ use native.Mathlib.Omega.{arith}
 use lib.ListN.{length}
 use Rattle.lists.specs.Lists.{sum_of}
 use Rattle.lists.proofs.Sum.{sum-append}
-use Rattle.symbolic.specs.Columns.{Column, columnWith}
+use Rattle.symbolic.specs.Columns.{Column, column_with}
 use Rattle.symbolic.specs.Change.{without, Bag}
 use Rattle.pool.specs.Chains.{chain}
-use Rattle.book.specs.Book.{Book, columnsIn}
+use Rattle.book.specs.Book.{Book, columns_in}
 use Rattle.book.specs.Entries.{CanAdd, Added, CanRemove, Removed}
 use Rattle.book.proofs.Columns.{Differ, differ-without, differ-sum}
 use Rattle.book.proofs.Sound.{book-full}
@@ -37,12 +37,12 @@ module _ {b after : Book} {id : ℕ} {rows : List ℕ} (q : CanAdd b id rows) (a
         same-column = λ l p h d. stays-column (a.others l p h d);
       }
 
-  added-sum : (f : Column → ℕ) → sum_of f (columnsIn after) ≡ sum_of f (columnsIn b) + f (columnWith id rows)
-  added-sum f = differ-sum added-differ f ∙ ap (λ (c : Column). sum_of f (columnsIn b) + f c) a.column
+  added-sum : (f : Column → ℕ) → sum_of f (columns_in after) ≡ sum_of f (columns_in b) + f (column_with id rows)
+  added-sum f = differ-sum added-differ f ∙ ap (λ (c : Column). sum_of f (columns_in b) + f c) a.column
 
   -- the old columns and the new one
-  pub added-bag : Bag (columnsIn after) (columnsIn b ++ (columnWith id rows ∷ []))
-  added-bag f = added-sum f ∙ sym (sum_one f (columnsIn b) (columnWith id rows))
+  pub added-bag : Bag (columns_in after) (columns_in b ++ (column_with id rows ∷ []))
+  added-bag f = added-sum f ∙ sym (sum_one f (columns_in b) (column_with id rows))
 
   -- so many free records less
   pub added-room : length (chain after.next after.free) + length rows ≡ length (chain b.next b.free)
@@ -65,5 +65,5 @@ module _ {b after : Book} {id : ℕ} (q : CanRemove b id) (r : Removed b id afte
         same-column = λ l p h d. sym (stays-column (r.others l p (omega (arith, r.same-heads)) d));
       }
 
-  pub removed-columns : columnsIn after ≡ without (id ∷ []) (columnsIn b)
+  pub removed-columns : columns_in after ≡ without (id ∷ []) (columns_in b)
   removed-columns = differ-without removed-differ

@@ -6,12 +6,12 @@ use mathlib.Core.List.{List, [], ◌∷◌, ◌++◌, append_assoc, append-nil}
 use Prim.Native.Nat.{ℕ, ◌+◌, ◌-◌, ◌≤◌, ◌<◌}
 use native.Mathlib.Omega.{arith}
 use lib.ListN.{length, get_or, set, length-append}
-use Rattle.lists.specs.Lists.{at, times, valuesAt}
+use Rattle.lists.specs.Lists.{at, times, values_at}
 use Rattle.lists.proofs.Times.{times-append, times-self, UpTo}
 use Rattle.lists.proofs.Place.{values-append, values_one}
 use Rattle.pool.specs.Chains.{chain, Linked}
 use Rattle.pool.proofs.Chains.{Step, linked-step, linked-chain, linked-end}
-use Rattle.book.specs.Tally.{tallied, bookRows, CanCount}
+use Rattle.book.specs.Tally.{tallied, booked_rows, CanCount}
 use Rattle.book.proofs.Copying.{id-linked}
 use Rattle.book.proofs.Tally.{Tally, tally-none, tally-length, tally-few, tally-room, tally-more}
 
@@ -20,7 +20,7 @@ pub record Counting (rs ns w₀ : List ℕ) (h : ℕ) (w : List ℕ) (size r : �
   pub rest : List ℕ
   pub parts : done ++ rest ≡ chain ns h
   pub linked : Linked ns r rest
-  pub counted : Tally w₀ (valuesAt rs done) w size
+  pub counted : Tally w₀ (values_at rs done) w size
 
 -- what a turn reads and asks
 pub record RecordFacts (rs ns : List ℕ) (m : ℕ) (w : List ℕ) (size r : ℕ) : Type 0 where
@@ -35,24 +35,24 @@ pub record RecordFacts (rs ns : List ℕ) (m : ℕ) (w : List ℕ) (size r : ℕ
 
 module _ {hs rs ns w₀ : List ℕ} {id : ℕ} (pre : CanCount hs rs ns w₀ id) where
   pub counting-start : Counting rs ns w₀ (at hs id) w₀ 0 (at hs id)
-  unfolding valuesAt
+  unfolding values_at
   counting-start = record { done = []; rest = chain ns (at hs id); parts = refl; linked = id-linked pre.column.has; counted = tally-none w₀ }
 
   module _ {w : List ℕ} {size r : ℕ} (b : Counting rs ns w₀ (at hs id) w size r) where
-    rows_are : valuesAt rs b.done ++ valuesAt rs b.rest ≡ bookRows hs rs ns id
-    rows_are = sym (values-append rs b.done b.rest) ∙ ap (valuesAt rs) b.parts
+    rows_are : values_at rs b.done ++ values_at rs b.rest ≡ booked_rows hs rs ns id
+    rows_are = sym (values-append rs b.done b.rest) ∙ ap (values_at rs) b.parts
 
-    done-up : UpTo pre.m (valuesAt rs b.done)
-    done-up x n = pre.rows_in x (omega (arith, times-append x (valuesAt rs b.done) (valuesAt rs b.rest), ap (times x) rows_are))
+    done-up : UpTo pre.m (values_at rs b.done)
+    done-up x n = pre.rows_in x (omega (arith, times-append x (values_at rs b.done) (values_at rs b.rest), ap (times x) rows_are))
 
     module _ (more : r ≢ 0) where
       step : Step ns r b.rest
       step = linked-step ns r b.rest more b.linked
 
       -- the rows that are left: this record's and the others'
-      rest-are : valuesAt rs b.rest ≡ at rs r ∷ valuesAt rs step.rest
-      unfolding valuesAt
-      rest-are = ap (valuesAt rs) step.parts
+      rest-are : values_at rs b.rest ≡ at rs r ∷ values_at rs step.rest
+      unfolding values_at
+      rest-are = ap (values_at rs) step.parts
 
       pub counting-facts : RecordFacts rs ns pre.m w size r
       counting-facts =
@@ -60,13 +60,13 @@ module _ {hs rs ns w₀ : List ℕ} {id : ℕ} (pre : CanCount hs rs ns w₀ id)
           pre.rows_in (at rs r)
           (omega (
             arith,
-            times-append (at rs r) (valuesAt rs b.done) (valuesAt rs b.rest),
+            times-append (at rs r) (values_at rs b.done) (values_at rs b.rest),
             ap (times (at rs r)) rows_are,
             ap (times (at rs r)) rest-are,
-            times-self (at rs r) (valuesAt rs step.rest),
+            times-self (at rs r) (values_at rs step.rest),
           )) in
-          let k : length (valuesAt rs b.done) < 256 =
-          omega (arith, length-append (valuesAt rs b.done) (valuesAt rs b.rest), ap length rows_are, ap length rest-are, pre.column.fits) in
+          let k : length (values_at rs b.done) < 256 =
+          omega (arith, length-append (values_at rs b.done) (values_at rs b.rest), ap length rows_are, ap length rest-are, pre.column.fits) in
           record {
             low = step.low;
             high = step.high;
@@ -83,8 +83,8 @@ module _ {hs rs ns w₀ : List ℕ} {id : ℕ} (pre : CanCount hs rs ns w₀ id)
           Counting rs ns w₀ (at hs id) (set w (get_or rs (r - 1) 0 - 1) (get_or w (get_or rs (r - 1) 0 - 1) 0 + 1)) size' (at ns r)
       counting_more size' d =
           let f : RecordFacts rs ns pre.m w size r = counting-facts in
-          let e : valuesAt rs b.done ++ (at rs r ∷ []) ≡ valuesAt rs (b.done ++ (r ∷ [])) =
-          ap (λ (l : List ℕ). valuesAt rs b.done ++ l) (sym (values_one rs r)) ∙ sym (values-append rs b.done (r ∷ [])) in
+          let e : values_at rs b.done ++ (at rs r ∷ []) ≡ values_at rs (b.done ++ (r ∷ [])) =
+          ap (λ (l : List ℕ). values_at rs b.done ++ l) (sym (values_one rs r)) ∙ sym (values-append rs b.done (r ∷ [])) in
           record {
             done = b.done ++ (r ∷ []);
             rest = step.rest;
@@ -104,8 +104,8 @@ module _ {hs rs ns w₀ : List ℕ} {id : ℕ} (pre : CanCount hs rs ns w₀ id)
             ap length step.parts,
           )
 
-    pub counting-end : r ≡ 0 → w ≡ tallied w₀ (bookRows hs rs ns id)
+    pub counting-end : r ≡ 0 → w ≡ tallied w₀ (booked_rows hs rs ns id)
     counting-end z =
         let e : b.done ≡ chain ns (at hs id) =
         sym (append-nil b.done) ∙ ap (λ (l : List ℕ). b.done ++ l) (sym (linked-end ns r b.rest z b.linked)) ∙ b.parts in
-        b.counted.is ∙ ap (λ (l : List ℕ). tallied w₀ (valuesAt rs l)) e
+        b.counted.is ∙ ap (λ (l : List ℕ). tallied w₀ (values_at rs l)) e

@@ -11,9 +11,9 @@ use lib.ListN.{length, drop, set, replicate, length-append, length-drop, length-
 use borrow.Author.Fill.{fill_none, fill_more}
 use Rattle.lists.specs.Lists.{at, up_from}
 use Rattle.lists.proofs.Tests.{lt-or-le}
-use Rattle.pool.specs.Opening.{openedNexts, freeHead}
+use Rattle.pool.specs.Opening.{opened_nexts, free_head}
 use Rattle.pool.proofs.Opening.{pool-opened}
-use Rattle.book.specs.Book.{bookOf, isBooked, columnsFrom, columnsIn, isSound}
+use Rattle.book.specs.Book.{book_of, is_booked, columns_from, columns_in, is_sound}
 use Rattle.book.specs.Entries.{opened}
 use Rattle.book.proofs.Columns.{columns-nil, columns-absent, zero-absent}
 use Rattle.book.proofs.Sound.{of-sound}
@@ -51,14 +51,14 @@ zeros-at n x =
 -- ---- the opened book
 
 -- its tables one by one
-pub opened-is : {hs rs ns : List ℕ} {f : ℕ} (n c k : ℕ) → hs ≡ replicate n 0 → rs ≡ replicate k 0 → k ≡ c → ns ≡ openedNexts 0 c → f ≡ freeHead 0 c → bookOf hs rs ns f ≡ opened n c
+pub opened-is : {hs rs ns : List ℕ} {f : ℕ} (n c k : ℕ) → hs ≡ replicate n 0 → rs ≡ replicate k 0 → k ≡ c → ns ≡ opened_nexts 0 c → f ≡ free_head 0 c → book_of hs rs ns f ≡ opened n c
 opened-is {hs} {rs} n c k p q e r s =
     let t : rs ≡ replicate c 0 = q ∙ ap (λ (j : ℕ). replicate j 0) e in λ i. record { heads = p i; rows = t i; next = r i; free = s i }
 
-pub opened-absent : (n c l : ℕ) → isBooked (opened n c).heads l ≡ false
+pub opened-absent : (n c l : ℕ) → is_booked (opened n c).heads l ≡ false
 opened-absent n c l = zero-absent (replicate n 0) l (zeros-at n l)
 
-pub opened-sound : (m n c : ℕ) → isSound m (opened n c) ≡ true
+pub opened-sound : (m n c : ℕ) → is_sound m (opened n c) ≡ true
 unfolding up_from
 opened-sound m n c =
     of-sound m (opened n c)
@@ -68,9 +68,9 @@ opened-sound m n c =
       fits = λ l p e. absurd (true≢false (sym e ∙ opened-absent n c l));
     })
 
-from-opened : (n c k i : ℕ) → columnsFrom (opened n c) i k ≡ []
+from-opened : (n c k i : ℕ) → columns_from (opened n c) i k ≡ []
 from-opened n c zero i = columns-nil (opened n c) i
 from-opened n c (suc k) i = columns-absent (opened n c) i k (opened-absent n c i) ∙ from-opened n c k (suc i)
 
-pub opened-columns : (n c : ℕ) → columnsIn (opened n c) ≡ []
+pub opened-columns : (n c : ℕ) → columns_in (opened n c) ≡ []
 opened-columns n c = from-opened n c (length (opened n c).heads) 1

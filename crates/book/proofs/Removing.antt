@@ -19,7 +19,7 @@ use Rattle.pool.specs.Changes.{Has, Beside}
 use Rattle.pool.proofs.Chains.{After, linked-after, linked-in}
 use Rattle.pool.proofs.Whole.{pool-linked}
 use Rattle.pool.proofs.Changes.{changed-join, pool-beside, PoolAfter, pool-changed}
-use Rattle.book.specs.Book.{bookOf, isBooked, columnFor, columnFits, isSound, ColumnStays}
+use Rattle.book.specs.Book.{book_of, is_booked, column_for, column_fits, is_sound, ColumnStays}
 use Rattle.book.specs.Records.{HasChain, Cleared}
 use Rattle.book.specs.Entries.{CanRemove, Removed}
 use Rattle.book.proofs.Columns.{zero-absent, booked-some, booked-within}
@@ -27,9 +27,9 @@ use Rattle.book.proofs.Sound.{Sound, sound-of, of-sound, fitting}
 use Rattle.book.proofs.Writing.{clear-length, clear-other, clear_zero}
 use Rattle.book.proofs.Staying.{Cut, cut_at, column-stays, stays-column, stays-booked}
 
-module _ {hs xs ns : List ℕ} {f id : ℕ} (q : CanRemove (bookOf hs xs ns f) id) where
-  before : Sound q.has.m (bookOf hs xs ns f)
-  before = sound-of q.has.m (bookOf hs xs ns f) q.has.sound
+module _ {hs xs ns : List ℕ} {f id : ℕ} (q : CanRemove (book_of hs xs ns f) id) where
+  before : Sound q.has.m (book_of hs xs ns f)
+  before = sound-of q.has.m (book_of hs xs ns f) q.has.sound
 
   own-linked : Linked ns (at hs id) (chain ns (at hs id))
   own-linked = pool-linked before.pool id q.has.low q.has.high
@@ -39,7 +39,7 @@ module _ {hs xs ns : List ℕ} {f id : ℕ} (q : CanRemove (bookOf hs xs ns f) i
 
   own-some : 1 ≤ length (chain ns (at hs id))
   own-some =
-      omega (arith, (fitting q.has.m (columnFor (bookOf hs xs ns f) id) (before.fits id q.has.low q.present)).some, values_length xs (chain ns (at hs id)))
+      omega (arith, (fitting q.has.m (column_for (book_of hs xs ns f) id) (before.fits id q.has.low q.present)).some, values_length xs (chain ns (at hs id)))
 
   -- ---- what the steps ask
 
@@ -76,16 +76,16 @@ module _ {hs xs ns : List ℕ} {f id : ℕ} (q : CanRemove (bookOf hs xs ns f) i
     rows-cleared : (x : ℕ) → 1 ≤ times x (chain ns (at hs id)) → at ys x ≡ 0
     rows-cleared x n = ap (λ (l : List ℕ). at l x) w.rows_are ∙ clear_zero xs (chain ns (at hs id)) x own-within n
 
-    others-after : (l : ℕ) → 1 ≤ l → l ≤ length hs → l ≢ id → ColumnStays (bookOf hs xs ns f) (bookOf (put hs id 0) ys (put ns p f) (at hs id)) l
+    others-after : (l : ℕ) → 1 ≤ l → l ≤ length hs → l ≢ id → ColumnStays (book_of hs xs ns f) (book_of (put hs id 0) ys (put ns p f) (at hs id)) l
     others-after = column-stays before.pool pool-after xs ys (λ x low n. rows_other x low (omega arith))
 
-    absent-after : isBooked (put hs id 0) id ≡ false
+    absent-after : is_booked (put hs id 0) id ≡ false
     absent-after = zero-absent (put hs id 0) id pool-after.head-is
 
-    sound-after : (m : ℕ) → isSound m (bookOf hs xs ns f) ≡ true → isSound m (bookOf (put hs id 0) ys (put ns p f) (at hs id)) ≡ true
+    sound-after : (m : ℕ) → is_sound m (book_of hs xs ns f) ≡ true → is_sound m (book_of (put hs id 0) ys (put ns p f) (at hs id)) ≡ true
     sound-after m e =
-        let s : Sound m (bookOf hs xs ns f) = sound-of m (bookOf hs xs ns f) e in
-        of-sound m (bookOf (put hs id 0) ys (put ns p f) (at hs id))
+        let s : Sound m (book_of hs xs ns f) = sound-of m (book_of hs xs ns f) e in
+        of-sound m (book_of (put hs id 0) ys (put ns p f) (at hs id))
         (record {
           pool = pool-after.pool;
           zero = λ x n.
@@ -97,17 +97,17 @@ module _ {hs xs ns : List ℕ} {f id : ℕ} (q : CanRemove (bookOf hs xs ns f) i
               ];
           fits = λ l low k.
               elim (eq-or-ne l id) [
-                | inl z ↦ absurd (true≢false (sym k ∙ ap (isBooked (put hs id 0)) z ∙ absent-after))
+                | inl z ↦ absurd (true≢false (sym k ∙ ap (is_booked (put hs id 0)) z ∙ absent-after))
                 | inr z ↦
-                    let o : ColumnStays (bookOf hs xs ns f) (bookOf (put hs id 0) ys (put ns p f) (at hs id)) l = others-after l low (omega (arith, in-heads l low k)) z in
-                    subst (λ (c : Column). columnFits m c ≡ true) (sym (stays-column o)) (s.fits l low (sym (stays-booked o) ∙ k))
+                    let o : ColumnStays (book_of hs xs ns f) (book_of (put hs id 0) ys (put ns p f) (at hs id)) l = others-after l low (omega (arith, in-heads l low k)) z in
+                    subst (λ (c : Column). column_fits m c ≡ true) (sym (stays-column o)) (s.fits l low (sym (stays-booked o) ∙ k))
               ];
         })
       where
-        in-heads : (l : ℕ) → 1 ≤ l → isBooked (put hs id 0) l ≡ true → l ≤ length hs
+        in-heads : (l : ℕ) → 1 ≤ l → is_booked (put hs id 0) l ≡ true → l ≤ length hs
         in-heads l low k = omega (arith, booked-within (put hs id 0) l low k, put-length hs id 0)
 
-    pub removed : {ms : List ℕ} → ms ≡ put ns p f → Removed (bookOf hs xs ns f) id (bookOf (put hs id 0) ys ms (at hs id))
+    pub removed : {ms : List ℕ} → ms ≡ put ns p f → Removed (book_of hs xs ns f) id (book_of (put hs id 0) ys ms (at hs id))
     removed {ms} e =
         rw e
         (record {

@@ -10,15 +10,15 @@ use native.Mathlib.Omega.{arith}
 use lib.Dec.{eqb}
 use lib.ListN.{length, take, drop}
 use lib.Seq.{split_at, take-suc}
-use Rattle.lists.specs.Lists.{at, put, times, valuesAt}
+use Rattle.lists.specs.Lists.{at, put, times, values_at}
 use Rattle.lists.proofs.Place.{values-frame}
-use Rattle.symbolic.specs.Columns.{Column, columnWith}
+use Rattle.symbolic.specs.Columns.{Column, column_with}
 use Rattle.pool.specs.Chains.{chain}
 use Rattle.pool.specs.Whole.{Pool}
 use Rattle.pool.proofs.Chains.{linked-low}
 use Rattle.pool.proofs.Whole.{pool-linked}
 use Rattle.pool.proofs.Changes.{PoolAfter}
-use Rattle.book.specs.Book.{Book, bookOf, isBooked, columnFor, ColumnStays}
+use Rattle.book.specs.Book.{Book, book_of, is_booked, column_for, ColumnStays}
 
 -- ---- a list cut after its first n, the last of which is p
 
@@ -42,19 +42,19 @@ cut_at cs n p low high e =
 
 pub column-stays : {ns₀ hs₀ : List ℕ} {f₀ k : ℕ} {ns : List ℕ} {h f : ℕ} {rs fs : List ℕ} → Pool ns₀ hs₀ f₀ → PoolAfter ns₀ hs₀ f₀ k ns h f rs fs →
     (rows₀ rows : List ℕ) → ((x : ℕ) → 1 ≤ x → times x (chain ns₀ (at hs₀ k)) + times x (chain ns₀ f₀) ≡ 0 → at rows x ≡ at rows₀ x) →
-    (l : ℕ) → 1 ≤ l → l ≤ length hs₀ → l ≢ k → ColumnStays (bookOf hs₀ rows₀ ns₀ f₀) (bookOf (put hs₀ k h) rows ns f) l
+    (l : ℕ) → 1 ≤ l → l ≤ length hs₀ → l ≢ k → ColumnStays (book_of hs₀ rows₀ ns₀ f₀) (book_of (put hs₀ k h) rows ns f) l
 column-stays {ns₀} {hs₀} {f₀} {k} {ns} {h} {f} p a rows₀ rows same l low high d =
     let e : at (put hs₀ k h) l ≡ at hs₀ l = a.other-head l low d in
     let r : chain ns (at (put hs₀ k h) l) ≡ chain ns₀ (at hs₀ l) = ap (chain ns) e ∙ a.other-same l low high d in
     record {
       head = e;
       records = r;
-      rows = ap (valuesAt rows) r ∙ values-frame rows₀ rows (chain ns₀ (at hs₀ l)) (λ x n. same x (linked-low ns₀ (at hs₀ l) (chain ns₀ (at hs₀ l)) x (pool-linked p l low high) n) (a.other-apart l low high d x n));
+      rows = ap (values_at rows) r ∙ values-frame rows₀ rows (chain ns₀ (at hs₀ l)) (λ x n. same x (linked-low ns₀ (at hs₀ l) (chain ns₀ (at hs₀ l)) x (pool-linked p l low high) n) (a.other-apart l low high d x n));
     }
 
 module _ {b a : Book} {l : ℕ} (s : ColumnStays b a l) where
-  pub stays-column : columnFor a l ≡ columnFor b l
-  stays-column = ap {B = Column} (λ rows. columnWith l rows) s.rows
+  pub stays-column : column_for a l ≡ column_for b l
+  stays-column = ap {B = Column} (λ rows. column_with l rows) s.rows
 
-  pub stays-booked : isBooked a.heads l ≡ isBooked b.heads l
+  pub stays-booked : is_booked a.heads l ≡ is_booked b.heads l
   stays-booked = ap (λ (h : ℕ). not (eqb h 0)) s.head

@@ -17,13 +17,13 @@ use Rattle.pool.specs.declared.Walk.TheVariants.{Ended, Cut}
 use Rattle.pool.specs.declared.Rec.{Rec}
 use Rattle.pool.specs.Chains.{chain, last_of, Linked}
 use Rattle.pool.specs.Whole.{chains, AllLinked}
-use Rattle.pool.specs.Ends.{lastFrom, lasts}
+use Rattle.pool.specs.Ends.{last_from, lasts}
 use Rattle.pool.proofs.Chains.{chain-nil, linked-nil}
 use Rattle.pool.proofs.Whole.{chains-nil, chains-mid-length, all_nil, all_cons, all-parts, all_split, all_join}
 use Rattle.pool.proofs.Apart.{last_within, lasts-nil, lasts-cons, lasts-append}
 use Rattle.ends.specs.Naming.{CanName, named_in}
 use Rattle.ends.proofs.Naming.{named-length, named_start, named-next, named-region}
-use Rattle.book.specs.Book.{bookOf, tables_of, isBooked, columnFor, columnFits, isSound}
+use Rattle.book.specs.Book.{book_of, tables_of, is_booked, column_for, column_fits, is_sound}
 use Rattle.book.specs.Walks.{ColumnWalked, CanReadThrough, Walked, ColumnsWalked}
 use Rattle.book.proofs.Columns.{head_at, booked-some, some-booked}
 use Rattle.book.proofs.Sound.{Sound, sound-of}
@@ -38,8 +38,8 @@ pub record Through (heads rows next scratch₀ : List ℕ) (m : ℕ) (scratch : 
 -- ---- one place more: its chain ends, and its last record is named
 
 module _ {hs rs ns w : List ℕ} {m met i : ℕ} (more : i < length hs) (room : length ns + length hs ≤ length w) (t : Walked hs rs ns w m met i) where
-  walked_more : (e met' : ℕ) → Linked ns (get_or hs i 0) (chain ns (get_or hs i 0)) → met' ≡ met + length (chain ns (get_or hs i 0)) → met' ≤ length ns → e ≡ lastFrom ns (get_or hs i 0) →
-      (isBooked hs (suc i) ≡ true → columnFits m (columnFor (tables_of hs rs ns) (suc i)) ≡ true) → Walked hs rs ns (named_in w (length ns) 0 (suc i) e) m met' (suc i)
+  walked_more : (e met' : ℕ) → Linked ns (get_or hs i 0) (chain ns (get_or hs i 0)) → met' ≡ met + length (chain ns (get_or hs i 0)) → met' ≤ length ns → e ≡ last_from ns (get_or hs i 0) →
+      (is_booked hs (suc i) ≡ true → column_fits m (column_for (tables_of hs rs ns) (suc i)) ≡ true) → Walked hs rs ns (named_in w (length ns) 0 (suc i) e) m met' (suc i)
   walked_more e met' l counted within last fits =
       let h : ℕ = get_or hs i 0 in
       let parts : take (suc i) hs ≡ take i hs ++ (h ∷ []) = take-suc hs i 0 more in
@@ -51,7 +51,7 @@ module _ {hs rs ns w : List ℕ} {m met i : ℕ} (more : i < length hs) (room : 
         within = within;
         fits = λ j p k b.
             elim (eq-or-ne j (suc i)) [
-              | inl z ↦ subst (λ (y : ℕ). isBooked hs y ≡ true → columnFits m (columnFor (tables_of hs rs ns) y) ≡ true) (sym z) fits b
+              | inl z ↦ subst (λ (y : ℕ). is_booked hs y ≡ true → column_fits m (column_for (tables_of hs rs ns) y) ≡ true) (sym z) fits b
               | inr z ↦ t.fits j p (omega arith) b
             ];
         lasts_are =
@@ -87,7 +87,7 @@ module _ {hs rs ns w₀ : List ℕ} {m : ℕ} where
     pub last-few : {met' : ℕ} {e : Rec} {a : Chain} → ColumnWalked hs rs ns i met m a → a ≡ one.Ended met' e → e.0 ≤ length ns
     last-few {met'} {e} c s =
         let h : ℕ = get_or hs i 0 in
-        let d : Walks hs rs ns i met m × (met' ≡ met + length (chain ns h)) × (e.0 ≡ lastFrom ns h) = ended-walks c s in
+        let d : Walks hs rs ns i met m × (met' ≡ met + length (chain ns h)) × (e.0 ≡ last_from ns h) = ended-walks c s in
         omega (arith, d.2, last_within ns h (chain ns h) d.0.linked)
 
     through-more : {v : List ℕ} {met' : ℕ} (e : ℕ) → Walked hs rs ns (named_in w (length ns) 0 (suc i) e) m met' (suc i) → v ≡ named_in w (length ns) 0 (i + 1) e →
@@ -109,16 +109,16 @@ module _ {hs rs ns w₀ : List ℕ} {m : ℕ} where
     pub through-next : {v : List ℕ} {met' : ℕ} {e : Rec} {a : Chain} → ColumnWalked hs rs ns i met m a → a ≡ one.Ended met' e → v ≡ named_in w (length ns) 0 (i + 1) e.0 →
         Through hs rs ns w₀ m v met' (i + 1)
     through-next {v} {met'} {e} {a} c s named =
-        let d : Walks hs rs ns i met m × (met' ≡ met + length (chain ns (get_or hs i 0))) × (e.0 ≡ lastFrom ns (get_or hs i 0)) = ended-walks c s in
+        let d : Walks hs rs ns i met m × (met' ≡ met + length (chain ns (get_or hs i 0))) × (e.0 ≡ last_from ns (get_or hs i 0)) = ended-walks c s in
         through-more e.0 (walked_more more (omega (arith, q.room, t.long)) t.walked e.0 met' d.0.linked d.1 (omega (arith, d.0.room, d.1)) d.2 (λ b. d.0.fits)) named
 
   -- ---- a column cut short, and the end
 
   module _ {w : List ℕ} {met i : ℕ} (t : Through hs rs ns w₀ m w met i) where
     -- where the book is sound, the column walks
-    sound-walks : (free : ℕ) → i < length hs → get_or hs i 0 ≢ 0 → isSound m (bookOf hs rs ns free) ≡ true → Walks hs rs ns i met m
+    sound-walks : (free : ℕ) → i < length hs → get_or hs i 0 ≢ 0 → is_sound m (book_of hs rs ns free) ≡ true → Walks hs rs ns i met m
     sound-walks free more some e =
-        let s : Sound m (bookOf hs rs ns free) = sound-of m (bookOf hs rs ns free) e in
+        let s : Sound m (book_of hs rs ns free) = sound-of m (book_of hs rs ns free) e in
         let h : ℕ = get_or hs i 0 in
         let parts : hs ≡ take i hs ++ (h ∷ drop (suc i) hs) = split_at hs i 0 more in
         let l : AllLinked ns (take i hs) × AllLinked ns (h ∷ drop (suc i) hs) = all_split ns (take i hs) (h ∷ drop (suc i) hs) (subst (AllLinked ns) parts s.pool.linked) in
@@ -131,7 +131,7 @@ module _ {hs rs ns w₀ : List ℕ} {m : ℕ} where
     pub through-cut : {v : List ℕ} {a : Chain} → i < length hs → get_or hs i 0 ≢ 0 → ColumnWalked hs rs ns i met m a → a ≡ one.Cut → ColumnsWalked hs rs ns v m Cut
     through-cut {v} {a} more some c s =
         record {
-          cut = λ e free. refute (isSound m (bookOf hs rs ns free)) (λ b. cut-walks c s (sound-walks free more some b));
+          cut = λ e free. refute (is_sound m (book_of hs rs ns free)) (λ b. cut-walks c s (sound-walks free more some b));
           walked = λ n e. absurd (let z : ◌≡◌ {A = ℕ} 0 1 = cc in omega arith);
         }
 

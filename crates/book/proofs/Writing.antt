@@ -8,13 +8,13 @@ use native.Mathlib.Omega.{arith}
 use native.Mathlib.Numerals.{add-one}
 use lib.ListN.{length, get_or, take, drop, replicate, length-drop}
 use lib.Seq.{drop-cons}
-use Rattle.lists.specs.Lists.{at, put, times, valuesAt}
+use Rattle.lists.specs.Lists.{at, put, times, values_at}
 use Rattle.lists.proofs.Tests.{eq-or-ne, zero-or-pos}
 use Rattle.lists.proofs.Times.{times-nil, times-self, times-other, times-cons, apart, UpTo}
 use Rattle.lists.proofs.Place.{put-length, at-put-same, at-put-other}
 use Rattle.pool.specs.Chains.{chain, last_of, Linked}
 use Rattle.pool.proofs.Chains.{linked-chain, linked-self, linked-end, Step, linked-step, linked-some}
-use Rattle.book.specs.Records.{put_all, clearAll, HasChain, CanWrite, RowsWritten, Cleared}
+use Rattle.book.specs.Records.{put_all, clear_all, HasChain, CanWrite, RowsWritten, Cleared}
 
 -- ---- put_all
 
@@ -53,8 +53,8 @@ put-all-other xs (r ∷ rs) (v ∷ vs) x w p n =
     at-put-other xs r x v (w r (omega (arith, times-self r rs))).0 p (apart x r (take (length vs) rs) n)
 
 -- the values stand at the first records
-pub put-all-values : (xs rs vs : List ℕ) → UpTo (length xs) rs → ((x : ℕ) → times x rs ≤ 1) → length vs ≤ length rs → valuesAt (put_all xs rs vs) (take (length vs) rs) ≡ vs
-unfolding put_all valuesAt
+pub put-all-values : (xs rs vs : List ℕ) → UpTo (length xs) rs → ((x : ℕ) → times x rs ≤ 1) → length vs ≤ length rs → values_at (put_all xs rs vs) (take (length vs) rs) ≡ vs
+unfolding put_all values_at
 put-all-values xs rs [] w once h = refl
 put-all-values xs [] (v ∷ vs) w once h = absurd (omega arith)
 put-all-values xs (r ∷ rs) (v ∷ vs) w once h =
@@ -62,20 +62,20 @@ put-all-values xs (r ∷ rs) (v ∷ vs) w once h =
     let gone : times r (take (length vs) rs) ≡ 0 = omega (arith, once r, times-self r rs, times-take r (length vs) rs) in
     let here : at (put_all (put xs r v) rs vs) r ≡ v =
     put-all-other (put xs r v) rs vs r (within-rest xs r rs v w) in-r.0 gone ∙ at-put-same xs r v in-r.0 in-r.1 in
-    let rest : valuesAt (put_all (put xs r v) rs vs) (take (length vs) rs) ≡ vs =
+    let rest : values_at (put_all (put xs r v) rs vs) (take (length vs) rs) ≡ vs =
     put-all-values (put xs r v) rs vs (within-rest xs r rs v w) (λ x. omega (arith, once x, times-cons x r rs)) (omega arith) in
     rw (here, rest) refl
 
--- ---- clearAll
+-- ---- clear_all
 
-pub clear-length : (xs rs : List ℕ) → length (clearAll xs rs) ≡ length xs
+pub clear-length : (xs rs : List ℕ) → length (clear_all xs rs) ≡ length xs
 clear-length xs rs = put-all-length xs rs (replicate (length rs) 0)
 
-pub clear-other : (xs rs : List ℕ) (x : ℕ) → UpTo (length xs) rs → 1 ≤ x → times x rs ≡ 0 → at (clearAll xs rs) x ≡ at xs x
+pub clear-other : (xs rs : List ℕ) (x : ℕ) → UpTo (length xs) rs → 1 ≤ x → times x rs ≡ 0 → at (clear_all xs rs) x ≡ at xs x
 clear-other xs rs x w p n =
     put-all-other xs rs (replicate (length rs) 0) x w p (omega (arith, times-take x (length (replicate {A = ℕ} (length rs) 0)) rs))
 
-pub clear_zero : (xs rs : List ℕ) (x : ℕ) → UpTo (length xs) rs → 1 ≤ times x rs → at (clearAll xs rs) x ≡ 0
+pub clear_zero : (xs rs : List ℕ) (x : ℕ) → UpTo (length xs) rs → 1 ≤ times x rs → at (clear_all xs rs) x ≡ 0
 unfolding put_all
 clear_zero xs [] x w n = absurd (omega (arith, times-nil x))
 clear_zero xs (r ∷ rs) x w n =
@@ -152,7 +152,7 @@ pub record Clearing (rows₀ next : List ℕ) (head : ℕ) (rows : List ℕ) (r 
   pub long : length rows ≡ length rows₀
   pub linked : Linked next r (chain next r)
   pub last-is : last_of last (chain next r) ≡ last_of head (chain next head)
-  pub same : clearAll rows (chain next r) ≡ clearAll rows₀ (chain next head)
+  pub same : clear_all rows (chain next r) ≡ clear_all rows₀ (chain next head)
 
 last-place : (r : ℕ) (rs : List ℕ) → last_of r rs ≡ get_or (r ∷ rs) (length rs) 0
 unfolding last_of
@@ -185,7 +185,7 @@ module _ {rows₀ next : List ℕ} {head : ℕ} (pre : HasChain rows₀ next hea
       let s : Step next r (chain next r) = linked-step next r (chain next r) p i.linked in
       let e : chain next (at next r) ≡ s.rest = linked-chain next (at next r) s.rest s.next in
       let a : last_of last (r ∷ s.rest) ≡ last_of head (chain next head) = ap (last_of last) (sym s.parts) ∙ i.last-is in
-      let b : clearAll rows (r ∷ s.rest) ≡ clearAll rows₀ (chain next head) = ap (clearAll rows) (sym s.parts) ∙ i.same in
+      let b : clear_all rows (r ∷ s.rest) ≡ clear_all rows₀ (chain next head) = ap (clear_all rows) (sym s.parts) ∙ i.same in
       record {
         low = s.low;
         high = s.high;
@@ -194,7 +194,7 @@ module _ {rows₀ next : List ℕ} {head : ℕ} (pre : HasChain rows₀ next hea
           long = put-length rows r 0 ∙ i.long;
           linked = linked-self next (at next r) s.rest s.next;
           last-is = ap (last_of r) e ∙ a;
-          same = ap (clearAll (put rows r 0)) e ∙ b;
+          same = ap (clear_all (put rows r 0)) e ∙ b;
         };
       }
 
@@ -204,5 +204,5 @@ module _ {rows₀ next : List ℕ} {head : ℕ} (pre : HasChain rows₀ next hea
       let e : chain next r ≡ [] = linked-end next r (chain next r) p i.linked in
       let s : Step next head (chain next head) = linked-step next head (chain next head) some pre.linked in
       let a : last ≡ last_of head (chain next head) = ap (last_of last) (sym e) ∙ i.last-is in
-      let b : rows ≡ clearAll rows₀ (chain next head) = ap (clearAll rows) (sym e) ∙ i.same in
+      let b : rows ≡ clear_all rows₀ (chain next head) = ap (clear_all rows) (sym e) ∙ i.same in
       record { last-is = a ∙ last-at head (chain next head) s.rest s.parts; rows_are = b }

@@ -12,8 +12,8 @@ put_all xs (r ∷ rs) [] = xs
 put_all xs (r ∷ rs) (v ∷ vs) = put_all (put xs r v) rs vs
 
 -- 0 put at each record
-abbrev pub clearAll : (table records : List ℕ) → List ℕ
-clearAll xs rs = put_all xs rs (replicate (length rs) 0)
+abbrev pub clear_all : (table records : List ℕ) → List ℕ
+clear_all xs rs = put_all xs rs (replicate (length rs) 0)
 
 -- a chain that ends, in a pool whose records have rows
 pub record HasChain (rows next : List ℕ) (head : ℕ) : Type 0 where
@@ -35,4 +35,4 @@ pub record RowsWritten (rows₀ rows next list : List ℕ) (head last : ℕ) : T
 -- every record of the chain has row 0, and last is the chain's last record
 pub record Cleared (rows₀ rows next : List ℕ) (head last : ℕ) : Type 0 where
   pub last-is : last ≡ at (chain next head) (length (chain next head))
-  pub rows_are : rows ≡ clearAll rows₀ (chain next head)
+  pub rows_are : rows ≡ clear_all rows₀ (chain next head)

@@ -4,12 +4,12 @@ use Rattle.std.specs.Prelude.{◌≡◌, ◌≢◌, Bool, true, false, ◌&&◌,
 use Rattle.workspace.specs.Regions.{region}
 use Rattle.pool.specs.Chains.{chain, ends}
 use Rattle.pool.specs.Whole.{chains, AllLinked}
-use Rattle.pool.specs.Ends.{lasts, chainAnswer}
+use Rattle.pool.specs.Ends.{lasts, chain_answer}
 use Rattle.pool.specs.declared.Chain.{Chain}
 use Rattle.pool.specs.declared.Walk.{Walk}
 use Rattle.pool.specs.declared.Walk.TheVariants.{Ended, Cut}
 use Rattle.ends.specs.Naming.{Named}
-use Rattle.book.specs.Book.{bookOf, tables_of, isBooked, columnFor, columnFits, isSound}
+use Rattle.book.specs.Book.{book_of, tables_of, is_booked, column_for, column_fits, is_sound}
 
 -- ---- one column
 
@@ -21,13 +21,13 @@ pub record CanWalk (heads rows next : List ℕ) (i met : ℕ) : Type 0 where
   pub within : met ≤ length next
 
 -- the chain of the head at place i, which is that of id i + 1, ends with a column that fits, and there are records enough
-abbrev pub columnWalks : (heads rows next : List ℕ) → (i met m : ℕ) → Bool
-columnWalks hs rs ns i n m =
-    ends ns (get_or hs i 0) && columnFits m (columnFor (tables_of hs rs ns) (suc i)) && leb (n + length (chain ns (get_or hs i 0))) (length ns)
+abbrev pub column_walks : (heads rows next : List ℕ) → (i met m : ℕ) → Bool
+column_walks hs rs ns i n m =
+    ends ns (get_or hs i 0) && column_fits m (column_for (tables_of hs rs ns) (suc i)) && leb (n + length (chain ns (get_or hs i 0))) (length ns)
 
 -- after the walk of one column: whether it can be walked, with the records met and its last one
 abbrev pub ColumnWalked : (heads rows next : List ℕ) → (i met m : ℕ) → Chain → Type 0
-ColumnWalked hs rs ns i n m a = a ≡ chainAnswer (columnWalks hs rs ns i n m) n ns (get_or hs i 0)
+ColumnWalked hs rs ns i n m a = a ≡ chain_answer (column_walks hs rs ns i n m) n ns (get_or hs i 0)
 
 -- ---- all columns
 
@@ -43,11 +43,11 @@ pub record Walked (heads rows next scratch : List ℕ) (m met k : ℕ) : Type 0 
   pub linked : AllLinked next (take k heads)
   pub counted : met ≡ length (chains next (take k heads))
   pub within : met ≤ length next
-  pub fits : (i : ℕ) → 1 ≤ i → i ≤ k → isBooked heads i ≡ true → columnFits m (columnFor (tables_of heads rows next) i) ≡ true
+  pub fits : (i : ℕ) → 1 ≤ i → i ≤ k → is_booked heads i ≡ true → column_fits m (column_for (tables_of heads rows next) i) ≡ true
   pub lasts_are : region scratch (length next) k ≡ lasts next (take k heads)
   pub named : Named scratch (length next) k 0 (length next)
 
 -- after the walk of all columns: a cut means that the book is not sound, whatever its free head
 pub record ColumnsWalked (heads rows next scratch : List ℕ) (m : ℕ) (a : Walk) : Type 0 where
-  pub cut : a ≡ Cut → (free : ℕ) → isSound m (bookOf heads rows next free) ≡ false
+  pub cut : a ≡ Cut → (free : ℕ) → is_sound m (book_of heads rows next free) ≡ false
   pub walked : (n : ℕ) → a ≡ Ended n → Walked heads rows next scratch m n (length heads)

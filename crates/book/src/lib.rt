@@ -4,11 +4,11 @@
 ghost use Rattle.std.specs.Prelude.{◌≡◌, ◌≢◌, ◌+◌, ◌≤◌, ◌<◌, leb, length, replicate};
 ghost use Rattle.lists.specs.Lists.{over};
 ghost use Rattle.pool.specs.Chains.{chain, Linked};
-ghost use Rattle.book.specs.Book.{bookOf, tables_of, isBooked, columnFor, isSound};
+ghost use Rattle.book.specs.Book.{book_of, tables_of, is_booked, column_for, is_sound};
 ghost use Rattle.book.specs.Records.{HasChain, CanWrite, RowsWritten, Cleared};
 ghost use Rattle.book.specs.Walks.{CanWalk, ColumnWalked, CanReadThrough, ColumnsWalked};
 ghost use Rattle.book.specs.Entries.{opened, CanAdd, Added, CanRemove, Removed, CanCopy, HasHead, StartsAt};
-ghost use Rattle.book.specs.Tally.{tallied, filled, bookRows, CanCount};
+ghost use Rattle.book.specs.Tally.{tallied, filled, booked_rows, CanCount};
 
 use pool::{Chain, Rec, Walk};
 
@@ -23,7 +23,7 @@ pub struct Id(pub u32);
 // Writes a book with no column, and gives the free head.
 pub fn open(heads: &mut [u32], rows: &mut [u16], next: &mut [u32]) -> Rec
     requires { (length rows.old ≡ length next.old) × (length next.old < 4294967295) }
-    ensures { bookOf heads.new rows.new next.new result.0 ≡ opened (length heads.old) (length next.old) }
+    ensures { book_of heads.new rows.new next.new result.0 ≡ opened (length heads.old) (length next.old) }
 {
     zero_heads(heads);
     zero_rows(rows);
@@ -129,7 +129,7 @@ pub fn read_through(
     m: u32,
 ) -> bool
     requires { CanReadThrough heads.now rows.now next.now scratch.old }
-    ensures { result ≡ isSound m (bookOf heads.now rows.now next.now free.0) }
+    ensures { result ≡ is_sound m (book_of heads.now rows.now next.now free.0) }
 {
     let c = next.len();
     let Walk::Ended(n) = walk_columns(heads, rows, next, scratch, m) else {
@@ -156,7 +156,7 @@ pub fn fits(next: &[u32], free: Rec, k: u32) -> bool
 // Whether an id is booked.
 pub fn is_booked(heads: &[u32], id: Id) -> bool
     requires { (1 ≤ id.0) × (id.0 ≤ length heads.now) }
-    ensures { result ≡ isBooked heads.now id.0 }
+    ensures { result ≡ is_booked heads.now id.0 }
 {
     let k = id.0;
     heads[(k - 1) as usize] != 0
@@ -179,8 +179,8 @@ pub fn smallest_row(heads: &[u32], rows: &[u16], id: Id) -> Row
 // Writes the rows of an id's column to the front of list, and gives their number.
 pub fn copy_rows(heads: &[u32], rows: &[u16], next: &[u32], list: &mut [u32], id: Id) -> u32
     requires { CanCopy heads.now rows.now next.now id.0 (length list.old) }
-    ensures number { result ≡ length (columnFor (tables_of heads.now rows.now next.now) id.0).rows }
-    ensures written { list.new ≡ over (columnFor (tables_of heads.now rows.now next.now) id.0).rows list.old }
+    ensures number { result ≡ length (column_for (tables_of heads.now rows.now next.now) id.0).rows }
+    ensures written { list.new ≡ over (column_for (tables_of heads.now rows.now next.now) id.0).rows list.old }
 {
     let k = id.0;
     let mut r = heads[(k - 1) as usize];
@@ -197,7 +197,7 @@ pub fn copy_rows(heads: &[u32], rows: &[u16], next: &[u32], list: &mut [u32], id
 // Counts the rows of an id's column, one more in the counter of each. Gives how many counters left 0.
 pub fn count_rows(heads: &[u32], rows: &[u16], next: &[u32], counters: &mut [u32], id: Id) -> u32
     requires { CanCount heads.now rows.now next.now counters.old id.0 }
-    ensures counted { counters.new ≡ tallied counters.old (bookRows heads.now rows.now next.now id.0) }
+    ensures counted { counters.new ≡ tallied counters.old (booked_rows heads.now rows.now next.now id.0) }
     ensures raised { result + filled counters.old ≡ filled counters.new }
 {
     let k = id.0;
@@ -259,8 +259,8 @@ pub fn add_column(
     free: Rec,
     id: Id,
 ) -> Rec
-    requires { CanAdd (bookOf heads.old rows.old next.old free.0) id.0 list.now }
-    ensures { Added (bookOf heads.old rows.old next.old free.0) id.0 list.now (bookOf heads.new rows.new next.new result.0) }
+    requires { CanAdd (book_of heads.old rows.old next.old free.0) id.0 list.now }
+    ensures { Added (book_of heads.old rows.old next.old free.0) id.0 list.now (book_of heads.new rows.new next.new result.0) }
 {
     let last = write_rows(rows, next, list, free);
     let rest = pool::cut_after(next, last);
@@ -277,8 +277,8 @@ pub fn remove_column(
     free: Rec,
     id: Id,
 ) -> Rec
-    requires { CanRemove (bookOf heads.old rows.old next.old free.0) id.0 }
-    ensures { Removed (bookOf heads.old rows.old next.old free.0) id.0 (bookOf heads.new rows.new next.new result.0) }
+    requires { CanRemove (book_of heads.old rows.old next.old free.0) id.0 }
+    ensures { Removed (book_of heads.old rows.old next.old free.0) id.0 (book_of heads.new rows.new next.new result.0) }
 {
     let k = id.0;
     let i = (k - 1) as usize;

@@ -7,29 +7,29 @@ use mathlib.Core.Bool.{Bool, true, false, false≢true}
 use Prim.Native.Nat.{ℕ}
 use lib.Dec.{eqb}
 use Rattle.lists.proofs.Tests.{cases}
-use Rattle.calls.specs.Refusals.{Refusal, refusal, accepted, isAccepted, or_else, unless}
+use Rattle.calls.specs.Refusals.{Refusal, refusal, accepted, is_accepted, or_else, unless}
 
 -- ---- taken apart
 
-pub or-both : (x y : Refusal) → isAccepted (or_else x y) ≡ true → (isAccepted x ≡ true) × (isAccepted y ≡ true)
-or-both x y h = elim (cases (isAccepted x)) [ inl e ↦ (e, rw e at h) | inr e ↦ absurd (false≢true (sym e ∙ (rw e at h))) ]
+pub or-both : (x y : Refusal) → is_accepted (or_else x y) ≡ true → (is_accepted x ≡ true) × (is_accepted y ≡ true)
+or-both x y h = elim (cases (is_accepted x)) [ inl e ↦ (e, rw e at h) | inr e ↦ absurd (false≢true (sym e ∙ (rw e at h))) ]
 
-pub unless_holds : (z : Bool) (n p : ℕ) → eqb n 0 ≡ false → isAccepted (unless z n p) ≡ true → z ≡ true
+pub unless_holds : (z : Bool) (n p : ℕ) → eqb n 0 ≡ false → is_accepted (unless z n p) ≡ true → z ≡ true
 unless_holds true n p q h = refl
 unless_holds false n p q h = absurd (false≢true (sym q ∙ h))
 
 -- ---- put together
 
-pub or-second : (x y : Refusal) → isAccepted x ≡ true → or_else x y ≡ y
+pub or-second : (x y : Refusal) → is_accepted x ≡ true → or_else x y ≡ y
 or-second x y e = rw e refl
 
-pub or-first : (x y : Refusal) → isAccepted x ≡ false → or_else x y ≡ x
+pub or-first : (x y : Refusal) → is_accepted x ≡ false → or_else x y ≡ x
 or-first x y e = rw e refl
 
 pub or_assoc : (x y z : Refusal) → or_else (or_else x y) z ≡ or_else x (or_else y z)
-or_assoc x y z = elim (cases (isAccepted x)) [ inl e ↦ rw e refl | inr e ↦ rw (e, e) refl ]
+or_assoc x y z = elim (cases (is_accepted x)) [ inl e ↦ rw e refl | inr e ↦ rw (e, e) refl ]
 
-pub both-or : (x y : Refusal) → isAccepted x ≡ true → isAccepted y ≡ true → isAccepted (or_else x y) ≡ true
+pub both-or : (x y : Refusal) → is_accepted x ≡ true → is_accepted y ≡ true → is_accepted (or_else x y) ≡ true
 both-or x y e f = rw (e, f) refl
 
 pub unless-true : (z : Bool) (n p : ℕ) → z ≡ true → unless z n p ≡ accepted
@@ -41,14 +41,14 @@ unless-false z n p e = rw e refl
 -- ---- "Accepted is 0": with position 0
 
 abbrev pub Whole : Refusal → Type 0
-Whole x = isAccepted x ≡ true → x ≡ accepted
+Whole x = is_accepted x ≡ true → x ≡ accepted
 
 pub unless-whole : (z : Bool) (n p : ℕ) → eqb n 0 ≡ false → Whole (unless z n p)
 unless-whole true n p q h = refl
 unless-whole false n p q h = absurd (false≢true (sym q ∙ h))
 
 pub or-whole : (x y : Refusal) → Whole y → Whole (or_else x y)
-or-whole x y f h = let t : (isAccepted x ≡ true) × (isAccepted y ≡ true) = or-both x y h in or-second x y t.0 ∙ f t.1
+or-whole x y f h = let t : (is_accepted x ≡ true) × (is_accepted y ≡ true) = or-both x y h in or-second x y t.0 ∙ f t.1
 
 -- ---- which numbers
 
@@ -65,4 +65,4 @@ module _ (P : ℕ → Type 0) where
   number-unless false n p h = inr h
 
   pub number-or : (x y : Refusal) → NumberOf P x → NumberOf P y → NumberOf P (or_else x y)
-  number-or x y f g = elim (cases (isAccepted x)) [ inl e ↦ rw e g | inr e ↦ rw e f ]
+  number-or x y f g = elim (cases (is_accepted x)) [ inl e ↦ rw e g | inr e ↦ rw e f ]

@@ -7,26 +7,26 @@ use mathlib.Core.Bool.{Bool, true, false, ◌&&◌, ◌||◌, true≢false}
 use mathlib.Core.List.{List, []}
 use Prim.Native.Nat.{ℕ, ◌*◌, ◌≤◌}
 use native.Mathlib.Omega.{arith}
-use Rattle.lists.specs.Lists.{Mem, all, among, at, valuesAt, sum_of, up_from}
+use Rattle.lists.specs.Lists.{Mem, all, among, at, values_at, sum_of, up_from}
 use Rattle.lists.proofs.Tests.{and_both, or-either}
 use Rattle.lists.proofs.Member.{all-at}
 use Rattle.lists.proofs.Place.{values-mem}
 use Rattle.lists.proofs.Rising.{up-from, rises-in}
 use Rattle.symbolic.specs.Columns.{Column, live}
-use Rattle.symbolic.specs.Factor.{FactorColumn, factorOf, factorFor, inPattern}
+use Rattle.symbolic.specs.Factor.{FactorColumn, factor_of, factor_for, in_pattern}
 use Rattle.symbolic.specs.Change.{removed, Bag}
 use Rattle.symbolic.proofs.Patterns.{pattern-within-rows}
 use Rattle.symbolic.proofs.Theorems.{order-free}
 use Rattle.symbolic.proofs.Live.{live-order}
-use Rattle.tables.specs.Stored.{recordsOf, holdsFrom}
-use Rattle.tables.specs.Tables.{Tables, Sizes, State, longEnough, storedIn, bookIn, windowsIn, registerOf, isSound}
+use Rattle.tables.specs.Stored.{records_of, holds_from}
+use Rattle.tables.specs.Tables.{Tables, Sizes, State, long_enough, stored_in, book_in, windows_in, register_of, is_sound}
 use Rattle.tables.specs.Stays.{EntriesKeep, TailsStay}
 use Rattle.tables.proofs.Stored.{stored-column, stands-is}
 use Rattle.tables.proofs.Tables.{tails-long, sound-factor}
-use Rattle.tables.proofs.Stays.{staysTest, keepsTest, stays-passed, keeps-passed, beyondTest, beyond-passed, bookTest, book-passed, minutesTest, minutes-passed}
-use Rattle.calls.specs.Calls.{Change, adding, removing, setting, isBatch}
-use Rattle.calls.specs.Changes.{effect, touchedBy}
-use Rattle.calls.specs.Steps.{World, bookedIn, SameBook, Exchanged}
+use Rattle.tables.proofs.Stays.{stays_test, keeps_test, stays-passed, keeps-passed, beyond_test, beyond-passed, book_test, book-passed, minutes_test, minutes-passed}
+use Rattle.calls.specs.Calls.{Change, adding, removing, setting, is_batch}
+use Rattle.calls.specs.Changes.{effect, touched_by}
+use Rattle.calls.specs.Steps.{World, booked_in, SameBook, Exchanged}
 
 -- ---- entries that stand before and after
 
@@ -35,57 +35,57 @@ module _ {u : World} {c : Change} {v : World} (x : Exchanged u c v) where
   m = u.state.sizes.m
 
   -- a record of a sound world holds a row of its column's pattern
-  stands-before : (s : State) (t : Tables) → longEnough s.sizes t ≡ true → isSound s t ≡ true → (cs : List Column) → factorFor (registerOf s t) ≡ factorOf s.sizes.m cs →
-      (j : ℕ) → 1 ≤ j → j ≤ s.sizes.m → {y : ℕ} → Mem y (recordsOf (storedIn s t) j) → inPattern (factorOf s.sizes.m cs) (at (storedIn s t).rows y) j ≡ true
+  stands-before : (s : State) (t : Tables) → long_enough s.sizes t ≡ true → is_sound s t ≡ true → (cs : List Column) → factor_for (register_of s t) ≡ factor_of s.sizes.m cs →
+      (j : ℕ) → 1 ≤ j → j ≤ s.sizes.m → {y : ℕ} → Mem y (records_of (stored_in s t) j) → in_pattern (factor_of s.sizes.m cs) (at (stored_in s t).rows y) j ≡ true
   stands-before s t long sound cs e j a b {y} n =
-      let f : holdsFrom (storedIn s t) (factorOf s.sizes.m cs) 1 s.sizes.m ≡ true =
-      ap (λ (fs : List FactorColumn). holdsFrom (storedIn s t) fs 1 s.sizes.m) (sym e) ∙ sound-factor s t long sound in
-      let i : ℕ = at (storedIn s t).rows y in
-      let k : Mem i (valuesAt (storedIn s t).rows (recordsOf (storedIn s t) j)) = values-mem (storedIn s t).rows n in
+      let f : holds_from (stored_in s t) (factor_of s.sizes.m cs) 1 s.sizes.m ≡ true =
+      ap (λ (fs : List FactorColumn). holds_from (stored_in s t) fs 1 s.sizes.m) (sym e) ∙ sound-factor s t long sound in
+      let i : ℕ = at (stored_in s t).rows y in
+      let k : Mem i (values_at (stored_in s t).rows (records_of (stored_in s t) j)) = values-mem (stored_in s t).rows n in
       let p : (1 ≤ i) × (i ≤ s.sizes.m) =
-      rises-in 1 s.sizes.m (subst (λ (l : List ℕ). Mem i l) (stored-column s.sizes.m cs (storedIn s t) f j a b).rows k) (pattern-within-rows s.sizes.m cs j a b) in
-      (stands-is s.sizes.m cs (storedIn s t) f i j p.0 p.1 a b).0 k
+      rises-in 1 s.sizes.m (subst (λ (l : List ℕ). Mem i l) (stored-column s.sizes.m cs (stored_in s t) f j a b).rows k) (pattern-within-rows s.sizes.m cs j a b) in
+      (stands-is s.sizes.m cs (stored_in s t) f i j p.0 p.1 a b).0 k
 
   -- "An entry that stands in a column before and after a batch keeps its record": it stands for the columns that stay too
-  pub exchanged-keeps : isBatch c ≡ true → longEnough u.state.sizes u.tables ≡ true → isSound u.state u.tables ≡ true → (j : ℕ) → 1 ≤ j → j ≤ u.state.sizes.m →
-      EntriesKeep (storedIn u.state u.tables) (storedIn v.state v.tables) j
+  pub exchanged-keeps : is_batch c ≡ true → long_enough u.state.sizes u.tables ≡ true → is_sound u.state u.tables ≡ true → (j : ℕ) → 1 ≤ j → j ≤ u.state.sizes.m →
+      EntriesKeep (stored_in u.state u.tables) (stored_in v.state v.tables) j
   exchanged-keeps batch long sound j a b y z p q e = x.entries j a b y z p q e (stays c refl)
     where
-      stays : (d : Change) → c ≡ d → inPattern (factorOf u.state.sizes.m (effect (bookedIn u) c).stay) (at (storedIn u.state u.tables).rows y) j ≡ true
+      stays : (d : Change) → c ≡ d → in_pattern (factor_of u.state.sizes.m (effect (booked_in u) c).stay) (at (stored_in u.state u.tables).rows y) j ≡ true
       stays (adding is ns rs ps qs) h =
-          subst (λ (k : Change). inPattern (factorOf m (effect (bookedIn u) k).stay) (at (storedIn u.state u.tables).rows y) j ≡ true) (sym h)
-          (stands-before u.state u.tables long sound (live (bookedIn u)) refl j a b p)
+          subst (λ (k : Change). in_pattern (factor_of m (effect (booked_in u) k).stay) (at (stored_in u.state u.tables).rows y) j ≡ true) (sym h)
+          (stands-before u.state u.tables long sound (live (booked_in u)) refl j a b p)
       stays (removing is) h =
-          let w : List Column = live (removed (bookedIn u) is) in
-          let bag : Bag (live (bookedIn v)) w =
-          live-order (bookedIn v) (removed (bookedIn u) is) (x.clock ∙ ap (λ (k : Change). (effect (bookedIn u) k).register.clock) h) (subst (λ (k : Change). Bag (bookedIn v).columns (effect (bookedIn u) k).register.columns) h x.columns) in
-          let f : factorFor (bookedIn v) ≡ factorOf v.state.sizes.m w = order-free v.state.sizes.m (live (bookedIn v)) w bag in
-          let g : inPattern (factorOf v.state.sizes.m w) (at (storedIn v.state v.tables).rows z) j ≡ true =
-          stands-before v.state v.tables (ap (λ (l : Sizes). longEnough l v.tables) x.sizes ∙ tails-long u.state.sizes u.tables v.tables x.tails long) x.sound w f j a
+          let w : List Column = live (removed (booked_in u) is) in
+          let bag : Bag (live (booked_in v)) w =
+          live-order (booked_in v) (removed (booked_in u) is) (x.clock ∙ ap (λ (k : Change). (effect (booked_in u) k).register.clock) h) (subst (λ (k : Change). Bag (booked_in v).columns (effect (booked_in u) k).register.columns) h x.columns) in
+          let f : factor_for (booked_in v) ≡ factor_of v.state.sizes.m w = order-free v.state.sizes.m (live (booked_in v)) w bag in
+          let g : in_pattern (factor_of v.state.sizes.m w) (at (stored_in v.state v.tables).rows z) j ≡ true =
+          stands-before v.state v.tables (ap (λ (l : Sizes). long_enough l v.tables) x.sizes ∙ tails-long u.state.sizes u.tables v.tables x.tails long) x.sound w f j a
           (subst (λ (l : Sizes). j ≤ l.m) (sym x.sizes) b) q in
-          subst (λ (k : Change). inPattern (factorOf m (effect (bookedIn u) k).stay) (at (storedIn u.state u.tables).rows y) j ≡ true) (sym h)
-          (subst (λ (i : ℕ). inPattern (factorOf m w) i j ≡ true) (sym e) (subst (λ (l : Sizes). inPattern (factorOf l.m w) (at (storedIn v.state v.tables).rows z) j ≡ true) x.sizes g))
-      stays (setting t) h = absurd (true≢false (sym (subst (λ (k : Change). isBatch k ≡ true) h batch)))
+          subst (λ (k : Change). in_pattern (factor_of m (effect (booked_in u) k).stay) (at (stored_in u.state u.tables).rows y) j ≡ true) (sym h)
+          (subst (λ (i : ℕ). in_pattern (factor_of m w) i j ≡ true) (sym e) (subst (λ (l : Sizes). in_pattern (factor_of l.m w) (at (stored_in v.state v.tables).rows z) j ≡ true) x.sizes g))
+      stays (setting t) h = absurd (true≢false (sym (subst (λ (k : Change). is_batch k ≡ true) h batch)))
 
 -- ---- the places beyond the sizes
 
-abbrev pub tailsTest : Sizes → (before after : Tables) → Bool
-tailsTest l t u =
-    beyondTest l.m t.heads u.heads && (beyondTest l.m t.parents u.parents && (beyondTest l.f t.rows u.rows &&
-    (beyondTest l.f t.counts u.counts && (beyondTest l.f t.next u.next && (beyondTest l.n t.bookHeads u.bookHeads &&
-    (beyondTest l.c t.bookRows u.bookRows && (beyondTest l.c t.bookNext u.bookNext && beyondTest (2 * l.n) t.windows u.windows)))))))
+abbrev pub tails_test : Sizes → (before after : Tables) → Bool
+tails_test l t u =
+    beyond_test l.m t.heads u.heads && (beyond_test l.m t.parents u.parents && (beyond_test l.f t.rows u.rows &&
+    (beyond_test l.f t.counts u.counts && (beyond_test l.f t.next u.next && (beyond_test l.n t.book_heads u.book_heads &&
+    (beyond_test l.c t.book_rows u.book_rows && (beyond_test l.c t.book_next u.book_next && beyond_test (2 * l.n) t.windows u.windows)))))))
 
-pub tails-passed : (l : Sizes) (t u : Tables) → tailsTest l t u ≡ true → TailsStay l t u
+pub tails-passed : (l : Sizes) (t u : Tables) → tails_test l t u ≡ true → TailsStay l t u
 tails-passed l t u z =
-    let a : Bool = beyondTest l.m t.heads u.heads in
-    let b : Bool = beyondTest l.m t.parents u.parents in
-    let c : Bool = beyondTest l.f t.rows u.rows in
-    let d : Bool = beyondTest l.f t.counts u.counts in
-    let e : Bool = beyondTest l.f t.next u.next in
-    let f : Bool = beyondTest l.n t.bookHeads u.bookHeads in
-    let g : Bool = beyondTest l.c t.bookRows u.bookRows in
-    let h : Bool = beyondTest l.c t.bookNext u.bookNext in
-    let k : Bool = beyondTest (2 * l.n) t.windows u.windows in
+    let a : Bool = beyond_test l.m t.heads u.heads in
+    let b : Bool = beyond_test l.m t.parents u.parents in
+    let c : Bool = beyond_test l.f t.rows u.rows in
+    let d : Bool = beyond_test l.f t.counts u.counts in
+    let e : Bool = beyond_test l.f t.next u.next in
+    let f : Bool = beyond_test l.n t.book_heads u.book_heads in
+    let g : Bool = beyond_test l.c t.book_rows u.book_rows in
+    let h : Bool = beyond_test l.c t.book_next u.book_next in
+    let k : Bool = beyond_test (2 * l.n) t.windows u.windows in
     let p : (a ≡ true) × ((b && (c && (d && (e && (f && (g && (h && k))))))) ≡ true) = and_both a (b && (c && (d && (e && (f && (g && (h && k))))))) z in
     let q : (b ≡ true) × ((c && (d && (e && (f && (g && (h && k)))))) ≡ true) = and_both b (c && (d && (e && (f && (g && (h && k)))))) p.1 in
     let r : (c ≡ true) × ((d && (e && (f && (g && (h && k))))) ≡ true) = and_both c (d && (e && (f && (g && (h && k))))) q.1 in
@@ -100,31 +100,31 @@ tails-passed l t u z =
       rows = beyond-passed l.f t.rows u.rows r.0;
       counts = beyond-passed l.f t.counts u.counts s.0;
       next = beyond-passed l.f t.next u.next v.0;
-      bookHeads = beyond-passed l.n t.bookHeads u.bookHeads w.0;
-      bookRows = beyond-passed l.c t.bookRows u.bookRows x.0;
-      bookNext = beyond-passed l.c t.bookNext u.bookNext y.0;
+      book_heads = beyond-passed l.n t.book_heads u.book_heads w.0;
+      book_rows = beyond-passed l.c t.book_rows u.book_rows x.0;
+      book_next = beyond-passed l.c t.book_next u.book_next y.0;
       windows = beyond-passed (2 * l.n) t.windows u.windows y.1;
     }
 
 -- ---- all of it
 
 module _ (u : World) (k : Change) (v : World) where
-  abbrev pub othersTest : (j : ℕ) → Bool
-  othersTest j =
-      among j (touchedBy (bookedIn u) k) || staysTest (storedIn u.state u.tables) (storedIn v.state v.tables) j
+  abbrev pub others_test : (j : ℕ) → Bool
+  others_test j =
+      among j (touched_by (booked_in u) k) || stays_test (stored_in u.state u.tables) (stored_in v.state v.tables) j
 
-  abbrev pub entriesTest : (j : ℕ) → Bool
-  entriesTest j = keepsTest (storedIn u.state u.tables) (storedIn v.state v.tables) j
+  abbrev pub entries_test : (j : ℕ) → Bool
+  entries_test j = keeps_test (stored_in u.state u.tables) (stored_in v.state v.tables) j
 
-  abbrev pub idsTest : (i : ℕ) → Bool
-  idsTest i =
-      among i (effect (bookedIn u) k).ids || (bookTest (bookIn u.state u.tables) (bookIn v.state v.tables) i &&
-      minutesTest u.state.sizes.n (windowsIn u.state u.tables) (windowsIn v.state v.tables) i)
+  abbrev pub ids_test : (i : ℕ) → Bool
+  ids_test i =
+      among i (effect (booked_in u) k).ids || (book_test (book_in u.state u.tables) (book_in v.state v.tables) i &&
+      minutes_test u.state.sizes.n (windows_in u.state u.tables) (windows_in v.state v.tables) i)
 
-  abbrev pub exchangeTest : Bool
-  exchangeTest =
-      isSound v.state v.tables && (all othersTest (up_from 1 u.state.sizes.m) && (all entriesTest (up_from 1 u.state.sizes.m) &&
-      (all idsTest (up_from 1 u.state.sizes.n) && tailsTest u.state.sizes u.tables v.tables)))
+  abbrev pub exchange_test : Bool
+  exchange_test =
+      is_sound v.state v.tables && (all others_test (up_from 1 u.state.sizes.m) && (all entries_test (up_from 1 u.state.sizes.m) &&
+      (all ids_test (up_from 1 u.state.sizes.n) && tails_test u.state.sizes u.tables v.tables)))
 
   -- from a test that lets some pass, one that those pass that are not among them
   either : (a b : Bool) → (a || b) ≡ true → a ≡ false → b ≡ true
@@ -133,40 +133,40 @@ module _ (u : World) (k : Change) (v : World) where
   at-number : (f : ℕ → Bool) (n : ℕ) → all f (up_from 1 n) ≡ true → (i : ℕ) → 1 ≤ i → i ≤ n → f i ≡ true
   at-number f n h i a b = all-at f (up-from 1 n i a (omega arith)) h
 
-  pub exchange-passed : v.state.sizes ≡ u.state.sizes → v.state.limits ≡ u.state.limits → v.state.clock ≡ (effect (bookedIn u) k).register.clock →
-      (bookedIn v).columns ≡ (effect (bookedIn u) k).register.columns → ((effect (bookedIn u) k).ids ≡ [] → SameBook u v) → exchangeTest ≡ true → Exchanged u k v
+  pub exchange-passed : v.state.sizes ≡ u.state.sizes → v.state.limits ≡ u.state.limits → v.state.clock ≡ (effect (booked_in u) k).register.clock →
+      (booked_in v).columns ≡ (effect (booked_in u) k).register.columns → ((effect (booked_in u) k).ids ≡ [] → SameBook u v) → exchange_test ≡ true → Exchanged u k v
   exchange-passed l g o c still z =
       let m : ℕ = u.state.sizes.m in
       let n : ℕ = u.state.sizes.n in
-      let A : Bool = isSound v.state v.tables in
-      let B : Bool = all othersTest (up_from 1 m) in
-      let C : Bool = all entriesTest (up_from 1 m) in
-      let D : Bool = all idsTest (up_from 1 n) in
-      let E : Bool = tailsTest u.state.sizes u.tables v.tables in
+      let A : Bool = is_sound v.state v.tables in
+      let B : Bool = all others_test (up_from 1 m) in
+      let C : Bool = all entries_test (up_from 1 m) in
+      let D : Bool = all ids_test (up_from 1 n) in
+      let E : Bool = tails_test u.state.sizes u.tables v.tables in
       let p : (A ≡ true) × ((B && (C && (D && E))) ≡ true) = and_both A (B && (C && (D && E))) z in
       let q : (B ≡ true) × ((C && (D && E)) ≡ true) = and_both B (C && (D && E)) p.1 in
       let r : (C ≡ true) × ((D && E) ≡ true) = and_both C (D && E) q.1 in
       let s : (D ≡ true) × (E ≡ true) = and_both D E r.1 in
-      let apart : (i : ℕ) → 1 ≤ i → i ≤ n → among i (effect (bookedIn u) k).ids ≡ false →
-      (bookTest (bookIn u.state u.tables) (bookIn v.state v.tables) i ≡ true) ×
-      (minutesTest n (windowsIn u.state u.tables) (windowsIn v.state v.tables) i ≡ true) =
-      λ i a b t. and_both (bookTest (bookIn u.state u.tables) (bookIn v.state v.tables) i)
-      (minutesTest n (windowsIn u.state u.tables) (windowsIn v.state v.tables) i)
-      (either (among i (effect (bookedIn u) k).ids)
-      (bookTest (bookIn u.state u.tables) (bookIn v.state v.tables) i && minutesTest n (windowsIn u.state u.tables) (windowsIn v.state v.tables) i)
-      (at-number idsTest n s.0 i a b) t) in
+      let apart : (i : ℕ) → 1 ≤ i → i ≤ n → among i (effect (booked_in u) k).ids ≡ false →
+      (book_test (book_in u.state u.tables) (book_in v.state v.tables) i ≡ true) ×
+      (minutes_test n (windows_in u.state u.tables) (windows_in v.state v.tables) i ≡ true) =
+      λ i a b t. and_both (book_test (book_in u.state u.tables) (book_in v.state v.tables) i)
+      (minutes_test n (windows_in u.state u.tables) (windows_in v.state v.tables) i)
+      (either (among i (effect (booked_in u) k).ids)
+      (book_test (book_in u.state u.tables) (book_in v.state v.tables) i && minutes_test n (windows_in u.state u.tables) (windows_in v.state v.tables) i)
+      (at-number ids_test n s.0 i a b) t) in
       record {
         sizes = l;
         limits = g;
         clock = o;
         sound = p.0;
         columns = λ f. ap (λ (cs : List Column). sum_of f cs) c;
-        others = λ j a b t. stays-passed (storedIn u.state u.tables) (storedIn v.state v.tables) j
-            (either (among j (touchedBy (bookedIn u) k)) (staysTest (storedIn u.state u.tables) (storedIn v.state v.tables) j)
-            (at-number othersTest m q.0 j a b) t);
-        entries = λ j a b x y p q e h. keeps-passed (storedIn u.state u.tables) (storedIn v.state v.tables) j (at-number entriesTest m r.0 j a b) x y p q e;
-        book = λ i a b t. book-passed (bookIn u.state u.tables) (bookIn v.state v.tables) i (apart i a b t).0;
-        minutes = λ i a b t. minutes-passed n (windowsIn u.state u.tables) (windowsIn v.state v.tables) i (apart i a b t).1;
+        others = λ j a b t. stays-passed (stored_in u.state u.tables) (stored_in v.state v.tables) j
+            (either (among j (touched_by (booked_in u) k)) (stays_test (stored_in u.state u.tables) (stored_in v.state v.tables) j)
+            (at-number others_test m q.0 j a b) t);
+        entries = λ j a b x y p q e h. keeps-passed (stored_in u.state u.tables) (stored_in v.state v.tables) j (at-number entries_test m r.0 j a b) x y p q e;
+        book = λ i a b t. book-passed (book_in u.state u.tables) (book_in v.state v.tables) i (apart i a b t).0;
+        minutes = λ i a b t. minutes-passed n (windows_in u.state u.tables) (windows_in v.state v.tables) i (apart i a b t).1;
         still = still;
         tails = tails-passed u.state.sizes u.tables v.tables s.1;
       }

@@ -9,28 +9,28 @@ use Prim.Native.Nat.{ℕ, suc, ◌+◌, ◌≤◌}
 use native.Mathlib.Omega.{arith}
 use lib.ListN.{length, drop}
 use borrow.Author.Tests.{eq-eqb, ne_eqb}
-use Rattle.lists.specs.Lists.{one, Mem, first, later, among, noRepeats, times, over, writtenAt}
+use Rattle.lists.specs.Lists.{one, Mem, first, later, among, no_repeats, times, over, written_at}
 use Rattle.lists.proofs.Tests.{cases, eq-or-ne, zero-or-pos, both_ways, or_right}
 use Rattle.lists.proofs.Member.{among-mem, any-find, any-has}
 use Rattle.lists.proofs.Sum.{sum-append}
 use Rattle.lists.proofs.Times.{among-some, mem-times, once-of, of-once}
-use Rattle.symbolic.specs.Columns.{Column, columnWith, onlyAt, countedBy, Register, live_of, live}
-use Rattle.symbolic.specs.Factor.{FactorColumn, factorOf, factorFor}
-use Rattle.symbolic.specs.Batch.{passes, isTouched, isExchanged, exchanged, label_of, entriesOf}
-use Rattle.symbolic.specs.Grades.{Limits, gradeOf}
-use Rattle.symbolic.specs.Change.{ids_of, without, columnOf, columnsOf, added, clocked, Bag}
-use Rattle.symbolic.proofs.Bags.{bag-append, bag-mem, bag-without, without-le, ids-times, hasId, column-of}
+use Rattle.symbolic.specs.Columns.{Column, column_with, only_at, counted_by, Register, live_of, live}
+use Rattle.symbolic.specs.Factor.{FactorColumn, factor_of, factor_for}
+use Rattle.symbolic.specs.Batch.{passes, is_touched, is_exchanged, exchanged, label_of, entries_of}
+use Rattle.symbolic.specs.Grades.{Limits, grade_of}
+use Rattle.symbolic.specs.Change.{ids_of, without, column_of, columns_of, added, clocked, Bag}
+use Rattle.symbolic.proofs.Bags.{bag-append, bag-mem, bag-without, without-le, ids-times, has_id, column-of}
 use Rattle.symbolic.proofs.Bags as bags
 use Rattle.symbolic.proofs.Theorems.{order-free}
 use Rattle.symbolic.proofs.Live.{counted-bag, live_same, live-order}
 use Rattle.symbolic.proofs.Passing.{passing-same}
 use Rattle.tables.specs.Tables.{Sizes}
-use Rattle.calls.specs.Refusals.{isAccepted, or_else, lines_of, in_register, columnsRefusal, roomRefusal, idsRefusal, room_for}
-use Rattle.calls.specs.Calls.{Change, adding, removing, setting, Question, askNextRow, askParent, askPath, askColumn, askMeets, askCommon, Entry, opening, changing, checking, asking, Call}
-use Rattle.calls.specs.Changes.{Effect, effect, touchedBy, labelled, labelsBy, entriesBy}
+use Rattle.calls.specs.Refusals.{is_accepted, or_else, lines_of, in_register, columns_refusal, room_refusal, ids_refusal, room_for}
+use Rattle.calls.specs.Calls.{Change, adding, removing, setting, Question, ask_next_row, ask_parent, ask_path, ask_column, ask_meets, ask_common, Entry, opening, changing, checking, asking, Call}
+use Rattle.calls.specs.Changes.{Effect, effect, touched_by, labelled, labels_by, entries_by}
 use Rattle.calls.specs.Questions.{Response, response}
-use Rattle.calls.specs.Numbers.{ownRefusal, callRefusal}
-use Rattle.calls.specs.Steps.{Result, result_of, acceptedBy, listsAfter}
+use Rattle.calls.specs.Numbers.{own_refusal, call_refusal}
+use Rattle.calls.specs.Steps.{Result, result_of, accepted_by, lists_after}
 use Rattle.calls.proofs.Refusals.{ColumnsFit, lines-ids, add-facts}
 use Rattle.calls.proofs.Changes.{rows_stay}
 
@@ -47,8 +47,8 @@ id-find i (c ∷ cs) h =
     ]
 
 -- one that does not has the column with no row
-pub column-none : (i : ℕ) (cs : List Column) → among i (ids_of cs) ≡ false → columnOf i cs ≡ columnWith i []
-unfolding ids_of among columnOf
+pub column-none : (i : ℕ) (cs : List Column) → among i (ids_of cs) ≡ false → column_of i cs ≡ column_with i []
+unfolding ids_of among column_of
 column-none i [] h = refl
 column-none i (c ∷ cs) h =
     elim (eq-or-ne c.id i) [
@@ -63,22 +63,22 @@ module _ (cs ds : List Column) (b : Bag cs ds) where
       (λ h. among-some i (ids_of ds) (omega (arith, bags.bag-ids cs ds b i, mem-times (among-mem i (ids_of cs) h))))
       (λ h. among-some i (ids_of cs) (omega (arith, bags.bag-ids cs ds b i, mem-times (among-mem i (ids_of ds) h))))
 
-  pub bag-once : noRepeats (ids_of cs) ≡ true → noRepeats (ids_of ds) ≡ true
+  pub bag-once : no_repeats (ids_of cs) ≡ true → no_repeats (ids_of ds) ≡ true
   bag-once u = of-once (ids_of ds) (λ i. omega (arith, once-of (ids_of cs) u i, bags.bag-ids cs ds b i))
 
-  pub bag-column : noRepeats (ids_of cs) ≡ true → (i : ℕ) → columnOf i cs ≡ columnOf i ds
+  pub bag-column : no_repeats (ids_of cs) ≡ true → (i : ℕ) → column_of i cs ≡ column_of i ds
   bag-column u i =
       elim (cases (among i (ids_of ds))) [
         | inr e ↦ column-none i cs (bag-among i ∙ e) ∙ sym (column-none i ds e)
         | inl e ↦
             let t : (d : Column) × Mem d ds × (d.id ≡ i) = id-find i ds e in
-            let p : columnOf t.0.id cs ≡ t.0 = column-of cs u (bag-mem cs ds b t.1) in
-            let q : columnOf t.0.id ds ≡ t.0 = column-of ds (bag-once u) t.1 in
-            subst (λ (x : ℕ). columnOf x cs ≡ columnOf x ds) t.2 (p ∙ sym q)
+            let p : column_of t.0.id cs ≡ t.0 = column-of cs u (bag-mem cs ds b t.1) in
+            let q : column_of t.0.id ds ≡ t.0 = column-of ds (bag-once u) t.1 in
+            subst (λ (x : ℕ). column_of x cs ≡ column_of x ds) t.2 (p ∙ sym q)
       ]
 
-  pub bag-columns : noRepeats (ids_of cs) ≡ true → (is : List ℕ) → columnsOf is cs ≡ columnsOf is ds
-  unfolding columnsOf
+  pub bag-columns : no_repeats (ids_of cs) ≡ true → (is : List ℕ) → columns_of is cs ≡ columns_of is ds
+  unfolding columns_of
   bag-columns u [] = refl
   bag-columns u (i ∷ is) = rw (bag-column u i, bag-columns u is)
 
@@ -88,8 +88,8 @@ module _ (r s : Register) (e : r.m ≡ s.m) (k : r.clock ≡ s.clock) (b : Bag r
   pub bag-booked : (i : ℕ) → in_register r i ≡ in_register s i
   bag-booked i = bag-among r.columns s.columns b i
 
-  pub bag-factor : factorFor r ≡ factorFor s
-  bag-factor = ap (λ (m : ℕ). factorOf m (live r)) e ∙ order-free s.m (live r) (live s) (live-order r s k b)
+  pub bag-factor : factor_for r ≡ factor_for s
+  bag-factor = ap (λ (m : ℕ). factor_of m (live r)) e ∙ order-free s.m (live r) (live s) (live-order r s k b)
 
   -- ---- the register after a change
 
@@ -108,32 +108,32 @@ module _ (r s : Register) (e : r.m ≡ s.m) (k : r.clock ≡ s.clock) (b : Bag r
 
   -- ---- numbers
 
-  columns-number : (n p : ℕ) (bs is ns rs ps qs : List ℕ) → columnsRefusal r n p bs is ns rs ps qs ≡ columnsRefusal s n p bs is ns rs ps qs
-  unfolding columnsRefusal
+  columns-number : (n p : ℕ) (bs is ns rs ps qs : List ℕ) → columns_refusal r n p bs is ns rs ps qs ≡ columns_refusal s n p bs is ns rs ps qs
+  unfolding columns_refusal
   columns-number n p bs [] ns rs ps qs = refl
   columns-number n p bs (i ∷ is) [] rs ps qs = refl
   columns-number n p bs (i ∷ is) (k ∷ ns) rs ps qs = rw (columns-number n (suc p) (i ∷ bs) is ns (drop k rs) (drop 1 ps) (drop 1 qs), bag-booked i, e)
 
-  ids-number : (n p : ℕ) (bs is : List ℕ) → idsRefusal r n p bs is ≡ idsRefusal s n p bs is
-  unfolding idsRefusal
+  ids-number : (n p : ℕ) (bs is : List ℕ) → ids_refusal r n p bs is ≡ ids_refusal s n p bs is
+  unfolding ids_refusal
   ids-number n p bs [] = refl
   ids-number n p bs (i ∷ is) = rw (ids-number n (suc p) (i ∷ bs) is, bag-booked i)
 
 -- 15 and 16
-pub bag-room : (l : Sizes) (r s : Register) → r.m ≡ s.m → r.clock ≡ s.clock → Bag r.columns s.columns → roomRefusal l r ≡ roomRefusal l s
+pub bag-room : (l : Sizes) (r s : Register) → r.m ≡ s.m → r.clock ≡ s.clock → Bag r.columns s.columns → room_refusal l r ≡ room_refusal l s
 bag-room l r s e k b = rw (b (λ c. length c.rows), bag-factor r s e k b)
 
 -- columns in another order touch the same
-bag-touch : (fs : List FactorColumn) (cs ds : List Column) → Bag cs ds → (j : ℕ) → isTouched fs cs j ≡ isTouched fs ds j
+bag-touch : (fs : List FactorColumn) (cs ds : List Column) → Bag cs ds → (j : ℕ) → is_touched fs cs j ≡ is_touched fs ds j
 bag-touch fs cs ds b j =
-    both_ways (isTouched fs cs j) (isTouched fs ds j) (λ h. found ds cs (λ f. sym (b f)) h) (λ h. found cs ds b h)
+    both_ways (is_touched fs cs j) (is_touched fs ds j) (λ h. found ds cs (λ f. sym (b f)) h) (λ h. found cs ds b h)
   where
-    found : (xs ys : List Column) → Bag xs ys → isTouched fs ys j ≡ true → isTouched fs xs j ≡ true
+    found : (xs ys : List Column) → Bag xs ys → is_touched fs ys j ≡ true → is_touched fs xs j ≡ true
     found xs ys d h =
         let t : (c : Column) × Mem c ys × (passes fs j c ≡ true) = any-find (passes fs j) ys h in any-has (passes fs j) (bag-mem xs ys d t.1) t.2
 
 module _ (r s : Register) (e : r.m ≡ s.m) (k : r.clock ≡ s.clock) (b : Bag r.columns s.columns) where
-  pub bag-factor-after : (c : Change) → factorFor (effect r c).register ≡ factorFor (effect s c).register
+  pub bag-factor-after : (c : Change) → factor_for (effect r c).register ≡ factor_for (effect s c).register
   bag-factor-after c = bag-factor (effect r c).register (effect s c).register (bag-rows r s e k b c) (bag-clock r s e k b c) (bag-after r s e k b c)
 
   -- 7 to 16 and 21
@@ -146,18 +146,18 @@ module _ (r s : Register) (e : r.m ≡ s.m) (k : r.clock ≡ s.clock) (b : Bag r
 
   -- a question's whole response
   pub bag-response : (q : Question) → response r q ≡ response s q
-  bag-response (askNextRow i j) = rw (bag-factor r s e k b, e)
-  bag-response (askParent j) = rw (bag-factor r s e k b, e)
-  bag-response (askPath j) = rw (bag-factor r s e k b, e)
-  bag-response (askColumn j) = rw (bag-factor r s e k b, e)
-  bag-response (askMeets i) = rw (bag-factor r s e k b, e)
-  bag-response (askCommon is) = rw (bag-factor r s e k b, e)
+  bag-response (ask_next_row i j) = rw (bag-factor r s e k b, e)
+  bag-response (ask_parent j) = rw (bag-factor r s e k b, e)
+  bag-response (ask_path j) = rw (bag-factor r s e k b, e)
+  bag-response (ask_column j) = rw (bag-factor r s e k b, e)
+  bag-response (ask_meets i) = rw (bag-factor r s e k b, e)
+  bag-response (ask_common is) = rw (bag-factor r s e k b, e)
 
   -- 7 to 18 and 21
-  pub bag-number : (l : Sizes) (c : Call) → callRefusal l r c ≡ callRefusal l s c
+  pub bag-number : (l : Sizes) (c : Call) → call_refusal l r c ≡ call_refusal l s c
   bag-number l c = own c.entry c.lent.list
     where
-      own : (i : Entry) (xs : List ℕ) → ownRefusal l r i xs ≡ ownRefusal l s i xs
+      own : (i : Entry) (xs : List ℕ) → own_refusal l r i xs ≡ own_refusal l s i xs
       own (opening j g) xs = refl
       own (changing c) xs = change-refusal l c
       own checking xs = refl
@@ -165,10 +165,10 @@ module _ (r s : Register) (e : r.m ≡ s.m) (k : r.clock ≡ s.clock) (b : Bag r
 
   -- ---- reports, of registers with distinct ids
 
-  module _ (u : noRepeats (ids_of r.columns) ≡ true) where
+  module _ (u : no_repeats (ids_of r.columns) ≡ true) where
     -- what leaves and enters touches the same, under the same labels and ids
     record SameEffect (x y : Effect) : Type 0 where
-      touches : (fs gs : List FactorColumn) (j : ℕ) → isExchanged fs gs x.leave x.enter j ≡ isExchanged fs gs y.leave y.enter j
+      touches : (fs gs : List FactorColumn) (j : ℕ) → is_exchanged fs gs x.leave x.enter j ≡ is_exchanged fs gs y.leave y.enter j
       label : x.label ≡ y.label
       ids : x.ids ≡ y.ids
 
@@ -177,30 +177,30 @@ module _ (r s : Register) (e : r.m ≡ s.m) (k : r.clock ≡ s.clock) (b : Bag r
         let W : List Column = lines_of is ns rs ps qs in
         let q : live_of (added r W) W ≡ live_of (added s W) W = live_same (added r W) (added s W) k W in
         record {
-          touches = λ fs gs j. ap (λ (cs : List Column). isExchanged fs gs [] cs j) q;
+          touches = λ fs gs j. ap (λ (cs : List Column). is_exchanged fs gs [] cs j) q;
           label = ap (λ (fs : List FactorColumn). label_of fs (effect r (adding is ns rs ps qs)).enter) (bag-factor-after (adding is ns rs ps qs)) ∙
-              ap (λ (cs : List Column). label_of (factorFor (added s W)) cs) q;
+              ap (λ (cs : List Column). label_of (factor_for (added s W)) cs) q;
           ids = refl;
         }
     bag-effect (removing is) =
-        let q : live_of r (columnsOf is r.columns) ≡ live_of s (columnsOf is s.columns) =
-        ap (live_of r) (bag-columns r.columns s.columns b u is) ∙ live_same r s k (columnsOf is s.columns) in
+        let q : live_of r (columns_of is r.columns) ≡ live_of s (columns_of is s.columns) =
+        ap (live_of r) (bag-columns r.columns s.columns b u is) ∙ live_same r s k (columns_of is s.columns) in
         record {
-          touches = λ fs gs j. ap (λ (cs : List Column). isExchanged fs gs cs [] j) q;
-          label = ap (λ (fs : List FactorColumn). label_of fs (effect r (removing is)).leave) (bag-factor r s e k b) ∙ ap (λ (cs : List Column). label_of (factorFor s) cs) q;
+          touches = λ fs gs j. ap (λ (cs : List Column). is_exchanged fs gs cs [] j) q;
+          label = ap (λ (fs : List FactorColumn). label_of fs (effect r (removing is)).leave) (bag-factor r s e k b) ∙ ap (λ (cs : List Column). label_of (factor_for s) cs) q;
           ids = refl;
         }
     bag-effect (setting t) =
-        let L : ℕ → List Column → List Column = λ o cs. countedBy (onlyAt o t) cs in
-        let E : ℕ → List Column → List Column = λ o cs. countedBy (onlyAt t o) cs in
+        let L : ℕ → List Column → List Column = λ o cs. counted_by (only_at o t) cs in
+        let E : ℕ → List Column → List Column = λ o cs. counted_by (only_at t o) cs in
         record {
           touches = λ fs gs j.
-              ap (λ (z : Bool). z || isTouched gs (E r.clock r.columns) j)
-              (bag-touch fs (L r.clock r.columns) (L r.clock s.columns) (counted-bag (onlyAt r.clock t) r.columns s.columns b) j ∙
-              ap (λ (o : ℕ). isTouched fs (L o s.columns) j) k) ∙
-              ap (λ (z : Bool). isTouched fs (L s.clock s.columns) j || z)
-              (bag-touch gs (E r.clock r.columns) (E r.clock s.columns) (counted-bag (onlyAt t r.clock) r.columns s.columns b) j ∙
-              ap (λ (o : ℕ). isTouched gs (E o s.columns) j) k);
+              ap (λ (z : Bool). z || is_touched gs (E r.clock r.columns) j)
+              (bag-touch fs (L r.clock r.columns) (L r.clock s.columns) (counted-bag (only_at r.clock t) r.columns s.columns b) j ∙
+              ap (λ (o : ℕ). is_touched fs (L o s.columns) j) k) ∙
+              ap (λ (z : Bool). is_touched fs (L s.clock s.columns) j || z)
+              (bag-touch gs (E r.clock r.columns) (E r.clock s.columns) (counted-bag (only_at t r.clock) r.columns s.columns b) j ∙
+              ap (λ (o : ℕ). is_touched gs (E o s.columns) j) k);
           label = refl;
           ids = refl;
         }
@@ -208,23 +208,23 @@ module _ (r s : Register) (e : r.m ≡ s.m) (k : r.clock ≡ s.clock) (b : Bag r
     pub bag-ids : (c : Change) → (effect r c).ids ≡ (effect s c).ids
     bag-ids c = (bag-effect c).ids
 
-    pub bag-touched : (c : Change) → touchedBy r c ≡ touchedBy s c
+    pub bag-touched : (c : Change) → touched_by r c ≡ touched_by s c
     bag-touched c =
         let x : Effect = effect r c in
         let y : Effect = effect s c in
-        ap (λ (fs : List FactorColumn). exchanged fs (factorFor x.register) x.leave x.enter) (bag-factor r s e k b) ∙
-        ap (λ (fs : List FactorColumn). exchanged (factorFor s) fs x.leave x.enter) (bag-factor-after c) ∙
-        passing-same (isExchanged (factorFor s) (factorFor y.register) x.leave x.enter) (isExchanged (factorFor s) (factorFor y.register) y.leave y.enter)
-        (λ j. (bag-effect c).touches (factorFor s) (factorFor y.register) j) 1 (length (factorFor y.register))
+        ap (λ (fs : List FactorColumn). exchanged fs (factor_for x.register) x.leave x.enter) (bag-factor r s e k b) ∙
+        ap (λ (fs : List FactorColumn). exchanged (factor_for s) fs x.leave x.enter) (bag-factor-after c) ∙
+        passing-same (is_exchanged (factor_for s) (factor_for y.register) x.leave x.enter) (is_exchanged (factor_for s) (factor_for y.register) y.leave y.enter)
+        (λ j. (bag-effect c).touches (factor_for s) (factor_for y.register) j) 1 (length (factor_for y.register))
 
-    pub bag-labels : (c : Change) → labelsBy r c ≡ labelsBy s c
-    bag-labels c = ap (λ (f : ℕ → ℕ). labelled f (touchedBy r c)) (bag-effect c).label ∙ ap (λ (js : List ℕ). labelled (effect s c).label js) (bag-touched c)
+    pub bag-labels : (c : Change) → labels_by r c ≡ labels_by s c
+    bag-labels c = ap (λ (f : ℕ → ℕ). labelled f (touched_by r c)) (bag-effect c).label ∙ ap (λ (js : List ℕ). labelled (effect s c).label js) (bag-touched c)
 
-    pub bag-entries : (c : Change) → entriesBy r c ≡ entriesBy s c
+    pub bag-entries : (c : Change) → entries_by r c ≡ entries_by s c
     bag-entries c =
-        ap (λ (fs : List FactorColumn). entriesOf fs (factorFor (effect r c).register) (touchedBy r c)) (bag-factor r s e k b) ∙
-        ap (λ (fs : List FactorColumn). entriesOf (factorFor s) fs (touchedBy r c)) (bag-factor-after c) ∙
-        ap (λ (js : List ℕ). entriesOf (factorFor s) (factorFor (effect s c).register) js) (bag-touched c)
+        ap (λ (fs : List FactorColumn). entries_of fs (factor_for (effect r c).register) (touched_by r c)) (bag-factor r s e k b) ∙
+        ap (λ (fs : List FactorColumn). entries_of (factor_for s) fs (touched_by r c)) (bag-factor-after c) ∙
+        ap (λ (js : List ℕ). entries_of (factor_for s) (factor_for (effect s c).register) js) (bag-touched c)
 
     -- ---- answers and lists
 
@@ -236,20 +236,20 @@ module _ (r s : Register) (e : r.m ≡ s.m) (k : r.clock ≡ s.clock) (b : Bag r
     bag-result (asking q p) =
         ap (λ (x : Response). record { touched = []; labels = []; entries = 0; row = x.row; value = x.value; list = x.list; place = p }) (bag-response q)
 
-    pub bag-answer : (g : Limits) (i : Entry) → acceptedBy g r i ≡ acceptedBy g s i
+    pub bag-answer : (g : Limits) (i : Entry) → accepted_by g r i ≡ accepted_by g s i
     bag-answer g i =
-        ap (λ (x : Result). record { number = 0; position = 0; touched = length x.touched; entries = x.entries; grade = gradeOf g x.entries; row = x.row; value = x.value }) (bag-result i)
+        ap (λ (x : Result). record { number = 0; position = 0; touched = length x.touched; entries = x.entries; grade = grade_of g x.entries; row = x.row; value = x.value }) (bag-result i)
 
-    pub bag-lists : (d : Call) (v : List ℕ) → listsAfter r d v ≡ listsAfter s d v
+    pub bag-lists : (d : Call) (v : List ℕ) → lists_after r d v ≡ lists_after s d v
     bag-lists d v =
-        ap (λ (x : Result). record { work = v; touched = over x.touched d.lent.touched; labels = over x.labels d.lent.labels; list = writtenAt x.place x.list d.lent.list })
+        ap (λ (x : Result). record { work = v; touched = over x.touched d.lent.touched; labels = over x.labels d.lent.labels; list = written_at x.place x.list d.lent.list })
         (bag-result d.entry)
 
 -- ---- ids stay distinct
 
-pub once_after : (l : Sizes) (r : Register) (c : Change) → noRepeats (ids_of r.columns) ≡ true → isAccepted ((effect r c).refusal l) ≡ true →
-    noRepeats (ids_of (effect r c).register.columns) ≡ true
-unfolding ids_of noRepeats
+pub once_after : (l : Sizes) (r : Register) (c : Change) → no_repeats (ids_of r.columns) ≡ true → is_accepted ((effect r c).refusal l) ≡ true →
+    no_repeats (ids_of (effect r c).register.columns) ≡ true
+unfolding ids_of no_repeats
 once_after l r (adding is ns rs ps qs) u h =
     let f : ColumnsFit r l.n [] is ns rs ps qs = (add-facts l r is ns rs ps qs h).columns in
     let B : List Column = lines_of is ns rs ps qs in
@@ -259,7 +259,7 @@ once_after l r (adding is ns rs ps qs) u h =
         times i (ids_of (r.columns ++ B)) ≤ 1
     fewer r is B i q h k =
         let sum : times i (ids_of (r.columns ++ B)) ≡ times i (ids_of r.columns) + times i (ids_of B) =
-        omega (arith, ids-times i (r.columns ++ B), ids-times i r.columns, ids-times i B, sum-append (λ c. one (hasId i c)) r.columns B) in
+        omega (arith, ids-times i (r.columns ++ B), ids-times i r.columns, ids-times i B, sum-append (λ c. one (has_id i c)) r.columns B) in
         let new : times i (ids_of B) ≡ times i is = ap (times i) q in
         elim (zero-or-pos (times i (ids_of r.columns))) [
           | inl z ↦ omega arith
@@ -269,5 +269,5 @@ once_after l r (adding is ns rs ps qs) u h =
         ]
 once_after l r (removing is) u h =
     of-once (ids_of (without is r.columns)) (λ i.
-    omega (arith, once-of (ids_of r.columns) u i, ids-times i (without is r.columns), ids-times i r.columns, without-le is r.columns (λ c. one (hasId i c))))
+    omega (arith, once-of (ids_of r.columns) u i, ids-times i (without is r.columns), ids-times i r.columns, without-le is r.columns (λ c. one (has_id i c))))
 once_after l r (setting t) u h = u

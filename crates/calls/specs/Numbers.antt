@@ -3,44 +3,44 @@
 -- Assumes nothing: these are definitions.
 use Rattle.std.specs.Prelude.{Bool, true, ◌||◌, List, ℕ, length}
 use Rattle.symbolic.specs.Columns.{Register}
-use Rattle.tables.specs.Tables.{Tables, Sizes, State, registerOf, isSound}
-use Rattle.calls.specs.Refusals.{Refusal, accepted, or_else, unless, listsLong, earlyRefusal, room_for}
-use Rattle.calls.specs.Calls.{Question, Entry, opening, changing, checking, asking, Lent, Call, isOpening, sizesAfter, keepsRule}
+use Rattle.tables.specs.Tables.{Tables, Sizes, State, register_of, is_sound}
+use Rattle.calls.specs.Refusals.{Refusal, accepted, or_else, unless, lists_long, early_refusal, room_for}
+use Rattle.calls.specs.Calls.{Question, Entry, opening, changing, checking, asking, Lent, Call, is_opening, sizes_after, keeps_rule}
 use Rattle.calls.specs.Changes.{effect}
 use Rattle.calls.specs.Questions.{response}
 
 -- a call's own lists are long enough for its report: only a change has such lists
-abbrev pub hasLists : Sizes → Entry → Lent → Bool
-hasLists l (opening k g) x = true
-hasLists l (changing c) x = listsLong l.m x.touched x.labels
-hasLists l checking x = true
-hasLists l (asking q p) x = true
+abbrev pub has_lists : Sizes → Entry → Lent → Bool
+has_lists l (opening k g) x = true
+has_lists l (changing c) x = lists_long l.m x.touched x.labels
+has_lists l checking x = true
+has_lists l (asking q p) x = true
 
 -- 1 to 5 and 20 of a call in a record with these sizes
-abbrev pub callEarly : Sizes → Tables → Call → Refusal
-callEarly l t k =
-    earlyRefusal (sizesAfter l k.entry) (keepsRule k.entry) t k.lent.work (hasLists (sizesAfter l k.entry) k.entry k.lent)
+abbrev pub call_early : Sizes → Tables → Call → Refusal
+call_early l t k =
+    early_refusal (sizes_after l k.entry) (keeps_rule k.entry) t k.lent.work (has_lists (sizes_after l k.entry) k.entry k.lent)
 
 -- 6, "all but open": not sound
-abbrev pub soundRefusal : State → Tables → Entry → Refusal
-soundRefusal s t e = unless (isOpening e || isSound s t) 6 0
+abbrev pub sound_refusal : State → Tables → Entry → Refusal
+sound_refusal s t e = unless (is_opening e || is_sound s t) 6 0
 
 -- 7 and 17, then 18 "the list ends before the answer does": of a question whose list is written from a place on
-abbrev pub askRefusal : Register → Question → (place : ℕ) → (list : List ℕ) → Refusal
-askRefusal r q p xs = or_else (response r q).refusal (room_for xs p (length (response r q).list))
+abbrev pub ask_refusal : Register → Question → (place : ℕ) → (list : List ℕ) → Refusal
+ask_refusal r q p xs = or_else (response r q).refusal (room_for xs p (length (response r q).list))
 
 -- 7 to 18 and 21, by the register; list: the one lent to a question
-abbrev pub ownRefusal : Sizes → Register → Entry → (list : List ℕ) → Refusal
-ownRefusal l r (opening k g) xs = accepted
-ownRefusal l r (changing c) xs = (effect r c).refusal l
-ownRefusal l r checking xs = accepted
-ownRefusal l r (asking q p) xs = askRefusal r q p xs
+abbrev pub own_refusal : Sizes → Register → Entry → (list : List ℕ) → Refusal
+own_refusal l r (opening k g) xs = accepted
+own_refusal l r (changing c) xs = (effect r c).refusal l
+own_refusal l r checking xs = accepted
+own_refusal l r (asking q p) xs = ask_refusal r q p xs
 
 -- the same of a call
-abbrev pub callRefusal : Sizes → Register → Call → Refusal
-callRefusal l r k = ownRefusal l r k.entry k.lent.list
+abbrev pub call_refusal : Sizes → Register → Call → Refusal
+call_refusal l r k = own_refusal l r k.entry k.lent.list
 
 -- THE NUMBER of a call, with its position
-abbrev pub refusalOf : State → Tables → Call → Refusal
-refusalOf s t k =
-    or_else (callEarly s.sizes t k) (or_else (soundRefusal s t k.entry) (callRefusal s.sizes (registerOf s t) k))
+abbrev pub refusal_of : State → Tables → Call → Refusal
+refusal_of s t k =
+    or_else (call_early s.sizes t k) (or_else (sound_refusal s t k.entry) (call_refusal s.sizes (register_of s t) k))

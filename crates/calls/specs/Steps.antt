@@ -2,21 +2,21 @@
 -- Left open are which free record a change takes and the free chains' later order: `Exchanged` says what an accepted change must leave in record and tables.
 -- Assumes nothing: these are definitions.
 use Rattle.std.specs.Prelude.{◌≡◌, Bool, true, false, List, [], ℕ, ◌≤◌, length}
-use Rattle.lists.specs.Lists.{pick, among, over, writtenAt}
+use Rattle.lists.specs.Lists.{pick, among, over, written_at}
 use Rattle.symbolic.specs.Columns.{Register}
-use Rattle.symbolic.specs.Factor.{factorOf}
-use Rattle.symbolic.specs.Grades.{Limits, limitsFor, gradeOf}
+use Rattle.symbolic.specs.Factor.{factor_of}
+use Rattle.symbolic.specs.Grades.{Limits, limits_for, grade_of}
 use Rattle.symbolic.specs.Change.{Bag}
-use Rattle.workspace.specs.Regions.{zeroFirst}
+use Rattle.workspace.specs.Regions.{zero_first}
 use Rattle.book.specs.Book as book
-use Rattle.tables.specs.Tables.{Tables, Sizes, State, storedIn, bookIn, windowsIn, registerOf, isSound}
-use Rattle.tables.specs.Opening.{openedState, openedTables}
+use Rattle.tables.specs.Tables.{Tables, Sizes, State, stored_in, book_in, windows_in, register_of, is_sound}
+use Rattle.tables.specs.Opening.{opened_state, opened_tables}
 use Rattle.tables.specs.Stays.{ColumnStays, EntriesStay, MinutesStay, TailsStay}
-use Rattle.calls.specs.Refusals.{Refusal, isAccepted, workFor}
-use Rattle.calls.specs.Calls.{Change, Entry, opening, changing, checking, asking, Lent, withWork, Call, withDefault, sizesAfter}
-use Rattle.calls.specs.Changes.{effect, touchedBy, labelsBy, entriesBy}
+use Rattle.calls.specs.Refusals.{Refusal, is_accepted, work_for}
+use Rattle.calls.specs.Calls.{Change, Entry, opening, changing, checking, asking, Lent, with_work, Call, with_default, sizes_after}
+use Rattle.calls.specs.Changes.{effect, touched_by, labels_by, entries_by}
 use Rattle.calls.specs.Questions.{response}
-use Rattle.calls.specs.Numbers.{callEarly, refusalOf}
+use Rattle.calls.specs.Numbers.{call_early, refusal_of}
 
 -- ---- the numbers that a call answers; one that a call does not have is 0
 
@@ -31,8 +31,8 @@ pub record Answer : Type 0 where
   pub value : ℕ
 
 -- "A refusal carries the position ..; its other numbers are 0"
-abbrev pub refusedBy : Refusal → Answer
-refusedBy x = record { number = x.number; position = x.position; touched = 0; entries = 0; grade = 0; row = 0; value = 0 }
+abbrev pub refused_by : Refusal → Answer
+refused_by x = record { number = x.number; position = x.position; touched = 0; entries = 0; grade = 0; row = 0; value = 0 }
 
 -- ---- what an accepted call answers and writes: from the register, and the grade from the limits too
 
@@ -47,15 +47,15 @@ pub record Result : Type 0 where
   pub place : ℕ
 
 -- of a call that reports nothing
-abbrev pub noResult : Result
-noResult = record { touched = []; labels = []; entries = 0; row = 0; value = 0; list = []; place = 0 }
+abbrev pub no_result : Result
+no_result = record { touched = []; labels = []; entries = 0; row = 0; value = 0; list = []; place = 0 }
 
 -- what each kind of call answers and writes
 abbrev pub result_of : Register → Entry → Result
-result_of r (opening l g) = noResult
+result_of r (opening l g) = no_result
 result_of r (changing c) =
-    record { touched = touchedBy r c; labels = labelsBy r c; entries = entriesBy r c; row = 0; value = 0; list = []; place = 0 }
-result_of r checking = noResult
+    record { touched = touched_by r c; labels = labels_by r c; entries = entries_by r c; row = 0; value = 0; list = []; place = 0 }
+result_of r checking = no_result
 result_of r (asking q p) =
     record {
       touched = [];
@@ -68,33 +68,33 @@ result_of r (asking q p) =
     }
 
 -- the answer of an accepted call: number 0, with a change's report or a question's row and value; "every grade is read from" the factor's limits, 0 for no entry
-abbrev pub acceptedBy : Limits → Register → Entry → Answer
-acceptedBy g r e =
+abbrev pub accepted_by : Limits → Register → Entry → Answer
+accepted_by g r e =
     record {
       number = 0;
       position = 0;
       touched = length (result_of r e).touched;
       entries = (result_of r e).entries;
-      grade = gradeOf g (result_of r e).entries;
+      grade = grade_of g (result_of r e).entries;
       row = (result_of r e).row;
       value = (result_of r e).value;
     }
 
 -- the lists after an accepted call, with the work table as given: "the entries are written from the given place of the caller's list onward .. and the rest
 -- of the list keeps its content"
-abbrev pub listsAfter : Register → Call → (work : List ℕ) → Lent
-listsAfter r k v =
+abbrev pub lists_after : Register → Call → (work : List ℕ) → Lent
+lists_after r k v =
     record {
       work = v;
       touched = over (result_of r k.entry).touched k.lent.touched;
       labels = over (result_of r k.entry).labels k.lent.labels;
-      list = writtenAt (result_of r k.entry).place (result_of r k.entry).list k.lent.list;
+      list = written_at (result_of r k.entry).place (result_of r k.entry).list k.lent.list;
     }
 
 -- "nothing lent changes except that from check 6 on, the first W work places are zero. After an accepted call they are zero too."
-abbrev pub workAfter : Sizes → Tables → Call → List ℕ
-workAfter l t k =
-    pick (isAccepted (callEarly l t k)) (zeroFirst (workFor (sizesAfter l k.entry)) k.lent.work) k.lent.work
+abbrev pub work_after : Sizes → Tables → Call → List ℕ
+work_after l t k =
+    pick (is_accepted (call_early l t k)) (zero_first (work_for (sizes_after l k.entry)) k.lent.work) k.lent.work
 
 -- ---- record and tables
 
@@ -104,16 +104,16 @@ pub record World : Type 0 where
   pub tables : Tables
 
 -- the register that book and windows of a world hold at its clock
-abbrev pub bookedIn : World → Register
-bookedIn u = registerOf u.state u.tables
+abbrev pub booked_in : World → Register
+booked_in u = register_of u.state u.tables
 
 -- the book's tables, its free head and the windows are as before
 pub record SameBook (before after : World) : Type 0 where
-  pub heads : after.tables.bookHeads ≡ before.tables.bookHeads
-  pub rows : after.tables.bookRows ≡ before.tables.bookRows
-  pub next : after.tables.bookNext ≡ before.tables.bookNext
+  pub heads : after.tables.book_heads ≡ before.tables.book_heads
+  pub rows : after.tables.book_rows ≡ before.tables.book_rows
+  pub next : after.tables.book_next ≡ before.tables.book_next
   pub windows : after.tables.windows ≡ before.tables.windows
-  pub free : after.state.bookFree ≡ before.state.bookFree
+  pub free : after.state.book_free ≡ before.state.book_free
 
 -- what an accepted change leaves: "a pattern entry that stays keeps its record and .. the tables are sound afterwards"
 pub record Exchanged (before : World) (c : Change) (after : World) : Type 0 where
@@ -121,30 +121,30 @@ pub record Exchanged (before : World) (c : Change) (after : World) : Type 0 wher
   -- "The limits stay with the factor until it is opened anew"
   pub limits : after.state.limits ≡ before.state.limits
   -- a batch leaves the clock, a clock change sets it
-  pub clock : after.state.clock ≡ (effect (bookedIn before) c).register.clock
-  pub sound : isSound after.state after.tables ≡ true
+  pub clock : after.state.clock ≡ (effect (booked_in before) c).register.clock
+  pub sound : is_sound after.state after.tables ≡ true
   -- the book's columns are those of the register after the change
-  pub columns : Bag (bookedIn after).columns (effect (bookedIn before) c).register.columns
+  pub columns : Bag (booked_in after).columns (effect (booked_in before) c).register.columns
   -- a factor column that is not touched stays
-  pub others : (j : ℕ) → 1 ≤ j → j ≤ before.state.sizes.m → among j (touchedBy (bookedIn before) c) ≡ false →
-      ColumnStays (storedIn before.state before.tables) (storedIn after.state after.tables) j
+  pub others : (j : ℕ) → 1 ≤ j → j ≤ before.state.sizes.m → among j (touched_by (booked_in before) c) ≡ false →
+      ColumnStays (stored_in before.state before.tables) (stored_in after.state after.tables) j
   -- an entry that stands before, after, and for the columns that stay keeps its record
   pub entries : (j : ℕ) → 1 ≤ j → j ≤ before.state.sizes.m →
-      EntriesStay (factorOf before.state.sizes.m (effect (bookedIn before) c).stay) (storedIn before.state before.tables)
-      (storedIn after.state after.tables) j
+      EntriesStay (factor_of before.state.sizes.m (effect (booked_in before) c).stay) (stored_in before.state before.tables)
+      (stored_in after.state after.tables) j
   -- the booked column of every other id stays
-  pub book : (i : ℕ) → 1 ≤ i → i ≤ before.state.sizes.n → among i (effect (bookedIn before) c).ids ≡ false →
-      book.ColumnStays (bookIn before.state before.tables) (bookIn after.state after.tables) i
+  pub book : (i : ℕ) → 1 ≤ i → i ≤ before.state.sizes.n → among i (effect (booked_in before) c).ids ≡ false →
+      book.ColumnStays (book_in before.state before.tables) (book_in after.state after.tables) i
   -- and so do the minutes of every other id
-  pub minutes : (i : ℕ) → 1 ≤ i → i ≤ before.state.sizes.n → among i (effect (bookedIn before) c).ids ≡ false →
-      MinutesStay before.state.sizes.n (windowsIn before.state before.tables) (windowsIn after.state after.tables) i
+  pub minutes : (i : ℕ) → 1 ≤ i → i ≤ before.state.sizes.n → among i (effect (booked_in before) c).ids ≡ false →
+      MinutesStay before.state.sizes.n (windows_in before.state before.tables) (windows_in after.state after.tables) i
   -- a change that books and removes nothing leaves the book's tables as they are
-  pub still : (effect (bookedIn before) c).ids ≡ [] → SameBook before after
+  pub still : (effect (booked_in before) c).ids ≡ [] → SameBook before after
   pub tails : TailsStay before.state.sizes before.tables after.tables
 
 -- record and tables after an accepted call
 abbrev pub AcceptedWorld : World → Entry → World → Type 0
-AcceptedWorld u (opening l g) v = (v.state ≡ openedState (withDefault l) (limitsFor g)) × (v.tables ≡ openedTables (withDefault l) u.tables)
+AcceptedWorld u (opening l g) v = (v.state ≡ opened_state (with_default l) (limits_for g)) × (v.tables ≡ opened_tables (with_default l) u.tables)
 AcceptedWorld u (changing c) v = Exchanged u c v
 AcceptedWorld u checking v = v ≡ u
 AcceptedWorld u (asking q p) v = v ≡ u
@@ -154,10 +154,10 @@ AcceptedWorld u (asking q p) v = v ≡ u
 -- taken: the accepted answer with its lists and tables; otherwise the refusal, with nothing changed but the work table
 abbrev pub OutcomeFor : (is_taken : Bool) → World → Call → Answer → Lent → World → Type 0
 OutcomeFor true u k a x v =
-    (a ≡ acceptedBy u.state.limits (bookedIn u) k.entry) × (x ≡ listsAfter (bookedIn u) k (workAfter u.state.sizes u.tables k)) × AcceptedWorld u k.entry v
+    (a ≡ accepted_by u.state.limits (booked_in u) k.entry) × (x ≡ lists_after (booked_in u) k (work_after u.state.sizes u.tables k)) × AcceptedWorld u k.entry v
 OutcomeFor false u k a x v =
-    (a ≡ refusedBy (refusalOf u.state u.tables k)) × (x ≡ withWork k.lent (workAfter u.state.sizes u.tables k)) × (v ≡ u)
+    (a ≡ refused_by (refusal_of u.state u.tables k)) × (x ≡ with_work k.lent (work_after u.state.sizes u.tables k)) × (v ≡ u)
 
 -- what every public entry promises of its call: the outcome that its number decides
 abbrev pub Transition : World → Call → Answer → Lent → World → Type 0
-Transition u k a x v = OutcomeFor (isAccepted (refusalOf u.state u.tables k)) u k a x v
+Transition u k a x v = OutcomeFor (is_accepted (refusal_of u.state u.tables k)) u k a x v

@@ -13,10 +13,10 @@ use Rattle.pool.specs.Chains.{chain, Linked}
 use Rattle.pool.proofs.Chains.{linked-low}
 use Rattle.pool.proofs.Whole.{pool-linked}
 use Rattle.pool.proofs.Changes.{changed-chain, changed-free, pool-beside, PoolAfter, pool-changed, pool-kept}
-use Rattle.tables.specs.Stored.{Stored, recordsOf}
+use Rattle.tables.specs.Stored.{Stored, records_of}
 use Rattle.tables.specs.Stays.{EntriesKeep}
 use Rattle.columns.specs.Search.{count_of}
-use Rattle.columns.specs.Plan.{planned, ofKind}
+use Rattle.columns.specs.Plan.{planned, of_kind}
 use Rattle.columns.specs.Commit.{HoldsFrom, Holds, ZeroAt, CanCommitChain, CommitReady, CommittedChain, Ready, CanCommit, ChainStays, Committed}
 use Rattle.columns.proofs.Search.{Here, here, chain-none}
 use Rattle.columns.proofs.Holding.{First, holds-first, holds-count}
@@ -26,14 +26,14 @@ use Rattle.columns.proofs.Stored.{free-zero, zero-free, held-count, stays-self, 
 -- ---- one column: what is asked
 
 module _ {s : Stored} {j : ℕ} {ns plan : List ℕ} (c : CanCommit s j ns plan) where
-  linked : Linked s.next (at s.heads j) (recordsOf s j)
+  linked : Linked s.next (at s.heads j) (records_of s j)
   linked = pool-linked c.ready.pool j c.low c.high
 
   -- a column without a record holds nothing
   head-some : at s.heads j ≢ 0
   unfolding count_of
   head-some z =
-      let none : count_of s.rows s.counts (recordsOf s j) j ≡ 0 = rw (chain-none s.next (at s.heads j) z) refl in
+      let none : count_of s.rows s.counts (records_of s j) j ≡ 0 = rw (chain-none s.next (at s.heads j) z) refl in
       omega (arith, held-count s j c.holds j c.low, c.diagonal.0)
 
   chain_head : Here s.next (at s.heads j)
@@ -80,8 +80,8 @@ module _ {s : Stored} {j : ℕ} {ns plan : List ℕ} (c : CanCommit s j ns plan)
 -- ---- one column: what is given
 
 -- the stored columns with other records
-abbrev pub storedWith : Stored → (rows counts next : List ℕ) → (free : ℕ) → Stored
-storedWith s rows counts next free = record { heads = s.heads; parents = s.parents; rows = rows; counts = counts; next = next; free = free }
+abbrev pub stored_with : Stored → (rows counts next : List ℕ) → (free : ℕ) → Stored
+stored_with s rows counts next free = record { heads = s.heads; parents = s.parents; rows = rows; counts = counts; next = next; free = free }
 
 module _ {s : Stored} {j : ℕ} {ns plan : List ℕ} (c : CanCommit s j ns plan) {rows counts next : List ℕ} {free : ℕ}
     (d : CommittedChain s.rows s.counts s.next (at s.heads j) s.free ns plan rows counts next free) where
@@ -94,11 +94,11 @@ module _ {s : Stored} {j : ℕ} {ns plan : List ℕ} (c : CanCommit s j ns plan)
   pool-after : PoolAfter s.next s.heads s.free j next (at s.heads j) free d.records d.rest
   pool-after = pool-changed c.ready.pool j c.low c.high d.rewritten.changed
 
-  other-stays : (l : ℕ) → 1 ≤ l → l ≤ length s.heads → l ≢ j → ChainStays s (storedWith s rows counts next free) l
+  other-stays : (l : ℕ) → 1 ≤ l → l ≤ length s.heads → l ≢ j → ChainStays s (stored_with s rows counts next free) l
   other-stays l a b n =
-      let apart : (x : ℕ) → Mem x (recordsOf s l) → times x (chain s.next (at s.heads j)) + times x (chain s.next s.free) ≡ 0 =
+      let apart : (x : ℕ) → Mem x (records_of s l) → times x (chain s.next (at s.heads j)) + times x (chain s.next s.free) ≡ 0 =
       λ x m. pool-after.other-apart l a b n x (mem-times m) in
-      let low : (x : ℕ) → Mem x (recordsOf s l) → 1 ≤ x = λ x m. linked-low s.next (at s.heads l) (recordsOf s l) x (pool-linked c.ready.pool l a b) (mem-times m) in
+      let low : (x : ℕ) → Mem x (records_of s l) → 1 ≤ x = λ x m. linked-low s.next (at s.heads l) (records_of s l) x (pool-linked c.ready.pool l a b) (mem-times m) in
       record {
         records = pool-after.other-same l a b n;
         row = λ x m. (d.rewritten.frame x (low x m) (apart x m)).0;
@@ -106,7 +106,7 @@ module _ {s : Stored} {j : ℕ} {ns plan : List ℕ} (c : CanCommit s j ns plan)
         next = λ x m. d.rewritten.changed.frame x (low x m) (apart x m);
       }
 
-  pub committed : Committed s j ns plan (storedWith s rows counts next free)
+  pub committed : Committed s j ns plan (stored_with s rows counts next free)
   committed =
       record {
         heads = refl;
@@ -118,7 +118,7 @@ module _ {s : Stored} {j : ℕ} {ns plan : List ℕ} (c : CanCommit s j ns plan)
             counts-long = d.rewritten.counts-long ∙ c.ready.sized.counts-long ∙ sym d.rewritten.changed.same_length;
           };
           pool = pool-kept c.ready.pool j c.low c.high d.rewritten.changed;
-          zero = zero-free (storedWith s rows counts next free) (subst (λ (l : List ℕ). ZeroAt rows counts l) (sym same-free) d.rewritten.zero);
+          zero = zero-free (stored_with s rows counts next free) (subst (λ (l : List ℕ). ZeroAt rows counts l) (sym same-free) d.rewritten.zero);
         };
         holds = subst (λ (l : List ℕ). HoldsFrom rows counts 1 (planned ns plan) l) (sym same-chain) d.holds;
         others = other-stays;
@@ -159,7 +159,7 @@ module _ {s now : Stored} {new : ℕ → List ℕ} {touched : List ℕ} {taken g
 
   -- one column more
   pub commits-next : {j : ℕ} {ns plan : List ℕ} {after : Stored} → 1 ≤ j → j ≤ length s.heads → times j touched ≡ 0 →
-      planned ns plan ≡ new j → Committed now j ns plan after → Commits s after new (touched ++ (j ∷ [])) (taken + ofKind 1 plan) (given + ofKind 2 plan)
+      planned ns plan ≡ new j → Committed now j ns plan after → Commits s after new (touched ++ (j ∷ [])) (taken + of_kind 1 plan) (given + of_kind 2 plan)
   commits-next {j} {ns} {plan} {after} low high fresh q c =
       let many : (l : ℕ) → times l (touched ++ (j ∷ [])) ≡ times l touched + times l (j ∷ []) = λ l. times-append l touched (j ∷ []) in
       let long : length now.heads ≡ length s.heads = ap length k.heads in

@@ -10,12 +10,12 @@ use native.Mathlib.Omega.{arith}
 use lib.ListN.{length, length-append}
 use Rattle.lists.specs.Lists.{at, times}
 use Rattle.lists.proofs.Times.{times-self, times-cons, times-append, times-mid}
-use Rattle.workspace.specs.Planned.{rowOf, multiplicityOf, kind_of}
+use Rattle.workspace.specs.Planned.{row_of, multiplicity_of, kind_of}
 use Rattle.pool.specs.Chains.{chain, Linked, last_of}
 use Rattle.pool.proofs.Chains.{last-split, After, Step, linked-cons, linked-after, linked-step, linked-some, linked-chain, linked-self}
-use Rattle.columns.specs.Search.{lastBelow}
-use Rattle.columns.specs.Plan.{KindIs, changed, new, gone, planned, Suits, ofKind}
-use Rattle.columns.specs.Apply.{recordBefore, CanApply}
+use Rattle.columns.specs.Search.{last_below}
+use Rattle.columns.specs.Plan.{KindIs, changed, new, gone, planned, Suits, of_kind}
+use Rattle.columns.specs.Apply.{record_before, CanApply}
 use Rattle.columns.specs.Commit.{HoldsFrom, CanCommitChain, Rewritten}
 use Rattle.columns.proofs.Holding.{Next, absent, present, Cut, holds-append, holds-next, holds-cut}
 use Rattle.columns.proofs.Surgery.{Base, rewritten-once, rewritten-low}
@@ -30,11 +30,11 @@ pub record Numbers (ns plan left old now coming : List ℕ) : Type 0 where
   pub suits : Suits ns (suc (length now)) left
 
 -- one entry further
-pub numbers-next : (ns plan : List ℕ) (e : ℕ) (es old now : List ℕ) (n : ℕ) (coming : List ℕ) → ns ≡ old ++ (n ∷ coming) → length now ≡ length old → suc (length now) ≡ rowOf e →
-    planned (now ++ (n ∷ coming)) (e ∷ es) ≡ planned ns plan → Suits ns (suc (rowOf e)) es → Numbers ns plan es (old ++ (n ∷ [])) (now ++ (multiplicityOf e ∷ [])) coming
+pub numbers-next : (ns plan : List ℕ) (e : ℕ) (es old now : List ℕ) (n : ℕ) (coming : List ℕ) → ns ≡ old ++ (n ∷ coming) → length now ≡ length old → suc (length now) ≡ row_of e →
+    planned (now ++ (n ∷ coming)) (e ∷ es) ≡ planned ns plan → Suits ns (suc (row_of e)) es → Numbers ns plan es (old ++ (n ∷ [])) (now ++ (multiplicity_of e ∷ [])) coming
 numbers-next ns plan e es old now n coming parts same place result suits =
-    let v = multiplicityOf e in
-    let long : suc (rowOf e) ≡ suc (length (now ++ (v ∷ []))) = omega (arith, length-append now (v ∷ [])) in
+    let v = multiplicity_of e in
+    let long : suc (row_of e) ≡ suc (length (now ++ (v ∷ []))) = omega (arith, length-append now (v ∷ [])) in
     record {
       parts = parts ∙ sym (append_assoc old (n ∷ []) coming);
       same = omega (arith, length-append now (v ∷ []), length-append old (n ∷ []));
@@ -55,8 +55,8 @@ pub record Committing (rows₀ counts₀ next₀ : List ℕ) (head free₀ : ℕ
   pub numbers : Numbers ns plan left old now coming
   pub front : HoldsFrom rows counts 1 now (passed ++ (p ∷ []))
   pub back : HoldsFrom rows counts (suc (length now)) coming ahead
-  pub room : ofKind 1 left ≤ length rest
-  pub balance : length rest + ofKind 2 left + ofKind 1 plan ≡ length (chain next₀ free₀) + ofKind 2 plan + ofKind 1 left
+  pub room : of_kind 1 left ≤ length rest
+  pub balance : length rest + of_kind 2 left + of_kind 1 plan ≡ length (chain next₀ free₀) + of_kind 2 plan + of_kind 1 left
 
 -- the same at the last record below the next entry's row
 pub record Moved (rows₀ counts₀ next₀ : List ℕ) (head free₀ : ℕ) (ns plan rows counts next : List ℕ) (p free e : ℕ) (es : List ℕ) : Type 0 where
@@ -70,14 +70,14 @@ pub record Moved (rows₀ counts₀ next₀ : List ℕ) (head free₀ : ℕ) (ns
   pub rewritten : Rewritten rows₀ counts₀ next₀ head free₀ rows counts next free (passed ++ (p ∷ ahead)) rest
   pub parts : ns ≡ old ++ (count ∷ coming)
   pub same : length now ≡ length old
-  pub place : suc (length now) ≡ rowOf e
+  pub place : suc (length now) ≡ row_of e
   pub result : planned (now ++ (count ∷ coming)) (e ∷ es) ≡ planned ns plan
-  pub kind : KindIs count (multiplicityOf e) (kind_of e)
-  pub suits : Suits ns (suc (rowOf e)) es
+  pub kind : KindIs count (multiplicity_of e) (kind_of e)
+  pub suits : Suits ns (suc (row_of e)) es
   pub front : HoldsFrom rows counts 1 now (passed ++ (p ∷ []))
-  pub back : HoldsFrom rows counts (rowOf e) (count ∷ coming) ahead
-  pub room : ofKind 1 (e ∷ es) ≤ length rest
-  pub balance : length rest + ofKind 2 (e ∷ es) + ofKind 1 plan ≡ length (chain next₀ free₀) + ofKind 2 plan + ofKind 1 (e ∷ es)
+  pub back : HoldsFrom rows counts (row_of e) (count ∷ coming) ahead
+  pub room : of_kind 1 (e ∷ es) ≤ length rest
+  pub balance : length rest + of_kind 2 (e ∷ es) + of_kind 1 plan ≡ length (chain next₀ free₀) + of_kind 2 plan + of_kind 1 (e ∷ es)
 
 module _ {rows₀ counts₀ next₀ : List ℕ} {head free₀ : ℕ} {ns plan : List ℕ} (can : CanCommitChain rows₀ counts₀ next₀ head free₀ ns plan) where
   pub base : Base rows₀ counts₀ next₀ head free₀
@@ -90,13 +90,13 @@ module _ {rows₀ counts₀ next₀ : List ℕ} {head free₀ : ℕ} {ns plan : 
     after : After next p i.ahead
     after = linked-after next head i.passed p i.ahead i.rewritten.changed.linked
 
-    cut : Cut rows counts (suc (length i.now)) i.coming p i.ahead (rowOf e)
+    cut : Cut rows counts (suc (length i.now)) i.coming p i.ahead (row_of e)
     cut =
-        holds-cut (suc (length i.now)) i.coming p i.ahead (rowOf e) entry.low
+        holds-cut (suc (length i.now)) i.coming p i.ahead (row_of e) entry.low
         (omega (arith, entry.high, i.numbers.same, ap length i.numbers.parts, length-append i.old i.coming)) i.back
 
-    stop : last_of p cut.passed ≡ recordBefore rows next p e
-    stop = sym (ap (λ (l : List ℕ). lastBelow rows p l (rowOf e)) (linked-chain next (at next p) i.ahead after.tail) ∙ cut.last)
+    stop : last_of p cut.passed ≡ record_before rows next p e
+    stop = sym (ap (λ (l : List ℕ). last_below rows p l (row_of e)) (linked-chain next (at next p) i.ahead after.tail) ∙ cut.last)
 
     moved_to : (high : List ℕ) → cut.high ≡ high → Moved rows₀ counts₀ next₀ head free₀ ns plan rows counts next (last_of p cut.passed) free e es
     moved_to [] q =
@@ -112,9 +112,9 @@ module _ {rows₀ counts₀ next₀ : List ℕ} {head free₀ : ℕ} {ns plan : 
         append_assoc i.passed (p ∷ []) cut.passed ∙ ap (λ (l : List ℕ). i.passed ++ l) s.1 ∙ simp append_assoc in
         let parts : ns ≡ (i.old ++ cut.low) ++ (n ∷ coming) =
         i.numbers.parts ∙ ap (λ (l : List ℕ). i.old ++ l) counts-are ∙ sym (append_assoc i.old cut.low (n ∷ coming)) in
-        let count-is : at ns (rowOf e) ≡ n =
-        ap (λ (l : List ℕ). at l (rowOf e)) parts ∙
-        at_cut (i.old ++ cut.low) n coming (rowOf e) (omega (arith, length-append i.old cut.low, cut.long, i.numbers.same)) in
+        let count-is : at ns (row_of e) ≡ n =
+        ap (λ (l : List ℕ). at l (row_of e)) parts ∙
+        at_cut (i.old ++ cut.low) n coming (row_of e) (omega (arith, length-append i.old cut.low, cut.long, i.numbers.same)) in
         let start : suc (length i.now) ≡ 1 + length i.now = omega arith in
         record {
           passed = i.passed ++ s.0;
@@ -131,15 +131,15 @@ module _ {rows₀ counts₀ next₀ : List ℕ} {head free₀ : ℕ} {ns plan : 
           result =
               ap (λ (l : List ℕ). planned l (e ∷ es)) (append_assoc i.now cut.low (n ∷ coming) ∙ ap (λ (l : List ℕ). i.now ++ l) (sym counts-are)) ∙
               i.numbers.result;
-          kind = subst (λ (x : ℕ). KindIs x (multiplicityOf e) (kind_of e)) count-is entry.kind;
+          kind = subst (λ (x : ℕ). KindIs x (multiplicity_of e) (kind_of e)) count-is entry.kind;
           suits = entry.rest;
           front = subst (λ (l : List ℕ). HoldsFrom rows counts 1 (i.now ++ cut.low) l) front-records (holds-append i.front (subst (λ (a : ℕ). HoldsFrom rows counts a cut.low cut.passed) start cut.front));
-          back = subst (λ (l : List ℕ). HoldsFrom rows counts (rowOf e) l cut.left) q cut.back;
+          back = subst (λ (l : List ℕ). HoldsFrom rows counts (row_of e) l cut.left) q cut.back;
           room = i.room;
           balance = i.balance;
         }
 
-    pub committing-moved : Moved rows₀ counts₀ next₀ head free₀ ns plan rows counts next (recordBefore rows next p e) free e es
+    pub committing-moved : Moved rows₀ counts₀ next₀ head free₀ ns plan rows counts next (record_before rows next p e) free e es
     committing-moved = subst (λ (x : ℕ). Moved rows₀ counts₀ next₀ head free₀ ns plan rows counts next x free e es) stop (moved_to cut.high refl)
 
   -- ---- the record after it
@@ -158,8 +158,8 @@ module _ {rows₀ counts₀ next₀ : List ℕ} {head free₀ : ℕ} {ns plan : 
     pub record Found : Type 0 where
       pub tail : List ℕ
       pub records : m.passed ++ (p ∷ m.ahead) ≡ m.passed ++ (p ∷ (at next p ∷ tail))
-      pub row : at rows (at next p) ≡ rowOf e
-      pub back : HoldsFrom rows counts (suc (rowOf e)) m.coming tail
+      pub row : at rows (at next p) ≡ row_of e
+      pub back : HoldsFrom rows counts (suc (row_of e)) m.coming tail
       pub low : 1 ≤ at next p
       pub high : at next p ≤ length next
       pub inside : 1 ≤ times (at next p) (m.passed ++ (p ∷ m.ahead))
@@ -169,9 +169,9 @@ module _ {rows₀ counts₀ next₀ : List ℕ} {head free₀ : ℕ} {ns plan : 
 
     pub moved-found : 0 < m.count → Found
     unfolding Linked
-    moved-found n = go (holds-next (rowOf e) m.count m.coming m.ahead m.back)
+    moved-found n = go (holds-next (row_of e) m.count m.coming m.ahead m.back)
       where
-        go : Next rows counts (rowOf e) m.count m.coming m.ahead → Found
+        go : Next rows counts (row_of e) m.count m.coming m.ahead → Found
         go (absent z h) = absurd (omega arith)
         go (present r ss d x y k h) =
             let linked : Linked next (at next p) (r ∷ ss) = subst (λ (l : List ℕ). Linked next (at next p) l) d moved-after.tail in
@@ -201,7 +201,7 @@ module _ {rows₀ counts₀ next₀ : List ℕ} {head free₀ : ℕ} {ns plan : 
       CanApply rows counts next p free e
   committing-can {rows} {counts} {next} {p} {free} {e} {es} i =
       let a : After next p i.ahead = after i in
-      let m : Moved rows₀ counts₀ next₀ head free₀ ns plan rows counts next (recordBefore rows next p e) free e es = committing-moved i in
+      let m : Moved rows₀ counts₀ next₀ head free₀ ns plan rows counts next (record_before rows next p e) free e es = committing-moved i in
       record {
         rows_long = i.rewritten.rows_long ∙ can.rows_long ∙ sym i.rewritten.changed.same_length;
         counts-long = i.rewritten.counts-long ∙ can.counts-long ∙ sym i.rewritten.changed.same_length;
@@ -214,5 +214,5 @@ module _ {rows₀ counts₀ next₀ : List ℕ} {head free₀ : ℕ} {ns plan : 
         finds = λ k. let f : Found m = moved-found m (standing m k) in record { low = f.low; high = f.high };
       }
     where
-      standing : (m : Moved rows₀ counts₀ next₀ head free₀ ns plan rows counts next (recordBefore rows next p e) free e es) → kind_of e ≢ 1 → 0 < m.count
+      standing : (m : Moved rows₀ counts₀ next₀ head free₀ ns plan rows counts next (record_before rows next p e) free e es) → kind_of e ≢ 1 → 0 < m.count
       standing m k = elim m.kind [ changed z o n ↦ o | new z o n ↦ absurd (k z) | gone z o n ↦ o ]

@@ -11,14 +11,14 @@ use native.Mathlib.Omega.{arith}
 use lib.Dec.{leb}
 use lib.ListN.{length, get_or}
 use borrow.Author.Tests.{le-leb, lt-leb, eq-eqb, ne_eqb}
-use Rattle.lists.specs.Lists.{Mem, first, later, at, put, valuesAt, times, rises, pairsOf}
+use Rattle.lists.specs.Lists.{Mem, first, later, at, put, values_at, times, rises, pairs_of}
 use Rattle.lists.proofs.Tests.{zero-or-pos, eq-or-ne, and_both}
 use Rattle.lists.proofs.Rising.{rises-in}
 use Rattle.lists.proofs.Place.{values-append, values-frame, values-put, values-mem}
-use Rattle.symbolic.specs.Factor.{patternFrom, nonZero}
+use Rattle.symbolic.specs.Factor.{pattern_from, non_zero}
 use Rattle.symbolic.proofs.Patterns.{pattern-append, counts-append, pattern-rises, pattern-find}
 use Rattle.pool.specs.Chains.{last_of}
-use Rattle.columns.specs.Search.{lastBelow, count_of, entries_at}
+use Rattle.columns.specs.Search.{last_below, count_of, entries_at}
 use Rattle.columns.specs.Commit.{HoldsFrom}
 use Rattle.columns.proofs.Search.{above-none}
 
@@ -38,7 +38,7 @@ pub record Cut (xs cs : List ℕ) (a : ℕ) (ns : List ℕ) (p : ℕ) (rs : List
   pub long : a + length low ≡ i
   pub front : HoldsFrom xs cs a low passed
   pub back : HoldsFrom xs cs i high left
-  pub last : lastBelow xs p rs i ≡ last_of p passed
+  pub last : last_below xs p rs i ≡ last_of p passed
 
 -- the first record: no row before its own has a multiplicity
 pub record First (xs cs : List ℕ) (a : ℕ) (ns : List ℕ) (r : ℕ) (rs : List ℕ) : Type 0 where
@@ -56,15 +56,15 @@ module _ {xs cs : List ℕ} where
   -- ---- put together
 
   pub holds-nil : (a : ℕ) → HoldsFrom xs cs a [] []
-  unfolding valuesAt patternFrom nonZero
+  unfolding values_at pattern_from non_zero
   holds-nil a = record { rows = refl; counts = refl }
 
   pub holds-skip : {a : ℕ} {ns rs : List ℕ} (n : ℕ) → n ≡ 0 → HoldsFrom xs cs (suc a) ns rs → HoldsFrom xs cs a (n ∷ ns) rs
-  unfolding patternFrom nonZero
+  unfolding pattern_from non_zero
   holds-skip n z h = record { rows = rw (eq-eqb n 0 z) h.rows; counts = rw (eq-eqb n 0 z) h.counts }
 
   pub holds-cons : {a : ℕ} {ns rs : List ℕ} (r n : ℕ) → at xs r ≡ a → at cs r ≡ n → 0 < n → HoldsFrom xs cs (suc a) ns rs → HoldsFrom xs cs a (n ∷ ns) (r ∷ rs)
-  unfolding valuesAt patternFrom nonZero
+  unfolding values_at pattern_from non_zero
   holds-cons r n e f p h = record { rows = rw (ne_eqb n 0 (λ z. omega arith), e, h.rows) refl; counts = rw (ne_eqb n 0 (λ z. omega arith), f, h.counts) refl }
 
   pub holds-append : {a : ℕ} {ms ns rs ss : List ℕ} → HoldsFrom xs cs a ms rs → HoldsFrom xs cs (a + length ms) ns ss → HoldsFrom xs cs a (ms ++ ns) (rs ++ ss)
@@ -77,27 +77,27 @@ module _ {xs cs : List ℕ} where
   -- ---- taken apart at the first row
 
   pub holds-next : (a n : ℕ) (ns rs : List ℕ) → HoldsFrom xs cs a (n ∷ ns) rs → Next xs cs a n ns rs
-  unfolding valuesAt patternFrom nonZero
+  unfolding values_at pattern_from non_zero
   holds-next a n ns rs h =
       elim (zero-or-pos n) [
         | inl z ↦ absent z (record { rows = rw (eq-eqb n 0 z) at h.rows; counts = rw (eq-eqb n 0 z) at h.counts })
         | inr p ↦ go rs p (rw (ne_eqb n 0 (λ z. omega arith)) at h.rows) (rw (ne_eqb n 0 (λ z. omega arith)) at h.counts)
       ]
     where
-      go : (rs : List ℕ) → 0 < n → valuesAt xs rs ≡ a ∷ patternFrom (suc a) ns → valuesAt cs rs ≡ n ∷ nonZero ns → Next xs cs a n ns rs
+      go : (rs : List ℕ) → 0 < n → values_at xs rs ≡ a ∷ pattern_from (suc a) ns → values_at cs rs ≡ n ∷ non_zero ns → Next xs cs a n ns rs
       go [] p e f = absurd (omega (arith, ap length e))
       go (r ∷ ss) p e f = present r ss refl (cc) (cc) p (record { rows = cc; counts = cc })
 
   pub holds-none : (a : ℕ) (rs : List ℕ) → HoldsFrom xs cs a [] rs → rs ≡ []
-  unfolding valuesAt patternFrom nonZero
+  unfolding values_at pattern_from non_zero
   holds-none a [] h = refl
   holds-none a (r ∷ rs) h = absurd (omega (arith, ap length h.rows))
 
   -- ---- where a search stops
 
   -- the records from one on, at the first row
-  last-stays : (a : ℕ) (ns : List ℕ) (p : ℕ) (rs : List ℕ) → HoldsFrom xs cs a ns rs → lastBelow xs p rs a ≡ p
-  unfolding valuesAt lastBelow
+  last-stays : (a : ℕ) (ns : List ℕ) (p : ℕ) (rs : List ℕ) → HoldsFrom xs cs a ns rs → last_below xs p rs a ≡ p
+  unfolding values_at last_below
   last-stays a ns p [] h = refl
   last-stays a ns p (r ∷ rs) h =
       let t : (k : ℕ) × (at xs r ≡ a + k) × (k < length ns) × (0 < get_or ns k 0) = pattern-find {x = at xs r} a ns (subst (λ (l : List ℕ). Mem (at xs r) l) h.rows first) in
@@ -122,7 +122,7 @@ module _ {xs cs : List ℕ} where
 
   cut-further : (a n : ℕ) (ns : List ℕ) (p : ℕ) (rs : List ℕ) (i : ℕ) → a < i →
       ((q : ℕ) (ss : List ℕ) → HoldsFrom xs cs (suc a) ns ss → Cut xs cs (suc a) ns q ss i) → Next xs cs a n ns rs → Cut xs cs a (n ∷ ns) p rs i
-  unfolding last_of lastBelow
+  unfolding last_of last_below
   cut-further a n ns p rs i l f (absent z k) =
       let c : Cut xs cs (suc a) ns p rs i = f p rs k in
       record {
@@ -198,7 +198,7 @@ module _ {xs cs : List ℕ} where
 
   -- ---- what is read of it
 
-  pub holds-rises : {a : ℕ} {ns rs : List ℕ} (b : ℕ) → a + length ns ≤ suc b → HoldsFrom xs cs a ns rs → rises a b (valuesAt xs rs) ≡ true
+  pub holds-rises : {a : ℕ} {ns rs : List ℕ} (b : ℕ) → a + length ns ≤ suc b → HoldsFrom xs cs a ns rs → rises a b (values_at xs rs) ≡ true
   holds-rises {a} {ns} {rs} b l h = rw h.rows (pattern-rises a ns b l)
 
   -- the multiplicity of a row
@@ -229,24 +229,24 @@ pub holds_row : {xs cs : List ℕ} {a : ℕ} {ns rs : List ℕ} → HoldsFrom xs
 holds_row {xs} {cs} {a} {ns} {rs} h x m = pattern-find {x = at xs x} a ns (subst (λ (l : List ℕ). Mem (at xs x) l) h.rows (values-mem xs m))
 
 -- where rows rise, a later one is above the first, and a row stands once
-later-above : (xs : List ℕ) (a b r : ℕ) (rs : List ℕ) → rises a b (valuesAt xs (r ∷ rs)) ≡ true → (y : ℕ) → Mem y rs → at xs r < at xs y
-unfolding rises valuesAt
+later-above : (xs : List ℕ) (a b r : ℕ) (rs : List ℕ) → rises a b (values_at xs (r ∷ rs)) ≡ true → (y : ℕ) → Mem y rs → at xs r < at xs y
+unfolding rises values_at
 later-above xs a b r rs h y m =
-    (rises-in (suc (at xs r)) b (values-mem xs m) (and_both (leb a (at xs r) && leb (at xs r) b) (rises (suc (at xs r)) b (valuesAt xs rs)) h).1).0
+    (rises-in (suc (at xs r)) b (values-mem xs m) (and_both (leb a (at xs r) && leb (at xs r) b) (rises (suc (at xs r)) b (values_at xs rs)) h).1).0
 
-pub rises-once : (xs : List ℕ) (a b : ℕ) {x y : ℕ} (rs : List ℕ) → rises a b (valuesAt xs rs) ≡ true → Mem x rs → Mem y rs → at xs x ≡ at xs y → x ≡ y
-unfolding rises valuesAt
+pub rises-once : (xs : List ℕ) (a b : ℕ) {x y : ℕ} (rs : List ℕ) → rises a b (values_at xs rs) ≡ true → Mem x rs → Mem y rs → at xs x ≡ at xs y → x ≡ y
+unfolding rises values_at
 rises-once xs a b (r ∷ rs) h first first e = refl
 rises-once xs a b {y = y} (r ∷ rs) h first (later m) e = absurd (omega (arith, later-above xs a b r rs h y m))
 rises-once xs a b {x = x} (r ∷ rs) h (later m) first e = absurd (omega (arith, later-above xs a b r rs h x m))
-rises-once xs a b (r ∷ rs) h (later m) (later n) e = rises-once xs (suc (at xs r)) b rs (and_both (leb a (at xs r) && leb (at xs r) b) (rises (suc (at xs r)) b (valuesAt xs rs)) h).1 m n e
+rises-once xs a b (r ∷ rs) h (later m) (later n) e = rises-once xs (suc (at xs r)) b rs (and_both (leb a (at xs r) && leb (at xs r) b) (rises (suc (at xs r)) b (values_at xs rs)) h).1 m n e
 
-pub entries-pairs : (xs cs rs : List ℕ) → entries_at xs cs rs ≡ pairsOf (valuesAt xs rs) (valuesAt cs rs)
-unfolding entries_at pairsOf valuesAt
+pub entries-pairs : (xs cs rs : List ℕ) → entries_at xs cs rs ≡ pairs_of (values_at xs rs) (values_at cs rs)
+unfolding entries_at pairs_of values_at
 entries-pairs xs cs [] = refl
 entries-pairs xs cs (r ∷ rs) = ap (λ (l : List ℕ). at xs r ∷ at cs r ∷ l) (entries-pairs xs cs rs)
 
-pub holds-pairs : {xs cs : List ℕ} {a : ℕ} {ns rs : List ℕ} → HoldsFrom xs cs a ns rs → entries_at xs cs rs ≡ pairsOf (patternFrom a ns) (nonZero ns)
+pub holds-pairs : {xs cs : List ℕ} {a : ℕ} {ns rs : List ℕ} → HoldsFrom xs cs a ns rs → entries_at xs cs rs ≡ pairs_of (pattern_from a ns) (non_zero ns)
 holds-pairs {xs} {cs} {a} {ns} {rs} h = entries-pairs xs cs rs ∙ rw (h.rows, h.counts) refl
 
 -- ---- other tables with the same entries

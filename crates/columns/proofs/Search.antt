@@ -10,13 +10,13 @@ use native.Mathlib.Omega.{arith}
 use lib.Dec.{leb, eqb}
 use lib.ListN.{length}
 use borrow.Author.Tests.{le-leb, lt-leb, eq-eqb, ne_eqb, leb-true}
-use Rattle.lists.specs.Lists.{pick, Mem, first, later, at, valuesAt, rises}
+use Rattle.lists.specs.Lists.{pick, Mem, first, later, at, values_at, rises}
 use Rattle.lists.proofs.Tests.{eq-or-ne, lt-or-le, and_both}
 use Rattle.lists.proofs.Times.{mem-times}
 use Rattle.pool.specs.Chains.{chain, Linked}
 use Rattle.pool.specs.Changes.{Has}
 use Rattle.pool.proofs.Chains.{Step, linked-nil, linked-step, linked-low, linked-chain, linked-self}
-use Rattle.columns.specs.Search.{first_at, lastBelow, count_of, CanCount}
+use Rattle.columns.specs.Search.{first_at, last_below, count_of, CanCount}
 
 -- ---- one record further
 
@@ -66,22 +66,22 @@ first-high xs ns h (r ∷ rs) i l =
 -- ---- the last record below a row
 
 module _ (xs ns : List ℕ) (p q i : ℕ) where
-  pub last_none : q ≡ 0 → lastBelow xs p (chain ns q) i ≡ p
-  unfolding lastBelow
+  pub last_none : q ≡ 0 → last_below xs p (chain ns q) i ≡ p
+  unfolding last_below
   last_none e = rw (chain-none ns q e) refl
 
   module _ (h : Here ns q) where
-    pub last_found : i ≤ at xs q → lastBelow xs p (chain ns q) i ≡ p
-    unfolding lastBelow
+    pub last_found : i ≤ at xs q → last_below xs p (chain ns q) i ≡ p
+    unfolding last_below
     last_found e = rw (h.parts, le-leb i (at xs q) e) refl
 
-    pub last-further : at xs q < i → lastBelow xs q (chain ns (at ns q)) i ≡ lastBelow xs p (chain ns q) i
-    unfolding lastBelow
+    pub last-further : at xs q < i → last_below xs q (chain ns (at ns q)) i ≡ last_below xs p (chain ns q) i
+    unfolding last_below
     last-further e = sym (rw (h.parts, lt-leb i (at xs q) e) refl)
 
 -- it is of the pool
-pub last_has : (xs ns : List ℕ) (p h : ℕ) (rs : List ℕ) (i : ℕ) → Has ns p → Linked ns h rs → Has ns (lastBelow xs p rs i)
-unfolding lastBelow Linked
+pub last_has : (xs ns : List ℕ) (p h : ℕ) (rs : List ℕ) (i : ℕ) → Has ns p → Linked ns h rs → Has ns (last_below xs p rs i)
+unfolding last_below Linked
 last_has xs ns p h [] i k l = k
 last_has xs ns p h (r ∷ rs) i k l =
     elim (lt-or-le (at xs r) i) [
@@ -92,35 +92,35 @@ last_has xs ns p h (r ∷ rs) i k l =
 -- ---- the multiplicity of a row
 
 -- what the first record at or above a row says of the row
-abbrev pub countAt : (rows counts : List ℕ) → (r i : ℕ) → ℕ
-countAt xs cs r i = pick (eqb r 0) 0 (pick (eqb (at xs r) i) (at cs r) 0)
+abbrev pub count_at : (rows counts : List ℕ) → (r i : ℕ) → ℕ
+count_at xs cs r i = pick (eqb r 0) 0 (pick (eqb (at xs r) i) (at cs r) 0)
 
 module _ (xs cs : List ℕ) (r i : ℕ) where
-  pub count_none : r ≡ 0 → countAt xs cs r i ≡ 0
+  pub count_none : r ≡ 0 → count_at xs cs r i ≡ 0
   count_none z = rw (eq-eqb r 0 z) refl
 
-  pub count-other : r ≢ 0 → at xs r ≢ i → countAt xs cs r i ≡ 0
+  pub count-other : r ≢ 0 → at xs r ≢ i → count_at xs cs r i ≡ 0
   count-other n d = rw (ne_eqb r 0 n, ne_eqb (at xs r) i d) refl
 
-  pub count-found : r ≢ 0 → at xs r ≡ i → countAt xs cs r i ≡ at cs r
+  pub count-found : r ≢ 0 → at xs r ≡ i → count_at xs cs r i ≡ at cs r
   count-found n e = rw (ne_eqb r 0 n, eq-eqb (at xs r) i e) refl
 
-pub above-none : (xs cs rs : List ℕ) (a b i : ℕ) → rises a b (valuesAt xs rs) ≡ true → i < a → count_of xs cs rs i ≡ 0
-unfolding rises valuesAt count_of
+pub above-none : (xs cs rs : List ℕ) (a b i : ℕ) → rises a b (values_at xs rs) ≡ true → i < a → count_of xs cs rs i ≡ 0
+unfolding rises values_at count_of
 above-none xs cs [] a b i h l = refl
 above-none xs cs (r ∷ rs) a b i h l =
     let x = at xs r in
-    let t : ((leb a x && leb x b) ≡ true) × (rises (suc x) b (valuesAt xs rs) ≡ true) = and_both (leb a x && leb x b) (rises (suc x) b (valuesAt xs rs)) h in
+    let t : ((leb a x && leb x b) ≡ true) × (rises (suc x) b (values_at xs rs) ≡ true) = and_both (leb a x && leb x b) (rises (suc x) b (values_at xs rs)) h in
     let u : a ≤ x = leb-true a x (and_both (leb a x) (leb x b) t.0).0 in
     rw (ne_eqb x i (λ e. omega arith)) (above-none xs cs rs (suc x) b i t.1 (omega arith))
 
-pub first-decides : (xs cs rs : List ℕ) (a b i : ℕ) → ((x : ℕ) → Mem x rs → x ≢ 0) → rises a b (valuesAt xs rs) ≡ true →
-    countAt xs cs (first_at xs rs i) i ≡ count_of xs cs rs i
-unfolding rises valuesAt first_at count_of
+pub first-decides : (xs cs rs : List ℕ) (a b i : ℕ) → ((x : ℕ) → Mem x rs → x ≢ 0) → rises a b (values_at xs rs) ≡ true →
+    count_at xs cs (first_at xs rs i) i ≡ count_of xs cs rs i
+unfolding rises values_at first_at count_of
 first-decides xs cs [] a b i n h = refl
 first-decides xs cs (r ∷ rs) a b i n h =
     let x = at xs r in
-    let t : rises (suc x) b (valuesAt xs rs) ≡ true = (and_both (leb a x && leb x b) (rises (suc x) b (valuesAt xs rs)) h).1 in
+    let t : rises (suc x) b (values_at xs rs) ≡ true = (and_both (leb a x && leb x b) (rises (suc x) b (values_at xs rs)) h).1 in
     elim (lt-or-le x i) [
       | inl l ↦ rw (lt-leb i x l, ne_eqb x i (λ e. omega arith)) (first-decides xs cs rs (suc x) b i (λ y m. n y (later m)) t)
       | inr l ↦ rw (le-leb i x l, ne_eqb r 0 (n r first)) (elim (eq-or-ne x i) [
@@ -130,6 +130,6 @@ first-decides xs cs (r ∷ rs) a b i n h =
     ]
 
 -- as a chain that can be read and rises has it
-pub can-count : {xs cs ns : List ℕ} {h : ℕ} (i : ℕ) → CanCount xs cs ns h → countAt xs cs (first_at xs (chain ns h) i) i ≡ count_of xs cs (chain ns h) i
+pub can-count : {xs cs ns : List ℕ} {h : ℕ} (i : ℕ) → CanCount xs cs ns h → count_at xs cs (first_at xs (chain ns h) i) i ≡ count_of xs cs (chain ns h) i
 can-count {xs} {cs} {ns} {h} i c =
     first-decides xs cs (chain ns h) 1 65535 i (λ x m z. omega (arith, linked-low ns h (chain ns h) x c.read.linked (mem-times m))) c.rising

@@ -7,14 +7,14 @@ use mathlib.Core.List.{List}
 use Prim.Native.Nat.{ℕ, ◌+◌, ◌-◌, ◌≤◌}
 use native.Mathlib.Omega.{arith}
 use lib.ListN.{length}
-use Rattle.lists.specs.Lists.{Mem, at, valuesAt, allZero}
+use Rattle.lists.specs.Lists.{Mem, at, values_at, all_zero}
 use Rattle.lists.proofs.Tests.{and_both, both-and}
 use Rattle.lists.proofs.Member.{zero-at}
 use Rattle.lists.proofs.Times.{times-mem}
 use Rattle.lists.proofs.Place.{values-mem, values-zero}
 use Rattle.pool.specs.Chains.{chain}
 use Rattle.pool.proofs.Whole.{pool-linked}
-use Rattle.tables.specs.Stored.{Stored, recordsOf, freeZero}
+use Rattle.tables.specs.Stored.{Stored, records_of, free_zero}
 use Rattle.tables.specs.Stays.{EntriesKeep}
 use Rattle.columns.specs.Search.{count_of, CanSearch, CanRead}
 use Rattle.columns.specs.Commit.{HoldsFrom, Holds, ZeroAt, Ready, ChainStays}
@@ -23,13 +23,13 @@ use Rattle.columns.proofs.Holding.{holds-rises, holds-count, holds_frame, rises-
 -- ---- what a column holds, as a test and as facts
 
 -- free records are zero
-pub free-zero : (s : Stored) → freeZero s ≡ true → ZeroAt s.rows s.counts (chain s.next s.free)
+pub free-zero : (s : Stored) → free_zero s ≡ true → ZeroAt s.rows s.counts (chain s.next s.free)
 free-zero s h x n =
     let rs : List ℕ = chain s.next s.free in
-    let t : (allZero (valuesAt s.rows rs) ≡ true) × (allZero (valuesAt s.counts rs) ≡ true) = and_both (allZero (valuesAt s.rows rs)) (allZero (valuesAt s.counts rs)) h in
+    let t : (all_zero (values_at s.rows rs) ≡ true) × (all_zero (values_at s.counts rs) ≡ true) = and_both (all_zero (values_at s.rows rs)) (all_zero (values_at s.counts rs)) h in
     (zero-at (values-mem s.rows (times-mem x rs n)) t.0, zero-at (values-mem s.counts (times-mem x rs n)) t.1)
 
-pub zero-free : (s : Stored) → ZeroAt s.rows s.counts (chain s.next s.free) → freeZero s ≡ true
+pub zero-free : (s : Stored) → ZeroAt s.rows s.counts (chain s.next s.free) → free_zero s ≡ true
 zero-free s h =
     both-and (values-zero s.rows (chain s.next s.free) (λ x n. (h x n).0)) (values-zero s.counts (chain s.next s.free) (λ x n. (h x n).1))
 
@@ -37,8 +37,8 @@ zero-free s h =
 
 module _ (s : Stored) (j : ℕ) {ns : List ℕ} (h : Holds s j ns) where
   -- the multiplicity of a row; past the last row both are 0
-  pub held-count : (i : ℕ) → 1 ≤ i → count_of s.rows s.counts (recordsOf s j) i ≡ at ns i
-  held-count i a = let q : 1 + (i - 1) ≡ i = omega arith in rw q at (holds-count 1 ns (recordsOf s j) (i - 1) h)
+  pub held-count : (i : ℕ) → 1 ≤ i → count_of s.rows s.counts (records_of s j) i ≡ at ns i
+  held-count i a = let q : 1 + (i - 1) ≡ i = omega arith in rw q at (holds-count 1 ns (records_of s j) (i - 1) h)
 
 -- ---- what may be read of it
 
@@ -57,7 +57,7 @@ stays-self s l = record { records = refl; row = λ x m. refl; count = λ x m. re
 module _ {s t : Stored} {l : ℕ} (c : ChainStays s t l) where
   pub stays-trans : {u : Stored} → ChainStays t u l → ChainStays s u l
   stays-trans d =
-      let there : (x : ℕ) → Mem x (recordsOf s l) → Mem x (recordsOf t l) = λ x m. subst (λ (rs : List ℕ). Mem x rs) (sym c.records) m in
+      let there : (x : ℕ) → Mem x (records_of s l) → Mem x (records_of t l) = λ x m. subst (λ (rs : List ℕ). Mem x rs) (sym c.records) m in
       record {
         records = d.records ∙ c.records;
         row = λ x m. d.row x (there x m) ∙ c.row x m;
@@ -69,12 +69,12 @@ module _ {s t : Stored} {l : ℕ} (c : ChainStays s t l) where
   pub stays-holds : {ns : List ℕ} → Holds s l ns → Holds t l ns
   stays-holds {ns} h =
       subst (λ (rs : List ℕ). HoldsFrom t.rows t.counts 1 ns rs) (sym c.records)
-      (holds_frame (λ x n. (c.row x (times-mem x (recordsOf s l) n), c.count x (times-mem x (recordsOf s l) n))) h)
+      (holds_frame (λ x n. (c.row x (times-mem x (records_of s l) n), c.count x (times-mem x (records_of s l) n))) h)
 
   -- entries keep their records, also before or after a change that keeps them
   pub keep-stays : (r : Stored) → EntriesKeep r s l → EntriesKeep r t l
   keep-stays r k x y m n e =
-      let there : Mem y (recordsOf s l) = subst (λ (rs : List ℕ). Mem y rs) c.records n in
+      let there : Mem y (records_of s l) = subst (λ (rs : List ℕ). Mem y rs) c.records n in
       k x y m there (e ∙ c.row y there)
 
   pub stays-keep : (u : Stored) → EntriesKeep t u l → EntriesKeep s u l
@@ -82,5 +82,5 @@ module _ {s t : Stored} {l : ℕ} (c : ChainStays s t l) where
 
   pub held-keep : {ns : List ℕ} → Holds s l ns → EntriesKeep s t l
   held-keep {ns} h x y m n e =
-      let there : Mem y (recordsOf s l) = subst (λ (rs : List ℕ). Mem y rs) c.records n in
-      rises-once s.rows 1 (length ns) (recordsOf s l) (holds-rises (length ns) (omega arith) h) m there (e ∙ c.row y there)
+      let there : Mem y (records_of s l) = subst (λ (rs : List ℕ). Mem y rs) c.records n in
+      rises-once s.rows 1 (length ns) (records_of s l) (holds-rises (length ns) (omega arith) h) m there (e ∙ c.row y there)

@@ -12,7 +12,7 @@ use Rattle.lists.proofs.Tests.{eq-or-ne}
 use Rattle.lists.proofs.Times.{times-self, times-other, times-cons, times-mid, differs}
 use Rattle.lists.proofs.Place.{put-length, at-put-same, at-put-other}
 use Rattle.pool.specs.Chains.{chain}
-use Rattle.pool.specs.Changes.{Beside, insertAfter, unlinkAfter}
+use Rattle.pool.specs.Changes.{Beside, insert_after, unlink_after}
 use Rattle.pool.proofs.Chains.{linked-low, linked-high}
 use Rattle.pool.proofs.Changes.{changed-start, changed-trans, changed-beside, changed-insert, changed-unlink}
 use Rattle.columns.specs.Commit.{ZeroAt, Rewritten}
@@ -65,7 +65,7 @@ module _ {rows₀ counts₀ next₀ : List ℕ} {head free₀ : ℕ} (b : Base r
   module _ {rows counts next : List ℕ} (ds : List ℕ) (p : ℕ) (bs : List ℕ) (q : ℕ) (fs : List ℕ)
       (k : Rewritten rows₀ counts₀ next₀ head free₀ rows counts next q (ds ++ (p ∷ bs)) (q ∷ fs)) where
     pub rewritten-insert : (i v : ℕ) → ((x : ℕ) → 1 ≤ times x (chain next₀ head) → at rows₀ x ≢ i) →
-        Rewritten rows₀ counts₀ next₀ head free₀ (put rows q i) (put counts q v) (insertAfter next p q) (at next q) (ds ++ (p ∷ (q ∷ bs))) fs
+        Rewritten rows₀ counts₀ next₀ head free₀ (put rows q i) (put counts q v) (insert_after next p q) (at next q) (ds ++ (p ∷ (q ∷ bs))) fs
     rewritten-insert i v new =
         let self : times q (q ∷ fs) ≡ 1 + times q fs = times-self q fs in
         let one : times q (ds ++ (p ∷ bs)) + times q (q ∷ fs) ≤ 1 = rewritten-once k q in
@@ -98,7 +98,7 @@ module _ {rows₀ counts₀ next₀ : List ℕ} {head free₀ : ℕ} (b : Base r
 
   module _ {rows counts next : List ℕ} {z : ℕ} (ds : List ℕ) (p q : ℕ) (bs fs : List ℕ)
       (k : Rewritten rows₀ counts₀ next₀ head free₀ rows counts next z (ds ++ (p ∷ (q ∷ bs))) fs) where
-    pub rewritten-unlink : Rewritten rows₀ counts₀ next₀ head free₀ (put rows q 0) (put counts q 0) (unlinkAfter next p q z) q (ds ++ (p ∷ bs)) (q ∷ fs)
+    pub rewritten-unlink : Rewritten rows₀ counts₀ next₀ head free₀ (put rows q 0) (put counts q 0) (unlink_after next p q z) q (ds ++ (p ∷ bs)) (q ∷ fs)
     rewritten-unlink =
         let mid : times q (ds ++ (p ∷ (q ∷ bs))) ≡ times q ds + (times q (p ∷ []) + times q (q ∷ bs)) = times-mid q ds p (q ∷ bs) in
         let self : times q (q ∷ bs) ≡ 1 + times q bs = times-self q bs in

@@ -12,11 +12,11 @@ use lib.Seq.{drop-cons}
 use Rattle.lists.specs.Lists.{at, put, times}
 use Rattle.lists.proofs.Times.{times-nil, times-self, times-cons, times-append, times-mid, times-mem}
 use Rattle.lists.proofs.Place.{put_same, at-put-same}
-use Rattle.workspace.specs.Planned.{rowOf, multiplicityOf, kind_of}
+use Rattle.workspace.specs.Planned.{row_of, multiplicity_of, kind_of}
 use Rattle.pool.specs.Chains.{chain}
-use Rattle.pool.specs.Changes.{insertAfter, unlinkAfter}
+use Rattle.pool.specs.Changes.{insert_after, unlink_after}
 use Rattle.pool.proofs.Chains.{Step, linked-step, linked-some}
-use Rattle.columns.specs.Plan.{changed, new, gone, planned, Suits, ofKind}
+use Rattle.columns.specs.Plan.{changed, new, gone, planned, Suits, of_kind}
 use Rattle.columns.specs.Apply.{CanApply, Applied, recounted, inserted, unlinked, CanBegin, Begun, first-planned, first-stays}
 use Rattle.columns.specs.Commit.{HoldsFrom, CanCommitChain, Rewritten, CommittedChain}
 use Rattle.columns.proofs.Search.{Here, here}
@@ -27,18 +27,18 @@ use Rattle.columns.proofs.Committing.{Numbers, numbers-next, Committing, Moved, 
 
 module _ {rows₀ counts₀ next₀ : List ℕ} {head free₀ : ℕ} {ns plan : List ℕ} (can : CanCommitChain rows₀ counts₀ next₀ head free₀ ns plan) where
   module _ {rows counts next : List ℕ} {p free e : ℕ} {es : List ℕ} (m : Moved rows₀ counts₀ next₀ head free₀ ns plan rows counts next p free e es) where
-    numbers : Numbers ns plan es (m.old ++ (m.count ∷ [])) (m.now ++ (multiplicityOf e ∷ [])) m.coming
+    numbers : Numbers ns plan es (m.old ++ (m.count ∷ [])) (m.now ++ (multiplicity_of e ∷ [])) m.coming
     numbers = numbers-next ns plan e es m.old m.now m.count m.coming m.parts m.same m.place m.result m.suits
 
-    further : suc (rowOf e) ≡ suc (length (m.now ++ (multiplicityOf e ∷ [])))
-    further = omega (arith, length-append m.now (multiplicityOf e ∷ []), m.place)
+    further : suc (row_of e) ≡ suc (length (m.now ++ (multiplicity_of e ∷ [])))
+    further = omega (arith, length-append m.now (multiplicity_of e ∷ []), m.place)
 
     -- ---- a new multiplicity
 
-    recount : kind_of e ≡ 0 → Found can m → 0 < multiplicityOf e → Committing rows₀ counts₀ next₀ head free₀ ns plan rows (put counts (at next p) (multiplicityOf e)) next (at next p) free es
+    recount : kind_of e ≡ 0 → Found can m → 0 < multiplicity_of e → Committing rows₀ counts₀ next₀ head free₀ ns plan rows (put counts (at next p) (multiplicity_of e)) next (at next p) free es
     recount k f pos =
         let q : ℕ = at next p in
-        let v : ℕ = multiplicityOf e in
+        let v : ℕ = multiplicity_of e in
         let wide : q ≤ length counts = omega (arith, f.high, m.rewritten.counts-long, can.counts-long, m.rewritten.changed.same_length) in
         let records : m.passed ++ (p ∷ m.ahead) ≡ (m.passed ++ (p ∷ [])) ++ (q ∷ f.tail) = f.records ∙ sym (append_assoc m.passed (p ∷ []) (q ∷ f.tail)) in
         record {
@@ -61,18 +61,18 @@ module _ {rows₀ counts₀ next₀ : List ℕ} {head free₀ : ℕ} {ns plan : 
 
     -- ---- a new entry, in the first free record
 
-    no_row : m.count ≡ 0 → (x : ℕ) → 1 ≤ times x (chain next₀ head) → at rows₀ x ≢ rowOf e
+    no_row : m.count ≡ 0 → (x : ℕ) → 1 ≤ times x (chain next₀ head) → at rows₀ x ≢ row_of e
     no_row z x n q =
         let t : (k : ℕ) × (at rows₀ x ≡ 1 + k) × (k < length ns) × (0 < get_or ns k 0) = holds_row can.holds x (times-mem x (chain next₀ head) n) in
-        let k-is : t.0 ≡ rowOf e - 1 = omega arith in
-        let count-is : at ns (rowOf e) ≡ m.count = ap (λ (l : List ℕ). at l (rowOf e)) m.parts ∙ at_cut m.old m.count m.coming (rowOf e) (omega (arith, m.place, m.same)) in
+        let k-is : t.0 ≡ row_of e - 1 = omega arith in
+        let count-is : at ns (row_of e) ≡ m.count = ap (λ (l : List ℕ). at l (row_of e)) m.parts ∙ at_cut m.old m.count m.coming (row_of e) (omega (arith, m.place, m.same)) in
         omega (arith, ap (λ (k : ℕ). get_or ns k 0) k-is)
 
-    insert : kind_of e ≡ 1 → m.count ≡ 0 → 0 < multiplicityOf e → Step next free m.rest → HoldsFrom rows counts (suc (rowOf e)) m.coming m.ahead →
-        Committing rows₀ counts₀ next₀ head free₀ ns plan (put rows free (rowOf e)) (put counts free (multiplicityOf e)) (insertAfter next p free) free (at next free) es
+    insert : kind_of e ≡ 1 → m.count ≡ 0 → 0 < multiplicity_of e → Step next free m.rest → HoldsFrom rows counts (suc (row_of e)) m.coming m.ahead →
+        Committing rows₀ counts₀ next₀ head free₀ ns plan (put rows free (row_of e)) (put counts free (multiplicity_of e)) (insert_after next p free) free (at next free) es
     insert k z pos s back =
-        let i : ℕ = rowOf e in
-        let v : ℕ = multiplicityOf e in
+        let i : ℕ = row_of e in
+        let v : ℕ = multiplicity_of e in
         let rewritten : Rewritten rows₀ counts₀ next₀ head free₀ rows counts next free (m.passed ++ (p ∷ m.ahead)) (free ∷ s.rest) =
         subst (λ (l : List ℕ). Rewritten rows₀ counts₀ next₀ head free₀ rows counts next free (m.passed ++ (p ∷ m.ahead)) l) s.parts m.rewritten in
         let one : times free (m.passed ++ (p ∷ m.ahead)) + times free m.rest ≤ 1 = rewritten-once (base can) m.rewritten free in
@@ -89,7 +89,7 @@ module _ {rows₀ counts₀ next₀ : List ℕ} {head free₀ : ℕ} {ns plan : 
           now = m.now ++ (v ∷ []);
           coming = m.coming;
           rewritten =
-              subst (λ (l : List ℕ). Rewritten rows₀ counts₀ next₀ head free₀ (put rows free i) (put counts free v) (insertAfter next p free) (at next free) l s.rest)
+              subst (λ (l : List ℕ). Rewritten rows₀ counts₀ next₀ head free₀ (put rows free i) (put counts free v) (insert_after next p free) (at next free) l s.rest)
               (sym (append_assoc m.passed (p ∷ []) (free ∷ m.ahead))) (rewritten-insert (base can) m.passed p m.ahead free s.rest rewritten i v (no_row z));
           numbers = numbers;
           front =
@@ -105,11 +105,11 @@ module _ {rows₀ counts₀ next₀ : List ℕ} {head free₀ : ℕ} {ns plan : 
 
     -- ---- an entry that is gone
 
-    unlink : kind_of e ≡ 2 → Found can m → multiplicityOf e ≡ 0 →
-        Committing rows₀ counts₀ next₀ head free₀ ns plan (put rows (at next p) 0) (put counts (at next p) 0) (unlinkAfter next p (at next p) free) p (at next p) es
+    unlink : kind_of e ≡ 2 → Found can m → multiplicity_of e ≡ 0 →
+        Committing rows₀ counts₀ next₀ head free₀ ns plan (put rows (at next p) 0) (put counts (at next p) 0) (unlink_after next p (at next p) free) p (at next p) es
     unlink k f z =
         let q : ℕ = at next p in
-        let v : ℕ = multiplicityOf e in
+        let v : ℕ = multiplicity_of e in
         let rewritten : Rewritten rows₀ counts₀ next₀ head free₀ rows counts next free (m.passed ++ (p ∷ (q ∷ f.tail))) m.rest =
         subst (λ (l : List ℕ). Rewritten rows₀ counts₀ next₀ head free₀ rows counts next free l m.rest) f.records m.rewritten in
         record {
@@ -131,7 +131,7 @@ module _ {rows₀ counts₀ next₀ : List ℕ} {head free₀ : ℕ} {ns plan : 
 
     -- ---- by what the code did
 
-    pub moved-recount : kind_of e ≡ 0 → Committing rows₀ counts₀ next₀ head free₀ ns plan rows (put counts (at next p) (multiplicityOf e)) next (at next p) free es
+    pub moved-recount : kind_of e ≡ 0 → Committing rows₀ counts₀ next₀ head free₀ ns plan rows (put counts (at next p) (multiplicity_of e)) next (at next p) free es
     moved-recount k =
         elim m.kind [
           | changed z o n ↦ recount k (moved-found can m o) n
@@ -139,22 +139,22 @@ module _ {rows₀ counts₀ next₀ : List ℕ} {head free₀ : ℕ} {ns plan : 
           | gone z o n ↦ absurd (omega arith)
         ]
 
-    pub moved-insert : kind_of e ≡ 1 → Committing rows₀ counts₀ next₀ head free₀ ns plan (put rows free (rowOf e)) (put counts free (multiplicityOf e)) (insertAfter next p free) free (at next free) es
+    pub moved-insert : kind_of e ≡ 1 → Committing rows₀ counts₀ next₀ head free₀ ns plan (put rows free (row_of e)) (put counts free (multiplicity_of e)) (insert_after next p free) free (at next free) es
     moved-insert k =
         elim m.kind [
           | changed z o n ↦ absurd (omega arith)
-          | new z o n ↦ insert k o n free_step (behind (holds-next (rowOf e) m.count m.coming m.ahead m.back) o)
+          | new z o n ↦ insert k o n free_step (behind (holds-next (row_of e) m.count m.coming m.ahead m.back) o)
           | gone z o n ↦ absurd (omega arith)
         ]
       where
         free_step : Step next free m.rest
         free_step = linked-step next free m.rest (linked-some next free m.rest (omega (arith, m.room, kind-here 1 e es k)) m.rewritten.changed.unused) m.rewritten.changed.unused
 
-        behind : Next rows counts (rowOf e) m.count m.coming m.ahead → m.count ≡ 0 → HoldsFrom rows counts (suc (rowOf e)) m.coming m.ahead
+        behind : Next rows counts (row_of e) m.count m.coming m.ahead → m.count ≡ 0 → HoldsFrom rows counts (suc (row_of e)) m.coming m.ahead
         behind (absent z h) o = h
         behind (present r ss d x y n h) o = absurd (omega arith)
 
-    pub moved-unlink : kind_of e ≢ 0 → kind_of e ≢ 1 → Committing rows₀ counts₀ next₀ head free₀ ns plan (put rows (at next p) 0) (put counts (at next p) 0) (unlinkAfter next p (at next p) free) p (at next p) es
+    pub moved-unlink : kind_of e ≢ 0 → kind_of e ≢ 1 → Committing rows₀ counts₀ next₀ head free₀ ns plan (put rows (at next p) 0) (put counts (at next p) 0) (unlink_after next p (at next p) free) p (at next p) es
     moved-unlink k l =
         elim m.kind [
           | changed z o n ↦ absurd (k z)
@@ -185,7 +185,7 @@ module _ {rows₀ counts₀ next₀ : List ℕ} {head free₀ : ℕ} {ns plan : 
 
   -- the first row's multiplicity, from its entry or as it is
   begin : (v : ℕ) (left counts : List ℕ) → 0 < v → Numbers ns plan left (diagonal.skipped ++ (diagonal.count ∷ [])) (diagonal.skipped ++ (v ∷ [])) diagonal.after →
-      ofKind 1 left ≡ ofKind 1 plan → ofKind 2 left ≡ ofKind 2 plan → counts ≡ put counts₀ head v → Committing rows₀ counts₀ next₀ head free₀ ns plan rows₀ counts next₀ head free₀ left
+      of_kind 1 left ≡ of_kind 1 plan → of_kind 2 left ≡ of_kind 2 plan → counts ≡ put counts₀ head v → Committing rows₀ counts₀ next₀ head free₀ ns plan rows₀ counts next₀ head free₀ left
   begin v left counts pos numbers one two q =
       let d = diagonal in
       let h = chain_head in
@@ -212,28 +212,28 @@ module _ {rows₀ counts₀ next₀ : List ℕ} {head free₀ : ℕ} {ns plan : 
       })
 
   -- an entry for the first row: it changes the multiplicity, since that row stays
-  begin-planned : 1 ≤ length plan → rowOf (get_or plan 0 0) ≡ at rows₀ head →
-      Committing rows₀ counts₀ next₀ head free₀ ns plan rows₀ (put counts₀ head (multiplicityOf (get_or plan 0 0))) next₀ head free₀ (drop 1 plan)
+  begin-planned : 1 ≤ length plan → row_of (get_or plan 0 0) ≡ at rows₀ head →
+      Committing rows₀ counts₀ next₀ head free₀ ns plan rows₀ (put counts₀ head (multiplicity_of (get_or plan 0 0))) next₀ head free₀ (drop 1 plan)
   unfolding planned
   begin-planned some same =
       let d = diagonal in
       let e : ℕ = get_or plan 0 0 in
       let es : List ℕ = drop 1 plan in
-      let v : ℕ = multiplicityOf e in
+      let v : ℕ = multiplicity_of e in
       let parts : plan ≡ e ∷ es = drop-cons plan 0 0 some in
       let t : Entry ns (at rows₀ head) e es = suits-next (subst (λ (l : List ℕ). Suits ns (at rows₀ head) l) parts can.suits) in
-      let place : suc (length d.skipped) ≡ rowOf e = omega (arith, d.row) in
-      let was : at ns (rowOf e) ≡ d.count = ap (λ (l : List ℕ). at l (rowOf e)) d.counts-are ∙ at_cut d.skipped d.count d.after (rowOf e) place in
+      let place : suc (length d.skipped) ≡ row_of e = omega (arith, d.row) in
+      let was : at ns (row_of e) ≡ d.count = ap (λ (l : List ℕ). at l (row_of e)) d.counts-are ∙ at_cut d.skipped d.count d.after (row_of e) place in
       let is : at (planned ns plan) (at rows₀ head) ≡ v =
-      ap (at (planned ns plan)) (sym same) ∙ ap (λ (l : List ℕ). at (planned ns l) (rowOf e)) parts ∙
-      planned_below ns (put ns (rowOf e) v) (suc (rowOf e)) es (rowOf e) t.rest (omega arith) (omega arith) ∙ at-put-same ns (rowOf e) v (omega arith) t.high in
+      ap (at (planned ns plan)) (sym same) ∙ ap (λ (l : List ℕ). at (planned ns l) (row_of e)) parts ∙
+      planned_below ns (put ns (row_of e) v) (suc (row_of e)) es (row_of e) t.rest (omega arith) (omega arith) ∙ at-put-same ns (row_of e) v (omega arith) t.high in
       let pos : 0 < v = omega (arith, can.stays) in
       let kind : kind_of e ≡ 0 = elim t.kind [ changed z o n ↦ z | new z o n ↦ absurd (omega (arith, d.some)) | gone z o n ↦ absurd (omega arith) ] in
       begin v es (put counts₀ head v) pos
       (numbers-next ns plan e es d.skipped d.skipped d.count d.after d.counts-are refl place (rw (← d.counts-are, ← parts) refl) t.rest)
-      (sym (kind-other 1 e es (λ z. omega arith)) ∙ ap (ofKind 1) (sym parts)) (sym (kind-other 2 e es (λ z. omega arith)) ∙ ap (ofKind 2) (sym parts)) refl
+      (sym (kind-other 1 e es (λ z. omega arith)) ∙ ap (of_kind 1) (sym parts)) (sym (kind-other 2 e es (λ z. omega arith)) ∙ ap (of_kind 2) (sym parts)) refl
 
-  begin-other : (1 ≤ length plan → rowOf (get_or plan 0 0) ≢ at rows₀ head) → Committing rows₀ counts₀ next₀ head free₀ ns plan rows₀ counts₀ next₀ head free₀ plan
+  begin-other : (1 ≤ length plan → row_of (get_or plan 0 0) ≢ at rows₀ head) → Committing rows₀ counts₀ next₀ head free₀ ns plan rows₀ counts₀ next₀ head free₀ plan
   begin-other other =
       let d = diagonal in
       let parts : ns ≡ (d.skipped ++ (d.count ∷ [])) ++ d.after = d.counts-are ∙ sym (append_assoc d.skipped (d.count ∷ []) d.after) in

@@ -3,22 +3,22 @@
 -- proofs/Commits.antt leads from the one to the other.
 -- Assumes nothing: these are definitions.
 use Rattle.std.specs.Prelude.{◌≡◌, ◌≢◌, true, List, ℕ, ◌+◌, ◌≤◌, ◌<◌, length}
-use Rattle.lists.specs.Lists.{Mem, at, valuesAt, times}
-use Rattle.symbolic.specs.Factor.{patternFrom, nonZero}
-use Rattle.workspace.specs.Planned.{newKind, goneKind}
+use Rattle.lists.specs.Lists.{Mem, at, values_at, times}
+use Rattle.symbolic.specs.Factor.{pattern_from, non_zero}
+use Rattle.workspace.specs.Planned.{new_kind, gone_kind}
 use Rattle.pool.specs.Chains.{chain}
 use Rattle.pool.specs.Whole.{Pool}
 use Rattle.pool.specs.Changes.{Beside, Changed}
-use Rattle.tables.specs.Stored.{Stored, Sized, recordsOf, freeZero}
+use Rattle.tables.specs.Stored.{Stored, Sized, records_of, free_zero}
 use Rattle.tables.specs.Stays.{EntriesKeep}
-use Rattle.columns.specs.Plan.{planned, Suits, ofKind}
+use Rattle.columns.specs.Plan.{planned, Suits, of_kind}
 
 -- ---- one chain, beside the free chain
 
 -- records hold the multiplicities ns of rows a on, rising
 pub record HoldsFrom (xs cs : List ℕ) (a : ℕ) (ns records : List ℕ) : Type 0 where
-  pub rows : valuesAt xs records ≡ patternFrom a ns
-  pub counts : valuesAt cs records ≡ nonZero ns
+  pub rows : values_at xs records ≡ pattern_from a ns
+  pub counts : values_at cs records ≡ non_zero ns
 
 -- records hold row and multiplicity 0
 abbrev pub ZeroAt : (rows counts records : List ℕ) → Type 0
@@ -35,7 +35,7 @@ pub record CanCommitChain (rows counts next : List ℕ) (head free : ℕ) (ns pl
   pub some : 1 ≤ head
   pub suits : Suits ns (at rows head) plan
   pub stays : 0 < at (planned ns plan) (at rows head)
-  pub room : ofKind newKind plan ≤ length (chain next free)
+  pub room : of_kind new_kind plan ≤ length (chain next free)
 
 -- what a caller shows: that the chain holds some multiplicities, which the plan suits
 pub record CommitReady (rows counts next : List ℕ) (head free : ℕ) (plan : List ℕ) : Type 0 where
@@ -57,19 +57,19 @@ pub record CommittedChain (rows₀ counts₀ next₀ : List ℕ) (head free₀ :
   pub rest : List ℕ
   pub rewritten : Rewritten rows₀ counts₀ next₀ head free₀ rows counts next free records rest
   pub holds : HoldsFrom rows counts 1 (planned ns plan) records
-  pub free-left : length rest + ofKind newKind plan ≡ length (chain next₀ free₀) + ofKind goneKind plan
+  pub free-left : length rest + of_kind new_kind plan ≡ length (chain next₀ free₀) + of_kind gone_kind plan
 
 -- ---- the stored columns
 
 -- chain j holds the multiplicities ns of rows 1 to m, rising
 abbrev pub Holds : (s : Stored) (j : ℕ) (ns : List ℕ) → Type 0
-Holds s j ns = HoldsFrom s.rows s.counts 1 ns (recordsOf s j)
+Holds s j ns = HoldsFrom s.rows s.counts 1 ns (records_of s j)
 
 -- a whole pool with zero free records
 pub record Ready (s : Stored) : Type 0 where
   pub sized : Sized s
   pub pool : Pool s.next s.heads s.free
-  pub zero : freeZero s ≡ true
+  pub zero : free_zero s ≡ true
 
 -- stored column j holds the multiplicities ns, the plan suits them, and the free records are enough for the new rows
 pub record CanCommit (s : Stored) (j : ℕ) (ns plan : List ℕ) : Type 0 where
@@ -81,14 +81,14 @@ pub record CanCommit (s : Stored) (j : ℕ) (ns plan : List ℕ) : Type 0 where
   pub below : (i : ℕ) → 1 ≤ i → i < j → at ns i ≡ 0
   pub diagonal : (0 < at ns j) × (0 < at (planned ns plan) j)
   pub suits : Suits ns j plan
-  pub room : ofKind newKind plan ≤ length (chain s.next s.free)
+  pub room : of_kind new_kind plan ≤ length (chain s.next s.free)
 
 -- the records of column l, with row, multiplicity and next, stay
 pub record ChainStays (before after : Stored) (l : ℕ) : Type 0 where
-  pub records : recordsOf after l ≡ recordsOf before l
-  pub row : (x : ℕ) → Mem x (recordsOf before l) → at after.rows x ≡ at before.rows x
-  pub count : (x : ℕ) → Mem x (recordsOf before l) → at after.counts x ≡ at before.counts x
-  pub next : (x : ℕ) → Mem x (recordsOf before l) → at after.next x ≡ at before.next x
+  pub records : records_of after l ≡ records_of before l
+  pub row : (x : ℕ) → Mem x (records_of before l) → at after.rows x ≡ at before.rows x
+  pub count : (x : ℕ) → Mem x (records_of before l) → at after.counts x ≡ at before.counts x
+  pub next : (x : ℕ) → Mem x (records_of before l) → at after.next x ≡ at before.next x
 
 -- stored column j holds the multiplicities as planned; heads, parents and the chains of all other columns stay
 pub record Committed (s : Stored) (j : ℕ) (ns plan : List ℕ) (after : Stored) : Type 0 where
@@ -98,4 +98,4 @@ pub record Committed (s : Stored) (j : ℕ) (ns plan : List ℕ) (after : Stored
   pub holds : Holds after j (planned ns plan)
   pub others : (l : ℕ) → 1 ≤ l → l ≤ length s.heads → l ≢ j → ChainStays s after l
   pub keep : EntriesKeep s after j
-  pub free-left : length (chain after.next after.free) + ofKind newKind plan ≡ length (chain s.next s.free) + ofKind goneKind plan
+  pub free-left : length (chain after.next after.free) + of_kind new_kind plan ≡ length (chain s.next s.free) + of_kind gone_kind plan

@@ -2,15 +2,15 @@
 -- places beyond. Assumes nothing: these are definitions.
 use Rattle.std.specs.Prelude.{◌≡◌, List, ◌++◌, ℕ, ◌-◌, ◌≤◌, ◌<◌, length, replicate}
 use Rattle.lists.specs.Lists.{up_from}
-use Rattle.pool.specs.Opening.{openedNexts, freeHead}
+use Rattle.pool.specs.Opening.{opened_nexts, free_head}
 
 -- rows 1 to m, then 0
-abbrev pub openedRows : (m f : ℕ) → List ℕ
-openedRows m f = up_from 1 m ++ replicate (f - m) 0
+abbrev pub opened_rows : (m f : ℕ) → List ℕ
+opened_rows m f = up_from 1 m ++ replicate (f - m) 0
 
 -- m ones, then 0
-abbrev pub openedCounts : (m f : ℕ) → List ℕ
-openedCounts m f = replicate m 1 ++ replicate (f - m) 0
+abbrev pub opened_counts : (m f : ℕ) → List ℕ
+opened_counts m f = replicate m 1 ++ replicate (f - m) 0
 
 -- a parent for each head, a row and a multiplicity for each record, a record for each head, and numbers that 16 and 32 bits hold
 pub record CanOpen (heads parents rows counts next : List ℕ) : Type 0 where
@@ -25,7 +25,7 @@ pub record CanOpen (heads parents rows counts next : List ℕ) : Type 0 where
 pub record Opened (m f : ℕ) (heads parents rows counts next : List ℕ) (free : ℕ) : Type 0 where
   pub heads-are : heads ≡ up_from 1 m
   pub parents-are : parents ≡ replicate m 0
-  pub rows_are : rows ≡ openedRows m f
-  pub counts-are : counts ≡ openedCounts m f
-  pub next-is : next ≡ openedNexts m f
-  pub free-is : free ≡ freeHead m f
+  pub rows_are : rows ≡ opened_rows m f
+  pub counts-are : counts ≡ opened_counts m f
+  pub next-is : next ≡ opened_nexts m f
+  pub free-is : free ≡ free_head m f

@@ -2,7 +2,7 @@
 -- have to be read. Laws: proofs/Search.antt, proofs/Copying.antt, and for the multiplicities that a column holds proofs/Holding.antt.
 -- Assumes nothing: these are definitions.
 use Rattle.std.specs.Prelude.{◌≡◌, true, List, [], ◌∷◌, ℕ, ◌*◌, ◌≤◌, ◌<◌, leb, eqb, length}
-use Rattle.lists.specs.Lists.{pick, at, valuesAt, rises}
+use Rattle.lists.specs.Lists.{pick, at, values_at, rises}
 use Rattle.pool.specs.Chains.{chain, Linked}
 
 -- ---- what is read
@@ -13,9 +13,9 @@ first_at xs [] i = 0
 first_at xs (r ∷ rs) i = pick (leb i (at xs r)) r (first_at xs rs i)
 
 -- the last record before that one, in a chain from p on that goes on with the records given
-unfoldable pub lastBelow : (rows : List ℕ) → (p : ℕ) → (records : List ℕ) → (i : ℕ) → ℕ
-lastBelow xs p [] i = p
-lastBelow xs p (r ∷ rs) i = pick (leb i (at xs r)) p (lastBelow xs r rs i)
+unfoldable pub last_below : (rows : List ℕ) → (p : ℕ) → (records : List ℕ) → (i : ℕ) → ℕ
+last_below xs p [] i = p
+last_below xs p (r ∷ rs) i = pick (leb i (at xs r)) p (last_below xs r rs i)
 
 -- the multiplicity of row i among records, 0 when absent
 unfoldable pub count_of : (rows counts records : List ℕ) → (i : ℕ) → ℕ
@@ -43,7 +43,7 @@ pub record CanRead (rows counts next : List ℕ) (head : ℕ) : Type 0 where
 -- the same with rows that rise, so that the first record at or above a row decides
 pub record CanCount (rows counts next : List ℕ) (head : ℕ) : Type 0 where
   pub read : CanRead rows counts next head
-  pub rising : rises 1 65535 (valuesAt rows (chain next head)) ≡ true
+  pub rising : rises 1 65535 (values_at rows (chain next head)) ≡ true
 
 -- a list with two places for each record, of which there are few enough to count in 32 bits
 pub record CanCopy (rows counts next list : List ℕ) (head : ℕ) : Type 0 where

@@ -3,9 +3,9 @@
 ghost use Rattle.std.specs.Prelude.{◌≡◌, List, ℕ, ◌≤◌, ◌<◌, length, replicate};
 ghost use Rattle.lists.specs.Lists.{at, over, up_from};
 ghost use Rattle.pool.specs.Chains.{chain};
-ghost use Rattle.columns.specs.Search.{first_at, lastBelow, count_of, entries_at, CanSearch, CanCount, CanCopy};
+ghost use Rattle.columns.specs.Search.{first_at, last_below, count_of, entries_at, CanSearch, CanCount, CanCopy};
 ghost use Rattle.columns.specs.Apply.{CanApply, Applied, CanBegin, Begun};
-ghost use Rattle.columns.specs.Opened.{openedRows, openedCounts, CanOpen, Opened};
+ghost use Rattle.columns.specs.Opened.{opened_rows, opened_counts, CanOpen, Opened};
 ghost use Rattle.columns.specs.Commit.{CanCommitChain, CommitReady, CommittedChain};
 
 use book::Row;
@@ -60,7 +60,7 @@ fn zero_parents(parents: &mut [u16])
 // Writes rows 1 to m, then 0.
 fn number_rows(rows: &mut [u16], m: usize)
     requires { (m ≤ length rows.old) × (m < 65536) }
-    ensures { rows.new ≡ openedRows m (length rows.old) }
+    ensures { rows.new ≡ opened_rows m (length rows.old) }
 {
     let mut i: usize = 0;
     while i < rows.len() {
@@ -77,7 +77,7 @@ fn number_rows(rows: &mut [u16], m: usize)
 // Writes m multiplicities 1, then 0.
 fn one_counts(counts: &mut [u16], m: usize)
     requires { m ≤ length counts.old }
-    ensures { counts.new ≡ openedCounts m (length counts.old) }
+    ensures { counts.new ≡ opened_counts m (length counts.old) }
 {
     let mut i: usize = 0;
     while i < counts.len() {
@@ -146,7 +146,7 @@ pub fn copy_column(rows: &[u16], counts: &[u16], next: &[u32], list: &mut [u32],
 // The last record below row i of a chain from record p on, or p.
 fn advance(rows: &[u16], next: &[u32], p: Rec, i: Row) -> Rec
     requires { (1 ≤ p.0) × CanSearch rows.now next.now p.0 }
-    ensures { result.0 ≡ lastBelow rows.now p.0 (chain next.now (at next.now p.0)) i.0 }
+    ensures { result.0 ≡ last_below rows.now p.0 (chain next.now (at next.now p.0)) i.0 }
 {
     let least = i.0;
     let mut r = p.0;

@@ -8,13 +8,13 @@ use Prim.Native.Nat.{ℕ, ◌+◌, ◌-◌, ◌≤◌, ◌<◌}
 use native.Mathlib.Omega.{arith}
 use Rattle.lists.specs.Lists.{Mem, first, later, rises}
 use Rattle.lists.proofs.Rising.{rises-in}
-use Rattle.symbolic.specs.Factor.{FactorColumn, columnAt}
+use Rattle.symbolic.specs.Factor.{FactorColumn, column_at}
 use Rattle.workspace.specs.Regions.{cell, region, OnlyIn}
-use Rattle.workspace.specs.Layout.{marksAt, startsAt, next_at, plan_at}
-use Rattle.workspace.specs.Planned.{newKind}
+use Rattle.workspace.specs.Layout.{marks_at, starts_at, next_at, plan_at}
+use Rattle.workspace.specs.Planned.{new_kind}
 use Rattle.workspace.proofs.Regions.{place-cases, only-region}
-use Rattle.columns.specs.Plan.{planned, Suits, ofKind}
-use Rattle.updown.specs.Plans.{labelIn, ColumnPlan, PlansFrom, PlanIs}
+use Rattle.columns.specs.Plan.{planned, Suits, of_kind}
+use Rattle.updown.specs.Plans.{label_in, ColumnPlan, PlansFrom, PlanIs}
 use Rattle.commit.proofs.Standing.{plans-within}
 
 module _ (m : ℕ) (L L' : List FactorColumn) (label : ℕ → ℕ) (used : ℕ) {a n : ℕ} {w w' : List ℕ} (o : OnlyIn a n w w') (behind : plan_at m + used ≤ a) where
@@ -24,17 +24,17 @@ module _ (m : ℕ) (L L' : List FactorColumn) (label : ℕ → ℕ) (used : ℕ)
 
   column-beside : {j start end next : ℕ} → 1 ≤ j → j ≤ m → end ≤ used → ColumnPlan m L L' label w j start end next → ColumnPlan m L L' label w' j start end next
   column-beside {j} {start} {end} p q u c =
-      let mark : cell w' (marksAt m) (j - 1) ≡ cell w (marksAt m) (j - 1) = same-cell (marksAt m) (j - 1) (omega arith) in
+      let mark : cell w' (marks_at m) (j - 1) ≡ cell w (marks_at m) (j - 1) = same-cell (marks_at m) (j - 1) (omega arith) in
       let entries : region w' (plan_at m + start) (end - start) ≡ region w (plan_at m + start) (end - start) =
       only-region o (plan_at m + start) (end - start) (inr (omega (arith, c.rises))) in
       record {
         rises = c.rises;
-        label_is = subst (λ (x : ℕ). labelIn x ≡ label j) (sym mark) c.label_is;
+        label_is = subst (λ (x : ℕ). label_in x ≡ label j) (sym mark) c.label_is;
         parent_is = rw mark c.parent_is;
-        starts = same-cell (startsAt m) (j - 1) (omega arith) ∙ c.starts;
+        starts = same-cell (starts_at m) (j - 1) (omega arith) ∙ c.starts;
         next-is = same-cell (next_at m) (j - 1) (omega arith) ∙ c.next-is;
-        suits = subst (λ (l : List ℕ). Suits (columnAt L j).counts j l) (sym entries) c.suits;
-        becomes = subst (λ (l : List ℕ). planned (columnAt L j).counts l ≡ (columnAt L' j).counts) (sym entries) c.becomes;
+        suits = subst (λ (l : List ℕ). Suits (column_at L j).counts j l) (sym entries) c.suits;
+        becomes = subst (λ (l : List ℕ). planned (column_at L j).counts l ≡ (column_at L' j).counts) (sym entries) c.becomes;
       }
 
   plans-beside : (js : List ℕ) (start : ℕ) → ((j : ℕ) → Mem j js → (1 ≤ j) × (j ≤ m)) → PlansFrom m L L' label w js start used → PlansFrom m L L' label w' js start used
@@ -61,7 +61,7 @@ plan-beside {m} {f} {free} {L} {L'} {label} {columns} {before} {before'} {w} {w'
       count-is = p.count-is;
       entries-is = p.entries-is;
       room = p.room;
-      new-fit = subst (λ (l : List ℕ). ofKind newKind l ≤ free) (sym (only-region o (plan_at m) used (inr behind))) p.new-fit;
+      new-fit = subst (λ (l : List ℕ). of_kind new_kind l ≤ free) (sym (only-region o (plan_at m) used (inr behind))) p.new-fit;
       clean = λ k h. elim (place-cases a n k) [
         | inl s ↦ o.outside k s ∙ p.clean k h ∙ sym (q.outside k s)
         | inr t ↦ rw t.2 (same t.0 t.1)

@@ -7,28 +7,28 @@ use Prim.Native.Nat.{ℕ, ◌+◌, ◌-◌, ◌≤◌, ◌<◌}
 use native.Mathlib.Omega.{arith}
 use lib.ListN.{length}
 use Rattle.lists.specs.Lists.{at}
-use Rattle.symbolic.specs.Factor.{FactorColumn, columnAt}
+use Rattle.symbolic.specs.Factor.{FactorColumn, column_at}
 use Rattle.workspace.specs.Regions.{cell, region}
 use Rattle.workspace.proofs.Regions.{region-join}
 use Rattle.tables.specs.Stored.{Stored}
-use Rattle.columns.specs.Plan.{ofKind}
+use Rattle.columns.specs.Plan.{of_kind}
 use Rattle.columns.specs.Commit.{CanCommitChain, CommitReady, CommittedChain, CanCommit}
 use Rattle.columns.proofs.Plan.{kind-append}
-use Rattle.columns.proofs.Commits.{can-commit-chain, commit-ready, storedWith, committed, Commits, commits-start, commits-holds, commits-next}
-use Rattle.workspace.specs.Layout.{startsAt, next_at, plan_at}
+use Rattle.columns.proofs.Commits.{can-commit-chain, commit-ready, stored_with, committed, Commits, commits-start, commits-holds, commits-next}
+use Rattle.workspace.specs.Layout.{starts_at, next_at, plan_at}
 use Rattle.commit.specs.Passes.{end_of, CanCommitPlans, PlansCommitted}
 use Rattle.commit.proofs.Standing.{Standing, Ahead, standing-start, standing-next, standing-end}
 
 -- ---- kinds of a plan that is cut in two
 
 kinds-cut : (k : ℕ) (w : List ℕ) (p start end used : ℕ) → start ≤ end → end ≤ used →
-    ofKind k (region w (p + start) (used - start)) ≡ ofKind k (region w (p + start) (end - start)) + ofKind k (region w (p + end) (used - end))
+    of_kind k (region w (p + start) (used - start)) ≡ of_kind k (region w (p + start) (end - start)) + of_kind k (region w (p + end) (used - end))
 kinds-cut k w p start end used a b =
     let e : used - start ≡ end - start + (used - end) = omega arith in
     let f : p + start + (end - start) ≡ p + end = omega arith in
-    ap (λ (n : ℕ). ofKind k (region w (p + start) n)) e ∙ ap (λ (l : List ℕ). ofKind k l) (region-join w (p + start) (end - start) (used - end)) ∙
+    ap (λ (n : ℕ). of_kind k (region w (p + start) n)) e ∙ ap (λ (l : List ℕ). of_kind k l) (region-join w (p + start) (end - start) (used - end)) ∙
     kind-append k (region w (p + start) (end - start)) (region w (p + start + (end - start)) (used - end)) ∙
-    ap (λ (n : ℕ). ofKind k (region w (p + start) (end - start)) + ofKind k (region w n (used - end))) f
+    ap (λ (n : ℕ). of_kind k (region w (p + start) (end - start)) + of_kind k (region w n (used - end))) f
 
 -- ---- the invariant
 
@@ -38,10 +38,10 @@ pub record Committing (s : Stored) (L L' : List FactorColumn) (label : ℕ → �
   pub taken : ℕ
   pub given : ℕ
   pub standing : Standing (length s.heads) L L' label work columns used j done start
-  pub commits : Commits s now (λ l. (columnAt L' l).counts) done taken given
+  pub commits : Commits s now (λ l. (column_at L' l).counts) done taken given
   pub records : length now.next ≡ length s.next
   -- new entries so far and those to come
-  pub left : taken + ofKind 1 (region work (plan_at (length s.heads) + start) (used - start)) ≡ ofKind 1 (region work (plan_at (length s.heads)) used)
+  pub left : taken + of_kind 1 (region work (plan_at (length s.heads) + start) (used - start)) ≡ of_kind 1 (region work (plan_at (length s.heads)) used)
 
 -- what holds at a column: its number, its plan's place, the column after it
 pub record AtColumn (m : ℕ) (work : List ℕ) (used j : ℕ) : Type 0 where
@@ -49,7 +49,7 @@ pub record AtColumn (m : ℕ) (work : List ℕ) (used j : ℕ) : Type 0 where
   pub high : j ≤ m
   pub bound : m ≤ 4096
   pub long : plan_at m + used ≤ length work
-  pub starts : cell work (startsAt m) (j - 1) ≤ end_of m work (cell work (next_at m) (j - 1)) used
+  pub starts : cell work (starts_at m) (j - 1) ≤ end_of m work (cell work (next_at m) (j - 1)) used
   pub ends : end_of m work (cell work (next_at m) (j - 1)) used ≤ used
   pub after : cell work (next_at m) (j - 1) ≤ m
   pub rises : (cell work (next_at m) (j - 1) ≡ 0) ⊎ ((j < cell work (next_at m) (j - 1)) × (cell work (next_at m) (j - 1) ≤ m))
@@ -70,9 +70,9 @@ module _ {s : Stored} {L L' : List FactorColumn} {label : ℕ → ℕ} {columns 
         taken = 0;
         given = 0;
         standing = standing-start can.first-is can.plans;
-        commits = commits-start s (λ l. (columnAt L' l).counts) can.ready;
+        commits = commits-start s (λ l. (column_at L' l).counts) can.ready;
         records = refl;
-        left = omega (arith, ap (λ (a : ℕ). ofKind 1 (region work a (used - 0))) e, ap (λ (n : ℕ). ofKind 1 (region work (plan_at (length s.heads)) n)) f);
+        left = omega (arith, ap (λ (a : ℕ). of_kind 1 (region work a (used - 0))) e, ap (λ (n : ℕ). of_kind 1 (region work (plan_at (length s.heads)) n)) f);
       }
 
   module _ {now : Stored} {j : ℕ} (i : Committing s L L' label columns work used now j) where
@@ -86,8 +86,8 @@ module _ {s : Stored} {L L' : List FactorColumn} {label : ℕ → ℕ} {columns 
     pub committing-end : j ≡ 0 → PlansCommitted s L' columns now
     committing-end z =
         let e : i.done ≡ columns = standing-end can.rising i.standing z in
-        let c : Commits s now (λ l. (columnAt L' l).counts) columns i.taken i.given =
-        subst (λ (js : List ℕ). Commits s now (λ l. (columnAt L' l).counts) js i.taken i.given) e i.commits in
+        let c : Commits s now (λ l. (column_at L' l).counts) columns i.taken i.given =
+        subst (λ (js : List ℕ). Commits s now (λ l. (column_at L' l).counts) js i.taken i.given) e i.commits in
         record { ready = c.ready; holds = c.holds; keep = c.keep; others = c.others }
 
     -- ---- a turn
@@ -112,7 +112,7 @@ module _ {s : Stored} {L L' : List FactorColumn} {label : ℕ → ℕ} {columns 
             rises = ahead.after;
           }
 
-      can-commit : CanCommit now j (columnAt L j).counts entries
+      can-commit : CanCommit now j (column_at L j).counts entries
       can-commit =
           record {
             ready = i.commits.ready;
@@ -128,7 +128,7 @@ module _ {s : Stored} {L L' : List FactorColumn} {label : ℕ → ℕ} {columns 
             room = omega (arith, i.left, i.commits.free-left, can.room, kinds-cut 1 work (plan_at (length s.heads)) i.start ahead.end used ahead.plan.rises ahead.within);
           }
 
-      module _ {a e : ℕ} (p : a ≡ plan_at (length s.heads) + cell work (startsAt (length s.heads)) (j - 1))
+      module _ {a e : ℕ} (p : a ≡ plan_at (length s.heads) + cell work (starts_at (length s.heads)) (j - 1))
           (q : e ≡ plan_at (length s.heads) + end_of (length s.heads) work (cell work (next_at (length s.heads)) (j - 1)) used) where
         lent : region work a (e - a) ≡ entries
         lent =
@@ -143,17 +143,17 @@ module _ {s : Stored} {L L' : List FactorColumn} {label : ℕ → ℕ} {columns 
         pub committing-turn : {rows counts next : List ℕ} {free : ℕ} → ((ns : List ℕ) →
             CanCommitChain now.rows now.counts now.next (at now.heads j) now.free ns (region work a (e - a)) →
             CommittedChain now.rows now.counts now.next (at now.heads j) now.free ns (region work a (e - a)) rows counts next free) →
-            Committing s L L' label columns work used (storedWith now rows counts next free) (cell work (next_at (length s.heads)) (j - 1))
+            Committing s L L' label columns work used (stored_with now rows counts next free) (cell work (next_at (length s.heads)) (j - 1))
         committing-turn {rows} {counts} {next} {free} f =
-            let d : CommittedChain now.rows now.counts now.next (at now.heads j) now.free (columnAt L j).counts entries rows counts next free =
+            let d : CommittedChain now.rows now.counts now.next (at now.heads j) now.free (column_at L j).counts entries rows counts next free =
             subst (λ (l : List ℕ). (ns : List ℕ) → CanCommitChain now.rows now.counts now.next (at now.heads j) now.free ns l →
-            CommittedChain now.rows now.counts now.next (at now.heads j) now.free ns l rows counts next free) lent f (columnAt L j).counts
+            CommittedChain now.rows now.counts now.next (at now.heads j) now.free ns l rows counts next free) lent f (column_at L j).counts
             (can-commit-chain can-commit) in
             record {
               done = i.done ++ (j ∷ []);
               start = ahead.end;
-              taken = i.taken + ofKind 1 entries;
-              given = i.given + ofKind 2 entries;
+              taken = i.taken + of_kind 1 entries;
+              given = i.given + of_kind 2 entries;
               standing = ahead.next;
               commits = commits-next i.commits ahead.low ahead.high ahead.fresh ahead.plan.becomes (committed can-commit d);
               records = d.rewritten.changed.same_length ∙ i.records;

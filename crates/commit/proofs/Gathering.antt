@@ -14,18 +14,18 @@ use Rattle.lists.proofs.Times.{times-nil, times-self, times-other, times-append,
 use Rattle.symbolic.specs.Factor.{FactorColumn}
 use Rattle.workspace.specs.Regions.{cell}
 use Rattle.workspace.specs.Layout.{next_at, spare}
-use Rattle.workspace.specs.Parts.{upperWeight}
+use Rattle.workspace.specs.Parts.{upper_weight}
 use Rattle.workspace.proofs.Regions.{only-refl, only_store}
-use Rattle.commit.specs.Gather.{columnPlace, IsGathered, withSize, storedSize, CanCount, CanGatherColumns, ColumnsGathered}
+use Rattle.commit.specs.Gather.{column_place, IsGathered, with_size, stored_size, CanCount, CanGatherColumns, ColumnsGathered}
 use Rattle.commit.proofs.Standing.{Standing, Ahead, standing-start, standing-next, standing-end, standing-within}
 
 -- ---- a place
 
-pub size-added : (x n : ℕ) → x < upperWeight → withSize x n ≡ x + upperWeight * (1 + n)
-size-added x n h = rw (lt-ltb x upperWeight h) refl
+pub size-added : (x n : ℕ) → x < upper_weight → with_size x n ≡ x + upper_weight * (1 + n)
+size-added x n h = rw (lt-ltb x upper_weight h) refl
 
-pub size-stays : (x n : ℕ) → IsGathered x → withSize x n ≡ x
-size-stays x n h = rw (le-ltb x upperWeight h) refl
+pub size-stays : (x n : ℕ) → IsGathered x → with_size x n ≡ x
+size-stays x n h = rw (le-ltb x upper_weight h) refl
 
 -- ---- the invariant
 
@@ -92,25 +92,25 @@ module _ {heads next : List ℕ} {L L' : List FactorColumn} {label : ℕ → ℕ
           }
 
       -- the place of j is as it was
-      place-before : columnPlace work a j ≡ columnPlace work₀ a j
+      place-before : column_place work a j ≡ column_place work₀ a j
       place-before = i.gathered.others j ahead.low ahead.high ahead.fresh
 
       done-low : (l : ℕ) → 1 ≤ times l i.done → 1 ≤ l
       done-low l h = (standing-within can.rising i.standing l (times-mem l i.done h)).0
 
       abbrev size : ℕ
-      size = storedSize heads next j
+      size = stored_size heads next j
 
       abbrev stored : List ℕ
-      stored = set work (a + (j - 1)) (withSize (cell work a (j - 1)) size)
+      stored = set work (a + (j - 1)) (with_size (cell work a (j - 1)) size)
 
-      here : columnPlace stored a j ≡ withSize (columnPlace work₀ a j) size
+      here : column_place stored a j ≡ with_size (column_place work₀ a j) size
       here =
-          get_or-set_same work (a + (j - 1)) (withSize (cell work a (j - 1)) size) 0 (omega (arith, at-gather.long, ahead.low, ahead.high)) ∙
-          ap (λ (x : ℕ). withSize x size) place-before
+          get_or-set_same work (a + (j - 1)) (with_size (cell work a (j - 1)) size) 0 (omega (arith, at-gather.long, ahead.low, ahead.high)) ∙
+          ap (λ (x : ℕ). with_size x size) place-before
 
-      elsewhere : (l : ℕ) → 1 ≤ l → l ≢ j → columnPlace stored a l ≡ columnPlace work a l
-      elsewhere l b d = get_or-set_other work (a + (j - 1)) (a + (l - 1)) (withSize (cell work a (j - 1)) size) 0 (λ e. d (omega (arith, ahead.low)))
+      elsewhere : (l : ℕ) → 1 ≤ l → l ≢ j → column_place stored a l ≡ column_place work a l
+      elsewhere l b d = get_or-set_other work (a + (j - 1)) (a + (l - 1)) (with_size (cell work a (j - 1)) size) 0 (λ e. d (omega (arith, ahead.low)))
 
       -- a column of those done and j is j, or one done before
       split : (l : ℕ) → 1 ≤ times l (i.done ++ (j ∷ [])) → (l ≡ j) ⊎ ((l ≢ j) × (1 ≤ times l i.done))
@@ -123,15 +123,15 @@ module _ {heads next : List ℕ} {L L' : List FactorColumn} {label : ℕ → ℕ
       gathered-more : ColumnsGathered heads next (i.done ++ (j ∷ [])) a work₀ stored
       gathered-more =
           record {
-            only = only_store i.gathered.only (j - 1) (withSize (cell work a (j - 1)) size) (omega (arith, ahead.low, ahead.high));
+            only = only_store i.gathered.only (j - 1) (with_size (cell work a (j - 1)) size) (omega (arith, ahead.low, ahead.high));
             fresh = λ l h b. elim (split l h) [
-              | inl e ↦ subst (λ (x : ℕ). columnPlace work₀ a x < upperWeight → columnPlace stored a x ≡ columnPlace work₀ a x + upperWeight * (1 + storedSize heads next x)) (sym e)
-                  (λ q. here ∙ size-added (columnPlace work₀ a j) size q) b
+              | inl e ↦ subst (λ (x : ℕ). column_place work₀ a x < upper_weight → column_place stored a x ≡ column_place work₀ a x + upper_weight * (1 + stored_size heads next x)) (sym e)
+                  (λ q. here ∙ size-added (column_place work₀ a j) size q) b
               | inr t ↦ elsewhere l (done-low l t.1) t.0 ∙ i.gathered.fresh l t.1 b
             ];
             kept = λ l h b. elim (split l h) [
-              | inl e ↦ subst (λ (x : ℕ). IsGathered (columnPlace work₀ a x) → columnPlace stored a x ≡ columnPlace work₀ a x) (sym e)
-                  (λ q. here ∙ size-stays (columnPlace work₀ a j) size q) b
+              | inl e ↦ subst (λ (x : ℕ). IsGathered (column_place work₀ a x) → column_place stored a x ≡ column_place work₀ a x) (sym e)
+                  (λ q. here ∙ size-stays (column_place work₀ a j) size q) b
               | inr t ↦ elsewhere l (done-low l t.1) t.0 ∙ i.gathered.kept l t.1 b
             ];
             others = λ l b c z.
@@ -139,7 +139,7 @@ module _ {heads next : List ℕ} {L L' : List FactorColumn} {label : ℕ → ℕ
                 elsewhere l b d ∙ i.gathered.others l b c (omega (arith, times-append l i.done (j ∷ [])));
           }
 
-      pub gathering-turn : {v : ℕ} → v ≡ withSize (cell work a (j - 1)) (storedSize heads next j) →
+      pub gathering-turn : {v : ℕ} → v ≡ with_size (cell work a (j - 1)) (stored_size heads next j) →
           Gathering heads next L L' label columns a used work₀ (set work (a + (j - 1)) v) (cell work (next_at (length heads)) (j - 1))
       gathering-turn {v} e =
           record {

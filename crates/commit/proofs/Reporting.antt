@@ -11,25 +11,25 @@ use Rattle.lists.proofs.Rising.{rises-length}
 use Rattle.lists.proofs.Place.{over-push, over-length}
 use Rattle.symbolic.specs.Factor.{FactorColumn}
 use Rattle.workspace.specs.Regions.{cell}
-use Rattle.updown.specs.Plans.{labelIn}
-use Rattle.workspace.specs.Layout.{marksAt, next_at, plan_at}
-use Rattle.commit.specs.Report.{labelsFor, CanReport, Reported}
+use Rattle.updown.specs.Plans.{label_in}
+use Rattle.workspace.specs.Layout.{marks_at, next_at, plan_at}
+use Rattle.commit.specs.Report.{labels_for, CanReport, Reported}
 use Rattle.commit.proofs.Standing.{Standing, Ahead, standing-start, standing-next, standing-end}
 
 -- ---- labels
 
-labels-more : (f : ℕ → ℕ) (js : List ℕ) (j : ℕ) → labelsFor f (js ++ (j ∷ [])) ≡ labelsFor f js ++ (f j ∷ [])
-unfolding labelsFor
+labels-more : (f : ℕ → ℕ) (js : List ℕ) (j : ℕ) → labels_for f (js ++ (j ∷ [])) ≡ labels_for f js ++ (f j ∷ [])
+unfolding labels_for
 labels-more f [] j = refl
 labels-more f (x ∷ js) j = ap (λ (l : List ℕ). f x ∷ l) (labels-more f js j)
 
-labels_length : (f : ℕ → ℕ) (js : List ℕ) → length (labelsFor f js) ≡ length js
-unfolding labelsFor
+labels_length : (f : ℕ → ℕ) (js : List ℕ) → length (labels_for f js) ≡ length js
+unfolding labels_for
 labels_length f [] = refl
 labels_length f (x ∷ js) = ap suc (labels_length f js)
 
-labels-none : (f : ℕ → ℕ) → labelsFor f [] ≡ []
-unfolding labelsFor
+labels-none : (f : ℕ → ℕ) → labels_for f [] ≡ []
+unfolding labels_for
 labels-none f = refl
 
 -- ---- the invariant
@@ -73,7 +73,7 @@ module _ {m : ℕ} {L L' : List FactorColumn} {label : ℕ → ℕ} {columns wor
 
     pub reporting-labels : length labels ≡ length labels₀
     reporting-labels =
-        ap length i.reported.labels-is ∙ over-length (labelsFor label i.done) labels₀ (omega (arith, done-few, can.labels-long, labels_length label i.done))
+        ap length i.reported.labels-is ∙ over-length (labels_for label i.done) labels₀ (omega (arith, done-few, can.labels-long, labels_length label i.done))
 
     -- all is reported
     pub reporting-end : j ≡ 0 → Reported label columns touched₀ labels₀ touched labels
@@ -99,7 +99,7 @@ module _ {m : ℕ} {L L' : List FactorColumn} {label : ℕ → ℕ} {columns wor
           }
 
       pub reporting-turn :
-          Reporting m L L' label columns work used touched₀ labels₀ (set touched t j) (set labels t (labelIn (cell work (marksAt m) (j - 1))))
+          Reporting m L L' label columns work used touched₀ labels₀ (set touched t j) (set labels t (label_in (cell work (marks_at m) (j - 1))))
           (cell work (next_at m) (j - 1)) (t + 1)
       reporting-turn =
           let d : List ℕ = i.done in
@@ -113,9 +113,9 @@ module _ {m : ℕ} {L L' : List FactorColumn} {label : ℕ → ℕ} {columns wor
                   ap (λ (l : List ℕ). set l t j) i.reported.touched-is ∙
                   over-push d touched₀ t j (sym i.counted) (omega (arith, can.touched-long, ahead.few, i.counted));
               labels-is =
-                  ap (λ (l : List ℕ). set l t (labelIn (cell work (marksAt m) (j - 1)))) i.reported.labels-is ∙
-                  ap (λ (v : ℕ). set (over (labelsFor label d) labels₀) t v) ahead.plan.label_is ∙
-                  over-push (labelsFor label d) labels₀ t (label j) (labels_length label d ∙ sym i.counted) (omega (arith, can.labels-long, ahead.few, i.counted)) ∙
+                  ap (λ (l : List ℕ). set l t (label_in (cell work (marks_at m) (j - 1)))) i.reported.labels-is ∙
+                  ap (λ (v : ℕ). set (over (labels_for label d) labels₀) t v) ahead.plan.label_is ∙
+                  over-push (labels_for label d) labels₀ t (label j) (labels_length label d ∙ sym i.counted) (omega (arith, can.labels-long, ahead.few, i.counted)) ∙
                   sym (ap (λ (l : List ℕ). over l labels₀) (labels-more label d j));
             };
           }

@@ -12,7 +12,7 @@ use Rattle.lists.proofs.Tests.{eq-or-ne}
 use Rattle.lists.proofs.Place.{put-length, at-put-same, at-put-other}
 use Rattle.lists.proofs.Times.{times-nil, times-self, times-other, times-cons, mem-times}
 use Rattle.workspace.specs.Regions.{cell}
-use Rattle.workspace.specs.Layout.{marksAt, startsAt, next_at, plan_at}
+use Rattle.workspace.specs.Layout.{marks_at, starts_at, next_at, plan_at}
 use Rattle.commit.specs.Passes.{put_all, wiped}
 
 -- ---- values put at numbers
@@ -58,17 +58,17 @@ all-at f (j ∷ js) xs l low h =
 
 -- a place of one of the columns
 abbrev pub PlaceOf : (m : ℕ) (columns : List ℕ) (k : ℕ) → Type 0
-PlaceOf m js k = (j : ℕ) × (Mem j js × ((k ≡ marksAt m + (j - 1)) ⊎ ((k ≡ startsAt m + (j - 1)) ⊎ (k ≡ next_at m + (j - 1)))))
+PlaceOf m js k = (j : ℕ) × (Mem j js × ((k ≡ marks_at m + (j - 1)) ⊎ ((k ≡ starts_at m + (j - 1)) ⊎ (k ≡ next_at m + (j - 1)))))
 
 pub wiped-none : (m : ℕ) (w : List ℕ) → wiped m [] w ≡ w
 unfolding wiped
 wiped-none m w = refl
 
 pub wiped-more : (m : ℕ) (js : List ℕ) (j : ℕ) (w : List ℕ) →
-    wiped m (js ++ (j ∷ [])) w ≡ set (set (set (wiped m js w) (marksAt m + (j - 1)) 0) (startsAt m + (j - 1)) 0) (next_at m + (j - 1)) 0
+    wiped m (js ++ (j ∷ [])) w ≡ set (set (set (wiped m js w) (marks_at m + (j - 1)) 0) (starts_at m + (j - 1)) 0) (next_at m + (j - 1)) 0
 unfolding wiped
 wiped-more m [] j w = refl
-wiped-more m (x ∷ js) j w = wiped-more m js j (set (set (set w (marksAt m + (x - 1)) 0) (startsAt m + (x - 1)) 0) (next_at m + (x - 1)) 0)
+wiped-more m (x ∷ js) j w = wiped-more m js j (set (set (set w (marks_at m + (x - 1)) 0) (starts_at m + (x - 1)) 0) (next_at m + (x - 1)) 0)
 
 three-length : (w : List ℕ) (a b c : ℕ) → length (set (set (set w a 0) b 0) c 0) ≡ length w
 three-length w a b c = simp length-set
@@ -77,8 +77,8 @@ pub wiped-length : (m : ℕ) (js w : List ℕ) → length (wiped m js w) ≡ len
 unfolding wiped
 wiped-length m [] w = refl
 wiped-length m (x ∷ js) w =
-    wiped-length m js (set (set (set w (marksAt m + (x - 1)) 0) (startsAt m + (x - 1)) 0) (next_at m + (x - 1)) 0) ∙
-    three-length w (marksAt m + (x - 1)) (startsAt m + (x - 1)) (next_at m + (x - 1))
+    wiped-length m js (set (set (set w (marks_at m + (x - 1)) 0) (starts_at m + (x - 1)) 0) (next_at m + (x - 1)) 0) ∙
+    three-length w (marks_at m + (x - 1)) (starts_at m + (x - 1)) (next_at m + (x - 1))
 
 -- one store of zero: the place, or any other
 zero-or-same : (w : List ℕ) (a k : ℕ) → a < length w → ((k ≡ a) × (get_or (set w a 0) k 0 ≡ 0)) ⊎ ((k ≢ a) × (get_or (set w a 0) k 0 ≡ get_or w k 0))
@@ -107,14 +107,14 @@ three w a b c k p q r =
 
 -- one column more at the front
 module _ (m x : ℕ) (js w : List ℕ) (k : ℕ) where
-  away : (j : ℕ) → Mem j (x ∷ js) → (k ≡ marksAt m + (j - 1)) ⊎ ((k ≡ startsAt m + (j - 1)) ⊎ (k ≡ next_at m + (j - 1))) →
-      k ≢ marksAt m + (x - 1) → k ≢ startsAt m + (x - 1) → k ≢ next_at m + (x - 1) → (PlaceOf m js k → ⊥) → ⊥
+  away : (j : ℕ) → Mem j (x ∷ js) → (k ≡ marks_at m + (j - 1)) ⊎ ((k ≡ starts_at m + (j - 1)) ⊎ (k ≡ next_at m + (j - 1))) →
+      k ≢ marks_at m + (x - 1) → k ≢ starts_at m + (x - 1) → k ≢ next_at m + (x - 1) → (PlaceOf m js k → ⊥) → ⊥
   away j first (inl e) p q r n = p e
   away j first (inr (inl e)) p q r n = q e
   away j first (inr (inr e)) p q r n = r e
   away j (later h) o p q r n = n (j, (h, o))
 
-  three-cases : (v y : ℕ) → y ≡ v → (PlaceOf m js k → ⊥) → Three w (marksAt m + (x - 1)) (startsAt m + (x - 1)) (next_at m + (x - 1)) k v →
+  three-cases : (v y : ℕ) → y ≡ v → (PlaceOf m js k → ⊥) → Three w (marks_at m + (x - 1)) (starts_at m + (x - 1)) (next_at m + (x - 1)) k v →
       (PlaceOf m (x ∷ js) k × (y ≡ 0)) ⊎ ((PlaceOf m (x ∷ js) k → ⊥) × (y ≡ get_or w k 0))
   three-cases v y e n (wipes p z) = inl ((x, (first, p)), e ∙ z)
   three-cases v y e n (leaves p q r z) = inr (λ t. away t.0 t.1.0 t.1.1 p q r n, e ∙ z)
@@ -131,8 +131,8 @@ pub wiped-cases : (m : ℕ) (js w : List ℕ) (k : ℕ) → ((j : ℕ) → Mem j
 unfolding wiped
 wiped-cases m [] w k within long = inr (no_place m k, refl)
 wiped-cases m (x ∷ js) w k within long =
-    let a : ℕ = marksAt m + (x - 1) in
-    let b : ℕ = startsAt m + (x - 1) in
+    let a : ℕ = marks_at m + (x - 1) in
+    let b : ℕ = starts_at m + (x - 1) in
     let c : ℕ = next_at m + (x - 1) in
     let h : (1 ≤ x) × (x ≤ m) = within x first in
     elim (wiped-cases m js (set (set (set w a 0) b 0) c 0) k (λ j n. within j (later n)) (omega (arith, three-length w a b c))) [
@@ -148,20 +148,20 @@ module _ (m : ℕ) (js w : List ℕ) (within : (j : ℕ) → Mem j js → (1 ≤
   not-among j h e = omega (arith, mem-times h, ap (λ (x : ℕ). times x js) e)
 
   mark-off : (j : ℕ) → Mem j js →
-      (marksAt m + (l - 1) ≡ marksAt m + (j - 1)) ⊎ ((marksAt m + (l - 1) ≡ startsAt m + (j - 1)) ⊎ (marksAt m + (l - 1) ≡ next_at m + (j - 1))) → ⊥
+      (marks_at m + (l - 1) ≡ marks_at m + (j - 1)) ⊎ ((marks_at m + (l - 1) ≡ starts_at m + (j - 1)) ⊎ (marks_at m + (l - 1) ≡ next_at m + (j - 1))) → ⊥
   mark-off j h (inl e) = not-among j h (omega (arith, (within j h).0))
   mark-off j h (inr (inl e)) = omega arith
   mark-off j h (inr (inr e)) = omega arith
 
   next-off : (j : ℕ) → Mem j js →
-      (next_at m + (l - 1) ≡ marksAt m + (j - 1)) ⊎ ((next_at m + (l - 1) ≡ startsAt m + (j - 1)) ⊎ (next_at m + (l - 1) ≡ next_at m + (j - 1))) → ⊥
+      (next_at m + (l - 1) ≡ marks_at m + (j - 1)) ⊎ ((next_at m + (l - 1) ≡ starts_at m + (j - 1)) ⊎ (next_at m + (l - 1) ≡ next_at m + (j - 1))) → ⊥
   next-off j h (inl e) = omega (arith, (within j h).1)
   next-off j h (inr (inl e)) = omega (arith, (within j h).1)
   next-off j h (inr (inr e)) = not-among j h (omega (arith, (within j h).0))
 
-  pub wiped-mark : cell (wiped m js w) (marksAt m) (l - 1) ≡ cell w (marksAt m) (l - 1)
+  pub wiped-mark : cell (wiped m js w) (marks_at m) (l - 1) ≡ cell w (marks_at m) (l - 1)
   wiped-mark =
-      elim (wiped-cases m js w (marksAt m + (l - 1)) within long) [
+      elim (wiped-cases m js w (marks_at m + (l - 1)) within long) [
         | inl t ↦ absurd (mark-off t.0.0 t.0.1.0 t.0.1.1)
         | inr t ↦ t.1
       ]

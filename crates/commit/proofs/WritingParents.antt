@@ -10,7 +10,7 @@ use Rattle.lists.specs.Lists.{put}
 use Rattle.symbolic.specs.Factor.{FactorColumn, parent_of}
 use Rattle.workspace.specs.Regions.{cell}
 use Rattle.updown.specs.Plans.{parent_in}
-use Rattle.workspace.specs.Layout.{marksAt, startsAt, next_at, plan_at}
+use Rattle.workspace.specs.Layout.{marks_at, starts_at, next_at, plan_at}
 use Rattle.commit.specs.Passes.{put_all, CanWriteParents, ParentsWritten}
 use Rattle.commit.proofs.Standing.{Standing, Ahead, standing-start, standing-next, standing-end, standing-within}
 use Rattle.commit.proofs.Wiped.{all_none, all_more, all-length, wiped-none, wiped-more, wiped-length, wiped-mark, wiped-next}
@@ -59,9 +59,9 @@ module _ {L L' : List FactorColumn} {label : ℕ → ℕ} {columns parents₀ wo
       ahead : Ahead (length parents₀) L L' label work₀ columns used j i.done i.start
       ahead = standing-next can.rising i.standing n
 
-      mark-same : cell work (marksAt (length parents₀)) (j - 1) ≡ cell work₀ (marksAt (length parents₀)) (j - 1)
+      mark-same : cell work (marks_at (length parents₀)) (j - 1) ≡ cell work₀ (marks_at (length parents₀)) (j - 1)
       mark-same =
-          ap (λ (w : List ℕ). cell w (marksAt (length parents₀)) (j - 1)) i.written.work-is ∙
+          ap (λ (w : List ℕ). cell w (marks_at (length parents₀)) (j - 1)) i.written.work-is ∙
           wiped-mark (length parents₀) i.done work₀ (standing-within can.rising i.standing) can.long j ahead.low ahead.high ahead.fresh
 
       next-same : cell work (next_at (length parents₀)) (j - 1) ≡ cell work₀ (next_at (length parents₀)) (j - 1)
@@ -81,8 +81,8 @@ module _ {L L' : List FactorColumn} {label : ℕ → ℕ} {columns parents₀ wo
           }
 
       pub parents-turn :
-          WritingParents L L' label columns used parents₀ work₀ (put parents j (parent_in (cell work (marksAt (length parents₀)) (j - 1))))
-          (set (set (set work (marksAt (length parents₀) + (j - 1)) 0) (startsAt (length parents₀) + (j - 1)) 0) (next_at (length parents₀) + (j - 1)) 0)
+          WritingParents L L' label columns used parents₀ work₀ (put parents j (parent_in (cell work (marks_at (length parents₀)) (j - 1))))
+          (set (set (set work (marks_at (length parents₀) + (j - 1)) 0) (starts_at (length parents₀) + (j - 1)) 0) (next_at (length parents₀) + (j - 1)) 0)
           (cell work (next_at (length parents₀)) (j - 1))
       parents-turn =
           let d : List ℕ = i.done in
@@ -92,11 +92,11 @@ module _ {L L' : List FactorColumn} {label : ℕ → ℕ} {columns parents₀ wo
             standing = subst (λ (x : ℕ). Standing (length parents₀) L L' label work₀ columns used x (d ++ (j ∷ [])) ahead.end) (sym next-same) ahead.next;
             written = record {
               parents-are =
-                  ap (λ (l : List ℕ). put l j (parent_in (cell work (marksAt (length parents₀)) (j - 1)))) i.written.parents-are ∙
+                  ap (λ (l : List ℕ). put l j (parent_in (cell work (marks_at (length parents₀)) (j - 1)))) i.written.parents-are ∙
                   ap (λ (v : ℕ). put (put_all (parent_of L') d parents₀) j v) (ap (λ (v : ℕ). parent_in v) mark-same ∙ ahead.plan.parent_is) ∙
                   sym (all_more (parent_of L') d j parents₀);
               work-is =
-                  ap (λ (w : List ℕ). set (set (set w (marksAt (length parents₀) + (j - 1)) 0) (startsAt (length parents₀) + (j - 1)) 0) (next_at (length parents₀) + (j - 1)) 0) i.written.work-is ∙
+                  ap (λ (w : List ℕ). set (set (set w (marks_at (length parents₀) + (j - 1)) 0) (starts_at (length parents₀) + (j - 1)) 0) (next_at (length parents₀) + (j - 1)) 0) i.written.work-is ∙
                   sym (wiped-more (length parents₀) d j work₀);
             };
           }

@@ -7,19 +7,19 @@ use mathlib.Core.List.{List}
 use Prim.Native.Nat.{ℕ, ◌+◌, ◌-◌, ◌*◌, ◌≤◌, ◌<◌}
 use native.Mathlib.Omega.{arith}
 use lib.ListN.{length, get_or}
-use Rattle.lists.specs.Lists.{Mem, among, at, times, rises, valuesAt, allZero}
+use Rattle.lists.specs.Lists.{Mem, among, at, times, rises, values_at, all_zero}
 use Rattle.lists.proofs.Tests.{cases, and_both, both-and}
 use Rattle.lists.proofs.Member.{among-mem}
 use Rattle.lists.proofs.Times.{times-mem, mem-times, none-among}
 use Rattle.lists.proofs.Rising.{rises-in}
 use Rattle.symbolic.specs.Columns.{Column}
-use Rattle.symbolic.specs.Factor.{FactorColumn, factorOf, columnAt, parent_of}
+use Rattle.symbolic.specs.Factor.{FactorColumn, factor_of, column_at, parent_of}
 use Rattle.symbolic.proofs.Build.{laws}
 use Rattle.symbolic.proofs.Laws.{diagonal-in}
 use Rattle.workspace.specs.Regions.{cleared}
 use Rattle.workspace.proofs.Regions.{table-ext, place-cases, zero-at, cleared-length, cleared-zero, cleared-outside}
 use Rattle.pool.specs.Chains.{chain}
-use Rattle.tables.specs.Stored.{Stored, Sized, isSoundFor, storedOf}
+use Rattle.tables.specs.Stored.{Stored, Sized, is_sound_for, stored_of}
 use Rattle.tables.proofs.Stored as stored
 use Rattle.tables.proofs.Revised.{revised-sound}
 use Rattle.columns.specs.Commit.{Holds, Ready, ChainStays}
@@ -31,7 +31,7 @@ use Rattle.commit.specs.Passes.{put_all, wiped, CanCommitPlans, PlansCommitted, 
 use Rattle.commit.proofs.Wiped.{PlaceOf, all-length, all-other, all-at, wiped-length, wiped-cases}
 
 -- sound stored columns are ready for commits
-pub sound-ready : (cs : List Column) (s : Stored) → Sized s → isSoundFor cs s ≡ true → Ready s
+pub sound-ready : (cs : List Column) (s : Stored) → Sized s → is_sound_for cs s ≡ true → Ready s
 sound-ready cs s z h =
     let f : stored.SoundFor cs s = stored.sound-facts cs s h in record { sized = z; pool = f.pool; zero = both-and f.zero-rows f.zero-counts }
 
@@ -41,15 +41,15 @@ module _ {s : Stored} {cs ds : List Column} {label : ℕ → ℕ} {columns befor
   m = length s.heads
 
   abbrev L : List FactorColumn
-  L = factorOf m cs
+  L = factor_of m cs
 
   abbrev L' : List FactorColumn
-  L' = factorOf m ds
+  L' = factor_of m ds
 
-  held : (j : ℕ) → 1 ≤ j → j ≤ m → stored.Holds s j (columnAt L j)
+  held : (j : ℕ) → 1 ≤ j → j ≤ m → stored.Holds s j (column_at L j)
   held j a b = (stored.sound-facts cs s can.sound).column j a b
 
-  holds-before : (j : ℕ) → 1 ≤ j → j ≤ m → Holds s j (columnAt L j).counts
+  holds-before : (j : ℕ) → 1 ≤ j → j ≤ m → Holds s j (column_at L j).counts
   holds-before j a b = record { rows = (held j a b).rows; counts = (held j a b).counts }
 
   -- ---- what the passes ask
@@ -119,13 +119,13 @@ module _ {s : Stored} {cs ds : List Column} {label : ℕ → ℕ} {columns befor
 
   -- ---- the stored columns
 
-  module _ {rows counts next parents : List ℕ} {free : ℕ} (c : PlansCommitted s L' columns (storedOf s.heads s.parents rows counts next free))
+  module _ {rows counts next parents : List ℕ} {free : ℕ} (c : PlansCommitted s L' columns (stored_of s.heads s.parents rows counts next free))
       (p : parents ≡ put_all (parent_of L') columns s.parents) where
     abbrev after : Stored
-    after = storedOf s.heads parents rows counts next free
+    after = stored_of s.heads parents rows counts next free
 
     abbrev between : Stored
-    between = storedOf s.heads s.parents rows counts next free
+    between = stored_of s.heads s.parents rows counts next free
 
     parent_in : (j : ℕ) → 1 ≤ times j columns → at parents j ≡ parent_of L' j
     parent_in j h =
@@ -137,7 +137,7 @@ module _ {s : Stored} {cs ds : List Column} {label : ℕ → ℕ} {columns befor
     parent-off j a z =
         ap (λ (l : List ℕ). at l j) p ∙ all-other (parent_of L') columns s.parents j (λ x k. (within x (times-mem x columns k)).0) a z
 
-    column-after : (j : ℕ) → 1 ≤ j → j ≤ m → stored.Holds after j (columnAt L' j)
+    column-after : (j : ℕ) → 1 ≤ j → j ≤ m → stored.Holds after j (column_at L' j)
     column-after j a b =
         elim (cases (among j columns)) [
           | inl t ↦
@@ -145,7 +145,7 @@ module _ {s : Stored} {cs ds : List Column} {label : ℕ → ℕ} {columns befor
               record { rows = (c.holds j h).rows; counts = (c.holds j h).counts; parent = parent_in j h }
           | inr t ↦
               let z : times j columns ≡ 0 = none-among j columns t in
-              let h : Holds between j (columnAt L j).counts = stays-holds (c.others j a b z) (holds-before j a b) in
+              let h : Holds between j (column_at L j).counts = stays-holds (c.others j a b z) (holds-before j a b) in
               subst (λ (f : FactorColumn). stored.Holds after j f) (can.off j a b t)
               (record { rows = h.rows; counts = h.counts; parent = parent-off j a z ∙ (held j a b).parent })
         ]
@@ -153,8 +153,8 @@ module _ {s : Stored} {cs ds : List Column} {label : ℕ → ℕ} {columns befor
     pub written : {work' work'' : List ℕ} → ParentsWritten L' columns s.parents work parents work' → work'' ≡ cleared work' (plan_at m) used →
         PlanWritten s ds columns before after work''
     written {work'} {work''} r e =
-        let z : (allZero (valuesAt rows (chain next free)) ≡ true) × (allZero (valuesAt counts (chain next free)) ≡ true) =
-        and_both (allZero (valuesAt rows (chain next free))) (allZero (valuesAt counts (chain next free))) c.ready.zero in
+        let z : (all_zero (values_at rows (chain next free)) ≡ true) × (all_zero (values_at counts (chain next free)) ≡ true) =
+        and_both (all_zero (values_at rows (chain next free))) (all_zero (values_at counts (chain next free))) c.ready.zero in
         record {
           sized = record {
             parents-long = ap length p ∙ all-length (parent_of L') columns s.parents ∙ can.sized.parents-long;

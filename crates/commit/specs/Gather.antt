@@ -5,29 +5,29 @@ use Rattle.lists.specs.Lists.{pick, at, times, rises}
 use Rattle.symbolic.specs.Factor.{FactorColumn}
 use Rattle.workspace.specs.Regions.{cell, OnlyIn}
 use Rattle.workspace.specs.Layout.{spare}
-use Rattle.workspace.specs.Parts.{upperWeight}
+use Rattle.workspace.specs.Parts.{upper_weight}
 use Rattle.pool.specs.Chains.{chain, Linked}
 use Rattle.updown.specs.Plans.{first_of, PlansFrom}
 
 -- ---- a place
 
 -- the place of column j, of those from a on
-abbrev pub columnPlace : (work : List ℕ) → (a j : ℕ) → ℕ
-columnPlace w a j = cell w a (j - 1)
+abbrev pub column_place : (work : List ℕ) → (a j : ℕ) → ℕ
+column_place w a j = cell w a (j - 1)
 
 -- the place of a column that was gathered
 abbrev pub IsGathered : (place : ℕ) → Type 0
-IsGathered x = upperWeight ≤ x
+IsGathered x = upper_weight ≤ x
 
 -- a place with a size, unless it has one
-abbrev pub withSize : (place size : ℕ) → ℕ
-withSize x n = pick (ltb x upperWeight) (x + upperWeight * (1 + n)) x
+abbrev pub with_size : (place size : ℕ) → ℕ
+with_size x n = pick (ltb x upper_weight) (x + upper_weight * (1 + n)) x
 
 -- ---- what gathering asks and leaves
 
 -- the size of column j as it is stored
-abbrev pub storedSize : (heads next : List ℕ) → (j : ℕ) → ℕ
-storedSize hs ns j = length (chain ns (at hs j))
+abbrev pub stored_size : (heads next : List ℕ) → (j : ℕ) → ℕ
+stored_size hs ns j = length (chain ns (at hs j))
 
 -- a chain that can be counted
 pub record CanCount (next : List ℕ) (head : ℕ) : Type 0 where
@@ -56,7 +56,7 @@ pub record SomeGatherColumns (heads next work : List ℕ) (a first : ℕ) : Type
 -- the planned columns that were not gathered have their size; every other place is as it was
 pub record ColumnsGathered (heads next : List ℕ) (columns : List ℕ) (a : ℕ) (work work' : List ℕ) : Type 0 where
   pub only : OnlyIn a (length heads) work work'
-  pub fresh : (j : ℕ) → 1 ≤ times j columns → columnPlace work a j < upperWeight →
-      columnPlace work' a j ≡ columnPlace work a j + upperWeight * (1 + storedSize heads next j)
-  pub kept : (j : ℕ) → 1 ≤ times j columns → IsGathered (columnPlace work a j) → columnPlace work' a j ≡ columnPlace work a j
-  pub others : (j : ℕ) → 1 ≤ j → j ≤ length heads → times j columns ≡ 0 → columnPlace work' a j ≡ columnPlace work a j
+  pub fresh : (j : ℕ) → 1 ≤ times j columns → column_place work a j < upper_weight →
+      column_place work' a j ≡ column_place work a j + upper_weight * (1 + stored_size heads next j)
+  pub kept : (j : ℕ) → 1 ≤ times j columns → IsGathered (column_place work a j) → column_place work' a j ≡ column_place work a j
+  pub others : (j : ℕ) → 1 ≤ j → j ≤ length heads → times j columns ≡ 0 → column_place work' a j ≡ column_place work a j

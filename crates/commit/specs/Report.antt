@@ -6,9 +6,9 @@ use Rattle.workspace.specs.Layout.{plan_at}
 use Rattle.updown.specs.Plans.{first_of, PlansFrom}
 
 -- labels of some columns, in their order
-unfoldable pub labelsFor : (label : ℕ → ℕ) → (columns : List ℕ) → List ℕ
-labelsFor f [] = []
-labelsFor f (j ∷ js) = f j ∷ labelsFor f js
+unfoldable pub labels_for : (label : ℕ → ℕ) → (columns : List ℕ) → List ℕ
+labels_for f [] = []
+labels_for f (j ∷ js) = f j ∷ labels_for f js
 
 -- a plan from L to L' in the work table, and lists for touched columns and labels with a place for each column
 pub record CanReport (m : ℕ) (L L' : List FactorColumn) (label : ℕ → ℕ) (columns work touched labels : List ℕ) (first used : ℕ) : Type 0 where
@@ -32,4 +32,4 @@ pub record SomeReport (m : ℕ) (work touched labels : List ℕ) (first : ℕ) :
 -- the lists begin with the planned columns and their labels, and stay behind them
 pub record Reported (label : ℕ → ℕ) (columns touched labels touched' labels' : List ℕ) : Type 0 where
   pub touched-is : touched' ≡ over columns touched
-  pub labels-is : labels' ≡ over (labelsFor label columns) labels
+  pub labels-is : labels' ≡ over (labels_for label columns) labels

@@ -3,30 +3,30 @@
 use Rattle.std.specs.Prelude.{◌≡◌, true, false, List, ℕ, ◌≤◌, length}
 use Rattle.lists.specs.Lists.{among, rises}
 use Rattle.symbolic.specs.Columns.{Column}
-use Rattle.symbolic.specs.Factor.{factorOf, columnAt}
+use Rattle.symbolic.specs.Factor.{factor_of, column_at}
 use Rattle.workspace.specs.Regions.{IsZero}
 use Rattle.workspace.specs.Layout.{spare}
 use Rattle.pool.specs.Chains.{chain}
-use Rattle.tables.specs.Stored.{Stored, Sized, isSoundFor}
+use Rattle.tables.specs.Stored.{Stored, Sized, is_sound_for}
 use Rattle.tables.specs.Stays.{ColumnStays, EntriesKeep}
 use Rattle.updown.specs.Plans.{PlanIs}
-use Rattle.updown.specs.Entries.{planNeed}
+use Rattle.updown.specs.Entries.{plan_need}
 
 -- stored columns that are sound for cs, a plan in the work table that leads to ds, and free records enough
 pub record CanWrite (s : Stored) (cs ds : List Column) (label : ℕ → ℕ) (columns before work : List ℕ) (first count entries used : ℕ) : Type 0 where
   pub sized : Sized s
-  pub sound : isSoundFor cs s ≡ true
+  pub sound : is_sound_for cs s ≡ true
   pub m-bound : length s.heads ≤ 4096
   -- free records that the plan may take
   pub free : ℕ
   pub free-enough : free ≤ length (chain s.next s.free)
-  pub plan : PlanIs (length s.heads) (length s.next) free (factorOf (length s.heads) cs) (factorOf (length s.heads) ds) label columns before work first count entries used
+  pub plan : PlanIs (length s.heads) (length s.next) free (factor_of (length s.heads) cs) (factor_of (length s.heads) ds) label columns before work first count entries used
   -- the regions that planning uses, before it
   pub zero : IsZero before 0 (spare (length s.heads) (length s.next))
-  pub long : planNeed (length s.heads) (length s.next) ≤ length before
+  pub long : plan_need (length s.heads) (length s.next) ≤ length before
   pub rising : rises 1 (length s.heads) columns ≡ true
   pub off : (j : ℕ) → 1 ≤ j → j ≤ length s.heads → among j columns ≡ false →
-      columnAt (factorOf (length s.heads) cs) j ≡ columnAt (factorOf (length s.heads) ds) j
+      column_at (factor_of (length s.heads) cs) j ≡ column_at (factor_of (length s.heads) ds) j
 
 -- what a caller shows: that it can write from some columns to some others
 pub record SomeWrite (s : Stored) (work : List ℕ) (first used : ℕ) : Type 0 where
@@ -43,7 +43,7 @@ pub record SomeWrite (s : Stored) (work : List ℕ) (first used : ℕ) : Type 0 
 pub record PlanWritten (s : Stored) (ds : List Column) (columns before : List ℕ) (after : Stored) (work : List ℕ) : Type 0 where
   pub sized : Sized after
   pub heads : after.heads ≡ s.heads
-  pub sound : isSoundFor ds after ≡ true
+  pub sound : is_sound_for ds after ≡ true
   pub others : (j : ℕ) → 1 ≤ j → j ≤ length s.heads → among j columns ≡ false → ColumnStays s after j
   pub keep : (j : ℕ) → 1 ≤ j → j ≤ length s.heads → EntriesKeep s after j
   pub work-is : work ≡ before

@@ -5,11 +5,11 @@ ghost use Rattle.std.specs.Prelude.{◌≡◌, List, ℕ, ◌+◌, length};
 ghost use Rattle.symbolic.specs.Factor.{FactorColumn};
 ghost use Rattle.workspace.specs.Layout.{plan_at};
 ghost use Rattle.pool.specs.Chains.{chain};
-ghost use Rattle.tables.specs.Stored.{storedOf};
+ghost use Rattle.tables.specs.Stored.{stored_of};
 ghost use Rattle.commit.specs.Writes.{SomeWrite, WrittenAll};
 ghost use Rattle.commit.specs.Passes.{end_of, CanEnd, CanCommitPlans, SomeCommits, PlansCommitted, CanWriteParents, SomeParents, ParentsWritten};
 ghost use Rattle.commit.specs.Report.{CanReport, SomeReport, Reported};
-ghost use Rattle.commit.specs.Gather.{withSize, CanCount, CanGatherColumns, SomeGatherColumns, ColumnsGathered};
+ghost use Rattle.commit.specs.Gather.{with_size, CanCount, CanGatherColumns, SomeGatherColumns, ColumnsGathered};
 
 use book::Row;
 use pool::Rec;
@@ -43,7 +43,7 @@ fn commit_columns(
     free: Rec,
 ) -> Rec
     requires { SomeCommits heads.now rows.old counts.old next.old free.0 work.now first.0 used }
-    ensures { (ps : List ℕ) (L L' : List FactorColumn) (label : ℕ → ℕ) (columns : List ℕ) → CanCommitPlans (storedOf heads.now ps rows.old counts.old next.old free.0) L L' label columns work.now first.0 used → PlansCommitted (storedOf heads.now ps rows.old counts.old next.old free.0) L' columns (storedOf heads.now ps rows.new counts.new next.new result.0) }
+    ensures { (ps : List ℕ) (L L' : List FactorColumn) (label : ℕ → ℕ) (columns : List ℕ) → CanCommitPlans (stored_of heads.now ps rows.old counts.old next.old free.0) L L' label columns work.now first.0 used → PlansCommitted (stored_of heads.now ps rows.old counts.old next.old free.0) L' columns (stored_of heads.now ps rows.new counts.new next.new result.0) }
 {
     let m = heads.len();
     let mut j = first;
@@ -108,8 +108,8 @@ pub fn write_plan(
     used: u32,
     free: Rec,
 ) -> Rec
-    requires { SomeWrite (storedOf heads.now parents.old rows.old counts.old next.old free.0) work.old first.0 used }
-    ensures { WrittenAll (storedOf heads.now parents.old rows.old counts.old next.old free.0) work.old first.0 used (storedOf heads.now parents.new rows.new counts.new next.new result.0) work.new }
+    requires { SomeWrite (stored_of heads.now parents.old rows.old counts.old next.old free.0) work.old first.0 used }
+    ensures { WrittenAll (stored_of heads.now parents.old rows.old counts.old next.old free.0) work.old first.0 used (stored_of heads.now parents.new rows.new counts.new next.new result.0) work.new }
 {
     let z = commit_columns(heads, rows, counts, next, work, first, used, free);
     write_parents(parents, work, first);
@@ -120,7 +120,7 @@ pub fn write_plan(
 // A place with the size of the chain from head, unless it has one.
 fn with_size(next: &[u32], head: Rec, place: u32) -> u32
     requires { CanCount next.now head.0 }
-    ensures { result ≡ withSize place (length (chain next.now head.0)) }
+    ensures { result ≡ with_size place (length (chain next.now head.0)) }
 {
     if place >= UPPER_WEIGHT {
         return place;

@@ -9,7 +9,7 @@ use lib.ListN.{length, get_or, drop, length-take}
 use Rattle.lists.specs.Lists.{times}
 use Rattle.lists.proofs.Member.{place-mem}
 use Rattle.lists.proofs.Times.{mem-times}
-use Rattle.workspace.specs.Layout.{childHead, childNext, stashStart, rowStash}
+use Rattle.workspace.specs.Layout.{child_head, child_next, stash_start, row_stash}
 use Rattle.workspace.specs.Regions.{cell, region}
 use Rattle.workspace.proofs.Regions.{region-length, region-cell, region-ext}
 use Rattle.book.specs.Tally.{tallied, filled}
@@ -18,12 +18,12 @@ use Rattle.counting.specs.Counting.{CanTally}
 use Rattle.counting.specs.Given.{stashed, Stashed, CanTallyChildren}
 use Rattle.counting.proofs.Gathering.{CanGather, Gathering, gathering-length, gathering-past, gathering-few, gathering-room, gathering-in, gathering-listed}
 
-pub stashed-length : (w : List ℕ) (m f c : ℕ) → length (stashed w m f c) ≤ cell w (stashStart m) c - cell w (stashStart m) (c - 1) - 1
+pub stashed-length : (w : List ℕ) (m f c : ℕ) → length (stashed w m f c) ≤ cell w (stash_start m) c - cell w (stash_start m) (c - 1) - 1
 stashed-length w m f c =
-    omega (arith, length-take (cell w (stashStart m) c - cell w (stashStart m) (c - 1) - 1) (drop (rowStash m f + cell w (stashStart m) (c - 1) + 1) w))
+    omega (arith, length-take (cell w (stash_start m) c - cell w (stash_start m) (c - 1) - 1) (drop (row_stash m f + cell w (stash_start m) (c - 1) + 1) w))
 
 abbrev pub Children : (w₀ : List ℕ) → (m f j : ℕ) → (w : List ℕ) → (size c : ℕ) → Type 0
-Children w₀ m f j w size c = Gathering (childNext m) m (cell w₀ (childHead m) (j - 1)) (stashed w₀ m f) w₀ w size c
+Children w₀ m f j w size c = Gathering (child_next m) m (cell w₀ (child_head m) (j - 1)) (stashed w₀ m f) w₀ w size c
 
 -- what a turn reads and asks
 pub record ChildFacts (w₀ : List ℕ) (m f : ℕ) (w : List ℕ) (size c : ℕ) : Type 0 where
@@ -33,15 +33,15 @@ pub record ChildFacts (w₀ : List ℕ) (m f : ℕ) (w : List ℕ) (size c : ℕ
   pub long : 8 * m + 4 * f + 1024 ≤ length w
   pub m-bound : m ≤ 4096
   pub f-bound : f ≤ 1048576
-  pub start : get_or w (4 * m + (c - 1)) 0 ≡ cell w₀ (stashStart m) (c - 1)
-  pub end : get_or w (4 * m + c) 0 ≡ cell w₀ (stashStart m) c
+  pub start : get_or w (4 * m + (c - 1)) 0 ≡ cell w₀ (stash_start m) (c - 1)
+  pub end : get_or w (4 * m + c) 0 ≡ cell w₀ (stash_start m) c
   pub some : get_or w (4 * m + (c - 1)) 0 < get_or w (4 * m + c) 0
   pub short : get_or w (4 * m + c) 0 ≤ get_or w (4 * m + (c - 1)) 0 + m
   pub within : get_or w (4 * m + c) 0 ≤ f
   pub few : size ≤ 4096
 
 module _ {w₀ : List ℕ} {m f j : ℕ} (pre : CanTallyChildren w₀ m f j) where
-  pub children-gathers : CanGather m (childNext m) m 4096 (cell w₀ (childHead m) (j - 1)) (stashed w₀ m f) w₀
+  pub children-gathers : CanGather m (child_next m) m 4096 (cell w₀ (child_head m) (j - 1)) (stashed w₀ m f) w₀
   children-gathers =
       record {
         before = omega arith;
@@ -59,8 +59,8 @@ module _ {w₀ : List ℕ} {m f j : ℕ} (pre : CanTallyChildren w₀ m f j) whe
     children-facts =
         let p : Stashed w₀ m f c = piece in
         let s : (1 ≤ c) × (c ≤ m) = gathering-in children-gathers i more in
-        let a : get_or w (4 * m + (c - 1)) 0 ≡ cell w₀ (stashStart m) (c - 1) = gathering-past children-gathers i (4 * m + (c - 1)) (omega arith) in
-        let e : get_or w (4 * m + c) 0 ≡ cell w₀ (stashStart m) c = gathering-past children-gathers i (4 * m + c) (omega arith) in
+        let a : get_or w (4 * m + (c - 1)) 0 ≡ cell w₀ (stash_start m) (c - 1) = gathering-past children-gathers i (4 * m + (c - 1)) (omega arith) in
+        let e : get_or w (4 * m + c) 0 ≡ cell w₀ (stash_start m) c = gathering-past children-gathers i (4 * m + c) (omega arith) in
         record {
           low = s.0;
           high = s.1;
@@ -77,12 +77,12 @@ module _ {w₀ : List ℕ} {m f j : ℕ} (pre : CanTallyChildren w₀ m f j) whe
         }
 
     -- the rows from place a to e - 1 are the child's
-    module _ (a e : ℕ) (a-is : a ≡ rowStash m f + get_or w (4 * m + (c - 1)) 0 + 1) (e-is : e ≡ rowStash m f + get_or w (4 * m + c) 0) where
+    module _ (a e : ℕ) (a-is : a ≡ row_stash m f + get_or w (4 * m + (c - 1)) 0 + 1) (e-is : e ≡ row_stash m f + get_or w (4 * m + c) 0) where
       piece_is : region w a (e - a) ≡ stashed w₀ m f c
       piece_is =
           let t : ChildFacts w₀ m f w size c = children-facts in
-          let k : a ≡ rowStash m f + cell w₀ (stashStart m) (c - 1) + 1 = omega arith in
-          let n : e - a ≡ cell w₀ (stashStart m) c - cell w₀ (stashStart m) (c - 1) - 1 = omega arith in
+          let k : a ≡ row_stash m f + cell w₀ (stash_start m) (c - 1) + 1 = omega arith in
+          let n : e - a ≡ cell w₀ (stash_start m) c - cell w₀ (stash_start m) (c - 1) - 1 = omega arith in
           region-ext w₀ w a a (e - a) (omega arith) (omega arith) (λ x h. gathering-past children-gathers i (a + x) (omega arith)) ∙ rw (n, k) refl
 
       pub children-can : CanTally w a e

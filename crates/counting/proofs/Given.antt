@@ -10,14 +10,14 @@ use lib.Seq.{get_or-take}
 use Rattle.lists.specs.Lists.{at, put, times}
 use Rattle.lists.proofs.Tests.{eq-or-ne}
 use Rattle.lists.proofs.Times.{times-nil, times-other, UpTo, times-length}
-use Rattle.workspace.specs.Layout.{childHead, childNext, columnHead, stashStart, rowStash, columnNext}
+use Rattle.workspace.specs.Layout.{child_head, child_next, column_head, stash_start, row_stash, column_next}
 use Rattle.workspace.specs.Regions.{cell, region, IsZero, OnlyIn}
 use Rattle.workspace.proofs.Regions.{region-length, region-cell, region-ext, zero-at, only-trans}
 use Rattle.pool.proofs.Chains.{linked-short, linked-high}
-use Rattle.book.specs.Tally.{tallied, filled, bookRows}
+use Rattle.book.specs.Tally.{tallied, filled, booked_rows}
 use Rattle.book.proofs.Tally.{tallied-append, tallied-cell, filled-raise, filled-most, filled_zero}
 use Rattle.counting.specs.Counting.{gathered}
-use Rattle.counting.specs.Given.{Counted, Places, childrenIn, stashed, Stashed, CanTallyChildren, startingIn, CanTallyColumns, givenIn, CanTallyAll}
+use Rattle.counting.specs.Given.{Counted, Places, children_in, stashed, Stashed, CanTallyChildren, starting_in, CanTallyColumns, given_in, CanTallyAll}
 use Rattle.counting.proofs.Numbers.{gathered-ext, gathered-up, gathered-length}
 use Rattle.counting.proofs.Tallies.{tallied-front, tallied-only, tallied-raised}
 use Rattle.counting.proofs.Children.{stashed-length}
@@ -32,23 +32,23 @@ module _ (m f : ℕ) {w₀ w : List ℕ} (o : OnlyIn 0 m w₀ w) (long : 8 * m +
   keep-region a l p q = region-ext w₀ w a a l q (omega (arith, o.same_length)) (λ i h. keep-place (a + i) (omega arith))
 
   module _ (j : ℕ) (low : 1 ≤ j) (high : j ≤ m) where
-    pub keep-children : childrenIn w m j ≡ childrenIn w₀ m j
-    keep-children = rw (keep-region (childNext m) m (omega arith) (omega arith), keep-place (childHead m + (j - 1)) (omega arith)) refl
+    pub keep-children : children_in w m j ≡ children_in w₀ m j
+    keep-children = rw (keep-region (child_next m) m (omega arith) (omega arith), keep-place (child_head m + (j - 1)) (omega arith)) refl
 
-    pub keep-starting : (n c : ℕ) → columnNext m f c + n ≤ length w₀ → startingIn w m f n c j ≡ startingIn w₀ m f n c j
-    keep-starting n c h = rw (keep-region (columnNext m f c) n (omega arith) h, keep-place (columnHead m + (j - 1)) (omega arith)) refl
+    pub keep-starting : (n c : ℕ) → column_next m f c + n ≤ length w₀ → starting_in w m f n c j ≡ starting_in w₀ m f n c j
+    keep-starting n c h = rw (keep-region (column_next m f c) n (omega arith) h, keep-place (column_head m + (j - 1)) (omega arith)) refl
 
   module _ (c : ℕ) (in-m : c ≤ m) (s : Stashed w₀ m f c) where
-    keep-start : cell w (stashStart m) (c - 1) ≡ cell w₀ (stashStart m) (c - 1)
-    keep-start = keep-place (stashStart m + (c - 1)) (omega arith)
+    keep-start : cell w (stash_start m) (c - 1) ≡ cell w₀ (stash_start m) (c - 1)
+    keep-start = keep-place (stash_start m + (c - 1)) (omega arith)
 
-    keep-end : cell w (stashStart m) c ≡ cell w₀ (stashStart m) c
-    keep-end = keep-place (stashStart m + c) (omega arith)
+    keep-end : cell w (stash_start m) c ≡ cell w₀ (stash_start m) c
+    keep-end = keep-place (stash_start m + c) (omega arith)
 
     pub keep-stashed : stashed w m f c ≡ stashed w₀ m f c
     keep-stashed =
         rw (keep-start, keep-end)
-        (keep-region (rowStash m f + cell w₀ (stashStart m) (c - 1) + 1) (cell w₀ (stashStart m) c - cell w₀ (stashStart m) (c - 1) - 1)
+        (keep-region (row_stash m f + cell w₀ (stash_start m) (c - 1) + 1) (cell w₀ (stash_start m) c - cell w₀ (stash_start m) (c - 1) - 1)
         (omega arith) (omega (arith, s.some, s.within)))
 
     pub keep-piece : Stashed w m f c
@@ -81,10 +81,10 @@ module _ {hs rs ns w₀ : List ℕ} {m f j : ℕ} (pre : CanTallyAll hs rs ns w�
   after_one = set w₀ (j - 1) 1
 
   abbrev kids : List ℕ
-  kids = gathered (stashed w₀ m f) (childrenIn w₀ m j)
+  kids = gathered (stashed w₀ m f) (children_in w₀ m j)
 
   abbrev cols : List ℕ
-  cols = gathered (bookRows hs rs ns) (startingIn w₀ m f (length hs) (length ns) j)
+  cols = gathered (booked_rows hs rs ns) (starting_in w₀ m f (length hs) (length ns) j)
 
   one-is : after_one ≡ tallied w₀ (j ∷ [])
   unfolding tallied
@@ -110,24 +110,24 @@ module _ {hs rs ns w₀ : List ℕ} {m f j : ℕ} (pre : CanTallyAll hs rs ns w�
   one_only : OnlyIn 0 m w₀ after_one
   one_only = rw one-is (tallied-only m w₀ (j ∷ []) one_up)
 
-  child-in : (c : ℕ) → 1 ≤ times c (childrenIn w₀ m j) → c ≤ m
+  child-in : (c : ℕ) → 1 ≤ times c (children_in w₀ m j) → c ≤ m
   child-in c n =
       omega (
         arith,
-        linked-high (region w₀ (childNext m) m) (cell w₀ (childHead m) (j - 1)) (childrenIn w₀ m j) c pre.children n,
-        region-length w₀ (childNext m) m (omega (arith, pre.sizes.long)),
+        linked-high (region w₀ (child_next m) m) (cell w₀ (child_head m) (j - 1)) (children_in w₀ m j) c pre.children n,
+        region-length w₀ (child_next m) m (omega (arith, pre.sizes.long)),
       )
 
   kids-up : UpTo m kids
-  kids-up = gathered-up m (stashed w₀ m f) (childrenIn w₀ m j) (λ c n. (pre.stash c n).rows_in)
+  kids-up = gathered-up m (stashed w₀ m f) (children_in w₀ m j) (λ c n. (pre.stash c n).rows_in)
 
   kids-few : length kids ≤ 16777216
   kids-few =
       omega (
         arith,
-        gathered-length 4096 (stashed w₀ m f) (childrenIn w₀ m j) (λ c n. omega (arith, stashed-length w₀ m f c, (pre.stash c n).short, pre.sizes.m-bound)),
-        linked-short (region w₀ (childNext m) m) (cell w₀ (childHead m) (j - 1)) (childrenIn w₀ m j) pre.children,
-        region-length w₀ (childNext m) m (omega (arith, pre.sizes.long)),
+        gathered-length 4096 (stashed w₀ m f) (children_in w₀ m j) (λ c n. omega (arith, stashed-length w₀ m f c, (pre.stash c n).short, pre.sizes.m-bound)),
+        linked-short (region w₀ (child_next m) m) (cell w₀ (child_head m) (j - 1)) (children_in w₀ m j) pre.children,
+        region-length w₀ (child_next m) m (omega (arith, pre.sizes.long)),
         pre.sizes.m-bound,
       )
 
@@ -154,25 +154,25 @@ module _ {hs rs ns w₀ : List ℕ} {m f j : ℕ} (pre : CanTallyAll hs rs ns w�
   giving-children =
       let l : 8 * m + 4 * f + 1024 ≤ length w₀ = pre.sizes.long in
       let b : (1 ≤ j) × (j ≤ m) = (pre.sizes.low, pre.sizes.high) in
-      let k : childrenIn after_one m j ≡ childrenIn w₀ m j = keep-children m f one_only l j b.0 b.1 in
+      let k : children_in after_one m j ≡ children_in w₀ m j = keep-children m f one_only l j b.0 b.1 in
       record {
         sizes = sizes-at one_only;
         linked =
-            rw (k, keep-region m f one_only l (childNext m) m (omega arith) (omega arith), keep-place m f one_only l (childHead m + (j - 1)) (omega arith)) pre.children;
+            rw (k, keep-region m f one_only l (child_next m) m (omega arith) (omega arith), keep-place m f one_only l (child_head m + (j - 1)) (omega arith)) pre.children;
         each = λ c n.
-            let n₀ : 1 ≤ times c (childrenIn w₀ m j) = subst (λ (x : List ℕ). 1 ≤ times c x) k n in
+            let n₀ : 1 ≤ times c (children_in w₀ m j) = subst (λ (x : List ℕ). 1 ≤ times c x) k n in
             keep-piece m f one_only l c (child-in c n₀) (pre.stash c n₀);
         room = λ i h. omega (arith, one-counter i h);
       }
 
   -- the children's rows are those of the table as it was lent
-  kids-same : gathered (stashed after_one m f) (childrenIn after_one m j) ≡ kids
+  kids-same : gathered (stashed after_one m f) (children_in after_one m j) ≡ kids
   kids-same =
       let l : 8 * m + 4 * f + 1024 ≤ length w₀ = pre.sizes.long in
       ap (gathered (stashed after_one m f)) (keep-children m f one_only l j pre.sizes.low pre.sizes.high) ∙
-      gathered-ext (stashed after_one m f) (stashed w₀ m f) (childrenIn w₀ m j) (λ c n. keep-stashed m f one_only l c (child-in c n) (pre.stash c n))
+      gathered-ext (stashed after_one m f) (stashed w₀ m f) (children_in w₀ m j) (λ c n. keep-stashed m f one_only l c (child-in c n) (pre.stash c n))
 
-  module _ {w₂ : List ℕ} {r : ℕ} (d : Counted m after_one w₂ (gathered (stashed after_one m f) (childrenIn after_one m j)) r) where
+  module _ {w₂ : List ℕ} {r : ℕ} (d : Counted m after_one w₂ (gathered (stashed after_one m f) (children_in after_one m j)) r) where
     both-only : OnlyIn 0 m w₀ w₂
     both-only = only-trans one_only d.only
 
@@ -194,7 +194,7 @@ module _ {hs rs ns w₀ : List ℕ} {m f j : ℕ} (pre : CanTallyAll hs rs ns w�
     pub giving-first : r ≤ 4096
     giving-first = omega (arith, counted-few d, pre.sizes.m-bound)
 
-    starting-same : startingIn w₂ m f (length hs) (length ns) j ≡ startingIn w₀ m f (length hs) (length ns) j
+    starting-same : starting_in w₂ m f (length hs) (length ns) j ≡ starting_in w₀ m f (length hs) (length ns) j
     starting-same = keep-starting m f both-only pre.sizes.long j pre.sizes.low pre.sizes.high (length hs) (length ns) pre.table-long
 
     pub giving-columns : CanTallyColumns hs rs ns w₂ m f j
@@ -209,17 +209,17 @@ module _ {hs rs ns w₀ : List ℕ} {m f j : ℕ} (pre : CanTallyAll hs rs ns w�
           linked =
               rw (
                 starting-same,
-                keep-region m f both-only l (columnNext m f (length ns)) (length hs) (omega arith) pre.table-long,
-                keep-place m f both-only l (columnHead m + (j - 1)) (omega arith),
+                keep-region m f both-only l (column_next m f (length ns)) (length hs) (omega arith) pre.table-long,
+                keep-place m f both-only l (column_head m + (j - 1)) (omega arith),
               ) pre.starting;
           each = λ i n. pre.copied i (subst (λ (x : List ℕ). 1 ≤ times i x) starting-same n);
           rows_in = λ i n. pre.rows_in i (subst (λ (x : List ℕ). 1 ≤ times i x) starting-same n);
           room = λ i h. omega (arith, two-counter i h);
         }
 
-    module _ {w₃ : List ℕ} {q : ℕ} (e : Counted m w₂ w₃ (gathered (bookRows hs rs ns) (startingIn w₂ m f (length hs) (length ns) j)) q) where
-      cols-same : gathered (bookRows hs rs ns) (startingIn w₂ m f (length hs) (length ns) j) ≡ cols
-      cols-same = ap (gathered (bookRows hs rs ns)) starting-same
+    module _ {w₃ : List ℕ} {q : ℕ} (e : Counted m w₂ w₃ (gathered (booked_rows hs rs ns) (starting_in w₂ m f (length hs) (length ns) j)) q) where
+      cols-same : gathered (booked_rows hs rs ns) (starting_in w₂ m f (length hs) (length ns) j) ≡ cols
+      cols-same = ap (gathered (booked_rows hs rs ns)) starting-same
 
       pub giving-second : q ≤ 4096
       giving-second = omega (arith, counted-few e, pre.sizes.m-bound)
@@ -227,7 +227,7 @@ module _ {hs rs ns w₀ : List ℕ} {m f j : ℕ} (pre : CanTallyAll hs rs ns w�
       pub giving-length : length w₃ ≡ length w₀
       giving-length = e.only.same_length ∙ both-only.same_length
 
-      pub giving-end : Counted m w₀ w₃ (givenIn hs rs ns w₀ m f j) (1 + r + q)
+      pub giving-end : Counted m w₀ w₃ (given_in hs rs ns w₀ m f j) (1 + r + q)
       unfolding tallied
       giving-end =
           record {

@@ -14,7 +14,7 @@ use Rattle.lists.proofs.Tests.{eq-or-ne}
 use Rattle.workspace.specs.Regions.{cell, region, Outside, IsZero}
 use Rattle.workspace.proofs.Regions.{region-length, region-cell, store-region, store-leaves-region}
 use Rattle.book.specs.Book.{tables_of}
-use Rattle.counting.specs.Counting.{linkedIn, CanLink, ListedIn, OnlyTwo, start_at, CanStart, StartsInside, CanList, Listed}
+use Rattle.counting.specs.Counting.{linked_in, CanLink, ListedIn, OnlyTwo, start_at, CanStart, StartsInside, CanList, Listed}
 use Rattle.counting.proofs.Numbers.{Lists, lists-start, lists-skip, lists-more}
 
 -- ---- the table as two lists
@@ -40,7 +40,7 @@ two-trans o p = record { same_length = p.same_length ∙ o.same_length; outside 
 outside-not : (a n i k : ℕ) → i < n → Outside a n k → k ≢ a + i
 outside-not a n i k h s e = elim s [ inl p ↦ omega arith | inr p ↦ omega arith ]
 
-pub link-only : (w : List ℕ) (a m b l v i : ℕ) → 1 ≤ i → i ≤ l → v ≤ m → OnlyTwo a m b l w (linkedIn w a b v i)
+pub link-only : (w : List ℕ) (a m b l v i : ℕ) → 1 ≤ i → i ≤ l → v ≤ m → OnlyTwo a m b l w (linked_in w a b v i)
 link-only w a m b l v i p q r =
     elim (eq-or-ne v 0) [
       | inl e ↦ rw (eq-eqb v 0 e) two-refl
@@ -53,7 +53,7 @@ link-only w a m b l v i p q r =
     ]
 
 pub link-listed : (w : List ℕ) (a m b l : ℕ) (f : ℕ → ℕ) (k v i : ℕ) → a + m ≤ b → b + l ≤ length w → i ≡ suc k → i ≤ l → f i ≡ v → v ≤ m → ListedIn w a m b l f k →
-    ListedIn (linkedIn w a b v i) a m b l f i
+    ListedIn (linked_in w a b v i) a m b l f i
 link-listed w a m b l f k v i apart long e room value high h =
     elim (eq-or-ne v 0) [
       | inl z ↦
@@ -117,7 +117,7 @@ module _ {heads rows windows w₀ : List ℕ} {minute a m b : ℕ} (pre : CanLis
           next-in = omega (arith, pre.long, s.only.same_length);
         }
 
-    pub linking-next : (v : ℕ) {x : List ℕ} → i < length heads → StartsInside heads rows windows minute (i + 1) v → x ≡ linkedIn w a b v (i + 1) →
+    pub linking-next : (v : ℕ) {x : List ℕ} → i < length heads → StartsInside heads rows windows minute (i + 1) v → x ≡ linked_in w a b v (i + 1) →
         Linking heads rows windows w₀ minute a m b x (i + 1)
     linking-next v h e y =
         let q : v ≤ m = omega (arith, e pre.next pre.sized, pre.rows_in (i + 1) (omega arith) (omega arith)) in

@@ -5,20 +5,20 @@ use mathlib.Core.List.{List}
 use Prim.Native.Nat.{ℕ, ◌+◌, ◌-◌, ◌≤◌}
 use native.Mathlib.Omega.{arith}
 use lib.ListN.{length}
-use Rattle.workspace.specs.Layout.{columnHead, columnNext}
+use Rattle.workspace.specs.Layout.{column_head, column_next}
 use Rattle.workspace.specs.Regions.{cell}
-use Rattle.book.specs.Tally.{bookRows, CanCount}
+use Rattle.book.specs.Tally.{booked_rows, CanCount}
 use Rattle.counting.specs.Given.{CanTallyColumns}
 use Rattle.counting.proofs.Gathering.{CanGather, Gathering, gathering-length, gathering-few, gathering-room, gathering-in, gathering-listed}
 
 abbrev pub Starting : (hs rs ns w₀ : List ℕ) → (m f j : ℕ) → (w : List ℕ) → (size i : ℕ) → Type 0
-Starting hs rs ns w₀ m f j w size i = Gathering (columnNext m f (length ns)) (length hs) (cell w₀ (columnHead m) (j - 1)) (bookRows hs rs ns) w₀ w size i
+Starting hs rs ns w₀ m f j w size i = Gathering (column_next m f (length ns)) (length hs) (cell w₀ (column_head m) (j - 1)) (booked_rows hs rs ns) w₀ w size i
 
 -- what a turn reads and asks
 pub record IdFacts (hs ns : List ℕ) (m f : ℕ) (w : List ℕ) (size i : ℕ) : Type 0 where
   pub low : 1 ≤ i
   pub high : i ≤ length hs
-  pub long : columnNext m f (length ns) + length hs ≤ length w
+  pub long : column_next m f (length ns) + length hs ≤ length w
   pub m-bound : m ≤ 4096
   pub f-bound : f ≤ 1048576
   pub n-bound : length hs ≤ 200000
@@ -26,7 +26,7 @@ pub record IdFacts (hs ns : List ℕ) (m f : ℕ) (w : List ℕ) (size i : ℕ) 
   pub few : size ≤ 4096
 
 module _ {hs rs ns w₀ : List ℕ} {m f j : ℕ} (pre : CanTallyColumns hs rs ns w₀ m f j) where
-  pub starting-gathers : CanGather m (columnNext m f (length ns)) (length hs) 256 (cell w₀ (columnHead m) (j - 1)) (bookRows hs rs ns) w₀
+  pub starting-gathers : CanGather m (column_next m f (length ns)) (length hs) 256 (cell w₀ (column_head m) (j - 1)) (booked_rows hs rs ns) w₀
   starting-gathers =
       record { before = omega arith; long = pre.table-long; linked = pre.linked; rows_in = pre.rows_in; short = λ i n. (pre.each i n).fits }
 

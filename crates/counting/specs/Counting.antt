@@ -5,9 +5,9 @@ use Rattle.lists.specs.Lists.{pick, at, sum_of}
 use Rattle.workspace.specs.Regions.{cell, region, Outside, IsZero}
 use Rattle.pool.specs.Chains.{Linked}
 use Rattle.symbolic.specs.Columns.{smallest}
-use Rattle.book.specs.Book.{Book, tables_of, columnFor}
+use Rattle.book.specs.Book.{Book, tables_of, column_for}
 use Rattle.book.specs.Entries.{HasHead}
-use Rattle.windows.specs.Windows.{countsAt}
+use Rattle.windows.specs.Windows.{counts_at}
 
 -- ---- numbers by a value
 
@@ -28,8 +28,8 @@ total ns = sum_of (λ (n : ℕ). n) ns
 -- ---- lists in the work table: heads from place a on, nexts from place b on
 
 -- number i at the front of the list of v; value 0 has no list
-abbrev pub linkedIn : (work : List ℕ) → (a b v i : ℕ) → List ℕ
-linkedIn w a b v i = pick (eqb v 0) w (set (set w (b + (i - 1)) (cell w a (v - 1))) (a + (v - 1)) i)
+abbrev pub linked_in : (work : List ℕ) → (a b v i : ℕ) → List ℕ
+linked_in w a b v i = pick (eqb v 0) w (set (set w (b + (i - 1)) (cell w a (v - 1))) (a + (v - 1)) i)
 
 -- the work table has a place for the head of v's list and one for the next of number i
 pub record CanLink (work : List ℕ) (a b v i : ℕ) : Type 0 where
@@ -48,11 +48,11 @@ pub record OnlyTwo (a n b l : ℕ) (before after : List ℕ) : Type 0 where
 
 -- where the column under an id starts: its smallest row, 0 where it has none
 abbrev pub start_in : Book → (id : ℕ) → ℕ
-start_in b i = smallest (columnFor b i)
+start_in b i = smallest (column_for b i)
 
 -- where it starts at a minute: nowhere, row 0, if it is outside its window
 abbrev pub start_at : Book → (windows : List ℕ) → (minute id : ℕ) → ℕ
-start_at b w t i = pick (countsAt w (length b.heads) t i) (start_in b i) 0
+start_at b w t i = pick (counts_at w (length b.heads) t i) (start_in b i) 0
 
 -- an id whose head is read, and two minutes for each id
 pub record CanStart (heads rows windows : List ℕ) (id : ℕ) : Type 0 where

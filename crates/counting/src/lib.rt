@@ -3,9 +3,9 @@
 // each function that counts gives how many of them left 0, so that its caller knows the length of the column's chain before it walks it.
 ghost use Rattle.std.specs.Prelude.{◌≡◌, ◌+◌, ◌-◌, ◌*◌, ◌<◌, length};
 ghost use Rattle.workspace.specs.Regions.{region};
-ghost use Rattle.book.specs.Tally.{tallied, filled, bookRows};
+ghost use Rattle.book.specs.Tally.{tallied, filled, booked_rows};
 ghost use Rattle.counting.specs.Counting.{
-  linkedIn,
+  linked_in,
   CanLink,
   CanStart,
   StartsInside,
@@ -16,12 +16,12 @@ ghost use Rattle.counting.specs.Counting.{
 };
 ghost use Rattle.counting.specs.Given.{
   Counted,
-  childrenIn,
+  children_in,
   stashed,
   CanTallyChildren,
-  startingIn,
+  starting_in,
   CanTallyColumns,
-  givenIn,
+  given_in,
   CanTallyAll,
 };
 
@@ -30,7 +30,7 @@ use book::{Id, Row};
 // Puts number i, an id or a column, at the front of the list of row v, heads from place a on and nexts from place b on; row 0 has no list.
 pub fn link(work: &mut [u32], a: usize, b: usize, row: Row, i: u32)
     requires { CanLink work.old a b row.0 i }
-    ensures { work.new ≡ linkedIn work.old a b row.0 i }
+    ensures { work.new ≡ linked_in work.old a b row.0 i }
 {
     let v = row.0;
     if v == 0 {
@@ -100,7 +100,7 @@ fn tally(work: &mut [u32], a: usize, e: usize) -> u32
 // Counts the rows of each child of column j but the child's first, out of the stash. Gives how many counters left 0.
 fn tally_children(work: &mut [u32], m: usize, f: usize, j: Row) -> u32
     requires { CanTallyChildren work.old m f j.0 }
-    ensures { Counted m work.old work.new (gathered (stashed work.old m f) (childrenIn work.old m j.0)) result }
+    ensures { Counted m work.old work.new (gathered (stashed work.old m f) (children_in work.old m j.0)) result }
 {
     let column = j.0;
     let stash = 8 * m + f;
@@ -128,7 +128,7 @@ fn tally_columns(
     j: Row,
 ) -> u32
     requires { CanTallyColumns book_heads.now book_rows.now book_next.now work.old m f j.0 }
-    ensures { Counted m work.old work.new (gathered (bookRows book_heads.now book_rows.now book_next.now) (startingIn work.old m f (length book_heads.now) (length book_next.now) j.0)) result }
+    ensures { Counted m work.old work.new (gathered (booked_rows book_heads.now book_rows.now book_next.now) (starting_in work.old m f (length book_heads.now) (length book_next.now) j.0)) result }
 {
     let column = j.0;
     let nexts = 8 * m + 4 * f + 1024 + book_next.len();
@@ -154,7 +154,7 @@ pub fn tally_all(
     j: Row,
 ) -> u32
     requires { CanTallyAll book_heads.now book_rows.now book_next.now work.old m f j.0 }
-    ensures { Counted m work.old work.new (givenIn book_heads.now book_rows.now book_next.now work.old m f j.0) result }
+    ensures { Counted m work.old work.new (given_in book_heads.now book_rows.now book_next.now work.old m f j.0) result }
 {
     let column = j.0;
     work[(column - 1) as usize] = 1;

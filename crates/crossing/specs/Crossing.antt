@@ -16,26 +16,26 @@ use Rattle.crossing.specs.declared.Read.{Read}
 -- ---- openings
 
 -- a record of zeros
-abbrev pub noFactor : Factor
-noFactor = record { m = 0; n = 0; f = 0; c = 0; free = 0; book_free = 0; grade2 = 0; grade3 = 0; grade4 = 0; clock = 0 }
+abbrev pub no_factor : Factor
+no_factor = record { m = 0; n = 0; f = 0; c = 0; free = 0; book_free = 0; grade2 = 0; grade3 = 0; grade4 = 0; clock = 0 }
 
 -- the struct of an answer: accepted, number 0 and the record; refused, the number and a record of zeros
-abbrev pub openedFrom : Opening → Opened
-openedFrom (accepted x) = record { number = 0; factor = x }
-openedFrom (refused n) = record { number = n; factor = noFactor }
+abbrev pub opened_from : Opening → Opened
+opened_from (accepted x) = record { number = 0; factor = x }
+opened_from (refused n) = record { number = n; factor = no_factor }
 
 -- the answer that a struct stands for: number 0 says accepted
-abbrev pub openingOf : Opened → Opening
-openingOf x = pick (eqb x.number 0) (accepted x.factor) (refused x.number)
+abbrev pub opening_of : Opened → Opening
+opening_of x = pick (eqb x.number 0) (accepted x.factor) (refused x.number)
 
 -- OPEN: the struct stands for an answer of the entry, and has zeros where it says nothing
 pub record OpenedStep (asked : Sizes) (limits : Limits) (t : Tables) (work : List ℕ) (r : Opened) (t' : Tables) (work' : List ℕ) : Type 0 where
-  pub step : OpenStep asked limits t work (openingOf r) t' work'
-  pub plain : r ≡ openedFrom (openingOf r)
+  pub step : OpenStep asked limits t work (opening_of r) t' work'
+  pub plain : r ≡ opened_from (opening_of r)
 
 -- ---- readings
 
 -- the struct of a reading: row, multiplicity and the record after it; the end is row 0
-abbrev pub readFrom : Entry → Read
-readFrom (Of row count r) = record { row = row; multiplicity = count; next = r.0 }
-readFrom End = record { row = 0; multiplicity = 0; next = 0 }
+abbrev pub read_from : Entry → Read
+read_from (Of row count r) = record { row = row; multiplicity = count; next = r.0 }
+read_from End = record { row = 0; multiplicity = 0; next = 0 }

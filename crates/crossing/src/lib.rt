@@ -1,6 +1,6 @@
 // What an answer that is an enum becomes as it crosses to a host: an opening's answer and a reading, each as a struct of numbers that stands for just that answer.
 ghost use Rattle.std.specs.Prelude.{◌≡◌};
-ghost use Rattle.crossing.specs.Crossing.{openedFrom, readFrom};
+ghost use Rattle.crossing.specs.Crossing.{opened_from, read_from};
 
 use factor::{Factor, Opening};
 use reader::Entry;
@@ -24,7 +24,7 @@ pub struct Read {
 
 // An opening's answer as a struct.
 pub fn opened_from(x: Opening) -> Opened
-    ensures { result ≡ openedFrom x }
+    ensures { result ≡ opened_from x }
 {
     match x {
         Opening::Opened(factor) => Opened { number: 0, factor },
@@ -48,7 +48,7 @@ pub fn opened_from(x: Opening) -> Opened
 
 // A reading as a struct.
 pub fn read_from(x: Entry) -> Read
-    ensures { result ≡ readFrom x }
+    ensures { result ≡ read_from x }
 {
     match x {
         Entry::Of { row, count, after } => Read {

@@ -18,8 +18,8 @@ use Rattle.lists.proofs.Times.{times-nil, times-append, times-self, times-other,
 use Rattle.lists.proofs.Rising.{rises-in}
 use Rattle.workspace.specs.Regions.{cell, region, OnlyIn}
 use Rattle.workspace.proofs.Regions.{only-refl, only_store, region-next, region-join, zero-at, store-push, store-leaves-region}
-use Rattle.differences.specs.Tally.{shifted, differenceAt, counted}
-use Rattle.differences.specs.Count.{CanCount, bumpedTo, Bumped}
+use Rattle.differences.specs.Tally.{shifted, difference_at, counted}
+use Rattle.differences.specs.Count.{CanCount, bumped_to, Bumped}
 use Rattle.differences.proofs.Rows.{Front, rises-front, rises-nil, rises-cons, rises-within, rises-join, rises-once, among-nil, among-last, among-before, only-member}
 use Rattle.differences.proofs.Parts.{region-front}
 
@@ -35,7 +35,7 @@ counted-still true d e m p c i a b h = omega (arith, c i a b, ap one h)
 counted-still false d e m p c i a b h = omega (arith, c i a b, ap one h)
 
 -- one row more
-counted-more : (up : Bool) (d e e' : ℕ → ℕ) (m : ℕ) (p p' : ℕ → Bool) (r : ℕ) → counted up d e m p → 2 ≤ d r → e r ≡ d r → e' r ≡ bumpedTo up (e r) → p' r ≡ true →
+counted-more : (up : Bool) (d e e' : ℕ → ℕ) (m : ℕ) (p p' : ℕ → Bool) (r : ℕ) → counted up d e m p → 2 ≤ d r → e r ≡ d r → e' r ≡ bumped_to up (e r) → p' r ≡ true →
     ((i : ℕ) → 1 ≤ i → i ≤ m → i ≢ r → e' i ≡ e i) → ((i : ℕ) → i ≢ r → p' i ≡ p i) → counted up d e' m p'
 counted-more true d e e' m p p' r c two same new here others tests =
     λ i a b. elim (eq-or-ne i r) [
@@ -53,7 +53,7 @@ pub counted_same : (up : Bool) (d e e' : ℕ → ℕ) (m : ℕ) (p : ℕ → Boo
 counted_same true d e e' m p c h = λ i a b. omega (arith, c i a b, h i a b)
 counted_same false d e e' m p c h = λ i a b. omega (arith, c i a b, h i a b)
 
-bumped-pos : (up : Bool) (d : ℕ) → 2 ≤ d → 1 ≤ bumpedTo up d
+bumped-pos : (up : Bool) (d : ℕ) → 2 ≤ d → 1 ≤ bumped_to up d
 bumped-pos true d h = omega arith
 bumped-pos false d h = omega arith
 
@@ -85,7 +85,7 @@ pub record Bumping (m : ℕ) (w₀ : List ℕ) (n k : ℕ) (up : Bool) (w : List
   pub front : rises 1 last (region w (2 * m) f) ≡ true
   pub to-come : rises (suc last) m (region w₀ (2 * m + i) (k - i)) ≡ true
   pub done : (r : ℕ) → Mem r (region w₀ (2 * m) i) → r ≤ last
-  pub counted-rows : counted up (differenceAt w₀) (differenceAt w) m (λ r. among r (region w₀ (2 * m) i))
+  pub counted-rows : counted up (difference_at w₀) (difference_at w) m (λ r. among r (region w₀ (2 * m) i))
   pub fresh : (r : ℕ) → 1 ≤ r → r ≤ m → times r (region w₀ m n) + times r (region w (2 * m) f) ≡ one (not (eqb (at w r) 0))
 
 module _ {m : ℕ} {w₀ : List ℕ} {n k : ℕ} (up : Bool) (can : CanCount m w₀ n k) where
@@ -104,7 +104,7 @@ module _ {m : ℕ} {w₀ : List ℕ} {n k : ℕ} (up : Bool) (can : CanCount m w
         front = rises-nil 1 0;
         to-come = let a : 2 * m + 0 ≡ 2 * m = omega arith in let b : k - 0 ≡ k = omega arith in rw (a, b) can.buffered.rising;
         done = λ r n. elim n [ ];
-        counted-rows = counted_none up (differenceAt w₀) m (λ r. among r []) (λ r. among-nil r);
+        counted-rows = counted_none up (difference_at w₀) m (λ r. among r []) (λ r. among-nil r);
         fresh = λ r a b. elim (eq-or-ne (at w₀ r) 0) [
           | inl z ↦ omega (arith, touched_none (at w₀ r) z, times-nil r, none-among r (region w₀ m n) (refute (among r (region w₀ m n)) (λ t. (can.touched.listed r a b).0 t z)))
           | inr z ↦ omega (
@@ -147,8 +147,8 @@ module _ {m : ℕ} {w₀ : List ℕ} {n k : ℕ} (up : Bool) (can : CanCount m w
       not_done : among row (region w₀ (2 * m) i) ≡ false
       not_done = refute (among row (region w₀ (2 * m) i)) (λ t. omega (arith, head.low, g.done row (among-mem row (region w₀ (2 * m) i) t)))
 
-      same_here : differenceAt w row ≡ differenceAt w₀ row
-      same_here = counted-still up (differenceAt w₀) (differenceAt w) m (λ r. among r (region w₀ (2 * m) i)) g.counted-rows row row_low row-high not_done
+      same_here : difference_at w row ≡ difference_at w₀ row
+      same_here = counted-still up (difference_at w₀) (difference_at w) m (λ r. among r (region w₀ (2 * m) i)) g.counted-rows row row_low row-high not_done
 
       in_buffer : Mem row (region w₀ (2 * m) k)
       in_buffer =
@@ -156,16 +156,16 @@ module _ {m : ℕ} {w₀ : List ℕ} {n k : ℕ} (up : Bool) (can : CanCount m w
           subst (λ (xs : List ℕ). Mem row xs) (sym (ap (region w₀ (2 * m)) e ∙ region-join w₀ (2 * m) i (k - i)))
           (mem-right (region w₀ (2 * m) i) (subst (λ (xs : List ℕ). Mem row xs) (sym come-is) first))
 
-      pub bumping-range : (2 ≤ differenceAt w row) × (differenceAt w row < 2147483647)
+      pub bumping-range : (2 ≤ difference_at w row) × (difference_at w row < 2147483647)
       bumping-range =
-          let t : (2 ≤ differenceAt w₀ row) × (differenceAt w₀ row < 2147483647) = can.ranges row (mem-among in_buffer) in
+          let t : (2 ≤ difference_at w₀ row) × (difference_at w₀ row < 2147483647) = can.ranges row (mem-among in_buffer) in
           (omega (arith, t.0, same_here), omega (arith, t.1, same_here))
 
       abbrev value : ℕ
-      value = bumpedTo up (differenceAt w row)
+      value = bumped_to up (difference_at w row)
 
       value_pos : 1 ≤ value
-      value_pos = bumped-pos up (differenceAt w row) bumping-range.0
+      value_pos = bumped-pos up (difference_at w row) bumping-range.0
 
       rows_next : region w₀ (2 * m) (i + 1) ≡ region w₀ (2 * m) i ++ (row ∷ [])
       rows_next = region-next w₀ (2 * m) i (omega (arith, long)) ∙ ap (λ (x : ℕ). region w₀ (2 * m) i ++ (x ∷ [])) (sym row_is)
@@ -184,9 +184,9 @@ module _ {m : ℕ} {w₀ : List ℕ} {n k : ℕ} (up : Bool) (can : CanCount m w
 
       -- the differences after, in any table that has the row's place set and the others as they were
       counted_next : (u : List ℕ) → at u row ≡ value → ((r : ℕ) → 1 ≤ r → r ≤ m → r ≢ row → at u r ≡ at w r) →
-          counted up (differenceAt w₀) (differenceAt u) m (λ r. among r (region w₀ (2 * m) (i + 1)))
+          counted up (difference_at w₀) (difference_at u) m (λ r. among r (region w₀ (2 * m) (i + 1)))
       counted_next u here others =
-          counted-more up (differenceAt w₀) (differenceAt w) (differenceAt u) m (λ r. among r (region w₀ (2 * m) i)) (λ r. among r (region w₀ (2 * m) (i + 1))) row g.counted-rows
+          counted-more up (difference_at w₀) (difference_at w) (difference_at u) m (λ r. among r (region w₀ (2 * m) i)) (λ r. among r (region w₀ (2 * m) (i + 1))) row g.counted-rows
           (can.ranges row (mem-among in_buffer)).0 same_here (ap shifted here ∙ shifted-self value value_pos)
           (ap (among row) rows_next ∙ among-last row (region w₀ (2 * m) i)) (λ r a b q. ap shifted (others r a b q))
           (λ r q. ap (among r) rows_next ∙ among-before r row (region w₀ (2 * m) i) q)
@@ -311,7 +311,7 @@ module _ {m : ℕ} {w₀ : List ℕ} {n k : ℕ} (up : Bool) (can : CanCount m w
         let e : i ≡ k = omega (arith, g.high) in
         record {
           only = g.only;
-          counted-rows = subst (λ (j : ℕ). counted up (differenceAt w₀) (differenceAt w) m (λ r. among r (region w₀ (2 * m) j))) e g.counted-rows;
+          counted-rows = subst (λ (j : ℕ). counted up (difference_at w₀) (difference_at w) m (λ r. among r (region w₀ (2 * m) j))) e g.counted-rows;
           list = g.list;
           buffered = record {
             within = omega (arith, g.low, g.high, can.buffered.within);

@@ -14,7 +14,7 @@ use Rattle.lists.proofs.Times.{times-append, times-mem, mem-times, among-some, o
 use Rattle.lists.proofs.Rising.{rises-in}
 use Rattle.workspace.specs.Regions.{region}
 use Rattle.workspace.proofs.Regions.{region-ext, region-length, only-join}
-use Rattle.differences.specs.Tally.{shifted, differenceAt}
+use Rattle.differences.specs.Tally.{shifted, difference_at}
 use Rattle.differences.specs.Count.{CanCount, Counted, Bumped, CanMerge, Merged}
 use Rattle.differences.proofs.Rows.{rises-once}
 use Rattle.differences.proofs.Bumping.{counted_same, touched-one, touched_none}
@@ -94,7 +94,7 @@ module _ {m : ℕ} {w₀ : List ℕ} {n k : ℕ} {up : Bool} {w : List ℕ} {f :
             values = λ i p q. refl;
             buffer = g.buffer;
           };
-          counted-rows = counted_same up (differenceAt w₀) (differenceAt w) (differenceAt x) m (λ i. among i (region w₀ (2 * m) k)) b.counted-rows
+          counted-rows = counted_same up (difference_at w₀) (difference_at w) (difference_at x) m (λ i. among i (region w₀ (2 * m) k)) b.counted-rows
               (λ i p q. ap shifted (place_same i p q));
           only = only-join 0 (3 * m) b.only g.only (omega arith) (omega arith) (omega arith) (omega arith);
         }

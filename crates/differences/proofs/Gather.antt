@@ -14,7 +14,7 @@ use Rattle.lists.specs.Lists.{among, rises}
 use Rattle.lists.proofs.Rising.{rises-length}
 use Rattle.workspace.specs.Regions.{cell, region}
 use Rattle.workspace.proofs.Regions.{only-refl, only-trans, only_store, only-cell, only-region, zero-part, store-push, store-leaves-zero}
-use Rattle.differences.specs.Gather.{planPart, CanGather, Gathered, Gathering}
+use Rattle.differences.specs.Gather.{plan_part, CanGather, Gathered, Gathering}
 
 -- nothing yet
 pub gathering-start : {m : ℕ} {w : List ℕ} → CanGather m w → Gathering m w w 0 []
@@ -50,7 +50,7 @@ module _ {m : ℕ} {w₀ w : List ℕ} {k : ℕ} {gs : List ℕ} (g : Gathering 
   pub gathering-cell : (a : ℕ) → cell w (8 * m) a ≡ cell w₀ (8 * m) a
   gathering-cell a = only-cell g.only (8 * m) (a + 1) (inl (omega arith)) a (omega arith)
 
-  pub gathering-part : (a e : ℕ) → planPart m w a e ≡ planPart m w₀ a e
+  pub gathering-part : (a e : ℕ) → plan_part m w a e ≡ plan_part m w₀ a e
   gathering-part a e = only-region g.only (8 * m + a) (e - a) (inl (omega arith))
 
 -- ---- the rows of a list

@@ -7,17 +7,17 @@ use mathlib.Core.List.{List, [], ◌∷◌, ◌++◌}
 use Prim.Native.Nat.{ℕ, suc, ◌+◌, ◌-◌, ◌*◌, ◌≤◌, ◌<◌}
 use native.Mathlib.Omega.{arith}
 use lib.ListN.{length, set, length-append}
-use Rattle.lists.specs.Lists.{Mem, among, times, at, valuesAt, rises}
+use Rattle.lists.specs.Lists.{Mem, among, times, at, values_at, rises}
 use Rattle.lists.proofs.Tests.{lt-or-le, zero-or-pos}
 use Rattle.lists.proofs.Member.{mem-either, mem-among}
 use Rattle.lists.proofs.Times.{times-nil, times-append, times-cons, times-self, mem-times, times-mem, among-some, none-among, once-length}
 use Rattle.lists.proofs.Rising.{rises-in}
 use Rattle.workspace.specs.Regions.{cell, region}
-use Rattle.workspace.specs.Planned.{rowOf}
+use Rattle.workspace.specs.Planned.{row_of}
 use Rattle.workspace.proofs.Regions.{zero-part}
 use Rattle.workspace.proofs.Planned.{row-bounds}
 use Rattle.pool.specs.Chains.{chain, Linked}
-use Rattle.differences.specs.Gather.{rowsIn, rowsOfKind, planPart, CanGather, PlanRises, CanGrow, Gathered, Gathering, CanReach, Reached}
+use Rattle.differences.specs.Gather.{rows_in, rows_of_kind, plan_part, CanGather, PlanRises, CanGrow, Gathered, Gathering, CanReach, Reached}
 use Rattle.differences.proofs.Rows.{Front, rises-front, rises-nil, rises-cons, rises-within, rises-join, rises-left, rises-right, rises-once, among-sum}
 use Rattle.differences.proofs.Chain.{Onward, chain-onward, chain-over}
 use Rattle.differences.proofs.Parts.{part_join, rows_append, kind-append, kind_row, kind-rises, part-above}
@@ -35,8 +35,8 @@ reached-all {m} {w} {x} {k} {from} {to} {kind} {l} {stop} r =
 -- ---- a plan's rows of one kind
 
 module _ {m : ℕ} {w : List ℕ} {from to : ℕ} (kind : ℕ) (table : CanGather m w) (plan : PlanRises m w from to) where
-  rising-kind : rises 1 m (rowsOfKind kind (planPart m w from to)) ≡ true
-  rising-kind = kind-rises 1 m kind (planPart m w from to) plan.rising
+  rising-kind : rises 1 m (rows_of_kind kind (plan_part m w from to)) ≡ true
+  rising-kind = kind-rises 1 m kind (plan_part m w from to) plan.rising
 
   pub plan-reach : CanReach m w 0 from to kind
   plan-reach =
@@ -44,25 +44,25 @@ module _ {m : ℕ} {w : List ℕ} {from to : ℕ} (kind : ℕ) (table : CanGathe
         pass = record { order = plan.order; long = plan.long };
         long = table.long;
         rest = zero-part w (2 * m) m (2 * m + 0) (m - 0) table.empty (omega arith) (omega arith);
-        room = omega (arith, list-room m (rowsOfKind kind (planPart m w from to)) rising-kind);
+        room = omega (arith, list-room m (rows_of_kind kind (plan_part m w from to)) rising-kind);
       }
 
-  pub plan-done : {x : List ℕ} {k stop : ℕ} → Reached m w x 0 from to kind 4097 k stop → Gathered m w x k (λ i. among i (rowsOfKind kind (planPart m w from to)))
+  pub plan-done : {x : List ℕ} {k stop : ℕ} → Reached m w x 0 from to kind 4097 k stop → Gathered m w x k (λ i. among i (rows_of_kind kind (plan_part m w from to)))
   plan-done {x} {k} r =
-      gathering-done (subst (λ (e : ℕ). Gathering m w x k (rowsOfKind kind (planPart m w from e))) (reached-all r) r.gathering)
-      (λ i. among i (rowsOfKind kind (planPart m w from to))) rising-kind (λ i. refl)
+      gathering-done (subst (λ (e : ℕ). Gathering m w x k (rows_of_kind kind (plan_part m w from e))) (reached-all r) r.gathering)
+      (λ i. among i (rows_of_kind kind (plan_part m w from to))) rising-kind (λ i. refl)
 
 -- ---- together with the rows of a chain
 
 module _ {m : ℕ} {rows next w₀ : List ℕ} {r from to : ℕ} (can : CanGrow m rows next w₀ r from to) where
   abbrev old : List ℕ
-  old = valuesAt rows (chain next r)
+  old = values_at rows (chain next r)
 
   abbrev new : List ℕ
-  new = rowsOfKind 1 (planPart m w₀ from to)
+  new = rows_of_kind 1 (plan_part m w₀ from to)
 
   new-rises : rises 1 m new ≡ true
-  new-rises = kind-rises 1 m 1 (planPart m w₀ from to) can.plan.rising
+  new-rises = kind-rises 1 m 1 (plan_part m w₀ from to) can.plan.rising
 
   pub grow-once : (i : ℕ) → times i old + times i new ≤ 1
   grow-once i =
@@ -94,11 +94,11 @@ pub record Growing (m : ℕ) (rows next w₀ : List ℕ) (r from to : ℕ) (w : 
   pub last : ℕ
   pub last-high : last ≤ m
   pub before : rises 1 last gone ≡ true
-  pub column : rises (suc last) m (valuesAt rows (chain next q)) ≡ true
-  pub fresh : rises (suc last) m (rowsOfKind 1 (planPart m w₀ a to)) ≡ true
-  pub sum : (i : ℕ) → times i gone + (times i (valuesAt rows (chain next q)) + times i (rowsOfKind 1 (planPart m w₀ a to))) ≡
-      times i (valuesAt rows (chain next r)) + times i (rowsOfKind 1 (planPart m w₀ from to))
-  pub size : k + (length (valuesAt rows (chain next q)) + length (rowsOfKind 1 (planPart m w₀ a to))) ≤ m
+  pub column : rises (suc last) m (values_at rows (chain next q)) ≡ true
+  pub fresh : rises (suc last) m (rows_of_kind 1 (plan_part m w₀ a to)) ≡ true
+  pub sum : (i : ℕ) → times i gone + (times i (values_at rows (chain next q)) + times i (rows_of_kind 1 (plan_part m w₀ a to))) ≡
+      times i (values_at rows (chain next r)) + times i (rows_of_kind 1 (plan_part m w₀ from to))
+  pub size : k + (length (values_at rows (chain next q)) + length (rows_of_kind 1 (plan_part m w₀ a to))) ≤ m
 
 module _ {m : ℕ} {rows next w₀ : List ℕ} {r from to : ℕ} (can : CanGrow m rows next w₀ r from to) where
   pub growing-start : Growing m rows next w₀ r from to w₀ r 0 from
@@ -129,24 +129,24 @@ module _ {m : ℕ} {rows next w₀ : List ℕ} {r from to : ℕ} (can : CanGrow 
           pass = record { order = g.high; long = omega (arith, growing-length, can.plan.long) };
           long = omega (arith, growing-length, can.table.long);
           rest = g.gathering.rest;
-          room = omega (arith, g.size, ap (λ (es : List ℕ). length (rowsOfKind 1 es)) (gathering-part g.gathering a to));
+          room = omega (arith, g.size, ap (λ (es : List ℕ). length (rows_of_kind 1 es)) (gathering-part g.gathering a to));
         }
 
     -- what was gathered, and what is to come
     module _ {x : List ℕ} {bound l stop : ℕ} (t : Reached m w x k a to 1 bound l stop) where
       abbrev got : List ℕ
-      got = rowsOfKind 1 (planPart m w₀ a stop)
+      got = rows_of_kind 1 (plan_part m w₀ a stop)
 
       abbrev left : List ℕ
-      left = rowsOfKind 1 (planPart m w₀ stop to)
+      left = rows_of_kind 1 (plan_part m w₀ stop to)
 
-      parts : rowsOfKind 1 (planPart m w₀ a to) ≡ got ++ left
-      parts = ap (rowsOfKind 1) (part_join m w₀ a stop to t.passed.low t.passed.high) ∙ kind-append 1 (planPart m w₀ a stop) (planPart m w₀ stop to)
+      parts : rows_of_kind 1 (plan_part m w₀ a to) ≡ got ++ left
+      parts = ap (rows_of_kind 1) (part_join m w₀ a stop to t.passed.low t.passed.high) ∙ kind-append 1 (plan_part m w₀ a stop) (plan_part m w₀ stop to)
 
       both : Gathering m w₀ x l (g.gone ++ got)
       both =
           gathering-trans got g.gathering
-          (subst (λ (es : List ℕ). Gathering m w x l (region w (2 * m) k ++ rowsOfKind 1 es)) (gathering-part g.gathering a stop) t.gathering)
+          (subst (λ (es : List ℕ). Gathering m w x l (region w (2 * m) k ++ rows_of_kind 1 es)) (gathering-part g.gathering a stop) t.gathering)
 
       got-rises : rises (suc g.last) m got ≡ true
       got-rises = rises-left (suc g.last) m got left (subst (λ (xs : List ℕ). rises (suc g.last) m xs ≡ true) parts g.fresh)
@@ -156,15 +156,15 @@ module _ {m : ℕ} {rows next w₀ : List ℕ} {r from to : ℕ} (can : CanGrow 
 
       got-below : (i : ℕ) → Mem i got → i < bound
       got-below i n =
-          t.passed.below i (subst (λ (es : List ℕ). among i (rowsIn es) ≡ true) (sym (gathering-part g.gathering a stop)) (mem-among (kind_row 1 (planPart m w₀ a stop) n)))
+          t.passed.below i (subst (λ (es : List ℕ). among i (rows_in es) ≡ true) (sym (gathering-part g.gathering a stop)) (mem-among (kind_row 1 (plan_part m w₀ a stop) n)))
 
       left-above : (i : ℕ) → Mem i left → bound ≤ i
       left-above i n =
-          let e : rowsIn (planPart m w₀ from to) ≡ rowsIn (planPart m w₀ from stop) ++ rowsIn (planPart m w₀ stop to) =
-          ap rowsIn (part_join m w₀ from stop to (omega (arith, g.low, t.passed.low)) t.passed.high) ∙ rows_append (planPart m w₀ from stop) (planPart m w₀ stop to) in
+          let e : rows_in (plan_part m w₀ from to) ≡ rows_in (plan_part m w₀ from stop) ++ rows_in (plan_part m w₀ stop to) =
+          ap rows_in (part_join m w₀ from stop to (omega (arith, g.low, t.passed.low)) t.passed.high) ∙ rows_append (plan_part m w₀ from stop) (plan_part m w₀ stop to) in
           part-above m w₀ stop to bound can.plan.long
-          (rises-right 1 m (rowsIn (planPart m w₀ from stop)) (rowsIn (planPart m w₀ stop to)) (subst (λ (xs : List ℕ). rises 1 m xs ≡ true) e can.plan.rising))
-          (λ h. omega (arith, t.passed.above h, ap rowOf (gathering-cell g.gathering stop))) (kind_row 1 (planPart m w₀ stop to) n)
+          (rises-right 1 m (rows_in (plan_part m w₀ from stop)) (rows_in (plan_part m w₀ stop to)) (subst (λ (xs : List ℕ). rises 1 m xs ≡ true) e can.plan.rising))
+          (λ h. omega (arith, t.passed.above h, ap row_of (gathering-cell g.gathering stop))) (kind_row 1 (plan_part m w₀ stop to) n)
 
       -- a row of the chain after them
       module _ (z : q ≢ 0) (here : bound ≡ at rows q) where
@@ -172,18 +172,18 @@ module _ {m : ℕ} {rows next w₀ : List ℕ} {r from to : ℕ} (can : CanGrow 
         onward = chain-onward next q z g.linked
 
         abbrev tail : List ℕ
-        tail = valuesAt rows (chain next (at next q))
+        tail = values_at rows (chain next (at next q))
 
-        front-is : valuesAt rows (chain next q) ≡ at rows q ∷ tail
-        front-is = ap (valuesAt rows) onward.parts ∙ values-front rows q (chain next (at next q))
+        front-is : values_at rows (chain next q) ≡ at rows q ∷ tail
+        front-is = ap (values_at rows) onward.parts ∙ values-front rows q (chain next (at next q))
 
         front : Front (suc g.last) m (at rows q) tail
         front = rises-front (suc g.last) m (at rows q) tail (subst (λ (xs : List ℕ). rises (suc g.last) m xs ≡ true) front-is g.column)
 
-        counts : (i : ℕ) → times i (valuesAt rows (chain next q)) ≡ times i (at rows q ∷ []) + times i tail
+        counts : (i : ℕ) → times i (values_at rows (chain next q)) ≡ times i (at rows q ∷ []) + times i tail
         counts i = ap (times i) front-is ∙ times-cons i (at rows q) tail
 
-        news : (i : ℕ) → times i (rowsOfKind 1 (planPart m w₀ a to)) ≡ times i got + times i left
+        news : (i : ℕ) → times i (rows_of_kind 1 (plan_part m w₀ a to)) ≡ times i got + times i left
         news i = ap (times i) parts ∙ times-append i got left
 
         lengths : length (g.gone ++ got) + (suc (length tail) + length left) ≤ m
@@ -230,11 +230,11 @@ module _ {m : ℕ} {rows next w₀ : List ℕ} {r from to : ℕ} (can : CanGrow 
 
     -- the end of the chain, and of the plan
     pub growing-done : q ≡ 0 → {x : List ℕ} {l stop : ℕ} → Reached m w x k a to 1 4097 l stop →
-        Gathered m w₀ x l (λ i. among i (valuesAt rows (chain next r)) || among i (rowsOfKind 1 (planPart m w₀ from to)))
+        Gathered m w₀ x l (λ i. among i (values_at rows (chain next r)) || among i (rows_of_kind 1 (plan_part m w₀ from to)))
     growing-done z {x} {l} {stop} t =
-        let none : valuesAt rows (chain next q) ≡ [] = ap (valuesAt rows) (chain-over next q z g.linked) ∙ values-none rows in
-        let e : rowsOfKind 1 (planPart m w₀ a stop) ≡ rowsOfKind 1 (planPart m w₀ a to) = ap (λ (s : ℕ). rowsOfKind 1 (planPart m w₀ a s)) (reached-all t) in
-        gathering-done (both t) (λ i. among i (valuesAt rows (chain next r)) || among i (rowsOfKind 1 (planPart m w₀ from to)))
-        (rises-join 1 g.last m g.gone (rowsOfKind 1 (planPart m w₀ a stop)) (omega arith) g.last-high g.before (rw e g.fresh))
-        (λ i. among-sum i (g.gone ++ rowsOfKind 1 (planPart m w₀ a stop)) (valuesAt rows (chain next r)) (rowsOfKind 1 (planPart m w₀ from to))
-        (omega (arith, g.sum i, ap (times i) none, times-nil i, ap (times i) e, times-append i g.gone (rowsOfKind 1 (planPart m w₀ a stop)))))
+        let none : values_at rows (chain next q) ≡ [] = ap (values_at rows) (chain-over next q z g.linked) ∙ values-none rows in
+        let e : rows_of_kind 1 (plan_part m w₀ a stop) ≡ rows_of_kind 1 (plan_part m w₀ a to) = ap (λ (s : ℕ). rows_of_kind 1 (plan_part m w₀ a s)) (reached-all t) in
+        gathering-done (both t) (λ i. among i (values_at rows (chain next r)) || among i (rows_of_kind 1 (plan_part m w₀ from to)))
+        (rises-join 1 g.last m g.gone (rows_of_kind 1 (plan_part m w₀ a stop)) (omega arith) g.last-high g.before (rw e g.fresh))
+        (λ i. among-sum i (g.gone ++ rows_of_kind 1 (plan_part m w₀ a stop)) (values_at rows (chain next r)) (rows_of_kind 1 (plan_part m w₀ from to))
+        (omega (arith, g.sum i, ap (times i) none, times-nil i, ap (times i) e, times-append i g.gone (rows_of_kind 1 (plan_part m w₀ a stop)))))

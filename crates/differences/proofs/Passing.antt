@@ -12,9 +12,9 @@ use borrow.Author.Tests.{eq-eqb, ne_eqb}
 use Rattle.lists.specs.Lists.{among}
 use Rattle.lists.proofs.Member.{mem-either, among-mem, mem-among}
 use Rattle.workspace.specs.Regions.{cell, region}
-use Rattle.workspace.specs.Planned.{rowOf, kind_of}
+use Rattle.workspace.specs.Planned.{row_of, kind_of}
 use Rattle.workspace.proofs.Regions.{only-refl, region-length}
-use Rattle.differences.specs.Gather.{rowsIn, rowsOfKind, planPart, Gathering, Passed, CanReach, Reached}
+use Rattle.differences.specs.Gather.{rows_in, rows_of_kind, plan_part, Gathering, Passed, CanReach, Reached}
 use Rattle.differences.proofs.Rows.{only-member}
 use Rattle.differences.proofs.Parts.{part_none, part-next, part_join, part-front, rows_append, rows-one, kind-append, kind-cons, kind-skip, kind-nil}
 use Rattle.differences.proofs.Gather.{gathering-push, gathering-cell}
@@ -23,30 +23,30 @@ use Rattle.differences.proofs.Gather.{gathering-push, gathering-cell}
 pub record Passing (m : ℕ) (w : List ℕ) (from to bound a : ℕ) : Type 0 where
   pub low : from ≤ a
   pub high : a ≤ to
-  pub below : (i : ℕ) → among i (rowsIn (planPart m w from a)) ≡ true → i < bound
+  pub below : (i : ℕ) → among i (rows_in (plan_part m w from a)) ≡ true → i < bound
 
 module _ {m : ℕ} {w : List ℕ} {from to bound : ℕ} where
   pub passing-start : from ≤ to → Passing m w from to bound from
-  unfolding rowsIn among
+  unfolding rows_in among
   passing-start h =
-      record { low = omega arith; high = h; below = λ i p. absurd (false≢true (subst (λ (xs : List ℕ). among i (rowsIn xs) ≡ true) (part_none m w from) p)) }
+      record { low = omega arith; high = h; below = λ i p. absurd (false≢true (subst (λ (xs : List ℕ). among i (rows_in xs) ≡ true) (part_none m w from) p)) }
 
   module _ {a : ℕ} (g : Passing m w from to bound a) where
-    pub passing-next : 8 * m + to ≤ length w → a < to → rowOf (cell w (8 * m) a) < bound → Passing m w from to bound (a + 1)
+    pub passing-next : 8 * m + to ≤ length w → a < to → row_of (cell w (8 * m) a) < bound → Passing m w from to bound (a + 1)
     passing-next l h b =
-        let e : rowsIn (planPart m w from (a + 1)) ≡ rowsIn (planPart m w from a) ++ (rowOf (cell w (8 * m) a) ∷ []) =
-        ap rowsIn (part-next m w from a g.low (omega arith)) ∙ rows_append (planPart m w from a) (cell w (8 * m) a ∷ []) ∙
-        ap (λ (xs : List ℕ). rowsIn (planPart m w from a) ++ xs) (rows-one (cell w (8 * m) a)) in
+        let e : rows_in (plan_part m w from (a + 1)) ≡ rows_in (plan_part m w from a) ++ (row_of (cell w (8 * m) a) ∷ []) =
+        ap rows_in (part-next m w from a g.low (omega arith)) ∙ rows_append (plan_part m w from a) (cell w (8 * m) a ∷ []) ∙
+        ap (λ (xs : List ℕ). rows_in (plan_part m w from a) ++ xs) (rows-one (cell w (8 * m) a)) in
         record {
           low = omega (arith, g.low);
           high = omega arith;
-          below = λ i p. elim (mem-either (rowsIn (planPart m w from a)) (among-mem i _ (subst (λ (xs : List ℕ). among i xs ≡ true) e p))) [
+          below = λ i p. elim (mem-either (rows_in (plan_part m w from a)) (among-mem i _ (subst (λ (xs : List ℕ). among i xs ≡ true) e p))) [
             | inl n ↦ g.below i (mem-among n)
             | inr n ↦ omega (arith, only-member n)
           ];
         }
 
-    pub passed-stop : bound ≤ rowOf (cell w (8 * m) a) → Passed m w from to bound a
+    pub passed-stop : bound ≤ row_of (cell w (8 * m) a) → Passed m w from to bound a
     passed-stop b = record { low = g.low; high = g.high; below = g.below; above = λ h. b }
 
     pub passed-end : to ≤ a → Passed m w from to bound a
@@ -56,13 +56,13 @@ module _ {m : ℕ} {w : List ℕ} {from to bound : ℕ} where
 
 pub record Reaching (m : ℕ) (w₀ : List ℕ) (k from to kind bound : ℕ) (w : List ℕ) (n a : ℕ) : Type 0 where
   pub passing : Passing m w₀ from to bound a
-  pub gathering : Gathering m w₀ w n (region w₀ (2 * m) k ++ rowsOfKind kind (planPart m w₀ from a))
+  pub gathering : Gathering m w₀ w n (region w₀ (2 * m) k ++ rows_of_kind kind (plan_part m w₀ from a))
 
 module _ {m : ℕ} {w₀ : List ℕ} {k from to kind bound : ℕ} (can : CanReach m w₀ k from to kind) where
   pub reaching-start : Reaching m w₀ k from to kind bound w₀ k from
   reaching-start =
-      let e : region w₀ (2 * m) k ++ rowsOfKind kind (planPart m w₀ from from) ≡ region w₀ (2 * m) k =
-      ap (λ (xs : List ℕ). region w₀ (2 * m) k ++ rowsOfKind kind xs) (part_none m w₀ from) ∙ ap (λ (xs : List ℕ). region w₀ (2 * m) k ++ xs) (kind-nil kind) ∙
+      let e : region w₀ (2 * m) k ++ rows_of_kind kind (plan_part m w₀ from from) ≡ region w₀ (2 * m) k =
+      ap (λ (xs : List ℕ). region w₀ (2 * m) k ++ rows_of_kind kind xs) (part_none m w₀ from) ∙ ap (λ (xs : List ℕ). region w₀ (2 * m) k ++ xs) (kind-nil kind) ∙
       append-nil (region w₀ (2 * m) k) in
       record {
         passing = passing-start can.pass.order;
@@ -82,54 +82,54 @@ module _ {m : ℕ} {w₀ : List ℕ} {k from to kind bound : ℕ} (can : CanReac
     pub reaching-length : length w ≡ length w₀
     reaching-length = g.gathering.only.same_length
 
-    next-kind : a < to → rowsOfKind kind (planPart m w₀ from (a + 1)) ≡ rowsOfKind kind (planPart m w₀ from a) ++ rowsOfKind kind (cell w₀ (8 * m) a ∷ [])
+    next-kind : a < to → rows_of_kind kind (plan_part m w₀ from (a + 1)) ≡ rows_of_kind kind (plan_part m w₀ from a) ++ rows_of_kind kind (cell w₀ (8 * m) a ∷ [])
     next-kind h =
-        ap (rowsOfKind kind) (part-next m w₀ from a g.passing.low (omega (arith, can.pass.long))) ∙
-        kind-append kind (planPart m w₀ from a) (cell w₀ (8 * m) a ∷ [])
+        ap (rows_of_kind kind) (part-next m w₀ from a g.passing.low (omega (arith, can.pass.long))) ∙
+        kind-append kind (plan_part m w₀ from a) (cell w₀ (8 * m) a ∷ [])
 
     -- a row of the kind is gathered
     module _ (h : a < to) (t : kind_of (cell w₀ (8 * m) a) ≡ kind) where
       pub reaching-room : n < m
       reaching-room =
-          let e : rowsOfKind kind (planPart m w₀ from to) ≡
-          rowsOfKind kind (planPart m w₀ from a) ++ (rowOf (cell w₀ (8 * m) a) ∷ rowsOfKind kind (planPart m w₀ (a + 1) to)) =
-          ap (rowsOfKind kind) (part_join m w₀ from a to g.passing.low g.passing.high) ∙ kind-append kind (planPart m w₀ from a) (planPart m w₀ a to) ∙
-          ap (λ (xs : List ℕ). rowsOfKind kind (planPart m w₀ from a) ++ rowsOfKind kind xs) (part-front m w₀ a to h can.pass.long) ∙
-          ap (λ (xs : List ℕ). rowsOfKind kind (planPart m w₀ from a) ++ xs) (kind-cons kind (cell w₀ (8 * m) a) (planPart m w₀ (a + 1) to) (eq-eqb _ _ t)) in
+          let e : rows_of_kind kind (plan_part m w₀ from to) ≡
+          rows_of_kind kind (plan_part m w₀ from a) ++ (row_of (cell w₀ (8 * m) a) ∷ rows_of_kind kind (plan_part m w₀ (a + 1) to)) =
+          ap (rows_of_kind kind) (part_join m w₀ from a to g.passing.low g.passing.high) ∙ kind-append kind (plan_part m w₀ from a) (plan_part m w₀ a to) ∙
+          ap (λ (xs : List ℕ). rows_of_kind kind (plan_part m w₀ from a) ++ rows_of_kind kind xs) (part-front m w₀ a to h can.pass.long) ∙
+          ap (λ (xs : List ℕ). rows_of_kind kind (plan_part m w₀ from a) ++ xs) (kind-cons kind (cell w₀ (8 * m) a) (plan_part m w₀ (a + 1) to) (eq-eqb _ _ t)) in
           omega (
             arith,
             can.room,
             ap length e,
-            length-append (rowsOfKind kind (planPart m w₀ from a)) (rowOf (cell w₀ (8 * m) a) ∷ rowsOfKind kind (planPart m w₀ (a + 1) to)),
+            length-append (rows_of_kind kind (plan_part m w₀ from a)) (row_of (cell w₀ (8 * m) a) ∷ rows_of_kind kind (plan_part m w₀ (a + 1) to)),
             g.gathering.size,
-            length-append (region w₀ (2 * m) k) (rowsOfKind kind (planPart m w₀ from a)),
+            length-append (region w₀ (2 * m) k) (rows_of_kind kind (plan_part m w₀ from a)),
             region-length w₀ (2 * m) k (omega (arith, can.long, can.room)),
           )
 
-      pub reaching-take : rowOf (cell w₀ (8 * m) a) < bound → Reaching m w₀ k from to kind bound (set w (2 * m + n) (rowOf (cell w₀ (8 * m) a))) (n + 1) (a + 1)
+      pub reaching-take : row_of (cell w₀ (8 * m) a) < bound → Reaching m w₀ k from to kind bound (set w (2 * m + n) (row_of (cell w₀ (8 * m) a))) (n + 1) (a + 1)
       reaching-take b =
-          let row : ℕ = rowOf (cell w₀ (8 * m) a) in
-          let e : (region w₀ (2 * m) k ++ rowsOfKind kind (planPart m w₀ from a)) ++ (row ∷ []) ≡ region w₀ (2 * m) k ++ rowsOfKind kind (planPart m w₀ from (a + 1)) =
-          append_assoc (region w₀ (2 * m) k) (rowsOfKind kind (planPart m w₀ from a)) (row ∷ []) ∙
+          let row : ℕ = row_of (cell w₀ (8 * m) a) in
+          let e : (region w₀ (2 * m) k ++ rows_of_kind kind (plan_part m w₀ from a)) ++ (row ∷ []) ≡ region w₀ (2 * m) k ++ rows_of_kind kind (plan_part m w₀ from (a + 1)) =
+          append_assoc (region w₀ (2 * m) k) (rows_of_kind kind (plan_part m w₀ from a)) (row ∷ []) ∙
           sym (ap (λ (xs : List ℕ). region w₀ (2 * m) k ++ xs) (next-kind h ∙
-          ap (λ (xs : List ℕ). rowsOfKind kind (planPart m w₀ from a) ++ xs) (kind-cons kind (cell w₀ (8 * m) a) [] (eq-eqb _ _ t) ∙ ap (λ (xs : List ℕ). row ∷ xs) (kind-nil kind)))) in
+          ap (λ (xs : List ℕ). rows_of_kind kind (plan_part m w₀ from a) ++ xs) (kind-cons kind (cell w₀ (8 * m) a) [] (eq-eqb _ _ t) ∙ ap (λ (xs : List ℕ). row ∷ xs) (kind-nil kind)))) in
           record {
             passing = passing-next g.passing can.pass.long h b;
             gathering = subst (λ (xs : List ℕ). Gathering m w₀ (set w (2 * m + n) row) (n + 1) xs) e (gathering-push g.gathering row can.long reaching-room);
           }
 
     -- a row of another kind is not
-    pub reaching-skip : a < to → (kind_of (cell w₀ (8 * m) a) ≡ kind → ⊥) → rowOf (cell w₀ (8 * m) a) < bound → Reaching m w₀ k from to kind bound w n (a + 1)
+    pub reaching-skip : a < to → (kind_of (cell w₀ (8 * m) a) ≡ kind → ⊥) → row_of (cell w₀ (8 * m) a) < bound → Reaching m w₀ k from to kind bound w n (a + 1)
     reaching-skip h t b =
-        let e : rowsOfKind kind (planPart m w₀ from a) ≡ rowsOfKind kind (planPart m w₀ from (a + 1)) =
-        sym (next-kind h ∙ ap (λ (xs : List ℕ). rowsOfKind kind (planPart m w₀ from a) ++ xs) (kind-skip kind (cell w₀ (8 * m) a) [] (ne_eqb _ _ t) ∙ kind-nil kind) ∙
-        append-nil (rowsOfKind kind (planPart m w₀ from a))) in
+        let e : rows_of_kind kind (plan_part m w₀ from a) ≡ rows_of_kind kind (plan_part m w₀ from (a + 1)) =
+        sym (next-kind h ∙ ap (λ (xs : List ℕ). rows_of_kind kind (plan_part m w₀ from a) ++ xs) (kind-skip kind (cell w₀ (8 * m) a) [] (ne_eqb _ _ t) ∙ kind-nil kind) ∙
+        append-nil (rows_of_kind kind (plan_part m w₀ from a))) in
         record {
           passing = passing-next g.passing can.pass.long h b;
           gathering = subst (λ (xs : List ℕ). Gathering m w₀ w n (region w₀ (2 * m) k ++ xs)) e g.gathering;
         }
 
-    pub reached-stop : bound ≤ rowOf (cell w₀ (8 * m) a) → Reached m w₀ w k from to kind bound n a
+    pub reached-stop : bound ≤ row_of (cell w₀ (8 * m) a) → Reached m w₀ w k from to kind bound n a
     reached-stop b = record { passed = passed-stop g.passing b; gathering = g.gathering }
 
     pub reached-end : to ≤ a → Reached m w₀ w k from to kind bound n a

@@ -3,7 +3,7 @@
 -- `at`. Assumes nothing: these are definitions.
 use Rattle.std.specs.Prelude.{◌≡◌, ◌≢◌, ◌↔◌, Bool, true, false, List, ℕ, ◌+◌, ◌-◌, ◌≤◌, eqb, length}
 use Rattle.lists.specs.Lists.{pick, one, among, at, rises}
-use Rattle.workspace.specs.Layout.{bufferAt, marksAt}
+use Rattle.workspace.specs.Layout.{buffer_at, marks_at}
 use Rattle.workspace.specs.Regions.{region, IsZero}
 
 -- 2^30, which stands for a difference of 0
@@ -15,12 +15,12 @@ abbrev pub shifted : ℕ → ℕ
 shifted x = pick (eqb x 0) base x
 
 -- the shifted difference of row i
-abbrev pub differenceAt : (work : List ℕ) → (row : ℕ) → ℕ
-differenceAt w i = shifted (at w i)
+abbrev pub difference_at : (work : List ℕ) → (row : ℕ) → ℕ
+difference_at w i = shifted (at w i)
 
 -- the n touched rows, those whose place is not 0, stand in the list, rising
 pub record Touched (m : ℕ) (work : List ℕ) (n : ℕ) : Type 0 where
-  pub long : marksAt m ≤ length work
+  pub long : marks_at m ≤ length work
   pub within : n ≤ m
   pub rising : rises 1 m (region work m n) ≡ true
   pub listed : (i : ℕ) → 1 ≤ i → i ≤ m → (among i (region work m n) ≡ true) ↔ (at work i ≢ 0)
@@ -29,8 +29,8 @@ pub record Touched (m : ℕ) (work : List ℕ) (n : ℕ) : Type 0 where
 -- the work table holds the shifted differences δ of rows 1 to m, with n touched rows in the list and nothing in the buffer
 pub record Tally (m : ℕ) (work : List ℕ) (n : ℕ) (δ : ℕ → ℕ) : Type 0 where
   pub touched : Touched m work n
-  pub values : (i : ℕ) → 1 ≤ i → i ≤ m → differenceAt work i ≡ δ i
-  pub buffer : IsZero work (bufferAt m) m
+  pub values : (i : ℕ) → 1 ≤ i → i ≤ m → difference_at work i ≡ δ i
+  pub buffer : IsZero work (buffer_at m) m
 
 -- differences counted up, or down, at the rows that pass a test
 abbrev pub counted : (up : Bool) → (before after : ℕ → ℕ) → (m : ℕ) → (rows : ℕ → Bool) → Type 0

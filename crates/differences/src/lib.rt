@@ -2,14 +2,14 @@
 // up or down. Regions of the work table: differences at 0, list of touched rows at m, buffer at 2 m, plan at 8 m. The crate `emission` turns what was
 // counted into the column's plan.
 ghost use Rattle.std.specs.Prelude.{◌≡◌, true, ◌&&◌, ◌||◌, not, ◌+◌, ◌-◌, ◌*◌, ◌≤◌, ◌<◌, ltb, length};
-ghost use Rattle.lists.specs.Lists.{among, rises, valuesAt};
+ghost use Rattle.lists.specs.Lists.{among, rises, values_at};
 ghost use Rattle.workspace.specs.Layout.{plan_at};
-ghost use Rattle.workspace.specs.Planned.{newKind, goneKind};
+ghost use Rattle.workspace.specs.Planned.{new_kind, gone_kind};
 ghost use Rattle.workspace.specs.Regions.{cell};
 ghost use Rattle.pool.specs.Chains.{chain};
-ghost use Rattle.differences.specs.Gather.{rowsOfKind, planPart, CanGather, PlanRises, ChainRises, CanGrow, Gathered, CanPass, Passed, goneAt, CanReach, Reached};
+ghost use Rattle.differences.specs.Gather.{rows_of_kind, plan_part, CanGather, PlanRises, ChainRises, CanGrow, Gathered, CanPass, Passed, gone_at, CanReach, Reached};
 ghost use Rattle.differences.specs.Tally.{shifted};
-ghost use Rattle.differences.specs.Count.{bumpedTo, CanCount, Counted, Bumped, CanMerge, Merged};
+ghost use Rattle.differences.specs.Count.{bumped_to, CanCount, Counted, Bumped, CanMerge, Merged};
 
 use book::Row;
 use pool::Rec;
@@ -74,7 +74,7 @@ fn gather_below(
 // Gathers the rows of one kind from the part [from, to) of the plan, and gives their number.
 pub fn gather_plan(work: &mut [u32], m: usize, from: usize, to: usize, kind: u32) -> usize
     requires { CanGather m work.old × PlanRises m work.old from to }
-    ensures { Gathered m work.old work.new result (λ i. among i (rowsOfKind kind (planPart m work.old from to))) }
+    ensures { Gathered m work.old work.new result (λ i. among i (rows_of_kind kind (plan_part m work.old from to))) }
 {
     let r = gather_below(work, m, 0, from, to, kind, Row(4097));
     r.rows
@@ -83,7 +83,7 @@ pub fn gather_plan(work: &mut [u32], m: usize, from: usize, to: usize, kind: u32
 // Gathers the rows of the records from r on, and gives their number.
 pub fn gather_chain(rows: &[u16], next: &[u32], work: &mut [u32], m: usize, r: Rec) -> usize
     requires { CanGather m work.old × ChainRises m rows.now next.now r.0 }
-    ensures { Gathered m work.old work.new result (λ i. among i (valuesAt rows.now (chain next.now r.0))) }
+    ensures { Gathered m work.old work.new result (λ i. among i (values_at rows.now (chain next.now r.0))) }
 {
     let mut q = r.0;
     let mut k: usize = 0;
@@ -107,7 +107,7 @@ pub fn gather_grown(
     to: usize,
 ) -> usize
     requires { CanGrow m rows.now next.now work.old r.0 from to }
-    ensures { Gathered m work.old work.new result (λ i. among i (valuesAt rows.now (chain next.now r.0)) || among i (rowsOfKind newKind (planPart m work.old from to))) }
+    ensures { Gathered m work.old work.new result (λ i. among i (values_at rows.now (chain next.now r.0)) || among i (rows_of_kind new_kind (plan_part m work.old from to))) }
 {
     let mut q = r.0;
     let mut k: usize = 0;
@@ -145,7 +145,7 @@ fn pass(work: &[u32], m: usize, from: usize, to: usize, row: Row) -> usize
 // Whether the entry at a place of the plan, before to, is that a row is gone.
 fn is_gone(work: &[u32], m: usize, a: usize, to: usize, row: Row) -> bool
     requires { plan_at m + to ≤ length work.now }
-    ensures { result ≡ goneAt m work.now a to row.0 }
+    ensures { result ≡ gone_at m work.now a to row.0 }
 {
     if to <= a {
         return false;
@@ -169,7 +169,7 @@ pub fn gather_pruned(
     to: usize,
 ) -> usize
     requires { CanGather m work.old × ChainRises m rows.now next.now r.0 × PlanRises m work.old from to }
-    ensures { Gathered m work.old work.new result (λ i. among i (valuesAt rows.now (chain next.now r.0)) && not (among i (rowsOfKind goneKind (planPart m work.old from to)))) }
+    ensures { Gathered m work.old work.new result (λ i. among i (values_at rows.now (chain next.now r.0)) && not (among i (rows_of_kind gone_kind (plan_part m work.old from to)))) }
 {
     let mut q = r.0;
     let mut k: usize = 0;
@@ -192,7 +192,7 @@ pub fn gather_pruned(
 // The place of a row counted up or down, where its place was x.
 fn bumped(x: u32, up: bool) -> u32
     requires { (1 ≤ shifted x) × (shifted x < 2147483647) }
-    ensures { result ≡ bumpedTo up (shifted x) }
+    ensures { result ≡ bumped_to up (shifted x) }
 {
     if x == 0 {
         if up {

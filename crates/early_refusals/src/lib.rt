@@ -1,10 +1,10 @@
 // The numbers that a call is refused by before a table is read, in their order: sizes and their default (1 to 4), the limits of grades (20, in limits.rt), tables
 // and lists that are too short (5). Two tests of a range come first, which later numbers ask too. Tables are shared, never written.
 ghost use Rattle.std.specs.Prelude.{◌≡◌, not};
-ghost use Rattle.tables.specs.Tables.{sizesOf, tables_of};
-ghost use Rattle.lists.specs.Lists.{isIn};
-ghost use Rattle.calls.specs.Refusals.{isAccepted, sizesRefusal, shortRefusal, listsLong};
-ghost use Rattle.early_refusals.specs.Early.{largest, recordsFor, factorLong, bookLong};
+ghost use Rattle.tables.specs.Tables.{sizes_of, tables_of};
+ghost use Rattle.lists.specs.Lists.{is_in};
+ghost use Rattle.calls.specs.Refusals.{is_accepted, sizes_refusal, short_refusal, lists_long};
+ghost use Rattle.early_refusals.specs.Early.{largest, records_for, factor_long, book_long};
 
 pub mod limits;
 
@@ -13,7 +13,7 @@ pub const MOST_COLUMNS: usize = 64;
 
 // Whether x is below low or above high.
 pub fn outside(low: u32, high: u32, x: u32) -> bool
-    ensures { result ≡ not (isIn low high x) }
+    ensures { result ≡ not (is_in low high x) }
 {
     if x < low {
         return true;
@@ -23,7 +23,7 @@ pub fn outside(low: u32, high: u32, x: u32) -> bool
 
 // Whether r columns of a batch, or r rows that are named, are too few or too many.
 pub fn shape_outside(r: usize) -> bool
-    ensures { result ≡ not (isIn 1 64 r) }
+    ensures { result ≡ not (is_in 1 64 r) }
 {
     if r < 1 {
         return true;
@@ -42,7 +42,7 @@ pub fn sizes(
     most_records: u32,
     most_booked: u32,
 ) -> u32
-    ensures { result ≡ (sizesRefusal (largest most_rows most_ids most_records most_booked) (sizesOf m n f c)).number }
+    ensures { result ≡ (sizes_refusal (largest most_rows most_ids most_records most_booked) (sizes_of m n f c)).number }
 {
     if outside(1, most_rows, m) {
         return 1;
@@ -65,7 +65,7 @@ const RECORDS_PER_ROW: u32 = 32;
 // The F of an opening: the default where 0 is asked for, else what is asked. Where the default does not fit 32 bits F stays 0, and m is far beyond any that is
 // allowed.
 pub fn default_records(m: u32, f: u32) -> u32
-    ensures { result ≡ recordsFor m f }
+    ensures { result ≡ records_for m f }
 {
     if 4294967295 / RECORDS_PER_ROW < m {
         return f;
@@ -86,7 +86,7 @@ fn short_factor(
     m: u32,
     f: u32,
 ) -> bool
-    ensures { result ≡ not (factorLong m f heads.now parents.now rows.now counts.now next.now) }
+    ensures { result ≡ not (factor_long m f heads.now parents.now rows.now counts.now next.now) }
 {
     if heads.len() < m as usize {
         return true;
@@ -105,7 +105,7 @@ fn short_factor(
 
 // Whether a table of the book, or that of the windows, is too short.
 fn short_book(heads: &[u32], rows: &[u16], next: &[u32], windows: &[u32], n: u32, c: u32) -> bool
-    ensures { result ≡ not (bookLong n c heads.now rows.now next.now windows.now) }
+    ensures { result ≡ not (book_long n c heads.now rows.now next.now windows.now) }
 {
     if heads.len() < n as usize {
         return true;
@@ -136,7 +136,7 @@ pub fn short(
     f: u32,
     c: u32,
 ) -> bool
-    ensures { result ≡ not (isAccepted (shortRefusal (sizesOf m n f c) (tables_of heads.now parents.now rows.now counts.now next.now book_heads.now book_rows.now book_next.now windows.now) work.now)) }
+    ensures { result ≡ not (is_accepted (short_refusal (sizes_of m n f c) (tables_of heads.now parents.now rows.now counts.now next.now book_heads.now book_rows.now book_next.now windows.now) work.now)) }
 {
     if short_factor(heads, parents, rows, counts, next, m, f) {
         return true;
@@ -149,7 +149,7 @@ pub fn short(
 
 // Whether the list for touched columns, or the one for labels, is too short.
 pub fn short_lists(touched: &[u16], labels: &[u16], m: u32) -> bool
-    ensures { result ≡ not (listsLong m touched.now labels.now) }
+    ensures { result ≡ not (lists_long m touched.now labels.now) }
 {
     if touched.len() < m as usize {
         return true;

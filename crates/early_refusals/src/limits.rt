@@ -1,7 +1,7 @@
 // The limits of an opening's grades: their default, and the rule that 20 and 6 ask for.
 ghost use Rattle.std.specs.Prelude.{◌≡◌, ◌&&◌, eqb};
-ghost use Rattle.symbolic.specs.Grades.{limitsOf, areLimits, limitsFor};
-ghost use Rattle.early_refusals.specs.Early.{limitsIn};
+ghost use Rattle.symbolic.specs.Grades.{limits_of, are_limits, limits_for};
+ghost use Rattle.early_refusals.specs.Early.{limits_in};
 
 // The limits of the grades: from so many entries on a grade is 2, 3 and 4.
 #[derive(Drop)]
@@ -26,7 +26,7 @@ fn all_zero(a: u32, b: u32, c: u32) -> bool
 
 // The limits of an opening: the default ones where three zeros are asked for.
 pub fn default_limits(grade2: u32, grade3: u32, grade4: u32) -> Limits
-    ensures { limitsIn result ≡ limitsFor (limitsOf grade2 grade3 grade4) }
+    ensures { limits_in result ≡ limits_for (limits_of grade2 grade3 grade4) }
 {
     if all_zero(grade2, grade3, grade4) {
         return Limits {
@@ -44,7 +44,7 @@ pub fn default_limits(grade2: u32, grade3: u32, grade4: u32) -> Limits
 
 // Whether three limits keep the rule: the first at least 2, each above the one before.
 pub fn are_limits(grade2: u32, grade3: u32, grade4: u32) -> bool
-    ensures { result ≡ areLimits (limitsOf grade2 grade3 grade4) }
+    ensures { result ≡ are_limits (limits_of grade2 grade3 grade4) }
 {
     if grade2 < 2 {
         return false;

@@ -14,7 +14,7 @@ use Rattle.lists.proofs.Member.{place-mem, mem-place, among-mem, mem-among}
 use Rattle.lists.proofs.Rising.{rises-in}
 use Rattle.workspace.specs.Regions.{cell, region, IsZero}
 use Rattle.workspace.proofs.Regions.{region-length, region-cell, region-join, zero-at}
-use Rattle.differences.specs.Tally.{base, differenceAt, Tally}
+use Rattle.differences.specs.Tally.{base, difference_at, Tally}
 use Rattle.differences.proofs.Rows.{rises-apart}
 
 pub record Clearing (m : ℕ) (w₀ : List ℕ) (n : ℕ) (w : List ℕ) (i t : ℕ) : Type 0 where
@@ -28,7 +28,7 @@ pub record Clearing (m : ℕ) (w₀ : List ℕ) (n : ℕ) (w : List ℕ) (i t : 
   pub list-cleared : (k : ℕ) → k < i → cell w m k ≡ 0
   pub list-kept : (k : ℕ) → i ≤ k → k < m → cell w m k ≡ cell w₀ m k
 
-module _ {m : ℕ} {w₀ : List ℕ} {n : ℕ} (tally : Tally m w₀ n (differenceAt w₀)) where
+module _ {m : ℕ} {w₀ : List ℕ} {n : ℕ} (tally : Tally m w₀ n (difference_at w₀)) where
   long : m + n ≤ length w₀
   long = omega (arith, tally.touched.long, tally.touched.within)
 

@@ -9,22 +9,22 @@ use native.Mathlib.Omega.{arith}
 use lib.Dec.{eqb}
 use lib.ListN.{length, get_or, drop, set, length-append, length-drop}
 use borrow.Author.Tests.{ne_eqb, le-leb, lt-leb}
-use Rattle.lists.specs.Lists.{Mem, at, valuesAt}
+use Rattle.lists.specs.Lists.{Mem, at, values_at}
 use Rattle.lists.proofs.Tests.{cases}
 use Rattle.lists.proofs.Member.{mem-left}
 use Rattle.lists.proofs.Place.{values-append, values_length}
 use Rattle.lists.proofs.Rising.{rises-in}
-use Rattle.symbolic.specs.Factor.{patternFrom}
+use Rattle.symbolic.specs.Factor.{pattern_from}
 use Rattle.symbolic.proofs.Patterns.{pattern-rises, pattern-short}
 use Rattle.workspace.specs.Regions.{cell, Outside}
 use Rattle.workspace.proofs.Regions.{region-ext}
 use Rattle.pool.specs.Chains.{chain}
 use Rattle.pool.proofs.Chains.{linked-head}
-use Rattle.columns.specs.Plan.{ofKind}
-use Rattle.differences.specs.Tally.{base, shifted, differenceAt}
-use Rattle.differences.specs.Gather.{planPart}
+use Rattle.columns.specs.Plan.{of_kind}
+use Rattle.differences.specs.Tally.{base, shifted, difference_at}
+use Rattle.differences.specs.Gather.{plan_part}
 use Rattle.differences.proofs.Parts.{part_none}
-use Rattle.emission.specs.Plans.{planFrom}
+use Rattle.emission.specs.Plans.{plan_from}
 use Rattle.emission.specs.Walks.{CanPass, Passed, stored_at, counting, advanced, CanPlan, Planned, same, stored, fresh, spent}
 use Rattle.emission.specs.Emit.{CanEmit, Plan, Emitted}
 use Rattle.emission.specs.declared.Walk.{Walk}
@@ -43,7 +43,7 @@ pub record Emitting (rows counts next w₀ : List ℕ) (m n j used avail : ℕ) 
 
 -- the plan that was made does not depend on the rest of the table
 going-table : {rows counts next : List ℕ} {m j used avail : ℕ} {old new : List ℕ} {t : ℕ} {w x : List ℕ} {walk : Walk} → Going rows counts next m j used avail old new t w walk →
-    planPart m x used walk.used ≡ planPart m w used walk.used → Going rows counts next m j used avail old new t x walk
+    plan_part m x used walk.used ≡ plan_part m w used walk.used → Going rows counts next m j used avail old new t x walk
 going-table g e =
     record {
       left = rw e g.left;
@@ -58,7 +58,7 @@ going-table g e =
     }
 
 module _ {rows counts next w₀ : List ℕ} {m n j head used avail : ℕ} {old new : List ℕ} (can : CanEmit rows counts next w₀ m n j head used avail old new) where
-  chain-short : length (chain next head) ≡ length (patternFrom 1 old)
+  chain-short : length (chain next head) ≡ length (pattern_from 1 old)
   chain-short = sym (values_length rows (chain next head)) ∙ ap length can.old-rows
 
   abbrev first_walk : Walk
@@ -66,14 +66,14 @@ module _ {rows counts next w₀ : List ℕ} {m n j head used avail : ℕ} {old n
 
   start-going : Going rows counts next m j used avail old new 0 w₀ first_walk
   start-going =
-      let none : planPart m w₀ used used ≡ [] = part_none m w₀ used in
+      let none : plan_part m w₀ used used ≡ [] = part_none m w₀ used in
       record {
         left = rw none (left-start (chain next head) can.old-rows can.old-counts);
         linked = can.linked;
         free = can.free;
         taken = [];
         parts = refl;
-        taken-size = sym (ap (ofKind 1) none ∙ kind-none 1);
+        taken-size = sym (ap (of_kind 1) none ∙ kind-none 1);
         used_low = omega arith;
         behind = omega (arith, chain-short);
         room = omega (arith, chain-short, can.room);
@@ -124,7 +124,7 @@ module _ {rows counts next w₀ : List ℕ} {m n j head used avail : ℕ} {old n
       bare-clearing : Clearing m w₀ n bare (i + 1) row_here
       bare-clearing = clearing-next can.tally g.clearing h
 
-      bare-plan : planPart m bare used walk.used ≡ planPart m w used walk.used
+      bare-plan : plan_part m bare used walk.used ≡ plan_part m w used walk.used
       bare-plan =
           region-ext w bare (8 * m + used) (8 * m + used) (walk.used - used) (omega (arith, emitting-length, can.plan-long, g.progress.used_low, g.progress.used_high))
           (omega (arith, bare-clearing.same_length, can.plan-long, g.progress.used_low, g.progress.used_high))
@@ -160,7 +160,7 @@ module _ {rows counts next w₀ : List ℕ} {m n j head used avail : ℕ} {old n
         untouched u a b =
             let e : suc u - 1 ≡ u = omega arith in
             let z : at w₀ (suc u) ≡ 0 = between can.tally g.clearing h (suc u) (omega arith) (omega (arith, row_is can.tally g.clearing h)) in
-            let d : differenceAt w₀ (suc u) ≡ base = rw z refl in
+            let d : difference_at w₀ (suc u) ≡ base = rw z refl in
             omega (arith, can.moved (suc u) (omega arith) (omega (arith, row_within)), d, ap (λ (k : ℕ). get_or old k 0) e, ap (λ (k : ℕ). get_or new k 0) e)
 
         passed-going : Going rows counts next m j used avail old new s bare next-walk
@@ -177,7 +177,7 @@ module _ {rows counts next w₀ : List ℕ} {m n j head used avail : ℕ} {old n
         -- the difference makes the new one of the old one
         pub new-value : get_or new s 0 + base ≡ get_or old s 0 + at w row_here
         new-value =
-            let d : differenceAt w₀ row_here ≡ at w row_here =
+            let d : difference_at w₀ row_here ≡ at w row_here =
             ap shifted (sym (place_is can.tally g.clearing h)) ∙ itself (at w row_here) (place-some can.tally g.clearing h) in
             omega (arith, can.moved row_here row-some row_within, d)
           where
@@ -268,17 +268,17 @@ module _ {rows counts next w₀ : List ℕ} {m n j head used avail : ℕ} {old n
           t : ℕ
           t = g.row
 
-          top : (k : ℕ) → Mem k (valuesAt rows p.records) → k ≤ t + length (drop t old)
+          top : (k : ℕ) → Mem k (values_at rows p.records) → k ≤ t + length (drop t old)
           top k q =
               (rises-in (suc t) (t + length (drop t old))
-              (subst (λ (xs : List ℕ). Mem k xs) (sym (values-append rows p.records (chain next last.at.0)) ∙ ap (valuesAt rows) (sym p.parts) ∙ (g.progress.going y).left.rows_left)
-              (mem-left (valuesAt rows (chain next last.at.0)) q)) (pattern-rises (suc t) (drop t old) (t + length (drop t old)) (omega arith))).1
+              (subst (λ (xs : List ℕ). Mem k xs) (sym (values-append rows p.records (chain next last.at.0)) ∙ ap (values_at rows) (sym p.parts) ∙ (g.progress.going y).left.rows_left)
+              (mem-left (values_at rows (chain next last.at.0)) q)) (pattern-rises (suc t) (drop t old) (t + length (drop t old)) (omega arith))).1
 
           rest-same : (u : ℕ) → t ≤ u → u < m → get_or old u 0 ≡ get_or new u 0
           rest-same u a b =
               let q : suc u - 1 ≡ u = omega arith in
               let z : at w₀ (suc u) ≡ 0 = beyond can.tally g.clearing h (suc u) (omega arith) (omega arith) in
-              let d : differenceAt w₀ (suc u) ≡ base = rw z refl in
+              let d : difference_at w₀ (suc u) ≡ base = rw z refl in
               omega (arith, can.moved (suc u) (omega arith) (omega arith), d, ap (λ (k : ℕ). get_or old k 0) q, ap (λ (k : ℕ). get_or new k 0) q)
 
       plan-made : last.fits ≡ true → Plan next m j used avail old new w e
@@ -301,7 +301,7 @@ module _ {rows counts next w₀ : List ℕ} {m n j head used avail : ℕ} {old n
           }
         where
           -- no record is left to come
-          all-behind : Going rows counts next m j used avail old new m w last → last.behind ≡ length (patternFrom 1 old)
+          all-behind : Going rows counts next m j used avail old new m w last → last.behind ≡ length (pattern_from 1 old)
           all-behind l =
               omega (
                 arith,
@@ -329,13 +329,13 @@ module _ {rows counts next w₀ : List ℕ} {m n j head used avail : ℕ} {old n
             frame = λ k a b. g.frame k (elim a [ inl x ↦ absurd (omega arith) | inr x ↦ omega arith ])
                 (subst (λ (x : ℕ). Outside (8 * m + used) (x - used) k) p.used b);
             fits = elim (cases last.fits) [
-              | inl y ↦ y ∙ sym (le-leb (ofKind 1 (planFrom 1 old new)) (length (chain next avail)) (enough y))
-              | inr y ↦ y ∙ sym (lt-leb (ofKind 1 (planFrom 1 old new)) (length (chain next avail)) (g.progress.short (sym p.fits ∙ y)))
+              | inl y ↦ y ∙ sym (le-leb (of_kind 1 (plan_from 1 old new)) (length (chain next avail)) (enough y))
+              | inr y ↦ y ∙ sym (lt-leb (of_kind 1 (plan_from 1 old new)) (length (chain next avail)) (g.progress.short (sym p.fits ∙ y)))
             ];
             plan = plan-made;
           }
         where
-          enough : last.fits ≡ true → ofKind 1 (planFrom 1 old new) ≤ length (chain next avail)
+          enough : last.fits ≡ true → of_kind 1 (plan_from 1 old new) ≤ length (chain next avail)
           enough y =
               let l : Plan next m j used avail old new w e = plan-made y in
-              omega (arith, ap length l.free-parts, length-append l.taken (chain next last.avail.0), l.taken-size, ap (ofKind 1) l.entries)
+              omega (arith, ap length l.free-parts, length-append l.taken (chain next last.avail.0), l.taken-size, ap (of_kind 1) l.entries)

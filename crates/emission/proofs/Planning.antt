@@ -10,22 +10,22 @@ use lib.Dec.{eqb}
 use lib.ListN.{length, get_or, drop, set, length-append, length-set}
 use lib.Seq.{get_or-set_same, get_or-set_other}
 use borrow.Author.Tests.{eq-eqb, ne_eqb}
-use Rattle.lists.specs.Lists.{pick, one, Mem, first, at, valuesAt}
+use Rattle.lists.specs.Lists.{pick, one, Mem, first, at, values_at}
 use Rattle.lists.proofs.Tests.{eq-or-ne, one-le}
-use Rattle.symbolic.specs.Factor.{patternFrom}
+use Rattle.symbolic.specs.Factor.{pattern_from}
 use Rattle.workspace.specs.Regions.{Outside}
 use Rattle.workspace.specs.Planned.{packed, FitsEntry}
 use Rattle.workspace.proofs.Planned.{packed-kind}
 use Rattle.workspace.proofs.Regions.{store-leaves-region}
 use Rattle.pool.specs.Chains.{chain, Linked}
-use Rattle.columns.specs.Plan.{ofKind}
+use Rattle.columns.specs.Plan.{of_kind}
 use Rattle.columns.proofs.Plan.{kind-append}
-use Rattle.differences.specs.Gather.{planPart}
+use Rattle.differences.specs.Gather.{plan_part}
 use Rattle.differences.proofs.Chain.{Onward, chain-onward, chain-over}
 use Rattle.differences.proofs.Parts.{part-next}
 use Rattle.differences.proofs.Following.{values-front}
-use Rattle.emission.specs.Plans.{kindFor, planFrom}
-use Rattle.emission.specs.Walks.{firstOver, stored_at, CanPlan, Planned, same, stored, fresh, spent}
+use Rattle.emission.specs.Plans.{kind_for, plan_from}
+use Rattle.emission.specs.Walks.{first_over, stored_at, CanPlan, Planned, same, stored, fresh, spent}
 use Rattle.emission.specs.Emit.{CanEmit}
 use Rattle.emission.specs.declared.Walk.{Walk}
 use Rattle.emission.proofs.Plans.{entry-fits, kind-push}
@@ -79,9 +79,9 @@ module _ {rows counts next w₀ : List ℕ} {m n j head used avail : ℕ} {old n
             elim (eq-or-ne walk.at.0 0) [
               | inl e ↦ rw (eq-eqb walk.at.0 0 e) (sym z)
               | inr e ↦
-                  let q : Mem (at rows walk.at.0) (valuesAt rows (chain next walk.at.0)) =
+                  let q : Mem (at rows walk.at.0) (values_at rows (chain next walk.at.0)) =
                   subst (λ (xs : List ℕ). Mem (at rows walk.at.0) xs)
-                  (sym (ap (valuesAt rows) (chain-onward next walk.at.0 e g.linked).parts ∙ values-front rows walk.at.0 (chain next (at next walk.at.0)))) first in
+                  (sym (ap (values_at rows) (chain-onward next walk.at.0 e g.linked).parts ∙ values-front rows walk.at.0 (chain next (at next walk.at.0)))) first in
                   rw (ne_eqb walk.at.0 0 e, ne_eqb (at rows walk.at.0) (suc s) (λ d. omega (arith, none_above g.left in-old in-new z (at rows walk.at.0) q))) (sym z)
             ]
       ]
@@ -92,10 +92,10 @@ module _ {rows counts next w₀ : List ℕ} {m n j head used avail : ℕ} {old n
   after-at = onward-at next o walk.at.0
 
   abbrev entry : ℕ
-  entry = packed (suc s) o' (kindFor o o')
+  entry = packed (suc s) o' (kind_for o o')
 
   abbrev es : List ℕ
-  es = planPart m w used walk.used
+  es = plan_part m w used walk.used
 
   pub turn-linked : Linked next after-at (chain next after-at)
   turn-linked = elim (eq-or-ne o 0) [ inl z ↦ rw (eq-eqb o 0 z) g.linked | inr z ↦ rw (ne_eqb o 0 z) (onward z).linked ]
@@ -107,19 +107,19 @@ module _ {rows counts next w₀ : List ℕ} {m n j head used avail : ℕ} {old n
         | inr z ↦ rw (ne_eqb o 0 z) (omega (arith, ap length (onward z).parts))
       ]
 
-  turn-left : Left rows counts j old new (suc s) (chain next after-at) (walk.size + one (not (eqb o' 0))) (pick (eqb o' 0) walk.parent.0 (firstOver j walk.parent.0 (suc s)))
+  turn-left : Left rows counts j old new (suc s) (chain next after-at) (walk.size + one (not (eqb o' 0))) (pick (eqb o' 0) walk.parent.0 (first_over j walk.parent.0 (suc s)))
       (pick (eqb o o') es (es ++ (entry ∷ [])))
   turn-left =
       elim (eq-or-ne o 0) [
         | inl z ↦
-            subst (λ (q : ℕ). Left rows counts j old new (suc s) (chain next q) (walk.size + one (not (eqb o' 0))) (pick (eqb o' 0) walk.parent.0 (firstOver j walk.parent.0 (suc s)))
+            subst (λ (q : ℕ). Left rows counts j old new (suc s) (chain next q) (walk.size + one (not (eqb o' 0))) (pick (eqb o' 0) walk.parent.0 (first_over j walk.parent.0 (suc s)))
             (pick (eqb o o') es (es ++ (entry ∷ [])))) (sym (stay-at z))
             (left-with g.left in-old in-new (chain next walk.at.0) (none_rows g.left in-old in-new z) (none-counts g.left in-old in-new z))
         | inr z ↦
-            subst (λ (q : ℕ). Left rows counts j old new (suc s) (chain next q) (walk.size + one (not (eqb o' 0))) (pick (eqb o' 0) walk.parent.0 (firstOver j walk.parent.0 (suc s)))
+            subst (λ (q : ℕ). Left rows counts j old new (suc s) (chain next q) (walk.size + one (not (eqb o' 0))) (pick (eqb o' 0) walk.parent.0 (first_over j walk.parent.0 (suc s)))
             (pick (eqb o o') es (es ++ (entry ∷ [])))) (sym (move_at z))
-            (left-with g.left in-old in-new (chain next (at next walk.at.0)) (ap (valuesAt rows) (sym (same_rest z)) ∙ (head-is z).rows-rest)
-            (ap (valuesAt counts) (sym (same_rest z)) ∙ (head-is z).counts-rest))
+            (left-with g.left in-old in-new (chain next (at next walk.at.0)) (ap (values_at rows) (sym (same_rest z)) ∙ (head-is z).rows-rest)
+            (ap (values_at counts) (sym (same_rest z)) ∙ (head-is z).counts-rest))
       ]
     where
       stay-at : o ≡ 0 → after-at ≡ walk.at.0
@@ -133,7 +133,7 @@ module _ {rows counts next w₀ : List ℕ} {m n j head used avail : ℕ} {old n
   new-small : o' < 65536
   new-small = let e : suc s - 1 ≡ s = omega arith in omega (arith, can.small (suc s), ap (λ (k : ℕ). get_or new k 0) e)
 
-  fit : FitsEntry (suc s) o' (kindFor o o')
+  fit : FitsEntry (suc s) o' (kind_for o o')
   fit = entry-fits (suc s) o o' (omega arith) (omega (arith, can.narrow)) new-small
 
   place-free : o ≢ 0 → walk.used < length next
@@ -165,23 +165,23 @@ module _ {rows counts next w₀ : List ℕ} {m n j head used avail : ℕ} {old n
       abbrev u : List ℕ
       u = set w (8 * m + walk.used) entry
 
-      plan-longer : planPart m u used (walk.used + 1) ≡ es ++ (entry ∷ [])
+      plan-longer : plan_part m u used (walk.used + 1) ≡ es ++ (entry ∷ [])
       plan-longer =
           part-next m u used walk.used g.used_low (simp length-set (omega arith)) ∙
-          ap (λ (x : ℕ). planPart m u used walk.used ++ (x ∷ [])) (get_or-set_same w (8 * m + walk.used) entry 0 (omega arith)) ∙
+          ap (λ (x : ℕ). plan_part m u used walk.used ++ (x ∷ [])) (get_or-set_same w (8 * m + walk.used) entry 0 (omega arith)) ∙
           ap (λ (xs : List ℕ). xs ++ (entry ∷ [])) (store-leaves-region w (8 * m + walk.used) entry (8 * m + used) (walk.used - used) (inr (omega (arith, g.used_low))))
 
       plan-frame : (k : ℕ) → Outside (8 * m + used) (walk.used + 1 - used) k → get_or u k 0 ≡ get_or w k 0
       plan-frame k out = get_or-set_other w (8 * m + walk.used) k entry 0 (λ e. elim out [ inl p ↦ omega (arith, g.used_low) | inr p ↦ omega (arith, g.used_low) ])
 
     -- the records behind and to come are all
-    behind-all : (after : Walk) → after.at.0 ≡ v.at.0 → after.behind ≡ v.behind → after.behind + length (chain next after.at.0) ≡ length (patternFrom 1 old)
+    behind-all : (after : Walk) → after.at.0 ≡ v.at.0 → after.behind ≡ v.behind → after.behind + length (chain next after.at.0) ≡ length (pattern_from 1 old)
     behind-all after a n = omega (arith, n, f.behind-is, ap (λ (y : ℕ). length (chain next y)) (a ∙ f.at-is), turn-length, g.behind)
 
     -- the plan still fits
     going-made : (x : List ℕ) (after : Walk) (taken' : List ℕ) → after.at.0 ≡ v.at.0 → after.behind ≡ v.behind → after.size ≡ v.size → after.parent.0 ≡ v.parent.0 →
-        planPart m x used after.used ≡ pick (eqb o o') es (es ++ (entry ∷ [])) → Linked next after.avail.0 (chain next after.avail.0) →
-        chain next avail ≡ taken' ++ chain next after.avail.0 → length taken' ≡ ofKind 1 (planPart m x used after.used) → used ≤ after.used →
+        plan_part m x used after.used ≡ pick (eqb o o') es (es ++ (entry ∷ [])) → Linked next after.avail.0 (chain next after.avail.0) →
+        chain next avail ≡ taken' ++ chain next after.avail.0 → length taken' ≡ of_kind 1 (plan_part m x used after.used) → used ≤ after.used →
         after.used + length (chain next after-at) + length (chain next after.avail.0) ≤ length next → Going rows counts next m j used avail old new (suc s) x after
     going-made x after taken' a n b c d e p q l r =
         record {
@@ -197,7 +197,7 @@ module _ {rows counts next w₀ : List ℕ} {m n j head used avail : ℕ} {old n
         }
 
     turned : (x : List ℕ) (after : Walk) → after.at.0 ≡ v.at.0 → after.behind ≡ v.behind → after.size ≡ v.size → used ≤ after.used → after.used ≤ length next →
-        (after.fits ≡ true → Going rows counts next m j used avail old new (suc s) x after) → (after.fits ≡ false → length (chain next avail) < ofKind 1 (planFrom 1 old new)) →
+        (after.fits ≡ true → Going rows counts next m j used avail old new (suc s) x after) → (after.fits ≡ false → length (chain next avail) < of_kind 1 (plan_from 1 old new)) →
         length x ≡ length w → ((k : ℕ) → Outside (8 * m + used) (after.used - used) k → get_or x k 0 ≡ get_or w k 0) → Turned rows counts next m j used avail old new (suc s) w x after
     turned x after a n b l h p q e r =
         record {
@@ -214,8 +214,8 @@ module _ {rows counts next w₀ : List ℕ} {m n j head used avail : ℕ} {old n
           frame = r;
         }
 
-    entry-kind : (k : ℕ) → ofKind k (es ++ (entry ∷ [])) ≡ ofKind k es + one (eqb (kindFor o o') k)
-    entry-kind k = kind-push k es entry ∙ ap (λ (x : ℕ). ofKind k es + one (eqb x k)) (packed-kind fit)
+    entry-kind : (k : ℕ) → of_kind k (es ++ (entry ∷ [])) ≡ of_kind k es + one (eqb (kind_for o o') k)
+    entry-kind k = kind-push k es entry ∙ ap (λ (x : ℕ). of_kind k es + one (eqb x k)) (packed-kind fit)
 
     -- ---- the outcomes
 
@@ -223,10 +223,10 @@ module _ {rows counts next w₀ : List ℕ} {m n j head used avail : ℕ} {old n
     planned-turned {x} {after} y (same d wx ax) =
         let a-used : after.used ≡ walk.used = ap (λ (q : Walk). q.used) ax ∙ f.used-is in
         let a-avail : after.avail.0 ≡ walk.avail.0 = ap (λ (q : Walk). q.avail.0) ax ∙ f.avail-is in
-        let e : planPart m x used after.used ≡ es = rw (wx, a-used) refl in
+        let e : plan_part m x used after.used ≡ es = rw (wx, a-used) refl in
         turned x after (ap (λ (q : Walk). q.at.0) ax) (ap (λ (q : Walk). q.behind) ax) (ap (λ (q : Walk). q.size) ax) (omega (arith, g.used_low)) (omega (arith, g.room))
         (λ t. going-made x after g.taken (ap (λ (q : Walk). q.at.0) ax) (ap (λ (q : Walk). q.behind) ax) (ap (λ (q : Walk). q.size) ax) (ap (λ (q : Walk). q.parent.0) ax)
-        (e ∙ sym (kept d)) (rw a-avail g.free) (rw a-avail g.parts) (g.taken-size ∙ ap (ofKind 1) (sym e)) (omega (arith, g.used_low))
+        (e ∙ sym (kept d)) (rw a-avail g.free) (rw a-avail g.parts) (g.taken-size ∙ ap (of_kind 1) (sym e)) (omega (arith, g.used_low))
         (omega (arith, g.room, turn-length, ap (λ (q : ℕ). length (chain next q)) a-avail)))
         (λ t. absurd (true≢false (sym (ap (λ (q : Walk). q.fits) ax ∙ f.fits-is ∙ y) ∙ t))) (ap length wx) (λ k out. ap (λ (q : List ℕ). get_or q k 0) wx)
       where
@@ -237,10 +237,10 @@ module _ {rows counts next w₀ : List ℕ} {m n j head used avail : ℕ} {old n
         let a-used : after.used ≡ walk.used + 1 = ap (λ (q : Walk). q.used) ax ∙ ap (λ (q : ℕ). q + 1) f.used-is in
         let a-avail : after.avail.0 ≡ walk.avail.0 = ap (λ (q : Walk). q.avail.0) ax ∙ f.avail-is in
         let wy : x ≡ set w (8 * m + walk.used) entry = wx ∙ ap (λ (q : ℕ). set w (8 * m + q) entry) f.used-is in
-        let e : planPart m x used after.used ≡ es ++ (entry ∷ []) = rw (wy, a-used) (plan-longer h) in
+        let e : plan_part m x used after.used ≡ es ++ (entry ∷ []) = rw (wy, a-used) (plan-longer h) in
         turned x after (ap (λ (q : Walk). q.at.0) ax) (ap (λ (q : Walk). q.behind) ax) (ap (λ (q : Walk). q.size) ax) (omega (arith, g.used_low)) (omega arith)
         (λ t. going-made x after g.taken (ap (λ (q : Walk). q.at.0) ax) (ap (λ (q : Walk). q.behind) ax) (ap (λ (q : Walk). q.size) ax) (ap (λ (q : Walk). q.parent.0) ax)
-        (e ∙ sym (more d)) (rw a-avail g.free) (rw a-avail g.parts) (omega (arith, g.taken-size, ap (ofKind 1) e, entry-kind 1, kind-old o o' z)) (omega (arith, g.used_low))
+        (e ∙ sym (more d)) (rw a-avail g.free) (rw a-avail g.parts) (omega (arith, g.taken-size, ap (of_kind 1) e, entry-kind 1, kind-old o o' z)) (omega (arith, g.used_low))
         (omega (arith, g.room, turn-length, some z, ap (λ (q : ℕ). length (chain next q)) a-avail)))
         (λ t. absurd (true≢false (sym (ap (λ (q : Walk). q.fits) ax ∙ f.fits-is ∙ y) ∙ t))) (ap length wy ∙ simp length-set)
         (λ k out. ap (λ (q : List ℕ). get_or q k 0) wy ∙ plan-frame h k (subst (λ (q : ℕ). Outside (8 * m + used) (q - used) k) a-used out))
@@ -256,13 +256,13 @@ module _ {rows counts next w₀ : List ℕ} {m n j head used avail : ℕ} {old n
         let a-used : after.used ≡ walk.used + 1 = ap (λ (q : Walk). q.used) ax ∙ ap (λ (q : ℕ). q + 1) f.used-is in
         let a-avail : after.avail.0 ≡ at next walk.avail.0 = ap (λ (q : Walk). q.avail.0) ax ∙ ap (at next) f.avail-is in
         let wy : x ≡ set w (8 * m + walk.used) entry = wx ∙ ap (λ (q : ℕ). set w (8 * m + q) entry) f.used-is in
-        let e : planPart m x used after.used ≡ es ++ (entry ∷ []) = rw (wy, a-used) (plan-longer h) in
+        let e : plan_part m x used after.used ≡ es ++ (entry ∷ []) = rw (wy, a-used) (plan-longer h) in
         let free : Onward next walk.avail.0 = free-onward b in
         turned x after (ap (λ (q : Walk). q.at.0) ax) (ap (λ (q : Walk). q.behind) ax) (ap (λ (q : Walk). q.size) ax) (omega (arith, g.used_low)) (omega arith)
         (λ t. going-made x after (g.taken ++ (walk.avail.0 ∷ [])) (ap (λ (q : Walk). q.at.0) ax) (ap (λ (q : Walk). q.behind) ax) (ap (λ (q : Walk). q.size) ax) (ap (λ (q : Walk). q.parent.0) ax)
         (e ∙ sym (more d)) (rw a-avail free.linked)
         (rw a-avail (g.parts ∙ ap (λ (xs : List ℕ). g.taken ++ xs) free.parts ∙ sym (append_assoc g.taken (walk.avail.0 ∷ []) (chain next (at next walk.avail.0)))))
-        (omega (arith, length-append g.taken (walk.avail.0 ∷ []), g.taken-size, ap (ofKind 1) e, entry-kind 1, kind-new o o' z)) (omega (arith, g.used_low))
+        (omega (arith, length-append g.taken (walk.avail.0 ∷ []), g.taken-size, ap (of_kind 1) e, entry-kind 1, kind-new o o' z)) (omega (arith, g.used_low))
         (omega (arith, g.room, turn-length, none z, ap (λ (q : ℕ). length (chain next q)) a-avail, ap length free.parts)))
         (λ t. absurd (true≢false (sym (ap (λ (q : Walk). q.fits) ax ∙ f.fits-is ∙ y) ∙ t))) (ap length wy ∙ simp length-set)
         (λ k out. ap (λ (q : List ℕ). get_or q k 0) wy ∙ plan-frame h k (subst (λ (q : ℕ). Outside (8 * m + used) (q - used) k) a-used out))
@@ -275,8 +275,8 @@ module _ {rows counts next w₀ : List ℕ} {m n j head used avail : ℕ} {old n
     planned-turned {x} {after} y (spent z d a wx ax) =
         let a-used : after.used ≡ walk.used = ap (λ (q : Walk). q.used) ax ∙ f.used-is in
         let empty : chain next walk.avail.0 ≡ [] = chain-over next walk.avail.0 (sym f.avail-is ∙ a) g.free in
-        let whole : (es ++ (entry ∷ [])) ++ planFrom (suc (suc s)) (drop (suc s) old) (drop (suc s) new) ≡ planFrom 1 old new =
-        ap (λ (xs : List ℕ). xs ++ planFrom (suc (suc s)) (drop (suc s) old) (drop (suc s) new)) (sym (more d)) ∙ turn-left.plan-left in
+        let whole : (es ++ (entry ∷ [])) ++ plan_from (suc (suc s)) (drop (suc s) old) (drop (suc s) new) ≡ plan_from 1 old new =
+        ap (λ (xs : List ℕ). xs ++ plan_from (suc (suc s)) (drop (suc s) old) (drop (suc s) new)) (sym (more d)) ∙ turn-left.plan-left in
         turned x after (ap (λ (q : Walk). q.at.0) ax) (ap (λ (q : Walk). q.behind) ax) (ap (λ (q : Walk). q.size) ax) (omega (arith, g.used_low)) (omega (arith, g.room))
         (λ t. absurd (true≢false (sym t ∙ ap (λ (q : Walk). q.fits) ax)))
         (λ t. omega (
@@ -285,8 +285,8 @@ module _ {rows counts next w₀ : List ℕ} {m n j head used avail : ℕ} {old n
           length-append g.taken (chain next walk.avail.0),
           ap length empty,
           g.taken-size,
-          ap (ofKind 1) whole,
-          kind-append 1 (es ++ (entry ∷ [])) (planFrom (suc (suc s)) (drop (suc s) old) (drop (suc s) new)),
+          ap (of_kind 1) whole,
+          kind-append 1 (es ++ (entry ∷ [])) (plan_from (suc (suc s)) (drop (suc s) old) (drop (suc s) new)),
           entry-kind 1,
           kind-new o o' z,
         )) (ap length wx)

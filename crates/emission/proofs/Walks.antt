@@ -8,35 +8,35 @@ use mathlib.Core.List.{List, [], ◌∷◌, ◌++◌, append_assoc}
 use Prim.Native.Nat.{ℕ, ◌+◌, ◌≤◌, ◌<◌}
 use native.Mathlib.Omega.{arith}
 use lib.ListN.{length, length-append}
-use Rattle.lists.specs.Lists.{among, at, valuesAt}
+use Rattle.lists.specs.Lists.{among, at, values_at}
 use Rattle.lists.proofs.Member.{mem-either, among-mem, mem-among}
 use Rattle.lists.proofs.Place.{values-append, values_one}
 use Rattle.pool.specs.Chains.{chain, Linked}
 use Rattle.differences.proofs.Rows.{only-member, among-nil}
 use Rattle.differences.proofs.Chain.{Onward, chain-onward}
-use Rattle.emission.specs.Walks.{firstOver, first_of, stays, onTo, CanPass, Passed}
+use Rattle.emission.specs.Walks.{first_over, first_of, stays, on_to, CanPass, Passed}
 use Rattle.emission.specs.declared.Walk.{Walk}
 
-first-push : (j p : ℕ) (xs : List ℕ) (x : ℕ) → first_of j p (xs ++ (x ∷ [])) ≡ firstOver j (first_of j p xs) x
+first-push : (j p : ℕ) (xs : List ℕ) (x : ℕ) → first_of j p (xs ++ (x ∷ [])) ≡ first_over j (first_of j p xs) x
 unfolding first_of
 first-push j p [] x = refl
-first-push j p (y ∷ xs) x = first-push j (firstOver j p y) xs x
+first-push j p (y ∷ xs) x = first-push j (first_over j p y) xs x
 
 pub record Walking (rows next : List ℕ) (j bound : ℕ) (before now : Walk) : Type 0 where
   pub records : List ℕ
   pub parts : chain next before.at.0 ≡ records ++ chain next now.at.0
   pub linked : Linked next now.at.0 (chain next now.at.0)
-  pub below : (i : ℕ) → among i (valuesAt rows records) ≡ true → i < bound
+  pub below : (i : ℕ) → among i (values_at rows records) ≡ true → i < bound
   pub size : now.size ≡ before.size + length records
   pub behind : now.behind ≡ before.behind + length records
-  pub parent : now.parent.0 ≡ first_of j before.parent.0 (valuesAt rows records)
+  pub parent : now.parent.0 ≡ first_of j before.parent.0 (values_at rows records)
   pub used : now.used ≡ before.used
   pub avail : now.avail.0 ≡ before.avail.0
   pub fits : now.fits ≡ before.fits
 
 module _ {rows next : List ℕ} {j bound : ℕ} {before : Walk} (can : CanPass rows next before) where
   pub walking_start : Walking rows next j bound before before
-  unfolding valuesAt first_of
+  unfolding values_at first_of
   walking_start =
       record {
         records = [];
@@ -64,22 +64,22 @@ module _ {rows next : List ℕ} {j bound : ℕ} {before : Walk} (can : CanPass r
       walking-behind =
           omega (arith, g.behind, can.behind-small, ap length g.parts, length-append g.records (chain next now.at.0), ap length walking-onward.parts)
 
-      pub walking-next : at rows now.at.0 < bound → Walking rows next j bound before (onTo (at next now.at.0) (stays j (at rows now.at.0) now))
+      pub walking-next : at rows now.at.0 < bound → Walking rows next j bound before (on_to (at next now.at.0) (stays j (at rows now.at.0) now))
       walking-next l =
           let r : ℕ = now.at.0 in
-          let e : valuesAt rows (g.records ++ (r ∷ [])) ≡ valuesAt rows g.records ++ (at rows r ∷ []) =
-          values-append rows g.records (r ∷ []) ∙ ap (λ (xs : List ℕ). valuesAt rows g.records ++ xs) (values_one rows r) in
+          let e : values_at rows (g.records ++ (r ∷ [])) ≡ values_at rows g.records ++ (at rows r ∷ []) =
+          values-append rows g.records (r ∷ []) ∙ ap (λ (xs : List ℕ). values_at rows g.records ++ xs) (values_one rows r) in
           record {
             records = g.records ++ (r ∷ []);
             parts = g.parts ∙ ap (λ (xs : List ℕ). g.records ++ xs) walking-onward.parts ∙ sym (append_assoc g.records (r ∷ []) (chain next (at next r)));
             linked = walking-onward.linked;
-            below = λ i t. elim (mem-either (valuesAt rows g.records) (among-mem i _ (subst (λ (xs : List ℕ). among i xs ≡ true) e t))) [
+            below = λ i t. elim (mem-either (values_at rows g.records) (among-mem i _ (subst (λ (xs : List ℕ). among i xs ≡ true) e t))) [
               | inl n ↦ g.below i (mem-among n)
               | inr n ↦ omega (arith, only-member n)
             ];
             size = omega (arith, g.size, length-append g.records (r ∷ []));
             behind = omega (arith, g.behind, length-append g.records (r ∷ []));
-            parent = ap (λ (p : ℕ). firstOver j p (at rows r)) g.parent ∙ sym (first-push j before.parent.0 (valuesAt rows g.records) (at rows r)) ∙
+            parent = ap (λ (p : ℕ). first_over j p (at rows r)) g.parent ∙ sym (first-push j before.parent.0 (values_at rows g.records) (at rows r)) ∙
                 ap (first_of j before.parent.0) (sym e);
             used = g.used;
             avail = g.avail;

@@ -1,33 +1,33 @@
 -- The walk of one column's chain against its touched rows, step by step, as the code takes it: records passed over and counted, one row planned. What the
 -- whole walk is for: specs/Emit.antt. Assumes nothing: these are definitions.
 use Rattle.std.specs.Prelude.{◌≡◌, ◌≢◌, true, false, ◌&&◌, not, List, [], ◌∷◌, ◌++◌, ℕ, ◌+◌, ◌≤◌, ◌<◌, ltb, eqb, length, set}
-use Rattle.lists.specs.Lists.{pick, among, at, valuesAt}
+use Rattle.lists.specs.Lists.{pick, among, at, values_at}
 use Rattle.workspace.specs.Layout.{plan_at}
 use Rattle.workspace.specs.Planned.{packed}
 use Rattle.pool.specs.Chains.{chain, Linked}
-use Rattle.emission.specs.Plans.{kindFor}
+use Rattle.emission.specs.Plans.{kind_for}
 use Rattle.emission.specs.declared.Walk.{Walk}
 
 -- ---- the first row above j
 
 -- the first row above j so far, or 0, with one row more, larger than those before
-abbrev pub firstOver : (j first row : ℕ) → ℕ
-firstOver j p i = pick (eqb p 0 && ltb j i) i p
+abbrev pub first_over : (j first row : ℕ) → ℕ
+first_over j p i = pick (eqb p 0 && ltb j i) i p
 
 -- the same with the rows of a rising list, one after another
 unfoldable pub first_of : (j first : ℕ) → (rows : List ℕ) → ℕ
 first_of j p [] = p
-first_of j p (i ∷ is) = first_of j (firstOver j p i) is
+first_of j p (i ∷ is) = first_of j (first_over j p i) is
 
 -- ---- changes of a walk
 
 -- a row that stays is counted
 abbrev pub stays : (j row : ℕ) → Walk → Walk
-stays j i w = record { at = w.at; behind = w.behind; used = w.used; size = w.size + 1; parent = record { 0 = firstOver j w.parent.0 i }; avail = w.avail; fits = w.fits }
+stays j i w = record { at = w.at; behind = w.behind; used = w.used; size = w.size + 1; parent = record { 0 = first_over j w.parent.0 i }; avail = w.avail; fits = w.fits }
 
 -- the record at hand is left behind, for another
-abbrev pub onTo : (record₁ : ℕ) → Walk → Walk
-onTo r w = record { at = record { 0 = r }; behind = w.behind + 1; used = w.used; size = w.size; parent = w.parent; avail = w.avail; fits = w.fits }
+abbrev pub on_to : (record₁ : ℕ) → Walk → Walk
+on_to r w = record { at = record { 0 = r }; behind = w.behind + 1; used = w.used; size = w.size; parent = w.parent; avail = w.avail; fits = w.fits }
 
 -- an entry is written
 abbrev pub longer : Walk → Walk
@@ -55,11 +55,11 @@ pub record Passed (rows next : List ℕ) (j bound : ℕ) (before after : Walk) :
   pub records : List ℕ
   pub parts : chain next before.at.0 ≡ records ++ chain next after.at.0
   pub linked : Linked next after.at.0 (chain next after.at.0)
-  pub below : (i : ℕ) → among i (valuesAt rows records) ≡ true → i < bound
+  pub below : (i : ℕ) → among i (values_at rows records) ≡ true → i < bound
   pub above : after.at.0 ≢ 0 → bound ≤ at rows after.at.0
   pub size : after.size ≡ before.size + length records
   pub behind : after.behind ≡ before.behind + length records
-  pub parent : after.parent.0 ≡ first_of j before.parent.0 (valuesAt rows records)
+  pub parent : after.parent.0 ≡ first_of j before.parent.0 (values_at rows records)
   pub used : after.used ≡ before.used
   pub avail : after.avail.0 ≡ before.avail.0
   pub fits : after.fits ≡ before.fits
@@ -76,7 +76,7 @@ counting j i n w = pick (eqb n 0) w (stays j i w)
 
 -- the walk with the record at hand left behind if it is the row's: the old multiplicity is not 0
 abbrev pub advanced : (next : List ℕ) → (old : ℕ) → Walk → Walk
-advanced ns n w = pick (eqb n 0) w (onTo (at ns w.at.0) w)
+advanced ns n w = pick (eqb n 0) w (on_to (at ns w.at.0) w)
 
 -- an entry fits, and has a place if it has a record or a free one is left
 pub record CanPlan (next work : List ℕ) (m row old new : ℕ) (w : Walk) : Type 0 where
@@ -91,8 +91,8 @@ pub record CanPlan (next work : List ℕ) (m row old new : ℕ) (w : Walk) : Typ
 -- left ends the plan
 pub data Planned (next work : List ℕ) (m row old new : ℕ) (w : Walk) (work' : List ℕ) (after : Walk) : Type 0 where
   same : old ≡ new → work' ≡ work → after ≡ w → Planned next work m row old new w work' after
-  stored : old ≢ 0 → old ≢ new → work' ≡ set work (plan_at m + w.used) (packed row new (kindFor old new)) → after ≡ longer w →
+  stored : old ≢ 0 → old ≢ new → work' ≡ set work (plan_at m + w.used) (packed row new (kind_for old new)) → after ≡ longer w →
       Planned next work m row old new w work' after
-  fresh : old ≡ 0 → old ≢ new → w.avail.0 ≢ 0 → work' ≡ set work (plan_at m + w.used) (packed row new (kindFor old new)) → after ≡ longer (taking next w) →
+  fresh : old ≡ 0 → old ≢ new → w.avail.0 ≢ 0 → work' ≡ set work (plan_at m + w.used) (packed row new (kind_for old new)) → after ≡ longer (taking next w) →
       Planned next work m row old new w work' after
   spent : old ≡ 0 → old ≢ new → w.avail.0 ≡ 0 → work' ≡ work → after ≡ full w → Planned next work m row old new w work' after

@@ -4,8 +4,8 @@
 ghost use Rattle.std.specs.Prelude.{◌≡◌, ◌≢◌, ◌+◌, ◌*◌, ◌≤◌, ◌<◌, max, length, set};
 ghost use Rattle.lists.specs.Lists.{at};
 ghost use Rattle.workspace.specs.Layout.{plan_at};
-ghost use Rattle.emission.specs.Plans.{kindFor};
-ghost use Rattle.emission.specs.Walks.{firstOver, stays, onTo, longer, taking, CanPass, Passed, stored_at, counting, advanced, CanPlan, Planned};
+ghost use Rattle.emission.specs.Plans.{kind_for};
+ghost use Rattle.emission.specs.Walks.{first_over, stays, on_to, longer, taking, CanPass, Passed, stored_at, counting, advanced, CanPlan, Planned};
 ghost use Rattle.emission.specs.Emit.{Ready, Emits};
 
 use book::Row;
@@ -38,7 +38,7 @@ pub struct Emission {
 
 // The first row above j so far, with one row more.
 fn first_over(j: Row, first: Row, row: Row) -> Row
-    ensures { result.0 ≡ firstOver j.0 first.0 row.0 }
+    ensures { result.0 ≡ first_over j.0 first.0 row.0 }
 {
     let f = first.0;
     if f != 0 {
@@ -76,7 +76,7 @@ fn stay(walk: Walk, j: Row, row: Row) -> Walk
 // Leaves the record at hand behind, for the next one.
 fn on_to(walk: Walk, r: Rec) -> Walk
     requires { walk.behind < 4294967295 }
-    ensures { result ≡ onTo r.0 walk }
+    ensures { result ≡ on_to r.0 walk }
 {
     let mut w = walk;
     w.at = r;
@@ -137,7 +137,7 @@ fn advance(next: &[u32], walk: Walk, old: u32) -> Walk
 
 // The kind of a planned change.
 fn kind_for(old: u32, new: u32) -> u32
-    ensures { result ≡ kindFor old new }
+    ensures { result ≡ kind_for old new }
 {
     if old == 0 {
         return workspace::NEW;

@@ -9,17 +9,17 @@ use native.Mathlib.Omega.{arith}
 use lib.ListN.{length, get_or, take, drop, length-drop, drop_of_length-le}
 use lib.Seq.{drop-cons, drop-drop, length-take-le}
 use borrow.Author.Tests.{not-true}
-use Rattle.lists.specs.Lists.{Mem, all, among, noRepeats, sum_of}
+use Rattle.lists.specs.Lists.{Mem, all, among, no_repeats, sum_of}
 use Rattle.lists.proofs.Tests.{and_both}
 use Rattle.lists.proofs.Member.{place-mem, mem-among}
 use Rattle.lists.proofs.Sum.{sum-append}
-use Rattle.symbolic.specs.Columns.{Column, columnWith}
+use Rattle.symbolic.specs.Columns.{Column, column_with}
 use Rattle.symbolic.specs.Change.{Bag}
-use Rattle.book.specs.Book.{Book, columnsIn, columnFits, ColumnStays}
+use Rattle.book.specs.Book.{Book, columns_in, column_fits, ColumnStays}
 use Rattle.book.specs.Entries.{CanAdd, Added}
 use Rattle.book.proofs.Staying.{stays-booked}
 use Rattle.book.proofs.Changed.{added-bag, added-room}
-use Rattle.calls.specs.Refusals.{batchOf}
+use Rattle.calls.specs.Refusals.{batch_of}
 use Rattle.entering.specs.Entering.{total, CanEnter, Entered}
 
 -- ---- columns that stay, and ids that are not among others
@@ -31,22 +31,22 @@ pub book-joins : {a b c : Book} {l : ℕ} → ColumnStays a b l → ColumnStays 
 book-joins s t = record { head = t.head ∙ s.head; records = t.records ∙ s.records; rows = t.rows ∙ s.rows }
 
 -- an id past the first is another one
-pub later-differs : (x : ℕ) (xs : List ℕ) (k : ℕ) → noRepeats (x ∷ xs) ≡ true → k < length xs → get_or xs k 0 ≢ x
-unfolding noRepeats
+pub later-differs : (x : ℕ) (xs : List ℕ) (k : ℕ) → no_repeats (x ∷ xs) ≡ true → k < length xs → get_or xs k 0 ≢ x
+unfolding no_repeats
 later-differs x xs k d h e =
-    let n : among x xs ≡ false = not-true (among x xs) (and_both (not (among x xs)) (noRepeats xs) d).0 in
+    let n : among x xs ≡ false = not-true (among x xs) (and_both (not (among x xs)) (no_repeats xs) d).0 in
     true≢false (sym (mem-among (subst (λ (y : ℕ). Mem y xs) e (place-mem xs k 0 h))) ∙ n)
 
-pub later-distinct : (x : ℕ) (xs : List ℕ) → noRepeats (x ∷ xs) ≡ true → noRepeats xs ≡ true
-unfolding noRepeats
-later-distinct x xs d = (and_both (not (among x xs)) (noRepeats xs) d).1
+pub later-distinct : (x : ℕ) (xs : List ℕ) → no_repeats (x ∷ xs) ≡ true → no_repeats xs ≡ true
+unfolding no_repeats
+later-distinct x xs d = (and_both (not (among x xs)) (no_repeats xs) d).1
 
 -- ---- one column
 
 module _ {m : ℕ} {b : Book} {id : ℕ} {ids : List ℕ} {n : ℕ} {counts list : List ℕ} (can : CanEnter m b (id ∷ ids) (n ∷ counts) list) where
-  enter-fits : (columnFits m (columnWith id (take n list)) ≡ true) × (all (columnFits m) (batchOf ids counts (drop n list)) ≡ true)
-  unfolding batchOf all
-  enter-fits = and_both (columnFits m (columnWith id (take n list))) (all (columnFits m) (batchOf ids counts (drop n list))) can.fits
+  enter-fits : (column_fits m (column_with id (take n list)) ≡ true) × (all (column_fits m) (batch_of ids counts (drop n list)) ≡ true)
+  unfolding batch_of all
+  enter-fits = and_both (column_fits m (column_with id (take n list))) (all (column_fits m) (batch_of ids counts (drop n list))) can.fits
 
   enter-total : total (n ∷ counts) ≡ n + total counts
   unfolding sum_of
@@ -86,13 +86,13 @@ module _ {m : ℕ} {b : Book} {id : ℕ} {ids : List ℕ} {n : ℕ} {counts list
           room = omega (arith, enter-total, can.room, added-room enter-can a, enter-length);
         }
 
-    pub enter-bag : Bag (columnsIn after ++ batchOf ids counts (drop n list)) (columnsIn b ++ batchOf (id ∷ ids) (n ∷ counts) list)
-    unfolding batchOf sum_of
+    pub enter-bag : Bag (columns_in after ++ batch_of ids counts (drop n list)) (columns_in b ++ batch_of (id ∷ ids) (n ∷ counts) list)
+    unfolding batch_of sum_of
     enter-bag f =
-        let c : Column = columnWith id (take n list) in
-        let rest : List Column = batchOf ids counts (drop n list) in
+        let c : Column = column_with id (take n list) in
+        let rest : List Column = batch_of ids counts (drop n list) in
         omega
-        (arith, added-bag enter-can a f, sum-append f (columnsIn after) rest, sum-append f (columnsIn b) (c ∷ rest), sum-append f (columnsIn b) (c ∷ []))
+        (arith, added-bag enter-can a f, sum-append f (columns_in after) rest, sum-append f (columns_in b) (c ∷ rest), sum-append f (columns_in b) (c ∷ []))
 
 -- ---- the loop
 
@@ -102,7 +102,7 @@ pub record Entering (m : ℕ) (b : Book) (ids counts list : List ℕ) (now : Boo
   pub can : CanEnter m now (drop i ids) (drop i counts) (drop a list)
   pub same-heads : length now.heads ≡ length b.heads
   pub same-records : length now.next ≡ length b.next
-  pub bag : Bag (columnsIn now ++ batchOf (drop i ids) (drop i counts) (drop a list)) (columnsIn b ++ batchOf ids counts list)
+  pub bag : Bag (columns_in now ++ batch_of (drop i ids) (drop i counts) (drop a list)) (columns_in b ++ batch_of ids counts list)
   pub others : (l : ℕ) → 1 ≤ l → l ≤ length b.heads → among l ids ≡ false → ColumnStays b now l
 
 pub entering-start : {m : ℕ} {b : Book} {ids counts list : List ℕ} → CanEnter m b ids counts list → Entering m b ids counts list b 0 0
@@ -111,16 +111,16 @@ entering-start {b = b} can =
 
 module _ {m : ℕ} {b : Book} {ids counts list : List ℕ} {now : Book} {i a : ℕ} (e : Entering m b ids counts list now i a) where
   pub entering-end : length ids ≤ i → Entered m b ids counts list now
-  unfolding batchOf
+  unfolding batch_of
   entering-end h =
-      let none : batchOf (drop i ids) (drop i counts) (drop a list) ≡ [] =
-      ap (λ (is : List ℕ). batchOf is (drop i counts) (drop a list)) (drop_of_length-le ids {i = i} h) in
+      let none : batch_of (drop i ids) (drop i counts) (drop a list) ≡ [] =
+      ap (λ (is : List ℕ). batch_of is (drop i counts) (drop a list)) (drop_of_length-le ids {i = i} h) in
       record {
         sized = e.can.sized;
         sound = e.can.sound;
         same-heads = e.same-heads;
         same-records = e.same-records;
-        columns = λ f. ap (λ (cs : List Column). sum_of f cs) (sym (ap (λ (cs : List Column). columnsIn now ++ cs) none ∙ append-nil (columnsIn now))) ∙ e.bag f;
+        columns = λ f. ap (λ (cs : List Column). sum_of f cs) (sym (ap (λ (cs : List Column). columns_in now ++ cs) none ∙ append-nil (columns_in now))) ∙ e.bag f;
         others = e.others;
       }
 
@@ -155,10 +155,10 @@ module _ {m : ℕ} {b : Book} {ids counts list : List ℕ} {now : Book} {i a : �
               (subst (λ (rs : List ℕ). CanEnter m after (drop (suc i) ids) (drop (suc i) counts) rs) x (enter-rest turn-can g));
           same-heads = g.same-heads ∙ e.same-heads;
           same-records = g.same-records ∙ e.same-records;
-          bag = subst (λ (k : ℕ). Bag (columnsIn after ++ batchOf (drop k ids) (drop k counts) (drop (a + n) list)) (columnsIn b ++ batchOf ids counts list)) p
-              (subst (λ (rs : List ℕ). Bag (columnsIn after ++ batchOf (drop (suc i) ids) (drop (suc i) counts) rs) (columnsIn b ++ batchOf ids counts list)) x
-              (λ f. enter-bag turn-can g f ∙ sym (ap (λ (is : List ℕ). sum_of f (columnsIn now ++ batchOf is (get_or counts i 0 ∷ drop (suc i) counts) (drop a list))) (drop-cons ids i 0 h)) ∙
-              sym (ap (λ (ns : List ℕ). sum_of f (columnsIn now ++ batchOf (drop i ids) ns (drop a list))) (drop-cons counts i 0 entering-paired)) ∙ e.bag f));
+          bag = subst (λ (k : ℕ). Bag (columns_in after ++ batch_of (drop k ids) (drop k counts) (drop (a + n) list)) (columns_in b ++ batch_of ids counts list)) p
+              (subst (λ (rs : List ℕ). Bag (columns_in after ++ batch_of (drop (suc i) ids) (drop (suc i) counts) rs) (columns_in b ++ batch_of ids counts list)) x
+              (λ f. enter-bag turn-can g f ∙ sym (ap (λ (is : List ℕ). sum_of f (columns_in now ++ batch_of is (get_or counts i 0 ∷ drop (suc i) counts) (drop a list))) (drop-cons ids i 0 h)) ∙
+              sym (ap (λ (ns : List ℕ). sum_of f (columns_in now ++ batch_of (drop i ids) ns (drop a list))) (drop-cons counts i 0 entering-paired)) ∙ e.bag f));
           others = λ l q r z.
               book-joins (e.others l q r z) (g.others l q (omega (arith, e.same-heads)) (λ w. true≢false (sym (mem-among (subst (λ (y : ℕ). Mem y ids) (sym w) (place-mem ids i 0 h))) ∙ z)));
         }

@@ -14,7 +14,7 @@ use Rattle.lists.proofs.Tests.{cases}
 use Rattle.lists.proofs.Member.{place-mem, mem-among}
 use Rattle.symbolic.specs.Columns.{Column}
 use Rattle.symbolic.specs.Change.{without}
-use Rattle.book.specs.Book.{Book, columnsIn, ColumnStays}
+use Rattle.book.specs.Book.{Book, columns_in, ColumnStays}
 use Rattle.book.specs.Entries.{CanRemove, Removed}
 use Rattle.book.proofs.Staying.{stays-booked}
 use Rattle.book.proofs.Changed.{removed-columns}
@@ -63,8 +63,8 @@ module _ {m : ℕ} {b : Book} {id : ℕ} {ids : List ℕ} (can : CanLeave m b (i
               stays-booked (r.others (get_or ids k 0) t.0 t.1 (later-differs id ids k can.distinct h)) ∙ can.booked (suc k) (omega arith);
         }
 
-    pub leave-columns : without ids (columnsIn after) ≡ without (id ∷ ids) (columnsIn b)
-    leave-columns = ap (λ (cs : List Column). without ids cs) (removed-columns leave-can r) ∙ without_more id ids (columnsIn b)
+    pub leave-columns : without ids (columns_in after) ≡ without (id ∷ ids) (columns_in b)
+    leave-columns = ap (λ (cs : List Column). without ids cs) (removed-columns leave-can r) ∙ without_more id ids (columns_in b)
 
 -- ---- the loop
 
@@ -73,7 +73,7 @@ pub record Leaving (m : ℕ) (b : Book) (ids : List ℕ) (now : Book) (i : ℕ) 
   pub can : CanLeave m now (drop i ids)
   pub same-heads : length now.heads ≡ length b.heads
   pub same-records : length now.next ≡ length b.next
-  pub columns : without (drop i ids) (columnsIn now) ≡ without ids (columnsIn b)
+  pub columns : without (drop i ids) (columns_in now) ≡ without ids (columns_in b)
   pub others : (l : ℕ) → 1 ≤ l → l ≤ length b.heads → among l ids ≡ false → ColumnStays b now l
 
 pub leaving-start : {m : ℕ} {b : Book} {ids : List ℕ} → CanLeave m b ids → Leaving m b ids b 0
@@ -87,7 +87,7 @@ module _ {m : ℕ} {b : Book} {ids : List ℕ} {now : Book} {i : ℕ} (e : Leavi
         sound = e.can.sound;
         same-heads = e.same-heads;
         same-records = e.same-records;
-        columns = sym (ap (λ (is : List ℕ). without is (columnsIn now)) (drop_of_length-le ids {i = i} h) ∙ without-none (columnsIn now)) ∙ e.columns;
+        columns = sym (ap (λ (is : List ℕ). without is (columns_in now)) (drop_of_length-le ids {i = i} h) ∙ without-none (columns_in now)) ∙ e.columns;
         others = e.others;
       }
 
@@ -105,8 +105,8 @@ module _ {m : ℕ} {b : Book} {ids : List ℕ} {now : Book} {i : ℕ} (e : Leavi
           can = subst (λ (k : ℕ). CanLeave m after (drop k ids)) p (leave-rest turn-can r);
           same-heads = r.same-heads ∙ e.same-heads;
           same-records = r.same-records ∙ e.same-records;
-          columns = subst (λ (k : ℕ). without (drop k ids) (columnsIn after) ≡ without ids (columnsIn b)) p
-              (leave-columns turn-can r ∙ sym (ap (λ (is : List ℕ). without is (columnsIn now)) (drop-cons ids i 0 h)) ∙ e.columns);
+          columns = subst (λ (k : ℕ). without (drop k ids) (columns_in after) ≡ without ids (columns_in b)) p
+              (leave-columns turn-can r ∙ sym (ap (λ (is : List ℕ). without is (columns_in now)) (drop-cons ids i 0 h)) ∙ e.columns);
           others = λ l q s z.
               book-joins (e.others l q s z) (r.others l q (omega (arith, e.same-heads)) (λ w. true≢false (sym (mem-among (subst (λ (y : ℕ). Mem y ids) (sym w) (place-mem ids i 0 h))) ∙ z)));
         }

@@ -1,6 +1,6 @@
 // The columns of a batch enter the book, position by position with their part of the one list of rows, or leave it. The cost is that of their rows.
 ghost use Rattle.std.specs.Prelude.{ℕ};
-ghost use Rattle.book.specs.Book.{bookOf};
+ghost use Rattle.book.specs.Book.{book_of};
 ghost use Rattle.entering.specs.Entering.{SomeEnter, CanEnter, Entered, SomeLeave, CanLeave, Left};
 
 use book::Id;
@@ -16,8 +16,8 @@ pub fn enter_columns(
     row_list: &[u32],
     free: Rec,
 ) -> Rec
-    requires { SomeEnter (bookOf book_heads.old book_rows.old book_next.old free.0) ids.now row_counts.now row_list.now }
-    ensures { (m : ℕ) → CanEnter m (bookOf book_heads.old book_rows.old book_next.old free.0) ids.now row_counts.now row_list.now → Entered m (bookOf book_heads.old book_rows.old book_next.old free.0) ids.now row_counts.now row_list.now (bookOf book_heads.new book_rows.new book_next.new result.0) }
+    requires { SomeEnter (book_of book_heads.old book_rows.old book_next.old free.0) ids.now row_counts.now row_list.now }
+    ensures { (m : ℕ) → CanEnter m (book_of book_heads.old book_rows.old book_next.old free.0) ids.now row_counts.now row_list.now → Entered m (book_of book_heads.old book_rows.old book_next.old free.0) ids.now row_counts.now row_list.now (book_of book_heads.new book_rows.new book_next.new result.0) }
 {
     let mut z = free;
     let mut k: usize = 0;
@@ -40,8 +40,8 @@ pub fn leave_columns(
     ids: &[u32],
     free: Rec,
 ) -> Rec
-    requires { SomeLeave (bookOf book_heads.old book_rows.old book_next.old free.0) ids.now }
-    ensures { (m : ℕ) → CanLeave m (bookOf book_heads.old book_rows.old book_next.old free.0) ids.now → Left m (bookOf book_heads.old book_rows.old book_next.old free.0) ids.now (bookOf book_heads.new book_rows.new book_next.new result.0) }
+    requires { SomeLeave (book_of book_heads.old book_rows.old book_next.old free.0) ids.now }
+    ensures { (m : ℕ) → CanLeave m (book_of book_heads.old book_rows.old book_next.old free.0) ids.now → Left m (book_of book_heads.old book_rows.old book_next.old free.0) ids.now (book_of book_heads.new book_rows.new book_next.new result.0) }
 {
     let mut z = free;
     let mut i: usize = 0;

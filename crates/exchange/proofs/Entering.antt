@@ -11,17 +11,17 @@ use borrow.Author.Tests.{leb-false, le-leb, lt-leb}
 use Rattle.lists.specs.Lists.{any}
 use Rattle.lists.proofs.Member.{mem-right}
 use Rattle.symbolic.specs.Columns.{Column}
-use Rattle.symbolic.specs.Factor.{factorOf, sizeSum}
-use Rattle.symbolic.specs.Batch.{isTouched}
+use Rattle.symbolic.specs.Factor.{factor_of, size_sum}
+use Rattle.symbolic.specs.Batch.{is_touched}
 use Rattle.symbolic.proofs.Theorems.{sizes-grow}
 use Rattle.workspace.specs.Regions.{cell, OnlyIn}
-use Rattle.workspace.specs.Layout.{gatherAt}
-use Rattle.workspace.specs.Parts.{lowerPart}
+use Rattle.workspace.specs.Layout.{gather_at}
+use Rattle.workspace.specs.Parts.{lower_part}
 use Rattle.book.specs.Book as book
 use Rattle.tables.specs.Stored.{Stored}
 use Rattle.updown.specs.Entries.{CanAddBooked, SomeAddBooked}
 use Rattle.updown.proofs.Booking.{booked-length}
-use Rattle.exchange.specs.Stages.{groupTouches, GroupDone, GroupEntered, CanGo, CanEnterAll, EnteredAll, Moved}
+use Rattle.exchange.specs.Stages.{group_touches, GroupDone, GroupEntered, CanGo, CanEnterAll, EnteredAll, Moved}
 use Rattle.exchange.proofs.Stages.{moved_none, moved_as, moved-joins, group-moved}
 use Rattle.exchange.proofs.Small.{rows-room, sizes-fit}
 use Rattle.exchange.proofs.Parting.{GroupEnds, group, booked-part, front-more, entering-more}
@@ -31,7 +31,7 @@ use Rattle.exchange.proofs.Leaving.{mem-rest, mem-front}
 -- the columns of B before place a have entered beside R
 abbrev pub Entering : (R B : List Column) (s now : Stored) (work work' : List ℕ) (a : ℕ) → Type 0
 Entering R B s now w w' a =
-    Moved (length s.heads) (length s.next) R s (isTouched (factorOf (length s.heads) (R ++ take a B)) (take a B)) (R ++ take a B) now w w'
+    Moved (length s.heads) (length s.next) R s (is_touched (factor_of (length s.heads) (R ++ take a B)) (take a B)) (R ++ take a B) now w w'
 
 module _ {s : Stored} {b : book.Book} {ids work : List ℕ} {R B : List Column} (c : CanEnterAll s b ids work R B) where
   abbrev m : ℕ
@@ -85,30 +85,30 @@ module _ {s : Stored} {b : book.Book} {ids work : List ℕ} {R B : List Column} 
           (x : GroupEntered (length s.heads) (length now.next) now (R ++ take a B) (group B a e) after work' work'' fits) where
         entering-next : fits ≡ true → Entering R B s after work work'' e
         entering-next h =
-            let d : GroupDone m (length s.next) now (groupTouches m (R ++ take a B) (group B a e)) ((R ++ take a B) ++ group B a e) after work' work'' =
-            subst (λ (f : ℕ). GroupDone m f now (groupTouches m (R ++ take a B) (group B a e)) ((R ++ take a B) ++ group B a e) after work' work'') v.long (x.done h) in
-            subst (λ (l : List Column). Moved m (length s.next) R s (isTouched (factorOf m (R ++ take e B)) (take e B)) l after work work'') more
+            let d : GroupDone m (length s.next) now (group_touches m (R ++ take a B) (group B a e)) ((R ++ take a B) ++ group B a e) after work' work'' =
+            subst (λ (f : ℕ). GroupDone m f now (group_touches m (R ++ take a B) (group B a e)) ((R ++ take a B) ++ group B a e) after work' work'') v.long (x.done h) in
+            subst (λ (l : List Column). Moved m (length s.next) R s (is_touched (factor_of m (R ++ take e B)) (take e B)) l after work work'') more
             (moved_as (entering-more m R B a e (omega (arith, g.low))) (λ f. refl) (moved-joins refl v (take a B) (λ f. refl) (group-moved d)))
 
         -- where a group does not fit, all of B do not
         entering-halt : fits ≡ false → EnteredAll (length s.heads) (length s.next) R B s after work work'' fits
         entering-halt h =
             let f : ℕ = length s.next in
-            let over : f < sizeSum (factorOf m (R ++ take e B)) =
+            let over : f < size_sum (factor_of m (R ++ take e B)) =
             omega (
               arith,
               v.long,
-              leb-false (sizeSum (factorOf m ((R ++ take a B) ++ group B a e))) (length now.next) (sym x.fits-is ∙ h),
-              ap (λ (l : List Column). sizeSum (factorOf m l)) more,
+              leb-false (size_sum (factor_of m ((R ++ take a B) ++ group B a e))) (length now.next) (sym x.fits-is ∙ h),
+              ap (λ (l : List Column). size_sum (factor_of m l)) more,
             ) in
             let all_of : (R ++ take e B) ++ drop e B ≡ R ++ B = append_assoc R (take e B) (drop e B) ∙ ap (λ (l : List Column). R ++ l) (take-append-drop e B) in
-            let grows : sizeSum (factorOf m (R ++ take e B)) ≤ sizeSum (factorOf m (R ++ B)) =
-            subst (λ (l : List Column). sizeSum (factorOf m (R ++ take e B)) ≤ sizeSum (factorOf m l)) all_of (sizes-grow m (R ++ take e B) (drop e B)) in
+            let grows : size_sum (factor_of m (R ++ take e B)) ≤ size_sum (factor_of m (R ++ B)) =
+            subst (λ (l : List Column). size_sum (factor_of m (R ++ take e B)) ≤ size_sum (factor_of m l)) all_of (sizes-grow m (R ++ take e B) (drop e B)) in
             record {
-              fits-is = h ∙ sym (lt-leb (sizeSum (factorOf m (R ++ B))) f (omega arith));
+              fits-is = h ∙ sym (lt-leb (size_sum (factor_of m (R ++ B))) f (omega arith));
               done = λ k. absurd (true≢false (sym k ∙ h));
-              only = subst (λ (w : List ℕ). OnlyIn (gatherAt m f) m work w) (sym (x.unchanged h)) v.gathers.only;
-              low = λ i l. ap (λ (w : List ℕ). lowerPart (cell w (gatherAt m f) i)) (x.unchanged h) ∙ v.gathers.low i l;
+              only = subst (λ (w : List ℕ). OnlyIn (gather_at m f) m work w) (sym (x.unchanged h)) v.gathers.only;
+              low = λ i l. ap (λ (w : List ℕ). lower_part (cell w (gather_at m f) i)) (x.unchanged h) ∙ v.gathers.low i l;
             }
 
       -- the ids of the group, as they are lent
@@ -130,12 +130,12 @@ module _ {s : Stored} {b : book.Book} {ids work : List ℕ} {R B : List Column} 
     pub entering-end : length ids ≤ a → EnteredAll (length s.heads) (length s.next) R B s now work work' true
     entering-end h =
         let p : take a B ≡ B = take_all a B (omega (arith, length-is)) in
-        let w : Moved m (length s.next) R s (isTouched (factorOf m (R ++ B)) B) (R ++ B) now work work' =
-        subst (λ (l : List Column). Moved m (length s.next) R s (isTouched (factorOf m (R ++ l)) l) (R ++ l) now work work') p v in
-        let fit : sizeSum (factorOf m (R ++ B)) ≤ length s.next =
-        omega (arith, sizes-fit (R ++ B) now w.sound, ap (λ (n : ℕ). sizeSum (factorOf n (R ++ B))) (ap length w.heads), w.long) in
+        let w : Moved m (length s.next) R s (is_touched (factor_of m (R ++ B)) B) (R ++ B) now work work' =
+        subst (λ (l : List Column). Moved m (length s.next) R s (is_touched (factor_of m (R ++ l)) l) (R ++ l) now work work') p v in
+        let fit : size_sum (factor_of m (R ++ B)) ≤ length s.next =
+        omega (arith, sizes-fit (R ++ B) now w.sound, ap (λ (n : ℕ). size_sum (factor_of n (R ++ B))) (ap length w.heads), w.long) in
         record {
-          fits-is = sym (le-leb (sizeSum (factorOf m (R ++ B))) (length s.next) fit);
+          fits-is = sym (le-leb (size_sum (factor_of m (R ++ B))) (length s.next) fit);
           done = λ k. w;
           only = w.gathers.only;
           low = w.gathers.low;

@@ -9,27 +9,27 @@ use lib.ListN.{length, get_or}
 use Rattle.lists.specs.Lists.{among}
 use Rattle.lists.proofs.Tests.{both_ways}
 use Rattle.symbolic.specs.Columns.{Column}
-use Rattle.symbolic.specs.Factor.{FactorColumn, factorOf}
-use Rattle.workspace.specs.Layout.{gatherAt}
-use Rattle.symbolic.specs.Batch.{isTouched, touched, label_of}
+use Rattle.symbolic.specs.Factor.{FactorColumn, factor_of}
+use Rattle.workspace.specs.Layout.{gather_at}
+use Rattle.symbolic.specs.Batch.{is_touched, touched, label_of}
 use Rattle.symbolic.proofs.Theorems.{touched-is, touched-rises, locality}
 use Rattle.pool.specs.Chains.{chain}
 use Rattle.book.specs.Book as book
 use Rattle.book.specs.Entries.{HasHead}
-use Rattle.tables.specs.Stored.{Stored, storedOf}
+use Rattle.tables.specs.Stored.{Stored, stored_of}
 use Rattle.tables.proofs.Stored.{sound-bag}
-use Rattle.updown.specs.Entries.{Booked, BookedFrom, bookedStarts, CanPlan, CanAddBooked, CanEnter, AddPlanned, CanRemove, SomeRemove, RemovePlanned}
+use Rattle.updown.specs.Entries.{Booked, BookedFrom, booked_starts, CanPlan, CanAddBooked, CanEnter, AddPlanned, CanRemove, SomeRemove, RemovePlanned}
 use Rattle.updown.proofs.Filled.{whole-booked, whole-heads, whole-enter}
 use Rattle.commit.specs.Gather as commit
 use Rattle.commit.specs.Writes.{SomeWrite, WrittenAll}
-use Rattle.exchange.specs.Stages.{groupTouches, CanLeave, GroupDone, GroupEntered}
+use Rattle.exchange.specs.Stages.{group_touches, CanLeave, GroupDone, GroupEntered}
 use Rattle.updown.proofs.Booking.{booked-length}
 use Rattle.exchange.proofs.Grouping.{Planned, can-gather, some-gather, some-write, group-done}
 
 -- the columns that a group touches are those of the list
-among-touched : (m : ℕ) (cs W : List Column) (j : ℕ) → 1 ≤ j → j ≤ m → among j (touched (factorOf m cs) W) ≡ isTouched (factorOf m cs) W j
+among-touched : (m : ℕ) (cs W : List Column) (j : ℕ) → 1 ≤ j → j ≤ m → among j (touched (factor_of m cs) W) ≡ is_touched (factor_of m cs) W j
 among-touched m cs W j a b =
-    both_ways (among j (touched (factorOf m cs) W)) (isTouched (factorOf m cs) W j) (λ h. ((touched-is m cs W j).0 h).2) (λ h. (touched-is m cs W j).1 (a, b, h))
+    both_ways (among j (touched (factor_of m cs) W)) (is_touched (factor_of m cs) W j) (λ h. ((touched-is m cs W j).0 h).2) (λ h. (touched-is m cs W j).1 (a, b, h))
 
 -- what gathering promises, for all plans
 abbrev pub GatheredAll : (heads next planned : List ℕ) (start first : ℕ) (gathered : List ℕ) → Type 0
@@ -39,7 +39,7 @@ GatheredAll hs ns w start first w' =
 
 -- what filling in the starts asks: its positions are few, and their columns stand in the book
 group-few : {s : Stored} {work : List ℕ} {cs W : List Column} (b : book.Book) (ids : List ℕ) → CanPlan s cs W work → Booked b ids W → book.Sized b → (free : ℕ) →
-    book.isSound (length s.heads) (book.bookOf b.heads b.rows b.next free) ≡ true →
+    book.is_sound (length s.heads) (book.book_of b.heads b.rows b.next free) ≡ true →
     (length ids ≤ 64) × ((k : ℕ) → k < length ids → HasHead b.heads b.rows (get_or ids k 0))
 group-few {s} {W = W} b ids p h z free sound = (omega (arith, booked-length b ids W h, p.positions.1), whole-heads (length s.heads) b free ids W h z sound)
 
@@ -49,7 +49,7 @@ module _ {s : Stored} {b : book.Book} {ids work : List ℕ} {N W : List Column} 
   pub leave-few : (length ids ≤ 64) × ((k : ℕ) → k < length ids → HasHead b.heads b.rows (get_or ids k 0))
   leave-few = group-few b ids c.can c.booked c.book-sized c.book-free c.book-sound
 
-  can-remove : {starts : List ℕ} → starts ≡ bookedStarts b ids → CanRemove (storedOf s.heads s.parents s.rows s.counts s.next 0) b starts ids work N W
+  can-remove : {starts : List ℕ} → starts ≡ booked_starts b ids → CanRemove (stored_of s.heads s.parents s.rows s.counts s.next 0) b starts ids work N W
   can-remove e =
       record {
         columns = c.columns;
@@ -62,16 +62,16 @@ module _ {s : Stored} {b : book.Book} {ids work : List ℕ} {N W : List Column} 
         book-sound = c.book-sound;
       }
 
-  pub some-remove : {starts : List ℕ} → starts ≡ bookedStarts b ids → SomeRemove (storedOf s.heads s.parents s.rows s.counts s.next 0) b starts ids work
+  pub some-remove : {starts : List ℕ} → starts ≡ booked_starts b ids → SomeRemove (stored_of s.heads s.parents s.rows s.counts s.next 0) b starts ids work
   some-remove e = record { R = N; W = W; can = can-remove e }
 
-  module _ {starts : List ℕ} (q : starts ≡ bookedStarts b ids) {planned : List ℕ} {fits : Bool} {first count entries used : ℕ}
-      (d : (R W : List Column) → CanRemove (storedOf s.heads s.parents s.rows s.counts s.next 0) b starts ids work R W →
-      RemovePlanned (storedOf s.heads s.parents s.rows s.counts s.next 0) R W work planned fits first count entries used) where
+  module _ {starts : List ℕ} (q : starts ≡ booked_starts b ids) {planned : List ℕ} {fits : Bool} {first count entries used : ℕ}
+      (d : (R W : List Column) → CanRemove (stored_of s.heads s.parents s.rows s.counts s.next 0) b starts ids work R W →
+      RemovePlanned (stored_of s.heads s.parents s.rows s.counts s.next 0) R W work planned fits first count entries used) where
     abbrev m : ℕ
     m = length s.heads
 
-    leave-planned : Planned s (N ++ W) N (label_of (factorOf m (N ++ W)) W) (groupTouches m N W) (touched (factorOf m (N ++ W)) W) work planned first count entries used
+    leave-planned : Planned s (N ++ W) N (label_of (factor_of m (N ++ W)) W) (group_touches m N W) (touched (factor_of m (N ++ W)) W) work planned first count entries used
     leave-planned =
         let k = c.can in
         record {
@@ -88,18 +88,18 @@ module _ {s : Stored} {b : book.Book} {ids work : List ℕ} {N W : List Column} 
           off = λ j p q h. sym (locality m N W j p q h);
         }
 
-    pub leave-gather : commit.SomeGatherColumns s.heads s.next planned (gatherAt (length s.heads) (length s.next)) first
+    pub leave-gather : commit.SomeGatherColumns s.heads s.next planned (gather_at (length s.heads) (length s.next)) first
     leave-gather = some-gather leave-planned
 
-    module _ {gathered : List ℕ} (e : GatheredAll s.heads s.next planned (gatherAt (length s.heads) (length s.next)) first gathered) where
-      gathered-is : commit.ColumnsGathered s.heads s.next (touched (factorOf m (N ++ W)) W) (gatherAt (length s.heads) (length s.next)) planned gathered
-      gathered-is = e (factorOf m (N ++ W)) (factorOf m N) (label_of (factorOf m (N ++ W)) W) (touched (factorOf m (N ++ W)) W) used (can-gather leave-planned)
+    module _ {gathered : List ℕ} (e : GatheredAll s.heads s.next planned (gather_at (length s.heads) (length s.next)) first gathered) where
+      gathered-is : commit.ColumnsGathered s.heads s.next (touched (factor_of m (N ++ W)) W) (gather_at (length s.heads) (length s.next)) planned gathered
+      gathered-is = e (factor_of m (N ++ W)) (factor_of m N) (label_of (factor_of m (N ++ W)) W) (touched (factor_of m (N ++ W)) W) used (can-gather leave-planned)
 
       pub leave-write : SomeWrite s gathered first used
       leave-write = some-write leave-planned gathered-is
 
       pub group-left : {after : Stored} {work' : List ℕ} → WrittenAll s gathered first used after work' → length after.next ≡ length s.next →
-          GroupDone (length s.heads) (length s.next) s (groupTouches (length s.heads) N W) N after work work'
+          GroupDone (length s.heads) (length s.next) s (group_touches (length s.heads) N W) N after work work'
       group-left y l = group-done leave-planned gathered-is y l
 
 -- ---- a group that enters
@@ -108,7 +108,7 @@ pub enter-few : {s : Stored} {b : book.Book} {ids work : List ℕ} {N W : List C
     (length ids ≤ 64) × ((k : ℕ) → k < length ids → HasHead b.heads b.rows (get_or ids k 0))
 enter-few {b = b} {ids = ids} c = group-few b ids c.can c.booked c.book-sized c.book-free c.book-sound
 
-module _ {s : Stored} {b : book.Book} {ids work : List ℕ} {N W : List Column} (c : CanAddBooked s b ids work N W) {starts : List ℕ} (q : starts ≡ bookedStarts b ids)
+module _ {s : Stored} {b : book.Book} {ids work : List ℕ} {N W : List Column} (c : CanAddBooked s b ids work N W) {starts : List ℕ} (q : starts ≡ booked_starts b ids)
     {planned : List ℕ} {fits : Bool} {first count entries used : ℕ}
     (d : (R W : List Column) → CanEnter s b starts ids work R W → AddPlanned s R W work planned fits first count entries used) where
   -- where it does not fit
@@ -122,8 +122,8 @@ module _ {s : Stored} {b : book.Book} {ids work : List ℕ} {N W : List Column} 
       }
 
   module _ (h : fits ≡ true) where
-    enter-planned : Planned s N (N ++ W) (label_of (factorOf (length s.heads) (N ++ W)) W) (groupTouches (length s.heads) N W)
-        (touched (factorOf (length s.heads) (N ++ W)) W) work planned first count entries used
+    enter-planned : Planned s N (N ++ W) (label_of (factor_of (length s.heads) (N ++ W)) W) (group_touches (length s.heads) N W)
+        (touched (factor_of (length s.heads) (N ++ W)) W) work planned first count entries used
     enter-planned =
         let k = c.can in
         record {
@@ -140,14 +140,14 @@ module _ {s : Stored} {b : book.Book} {ids work : List ℕ} {N W : List Column} 
           off = λ j p q o. locality (length s.heads) N W j p q o;
         }
 
-    pub enter-gather : commit.SomeGatherColumns s.heads s.next planned (gatherAt (length s.heads) (length s.next)) first
+    pub enter-gather : commit.SomeGatherColumns s.heads s.next planned (gather_at (length s.heads) (length s.next)) first
     enter-gather = some-gather enter-planned
 
-    module _ {gathered : List ℕ} (e : GatheredAll s.heads s.next planned (gatherAt (length s.heads) (length s.next)) first gathered) where
-      entered-is : commit.ColumnsGathered s.heads s.next (touched (factorOf (length s.heads) (N ++ W)) W) (gatherAt (length s.heads) (length s.next)) planned gathered
+    module _ {gathered : List ℕ} (e : GatheredAll s.heads s.next planned (gather_at (length s.heads) (length s.next)) first gathered) where
+      entered-is : commit.ColumnsGathered s.heads s.next (touched (factor_of (length s.heads) (N ++ W)) W) (gather_at (length s.heads) (length s.next)) planned gathered
       entered-is =
-          e (factorOf (length s.heads) N) (factorOf (length s.heads) (N ++ W)) (label_of (factorOf (length s.heads) (N ++ W)) W)
-          (touched (factorOf (length s.heads) (N ++ W)) W) used (can-gather enter-planned)
+          e (factor_of (length s.heads) N) (factor_of (length s.heads) (N ++ W)) (label_of (factor_of (length s.heads) (N ++ W)) W)
+          (touched (factor_of (length s.heads) (N ++ W)) W) used (can-gather enter-planned)
 
       pub enter-write : SomeWrite s gathered first used
       enter-write = some-write enter-planned entered-is

@@ -16,23 +16,23 @@ use Rattle.lists.proofs.Rising.{rises-in, rises-length}
 use Rattle.lists.proofs.Times.{mem-times, none-among}
 use Rattle.lists.proofs.Member.{among-mem}
 use Rattle.symbolic.specs.Columns.{Column}
-use Rattle.symbolic.specs.Factor.{factorOf, columnAt, patternOf, size_of}
+use Rattle.symbolic.specs.Factor.{factor_of, column_at, pattern_of, size_of}
 use Rattle.symbolic.proofs.Patterns.{pattern-within-rows}
 use Rattle.workspace.specs.Regions.{cell, region, IsZero, OnlyIn}
-use Rattle.workspace.specs.Layout.{spare, gatherAt}
-use Rattle.workspace.specs.Parts.{upperWeight, lowerPart, upperPart}
+use Rattle.workspace.specs.Layout.{spare, gather_at}
+use Rattle.workspace.specs.Parts.{upper_weight, lower_part, upper_part}
 use Rattle.workspace.proofs.Regions.{region-length, region-cell, only_zero}
 use Rattle.pool.specs.Chains.{chain}
 use Rattle.pool.proofs.Whole.{all-at}
-use Rattle.tables.specs.Stored.{Stored, Sized, recordsOf, isSoundFor}
+use Rattle.tables.specs.Stored.{Stored, Sized, records_of, is_sound_for}
 use Rattle.tables.proofs.Stored.{sound-facts}
 use Rattle.tables.proofs.Reading.{holds-size}
 use Rattle.updown.specs.Plans.{InPlan, PlanIs}
-use Rattle.updown.specs.Entries.{planNeed}
+use Rattle.updown.specs.Entries.{plan_need}
 use Rattle.commit.specs.Gather as commit
 use Rattle.commit.specs.Writes.{CanWrite, SomeWrite, PlanWritten, WrittenAll}
 use Rattle.commit.proofs.Beside.{plan-beside}
-use Rattle.exchange.specs.Stages.{gatheredIn, Gathers, GroupDone}
+use Rattle.exchange.specs.Stages.{gathered_in, Gathers, GroupDone}
 use Rattle.exchange.proofs.Small.{rows-room}
 
 -- ---- a table with the places of another in a region
@@ -75,24 +75,24 @@ module _ (w x : List ℕ) (a n : ℕ) (same : length x ≡ length w) (fits : a +
 -- ---- a place of gathering, before and after
 
 -- a column that is planned
-gathered-one : (x y n : ℕ) → (x < upperWeight → y ≡ x + upperWeight * (1 + n)) → (upperWeight ≤ x → y ≡ x) →
-    (lowerPart y ≡ lowerPart x) × (upperPart y ≡ pick (eqb (upperPart x) 0) (1 + n) (upperPart x))
+gathered-one : (x y n : ℕ) → (x < upper_weight → y ≡ x + upper_weight * (1 + n)) → (upper_weight ≤ x → y ≡ x) →
+    (lower_part y ≡ lower_part x) × (upper_part y ≡ pick (eqb (upper_part x) 0) (1 + n) (upper_part x))
 gathered-one x y n g h =
-    elim (lt-or-le x upperWeight) [
-      | inl l ↦ let e : y ≡ x + upperWeight * (1 + n) = g l in
-          let z : upperPart x ≡ 0 = omega arith in
-          (omega arith, rw (eq-eqb (upperPart x) 0 z) (omega arith))
+    elim (lt-or-le x upper_weight) [
+      | inl l ↦ let e : y ≡ x + upper_weight * (1 + n) = g l in
+          let z : upper_part x ≡ 0 = omega arith in
+          (omega arith, rw (eq-eqb (upper_part x) 0 z) (omega arith))
       | inr l ↦ let e : y ≡ x = h l in
-          let z : upperPart x ≡ 0 → ⊥ = λ q. omega arith in
-          (omega arith, rw (ne_eqb (upperPart x) 0 z) (omega arith))
+          let z : upper_part x ≡ 0 → ⊥ = λ q. omega arith in
+          (omega arith, rw (ne_eqb (upper_part x) 0 z) (omega arith))
     ]
 
 -- one that is not
-gathered_none : (x y n : ℕ) → y ≡ x → (lowerPart y ≡ lowerPart x) × (upperPart y ≡ pick (eqb (upperPart x) 0) 0 (upperPart x))
+gathered_none : (x y n : ℕ) → y ≡ x → (lower_part y ≡ lower_part x) × (upper_part y ≡ pick (eqb (upper_part x) 0) 0 (upper_part x))
 gathered_none x y n e =
-    elim (zero-or-pos (upperPart x)) [
-      | inl z ↦ (omega arith, rw (eq-eqb (upperPart x) 0 z) (omega arith))
-      | inr l ↦ let z : upperPart x ≡ 0 → ⊥ = λ q. omega arith in (omega arith, rw (ne_eqb (upperPart x) 0 z) (omega arith))
+    elim (zero-or-pos (upper_part x)) [
+      | inl z ↦ (omega arith, rw (eq-eqb (upper_part x) 0 z) (omega arith))
+      | inr l ↦ let z : upper_part x ≡ 0 → ⊥ = λ q. omega arith in (omega arith, rw (ne_eqb (upper_part x) 0 z) (omega arith))
     ]
 
 -- ---- one group
@@ -100,16 +100,16 @@ gathered_none x y n e =
 -- a group planned from columns cs to ds: it touches the planned columns, and the others are the same
 pub record Planned (s : Stored) (cs ds : List Column) (label : ℕ → ℕ) (touches : ℕ → Bool) (columns work planned : List ℕ) (first count entries used : ℕ) : Type 0 where
   pub sized : Sized s
-  pub sound : isSoundFor cs s ≡ true
+  pub sound : is_sound_for cs s ≡ true
   pub m-bound : length s.heads ≤ 4096
-  pub long : planNeed (length s.heads) (length s.next) ≤ length work
+  pub long : plan_need (length s.heads) (length s.next) ≤ length work
   pub zero : IsZero work 0 (spare (length s.heads) (length s.next))
   pub free : ℕ
   pub free-enough : free ≤ length (chain s.next s.free)
-  pub plan : PlanIs (length s.heads) (length s.next) free (factorOf (length s.heads) cs) (factorOf (length s.heads) ds) label columns work planned first count entries used
+  pub plan : PlanIs (length s.heads) (length s.next) free (factor_of (length s.heads) cs) (factor_of (length s.heads) ds) label columns work planned first count entries used
   pub rising : rises 1 (length s.heads) columns ≡ true
   pub touched-is : (j : ℕ) → 1 ≤ j → j ≤ length s.heads → among j columns ≡ touches j
-  pub off : (j : ℕ) → 1 ≤ j → j ≤ length s.heads → touches j ≡ false → columnAt (factorOf (length s.heads) cs) j ≡ columnAt (factorOf (length s.heads) ds) j
+  pub off : (j : ℕ) → 1 ≤ j → j ≤ length s.heads → touches j ≡ false → column_at (factor_of (length s.heads) cs) j ≡ column_at (factor_of (length s.heads) ds) j
 
 module _ {s : Stored} {cs ds : List Column} {label : ℕ → ℕ} {touches : ℕ → Bool} {columns work planned : List ℕ} {first count entries used : ℕ}
     (g : Planned s cs ds label touches columns work planned first count entries used) where
@@ -120,7 +120,7 @@ module _ {s : Stored} {cs ds : List Column} {label : ℕ → ℕ} {touches : ℕ
   f = length s.next
 
   abbrev start : ℕ
-  start = gatherAt (length s.heads) (length s.next)
+  start = gather_at (length s.heads) (length s.next)
 
   room : m ≤ f
   room = rows-room cs s g.sound
@@ -133,13 +133,13 @@ module _ {s : Stored} {cs ds : List Column} {label : ℕ → ℕ} {touches : ℕ
   can-count : (j : ℕ) → 1 ≤ j → j ≤ m → commit.CanCount s.next (at s.heads j)
   can-count j a b =
       let k = sound-facts cs s g.sound in
-      let n : length (recordsOf s j) ≡ size_of (columnAt (factorOf m cs) j) = holds-size (k.column j a b) in
+      let n : length (records_of s j) ≡ size_of (column_at (factor_of m cs) j) = holds-size (k.column j a b) in
       record {
         linked = all-at s.next s.heads j a b k.pool.linked;
-        short = omega (arith, rises-length 1 m (patternOf (columnAt (factorOf m cs) j)) (omega arith) (pattern-within-rows m cs j a b), g.m-bound);
+        short = omega (arith, rises-length 1 m (pattern_of (column_at (factor_of m cs) j)) (omega arith) (pattern-within-rows m cs j a b), g.m-bound);
       }
 
-  pub can-gather : commit.CanGatherColumns s.heads s.next (factorOf (length s.heads) cs) (factorOf (length s.heads) ds) label columns planned (gatherAt (length s.heads) (length s.next)) first used
+  pub can-gather : commit.CanGatherColumns s.heads s.next (factor_of (length s.heads) cs) (factor_of (length s.heads) ds) label columns planned (gather_at (length s.heads) (length s.next)) first used
   can-gather =
       record {
         m-bound = g.m-bound;
@@ -151,8 +151,8 @@ module _ {s : Stored} {cs ds : List Column} {label : ℕ → ℕ} {touches : ℕ
         long = omega (arith, inside, g.plan.same_length);
       }
 
-  pub some-gather : commit.SomeGatherColumns s.heads s.next planned (gatherAt (length s.heads) (length s.next)) first
-  some-gather = record { L = factorOf m cs; L' = factorOf m ds; label = label; columns = columns; used = used; can = can-gather }
+  pub some-gather : commit.SomeGatherColumns s.heads s.next planned (gather_at (length s.heads) (length s.next)) first
+  some-gather = record { L = factor_of m cs; L' = factor_of m ds; label = label; columns = columns; used = used; can = can-gather }
 
   -- the places of gathering are none of the plan's
   within : (j : ℕ) → Mem j columns → (1 ≤ j) × (j ≤ m)
@@ -169,7 +169,7 @@ module _ {s : Stored} {cs ds : List Column} {label : ℕ → ℕ} {touches : ℕ
 
   -- ---- writing
 
-  module _ {gathered : List ℕ} (x : commit.ColumnsGathered s.heads s.next columns (gatherAt (length s.heads) (length s.next)) planned gathered) where
+  module _ {gathered : List ℕ} (x : commit.ColumnsGathered s.heads s.next columns (gather_at (length s.heads) (length s.next)) planned gathered) where
     abbrev before : List ℕ
     before = spliced work gathered start m
 
@@ -182,7 +182,7 @@ module _ {s : Stored} {cs ds : List Column} {label : ℕ → ℕ} {touches : ℕ
     before-cell : (i : ℕ) → i < m → cell before start i ≡ cell gathered start i
     before-cell = spliced-cell work gathered start m same-long inside
 
-    pub can_write : CanWrite s cs ds label columns (spliced work gathered (gatherAt (length s.heads) (length s.next)) (length s.heads)) gathered first count entries used
+    pub can_write : CanWrite s cs ds label columns (spliced work gathered (gather_at (length s.heads) (length s.next)) (length s.heads)) gathered first count entries used
     can_write =
         record {
           sized = g.sized;
@@ -202,8 +202,8 @@ module _ {s : Stored} {cs ds : List Column} {label : ℕ → ℕ} {touches : ℕ
 
     -- what was gathered, place by place
     place_after : (j : ℕ) → 1 ≤ j → j ≤ m →
-        (lowerPart (cell gathered start (j - 1)) ≡ lowerPart (cell work start (j - 1))) ×
-        (upperPart (cell gathered start (j - 1)) ≡ pick (eqb (gatheredIn m f work j) 0) (pick (touches j) (1 + length (recordsOf s j)) 0) (gatheredIn m f work j))
+        (lower_part (cell gathered start (j - 1)) ≡ lower_part (cell work start (j - 1))) ×
+        (upper_part (cell gathered start (j - 1)) ≡ pick (eqb (gathered_in m f work j) 0) (pick (touches j) (1 + length (records_of s j)) 0) (gathered_in m f work j))
     place_after j a b =
         let o : ℕ = cell work start (j - 1) in
         let n : ℕ = cell gathered start (j - 1) in
@@ -212,26 +212,26 @@ module _ {s : Stored} {cs ds : List Column} {label : ℕ → ℕ} {touches : ℕ
           | inl t ↦
               let k : 1 ≤ times j columns = mem-times (among-mem j columns t) in
               let q : touches j ≡ true = sym (g.touched-is j a b) ∙ t in
-              let r : (lowerPart n ≡ lowerPart o) × (upperPart n ≡ pick (eqb (upperPart o) 0) (1 + length (recordsOf s j)) (upperPart o)) =
-              gathered-one o n (length (recordsOf s j)) (λ l. x.fresh j k (omega arith) ∙ ap (λ (z : ℕ). z + upperWeight * (1 + length (recordsOf s j))) e)
+              let r : (lower_part n ≡ lower_part o) × (upper_part n ≡ pick (eqb (upper_part o) 0) (1 + length (records_of s j)) (upper_part o)) =
+              gathered-one o n (length (records_of s j)) (λ l. x.fresh j k (omega arith) ∙ ap (λ (z : ℕ). z + upper_weight * (1 + length (records_of s j))) e)
               (λ l. x.kept j k (omega arith) ∙ e) in
-              (r.0, r.1 ∙ ap (λ (z : Bool). pick (eqb (upperPart o) 0) (pick z (1 + length (recordsOf s j)) 0) (upperPart o)) (sym q))
+              (r.0, r.1 ∙ ap (λ (z : Bool). pick (eqb (upper_part o) 0) (pick z (1 + length (records_of s j)) 0) (upper_part o)) (sym q))
           | inr t ↦
               let q : touches j ≡ false = sym (g.touched-is j a b) ∙ t in
-              let r : (lowerPart n ≡ lowerPart o) × (upperPart n ≡ pick (eqb (upperPart o) 0) 0 (upperPart o)) =
+              let r : (lower_part n ≡ lower_part o) × (upper_part n ≡ pick (eqb (upper_part o) 0) 0 (upper_part o)) =
               gathered_none o n 0 (x.others j a b (none-among j columns t) ∙ e) in
-              (r.0, r.1 ∙ ap (λ (z : Bool). pick (eqb (upperPart o) 0) (pick z (1 + length (recordsOf s j)) 0) (upperPart o)) (sym q))
+              (r.0, r.1 ∙ ap (λ (z : Bool). pick (eqb (upper_part o) 0) (pick z (1 + length (records_of s j)) 0) (upper_part o)) (sym q))
         ]
 
-    before-gathers : Gathers m f touches (λ j. length (recordsOf s j)) work before
+    before-gathers : Gathers m f touches (λ j. length (records_of s j)) work before
     before-gathers =
         record {
           only = before-only;
           low = λ i h.
               let q : suc i - 1 ≡ i = omega arith in
-              ap lowerPart (before-cell i h) ∙
-              subst (λ (k : ℕ). lowerPart (cell gathered start k) ≡ lowerPart (cell work start k)) q (place_after (suc i) (omega arith) (omega arith)).0;
-          counts = λ j a b. ap upperPart (before-cell (j - 1) (omega arith)) ∙ (place_after j a b).1;
+              ap lower_part (before-cell i h) ∙
+              subst (λ (k : ℕ). lower_part (cell gathered start k) ≡ lower_part (cell work start k)) q (place_after (suc i) (omega arith) (omega arith)).0;
+          counts = λ j a b. ap upper_part (before-cell (j - 1) (omega arith)) ∙ (place_after j a b).1;
         }
 
     pub group-done : {after : Stored} {work' : List ℕ} → WrittenAll s gathered first used after work' → length after.next ≡ length s.next →
@@ -245,5 +245,5 @@ module _ {s : Stored} {cs ds : List Column} {label : ℕ → ℕ} {touches : ℕ
           sound = w.sound;
           others = λ j a b h. w.others j a b (g.touched-is j a b ∙ h);
           keep = w.keep;
-          gathers = subst (λ (v : List ℕ). Gathers m f touches (λ j. length (recordsOf s j)) work v) (sym w.work-is) before-gathers;
+          gathers = subst (λ (v : List ℕ). Gathers m f touches (λ j. length (records_of s j)) work v) (sym w.work-is) before-gathers;
         }

@@ -8,12 +8,12 @@ use lib.Seq.{take_all}
 use Rattle.lists.specs.Lists.{Mem, any}
 use Rattle.lists.proofs.Member.{mem-left, mem-right}
 use Rattle.symbolic.specs.Columns.{Column}
-use Rattle.symbolic.specs.Factor.{factorOf}
-use Rattle.symbolic.specs.Batch.{isTouched}
+use Rattle.symbolic.specs.Factor.{factor_of}
+use Rattle.symbolic.specs.Batch.{is_touched}
 use Rattle.book.specs.Book as book
 use Rattle.tables.specs.Stored.{Stored}
 use Rattle.updown.proofs.Booking.{booked-length}
-use Rattle.exchange.specs.Stages.{groupTouches, CanLeave, GroupDone, CanGo, CanLeaveAll, SomeLeave, Moved}
+use Rattle.exchange.specs.Stages.{group_touches, CanLeave, GroupDone, CanGo, CanLeaveAll, SomeLeave, Moved}
 use Rattle.exchange.proofs.Stages.{moved_none, moved_as, moved-joins, group-moved}
 use Rattle.exchange.proofs.Small.{rows-room}
 use Rattle.exchange.proofs.Parting.{GroupEnds, group, booked-part, left-parts, leaving-more}
@@ -22,7 +22,7 @@ use Rattle.exchange.proofs.Going.{go_on, some_fit}
 -- the columns of A before place a have left R and A
 abbrev pub Leaving : (R A : List Column) (s now : Stored) (work work' : List ℕ) (a : ℕ) → Type 0
 Leaving R A s now w w' a =
-    Moved (length s.heads) (length s.next) R s (isTouched (factorOf (length s.heads) (R ++ A)) (take a A)) (R ++ drop a A) now w w'
+    Moved (length s.heads) (length s.next) R s (is_touched (factor_of (length s.heads) (R ++ A)) (take a A)) (R ++ drop a A) now w w'
 
 -- what stands in a part stands in the whole
 pub mem-rest : {c : Column} (a : ℕ) (cs : List Column) → Mem c (drop a cs) → Mem c cs
@@ -77,12 +77,12 @@ module _ {s : Stored} {b : book.Book} {ids work : List ℕ} {R A : List Column} 
           }
 
       leaving-next : {after : Stored} {work'' : List ℕ} →
-          GroupDone (length s.heads) (length now.next) now (groupTouches (length s.heads) (R ++ drop e A) (group A a e)) (R ++ drop e A) after work' work'' →
+          GroupDone (length s.heads) (length now.next) now (group_touches (length s.heads) (R ++ drop e A) (group A a e)) (R ++ drop e A) after work' work'' →
           Leaving R A s after work work'' e
       leaving-next {after} {work''} d =
           let m : ℕ = length s.heads in
-          let done : GroupDone m (length s.next) now (groupTouches m (R ++ drop e A) (group A a e)) (R ++ drop e A) after work' work'' =
-          subst (λ (f : ℕ). GroupDone m f now (groupTouches m (R ++ drop e A) (group A a e)) (R ++ drop e A) after work' work'') v.long d in
+          let done : GroupDone m (length s.next) now (group_touches m (R ++ drop e A) (group A a e)) (R ++ drop e A) after work' work'' =
+          subst (λ (f : ℕ). GroupDone m f now (group_touches m (R ++ drop e A) (group A a e)) (R ++ drop e A) after work' work'') v.long d in
           moved_as (leaving-more m R A a e (omega (arith, g.low))) (λ f. refl) (moved-joins refl v (drop a A) (λ f. refl) (group-moved done))
 
       -- the ids of the group, as they are lent
@@ -94,13 +94,13 @@ module _ {s : Stored} {b : book.Book} {ids work : List ℕ} {R A : List Column} 
         leaving-some = record { N = R ++ drop e A; W = group A a e; can = part-can }
 
         pub leaving-turn : {after : Stored} {work'' : List ℕ} → ((N W : List Column) → CanLeave now b part work' N W →
-            GroupDone (length s.heads) (length now.next) now (groupTouches (length s.heads) N W) N after work' work'') → Leaving R A s after work work'' e
+            GroupDone (length s.heads) (length now.next) now (group_touches (length s.heads) N W) N after work' work'') → Leaving R A s after work work'' e
         leaving-turn d = leaving-next (d (R ++ drop e A) (group A a e) part-can)
 
-    pub leaving-end : length ids ≤ a → Moved (length s.heads) (length s.next) R s (isTouched (factorOf (length s.heads) (R ++ A)) A) R now work work'
+    pub leaving-end : length ids ≤ a → Moved (length s.heads) (length s.next) R s (is_touched (factor_of (length s.heads) (R ++ A)) A) R now work work'
     leaving-end h =
         let p : take a A ≡ A = take_all a A (omega (arith, length-is)) in
         let q : length A ≤ a = omega (arith, length-is) in
         let r : R ++ drop a A ≡ R = ap (λ (l : List Column). R ++ l) (drop_of_length-le A q) ∙ append-nil R in
-        subst (λ (l : List Column). Moved (length s.heads) (length s.next) R s (isTouched (factorOf (length s.heads) (R ++ A)) A) l now work work') r
-        (moved_as (λ j x y. ap (λ (l : List Column). isTouched (factorOf (length s.heads) (R ++ A)) l j) p) (λ f. refl) v)
+        subst (λ (l : List Column). Moved (length s.heads) (length s.next) R s (is_touched (factor_of (length s.heads) (R ++ A)) A) l now work work') r
+        (moved_as (λ j x y. ap (λ (l : List Column). is_touched (factor_of (length s.heads) (R ++ A)) l j) p) (λ f. refl) v)

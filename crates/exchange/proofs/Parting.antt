@@ -11,14 +11,14 @@ use Rattle.lists.specs.Lists.{sum_of}
 use Rattle.lists.proofs.Tests.{or-false}
 use Rattle.lists.proofs.Sum.{sum-append}
 use Rattle.symbolic.specs.Columns.{Column}
-use Rattle.symbolic.specs.Factor.{FactorColumn, factorOf}
-use Rattle.symbolic.specs.Batch.{isTouched}
+use Rattle.symbolic.specs.Factor.{FactorColumn, factor_of}
+use Rattle.symbolic.specs.Batch.{is_touched}
 use Rattle.symbolic.specs.Change.{Bag}
-use Rattle.symbolic.specs.Groups.{joined, leaveTouches, enterTouches}
+use Rattle.symbolic.specs.Groups.{joined, leave_touches, enter_touches}
 use Rattle.symbolic.proofs.Theorems.{order-free, leave-splits, enter-splits}
 use Rattle.book.specs.Book as book
 use Rattle.updown.specs.Entries.{Booked}
-use Rattle.exchange.specs.Stages.{groupTouches}
+use Rattle.exchange.specs.Stages.{group_touches}
 
 -- the group from place a on ends at place e, of n in all
 pub record GroupEnds (a n e : ℕ) : Type 0 where
@@ -92,34 +92,34 @@ module _ (cs : List Column) (a e : ℕ) (h : a ≤ e) where
 
 -- U leaves N, U and W, then W leaves N and W
 two-leave : (m : ℕ) (N U W : List Column) (j : ℕ) → 1 ≤ j → j ≤ m →
-    (isTouched (factorOf m (N ++ (U ++ W))) U j || groupTouches m N W j) ≡ isTouched (factorOf m (N ++ (U ++ W))) (U ++ W) j
-unfolding joined leaveTouches
+    (is_touched (factor_of m (N ++ (U ++ W))) U j || group_touches m N W j) ≡ is_touched (factor_of m (N ++ (U ++ W))) (U ++ W) j
+unfolding joined leave_touches
 two-leave m N U W j p q =
-    subst (λ (G : List Column). (isTouched (factorOf m (N ++ (U ++ G))) U j || isTouched (factorOf m (N ++ G)) W j) ≡ isTouched (factorOf m (N ++ (U ++ G))) (U ++ G) j)
+    subst (λ (G : List Column). (is_touched (factor_of m (N ++ (U ++ G))) U j || is_touched (factor_of m (N ++ G)) W j) ≡ is_touched (factor_of m (N ++ (U ++ G))) (U ++ G) j)
     (append-nil W)
-    (ap (λ (z : Bool). isTouched (factorOf m (N ++ (U ++ (W ++ [])))) U j || z) (sym (or-false (isTouched (factorOf m (N ++ (W ++ []))) W j))) ∙
+    (ap (λ (z : Bool). is_touched (factor_of m (N ++ (U ++ (W ++ [])))) U j || z) (sym (or-false (is_touched (factor_of m (N ++ (W ++ []))) W j))) ∙
     leave-splits m N (U ∷ (W ∷ [])) j p q)
 
 -- U enters beside R, then W beside R and U
 two-enter : (m : ℕ) (R U W : List Column) (j : ℕ) → 1 ≤ j → j ≤ m →
-    (isTouched (factorOf m (R ++ U)) U j || groupTouches m (R ++ U) W j) ≡ isTouched (factorOf m (R ++ (U ++ W))) (U ++ W) j
-unfolding joined enterTouches
+    (is_touched (factor_of m (R ++ U)) U j || group_touches m (R ++ U) W j) ≡ is_touched (factor_of m (R ++ (U ++ W))) (U ++ W) j
+unfolding joined enter_touches
 two-enter m R U W j p q =
-    ap (λ (z : Bool). isTouched (factorOf m (R ++ U)) U j || z) (sym (or-false (groupTouches m (R ++ U) W j))) ∙ enter-splits m R (U ∷ (W ∷ [])) j p q ∙
-    ap (λ (G : List Column). isTouched (factorOf m (R ++ (U ++ G))) (U ++ G) j) (append-nil W)
+    ap (λ (z : Bool). is_touched (factor_of m (R ++ U)) U j || z) (sym (or-false (group_touches m (R ++ U) W j))) ∙ enter-splits m R (U ∷ (W ∷ [])) j p q ∙
+    ap (λ (G : List Column). is_touched (factor_of m (R ++ (U ++ G))) (U ++ G) j) (append-nil W)
 
 module _ (m : ℕ) (R cs : List Column) (a e : ℕ) (h : a ≤ e) where
   pub leaving-more : (j : ℕ) → 1 ≤ j → j ≤ m →
-      (isTouched (factorOf m (R ++ cs)) (take a cs) j || groupTouches m (R ++ drop e cs) (group cs a e) j) ≡ isTouched (factorOf m (R ++ cs)) (take e cs) j
+      (is_touched (factor_of m (R ++ cs)) (take a cs) j || group_touches m (R ++ drop e cs) (group cs a e) j) ≡ is_touched (factor_of m (R ++ cs)) (take e cs) j
   leaving-more j p q =
       let N : List Column = R ++ drop e cs in
       let U : List Column = take a cs in
       let W : List Column = group cs a e in
-      let o : factorOf m (R ++ cs) ≡ factorOf m (N ++ (U ++ W)) = order-free m (R ++ cs) (N ++ (U ++ W)) (all-parts cs a e h R) in
-      ap (λ (fs : List FactorColumn). isTouched fs U j || groupTouches m N W j) o ∙ two-leave m N U W j p q ∙
-      ap (λ (fs : List FactorColumn). isTouched fs (U ++ W) j) (sym o) ∙ ap (λ (l : List Column). isTouched (factorOf m (R ++ cs)) l j) (front-more cs a e h)
+      let o : factor_of m (R ++ cs) ≡ factor_of m (N ++ (U ++ W)) = order-free m (R ++ cs) (N ++ (U ++ W)) (all-parts cs a e h R) in
+      ap (λ (fs : List FactorColumn). is_touched fs U j || group_touches m N W j) o ∙ two-leave m N U W j p q ∙
+      ap (λ (fs : List FactorColumn). is_touched fs (U ++ W) j) (sym o) ∙ ap (λ (l : List Column). is_touched (factor_of m (R ++ cs)) l j) (front-more cs a e h)
 
   pub entering-more : (j : ℕ) → 1 ≤ j → j ≤ m →
-      (isTouched (factorOf m (R ++ take a cs)) (take a cs) j || groupTouches m (R ++ take a cs) (group cs a e) j) ≡ isTouched (factorOf m (R ++ take e cs)) (take e cs) j
+      (is_touched (factor_of m (R ++ take a cs)) (take a cs) j || group_touches m (R ++ take a cs) (group cs a e) j) ≡ is_touched (factor_of m (R ++ take e cs)) (take e cs) j
   entering-more j p q =
-      two-enter m R (take a cs) (group cs a e) j p q ∙ ap (λ (l : List Column). isTouched (factorOf m (R ++ l)) l j) (front-more cs a e h)
+      two-enter m R (take a cs) (group cs a e) j p q ∙ ap (λ (l : List Column). is_touched (factor_of m (R ++ l)) l j) (front-more cs a e h)

@@ -13,17 +13,17 @@ use Rattle.lists.proofs.Rising.{rises-length}
 use Rattle.lists.proofs.Sum.{sum-append}
 use Rattle.lists.proofs.Place.{over-push, over-length}
 use Rattle.symbolic.specs.Columns.{Column}
-use Rattle.symbolic.specs.Factor.{FactorColumn, factorOf, columnAt, patternOf, size_of}
-use Rattle.symbolic.specs.Batch.{isExchanged, passing, exchanged, entriesOf}
+use Rattle.symbolic.specs.Factor.{FactorColumn, factor_of, column_at, pattern_of, size_of}
+use Rattle.symbolic.specs.Batch.{is_exchanged, passing, exchanged, entries_of}
 use Rattle.symbolic.proofs.Build.{factor-length}
 use Rattle.symbolic.proofs.Passing.{passing-join, passing-short}
 use Rattle.symbolic.proofs.Patterns.{pattern-within-rows}
 use Rattle.workspace.specs.Regions.{cell}
-use Rattle.workspace.specs.Layout.{gatherAt}
-use Rattle.workspace.specs.Parts.{upperPart}
+use Rattle.workspace.specs.Layout.{gather_at}
+use Rattle.workspace.specs.Parts.{upper_part}
 use Rattle.pool.specs.Chains.{chain}
 use Rattle.pool.proofs.Whole.{all-at}
-use Rattle.tables.specs.Stored.{Stored, recordsOf}
+use Rattle.tables.specs.Stored.{Stored, records_of}
 use Rattle.tables.proofs.Stored.{sound-facts}
 use Rattle.tables.proofs.Reading.{holds-size}
 use Rattle.commit.specs.Gather.{CanCount}
@@ -123,13 +123,13 @@ module _ {s : Stored} {R A B : List Column} {work touched labels : List ℕ} (c 
   m = length s.heads
 
   abbrev before : List FactorColumn
-  before = factorOf (length s.heads) (R ++ A)
+  before = factor_of (length s.heads) (R ++ A)
 
   abbrev after : List FactorColumn
-  after = factorOf (length s.heads) (R ++ B)
+  after = factor_of (length s.heads) (R ++ B)
 
-  size_small : (cs : List Column) (j : ℕ) → 1 ≤ j → j ≤ m → size_of (columnAt (factorOf m cs) j) ≤ 4096
-  size_small cs j a b = omega (arith, rises-length 1 m (patternOf (columnAt (factorOf m cs) j)) (omega arith) (pattern-within-rows m cs j a b), c.m-bound)
+  size_small : (cs : List Column) (j : ℕ) → 1 ≤ j → j ≤ m → size_of (column_at (factor_of m cs) j) ≤ 4096
+  size_small cs j a b = omega (arith, rises-length 1 m (pattern_of (column_at (factor_of m cs) j)) (omega arith) (pattern-within-rows m cs j a b), c.m-bound)
 
   -- the chain of a column, as the tables have it
   pub report-count : (j : ℕ) → 1 ≤ j → j ≤ length s.heads → CanCount s.next (at s.heads j)
@@ -148,17 +148,17 @@ module _ {s : Stored} {R A B : List Column} {work touched labels : List ℕ} (c 
 
   abbrev pub Reports : (touched' labels' : List ℕ) (j n entries : ℕ) → Type 0
   Reports ts ls j n e =
-      Reporting (length s.heads) (isExchanged before after A B) (λ (j : ℕ). max (size_of (columnAt before j)) (size_of (columnAt after j))) touched labels ts ls j n e
+      Reporting (length s.heads) (is_exchanged before after A B) (λ (j : ℕ). max (size_of (column_at before j)) (size_of (column_at after j))) touched labels ts ls j n e
 
   pub reports-start : Reports touched labels 0 0 0
   reports-start = reporting-start c.touched-long c.labels-long
 
   module _ {touched' labels' : List ℕ} {j n entries : ℕ} (r : Reports touched' labels' j n entries) (h : j < length s.heads) where
     -- what the place of the column says
-    says : upperPart (cell work (gatherAt m (length s.next)) j) ≡ pick (isExchanged before after A B (1 + j)) (1 + size_of (columnAt before (1 + j))) 0
+    says : upper_part (cell work (gather_at m (length s.next)) j) ≡ pick (is_exchanged before after A B (1 + j)) (1 + size_of (column_at before (1 + j))) 0
     says =
         let q : 1 + j - 1 ≡ j = omega arith in
-        ap (λ (i : ℕ). upperPart (cell work (gatherAt m (length s.next)) i)) (sym q) ∙ c.gathered (1 + j) (omega arith) (omega arith)
+        ap (λ (i : ℕ). upper_part (cell work (gather_at m (length s.next)) i)) (sym q) ∙ c.gathered (1 + j) (omega arith) (omega arith)
 
     pub reports-turn : Turn (length s.heads) (length s.next) work touched' labels' j n entries
     reports-turn =
@@ -175,27 +175,27 @@ module _ {s : Stored} {R A B : List Column} {work touched labels : List ℕ} (c 
         }
 
     -- a column on a path, with the larger of its sizes
-    module _ {v : ℕ} (z : upperPart (cell work (gatherAt (length s.heads) (length s.next)) j) ≡ 0 → ⊥)
-        (w : v ≡ max (upperPart (cell work (gatherAt (length s.heads) (length s.next)) j) - 1) (length (chain s.next (get_or s.heads j 0)))) where
+    module _ {v : ℕ} (z : upper_part (cell work (gather_at (length s.heads) (length s.next)) j) ≡ 0 → ⊥)
+        (w : v ≡ max (upper_part (cell work (gather_at (length s.heads) (length s.next)) j) - 1) (length (chain s.next (get_or s.heads j 0)))) where
       abbrev x : ℕ
-      x = upperPart (cell work (gatherAt m (length s.next)) j)
+      x = upper_part (cell work (gather_at m (length s.next)) j)
 
-      hit : isExchanged before after A B (1 + j) ≡ true
+      hit : is_exchanged before after A B (1 + j) ≡ true
       hit =
-          elim (cases (isExchanged before after A B (1 + j))) [
-            | inr f ↦ absurd (z (says ∙ ap (λ (b : Bool). pick b (1 + size_of (columnAt before (1 + j))) 0) f))
+          elim (cases (is_exchanged before after A B (1 + j))) [
+            | inr f ↦ absurd (z (says ∙ ap (λ (b : Bool). pick b (1 + size_of (column_at before (1 + j))) 0) f))
             | inl y ↦ y
           ]
 
-      value : v ≡ max (size_of (columnAt before (1 + j))) (size_of (columnAt after (1 + j)))
+      value : v ≡ max (size_of (column_at before (1 + j))) (size_of (column_at after (1 + j)))
       value =
           let k = sound-facts (R ++ B) s c.sound in
-          let i : length (recordsOf s (1 + j)) ≡ size_of (columnAt after (1 + j)) = holds-size (k.column (1 + j) (omega arith) (omega arith)) in
-          let o : x ≡ 1 + size_of (columnAt before (1 + j)) = says ∙ ap (λ (b : Bool). pick b (1 + size_of (columnAt before (1 + j))) 0) hit in
-          let p : x - 1 ≡ size_of (columnAt before (1 + j)) = omega arith in
+          let i : length (records_of s (1 + j)) ≡ size_of (column_at after (1 + j)) = holds-size (k.column (1 + j) (omega arith) (omega arith)) in
+          let o : x ≡ 1 + size_of (column_at before (1 + j)) = says ∙ ap (λ (b : Bool). pick b (1 + size_of (column_at before (1 + j))) 0) hit in
+          let p : x - 1 ≡ size_of (column_at before (1 + j)) = omega arith in
           let q : j ≡ 1 + j - 1 = omega arith in
-          w ∙ ap (λ (i : ℕ). max (x - 1) (length (chain s.next (get_or s.heads i 0)))) q ∙ ap (λ (a : ℕ). max a (length (recordsOf s (1 + j)))) p ∙
-          ap (λ (a : ℕ). max (size_of (columnAt before (1 + j))) a) i
+          w ∙ ap (λ (i : ℕ). max (x - 1) (length (chain s.next (get_or s.heads i 0)))) q ∙ ap (λ (a : ℕ). max a (length (records_of s (1 + j)))) p ∙
+          ap (λ (a : ℕ). max (size_of (column_at before (1 + j))) a) i
 
       pub reports-small : v ≤ 4096
       reports-small = omega (arith, value, size_small (R ++ A) (1 + j) (omega arith) (omega arith), size_small (R ++ B) (1 + j) (omega arith) (omega arith))
@@ -203,26 +203,26 @@ module _ {s : Stored} {R A B : List Column} {work touched labels : List ℕ} (c 
       pub reports-hit : Reports (set touched' n (j + 1)) (set labels' n 0) (j + 1) (n + 1) (entries + v)
       reports-hit = reporting-hit r v h hit value reports-small
 
-    pub reports-miss : upperPart (cell work (gatherAt (length s.heads) (length s.next)) j) ≡ 0 → Reports touched' labels' (j + 1) n entries
+    pub reports-miss : upper_part (cell work (gather_at (length s.heads) (length s.next)) j) ≡ 0 → Reports touched' labels' (j + 1) n entries
     reports-miss z =
-        elim (cases (isExchanged before after A B (1 + j))) [
+        elim (cases (is_exchanged before after A B (1 + j))) [
           | inr f ↦ reporting-miss r h f
           | inl y ↦
-              let o : upperPart (cell work (gatherAt m (length s.next)) j) ≡ 1 + size_of (columnAt before (1 + j)) =
-              says ∙ ap (λ (b : Bool). pick b (1 + size_of (columnAt before (1 + j))) 0) y in
+              let o : upper_part (cell work (gather_at m (length s.next)) j) ≡ 1 + size_of (column_at before (1 + j)) =
+              says ∙ ap (λ (b : Bool). pick b (1 + size_of (column_at before (1 + j))) 0) y in
               absurd (omega arith)
         ]
 
   pub reports-end : {touched' labels' : List ℕ} {j n entries : ℕ} → Reports touched' labels' j n entries → length s.heads ≤ j →
       Reported (length s.heads) R A B touched labels touched' labels' n entries
   reports-end {j = j} r h =
-      let p : passing (isExchanged before after A B) 1 j ≡ exchanged before after A B =
-      ap (λ (n : ℕ). passing (isExchanged before after A B) 1 n) (same j r.within h) in
+      let p : passing (is_exchanged before after A B) 1 j ≡ exchanged before after A B =
+      ap (λ (n : ℕ). passing (is_exchanged before after A B) 1 n) (same j r.within h) in
       record {
         touched-is = r.touched-is ∙ ap (λ (l : List ℕ). over l touched) p;
         labels-is = r.labels-is ∙ ap (λ (n : ℕ). over (replicate n 0) labels) (r.count-is ∙ ap length p);
         count-is = r.count-is ∙ ap length p;
-        entries-is = r.entries-is ∙ ap (λ (js : List ℕ). entriesOf before after js) p;
+        entries-is = r.entries-is ∙ ap (λ (js : List ℕ). entries_of before after js) p;
       }
     where
       same : (j : ℕ) → j ≤ m → m ≤ j → j ≡ length after

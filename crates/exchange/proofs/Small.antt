@@ -16,7 +16,7 @@ use Rattle.lists.proofs.Sum.{sum-le, sum-length}
 use Rattle.lists.proofs.Times.{UpTo, among-count, times-append, times-mem, mem-times}
 use Rattle.lists.proofs.Place.{values-mem}
 use Rattle.symbolic.specs.Columns.{Column}
-use Rattle.symbolic.specs.Factor.{factorOf, columnAt, parent_of, size_of, sizeSum}
+use Rattle.symbolic.specs.Factor.{factor_of, column_at, parent_of, size_of, size_sum}
 use Rattle.symbolic.proofs.Patterns.{pattern-within-rows, pattern-parts}
 use Rattle.symbolic.proofs.Sizes.{size-sum-of}
 use Rattle.symbolic.proofs.Theorems.{parent_above}
@@ -24,7 +24,7 @@ use Rattle.pool.specs.Chains.{chain}
 use Rattle.pool.specs.Whole.{chains, Pool}
 use Rattle.pool.proofs.Chains.{linked-in}
 use Rattle.pool.proofs.Whole.{chains-nil, chains_cons, all_in}
-use Rattle.tables.specs.Stored.{Stored, recordsOf, isSoundFor}
+use Rattle.tables.specs.Stored.{Stored, records_of, is_sound_for}
 use Rattle.tables.proofs.Stored.{SoundFor, sound-facts}
 use Rattle.tables.proofs.Reading.{stored-full}
 
@@ -68,24 +68,24 @@ record-in {ns} {hs} {f} p x a b =
 
 -- ---- sound stored columns
 
-module _ (cs : List Column) (s : Stored) (z : isSoundFor cs s ≡ true) where
+module _ (cs : List Column) (s : Stored) (z : is_sound_for cs s ≡ true) where
   facts : SoundFor cs s
   facts = sound-facts cs s z
 
-  pub sizes-fit : sizeSum (factorOf (length s.heads) cs) ≤ length s.next
+  pub sizes-fit : size_sum (factor_of (length s.heads) cs) ≤ length s.next
   sizes-fit = omega (arith, stored-full cs s z)
 
   -- each column has its diagonal
   pub rows-room : length s.heads ≤ length s.next
   rows-room =
       let m : ℕ = length s.heads in
-      let size : (j : ℕ) → Mem j (up_from 1 m) → 1 ≤ size_of (columnAt (factorOf m cs) j) = λ j k.
+      let size : (j : ℕ) → Mem j (up_from 1 m) → 1 ≤ size_of (column_at (factor_of m cs) j) = λ j k.
       let b : (1 ≤ j) × (j < 1 + m) = from_up 1 m k in omega (arith, ap length (pattern-parts m cs j b.0 (omega arith)).1) in
       omega (
         arith,
         sizes-fit,
         size-sum-of m cs,
-        sum-le (λ j. 1) (λ j. size_of (columnAt (factorOf m cs) j)) (up_from 1 m) size,
+        sum-le (λ j. 1) (λ j. size_of (column_at (factor_of m cs) j)) (up_from 1 m) size,
         sum-length (up_from 1 m),
         up-length 1 m,
       )
@@ -98,7 +98,7 @@ module _ (cs : List Column) (s : Stored) (z : isSoundFor cs s ≡ true) where
             let q : suc k - 1 ≡ k = omega arith in
             subst (λ (i : ℕ). get_or s.rows i 0 ≤ length s.heads) q (elim (record-in facts.pool (suc k) (omega arith) (omega arith)) [
               | inl n ↦
-                  let t : (j : ℕ) × (1 ≤ j) × (j ≤ length s.heads) × Mem (suc k) (recordsOf s j) = chain-of s.next s.heads (suc k) n in
+                  let t : (j : ℕ) × (1 ≤ j) × (j ≤ length s.heads) × Mem (suc k) (records_of s j) = chain-of s.next s.heads (suc k) n in
                   (rises-in {x = at s.rows (suc k)} 1 (length s.heads)
                   (subst (λ (l : List ℕ). Mem (at s.rows (suc k)) l) (facts.column t.0 t.1 t.2).rows (values-mem s.rows t.3))
                   (pattern-within-rows (length s.heads) cs t.0 t.1 t.2)).1
@@ -112,7 +112,7 @@ module _ (cs : List Column) (s : Stored) (z : isSoundFor cs s ≡ true) where
         | inr h ↦ omega (arith, get_or-eq_default s.parents 0 {n = k} (omega arith))
         | inl h ↦
             let q : suc k - 1 ≡ k = omega arith in
-            let p : at s.parents (suc k) ≡ parent_of (factorOf (length s.heads) cs) (suc k) = (facts.column (suc k) (omega arith) (omega arith)).parent in
+            let p : at s.parents (suc k) ≡ parent_of (factor_of (length s.heads) cs) (suc k) = (facts.column (suc k) (omega arith) (omega arith)).parent in
             let d : at s.parents (suc k) ≤ length s.heads =
             elim (parent_above (length s.heads) cs (suc k) (omega arith) (omega arith)) [ inl o ↦ omega arith | inr o ↦ omega (arith, o.1) ] in
             subst (λ (i : ℕ). get_or s.parents i 0 ≤ length s.heads) q d

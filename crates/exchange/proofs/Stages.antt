@@ -9,22 +9,22 @@ use native.Mathlib.Omega.{arith}
 use lib.Dec.{eqb}
 use lib.ListN.{length}
 use borrow.Author.Tests.{eq-eqb, ne_eqb}
-use Rattle.lists.specs.Lists.{pick, Mem, at, valuesAt}
+use Rattle.lists.specs.Lists.{pick, Mem, at, values_at}
 use Rattle.lists.proofs.Tests.{zero-or-pos}
 use Rattle.lists.proofs.Rising.{rises-in}
 use Rattle.lists.proofs.Place.{values-mem, mem-values}
 use Rattle.symbolic.specs.Columns.{Column}
-use Rattle.symbolic.specs.Factor.{FactorColumn, factorOf, columnAt, inPattern}
+use Rattle.symbolic.specs.Factor.{FactorColumn, factor_of, column_at, in_pattern}
 use Rattle.symbolic.specs.Change.{Bag}
 use Rattle.symbolic.proofs.Patterns.{pattern-within-rows}
 use Rattle.symbolic.proofs.Theorems.{growth, order-free}
 use Rattle.workspace.proofs.Regions.{only-refl, only-trans}
-use Rattle.tables.specs.Stored.{Stored, Sized, recordsOf, holdsFrom, isSoundFor}
+use Rattle.tables.specs.Stored.{Stored, Sized, records_of, holds_from, is_sound_for}
 use Rattle.tables.proofs.Stored.{sound-bag, sound-holds, stored-column, stands-is}
 use Rattle.tables.proofs.Revised.{stays-self, stays-joins}
 use Rattle.columns.specs.Commit.{Holds}
 use Rattle.columns.proofs.Stored as chains
-use Rattle.exchange.specs.Stages.{gatheredIn, Gathers, GroupDone, Moved}
+use Rattle.exchange.specs.Stages.{gathered_in, Gathers, GroupDone, Moved}
 
 -- ---- gathering
 
@@ -47,7 +47,7 @@ gathered-twice p q z n k c d g h e =
 
 module _ {m f : ℕ} where
   pub gathers-none : {size : ℕ → ℕ} {work : List ℕ} → Gathers m f (λ j. false) size work work
-  gathers-none {work = work} = record { only = only-refl; low = λ i h. refl; counts = λ j a b. kept (gatheredIn m f work j) }
+  gathers-none {work = work} = record { only = only-refl; low = λ i h. refl; counts = λ j a b. kept (gathered_in m f work j) }
     where
       kept : (x : ℕ) → x ≡ pick (eqb x 0) 0 x
       kept x = elim (zero-or-pos x) [ inl e ↦ rw (eq-eqb x 0 e) e | inr p ↦ rw (ne_eqb x 0 (λ e. omega arith)) refl ]
@@ -59,7 +59,7 @@ module _ {m f : ℕ} where
         only = g.only;
         low = g.low;
         counts = λ j a b. g.counts j a b ∙
-            ap (λ (z : Bool). pick (eqb (gatheredIn m f before j) 0) (pick z (1 + size j) 0) (gatheredIn m f before j)) (e j a b);
+            ap (λ (z : Bool). pick (eqb (gathered_in m f before j) 0) (pick z (1 + size j) 0) (gathered_in m f before j)) (e j a b);
       }
 
   -- of columns that were not touched before, the sizes are those of the start
@@ -69,18 +69,18 @@ module _ {m f : ℕ} where
       record {
         only = only-trans g.only h.only;
         low = λ i l. h.low i l ∙ g.low i l;
-        counts = λ j a b. gathered-twice (gatheredIn m f w j) (gatheredIn m f x j) (gatheredIn m f y j) (size j) (size' j) (t j) (u j) (g.counts j a b) (h.counts j a b) (e j a b);
+        counts = λ j a b. gathered-twice (gathered_in m f w j) (gathered_in m f x j) (gathered_in m f y j) (size j) (size' j) (t j) (u j) (g.counts j a b) (h.counts j a b) (e j a b);
       }
 
 -- ---- moves
 
 -- the record of a row that stands in a chain
 module _ {m f : ℕ} {R : List Column} where
-  pub moved_none : {s : Stored} {columns : List Column} {work : List ℕ} → Sized s → isSoundFor columns s ≡ true → length s.heads ≡ m →
+  pub moved_none : {s : Stored} {columns : List Column} {work : List ℕ} → Sized s → is_sound_for columns s ≡ true → length s.heads ≡ m →
       Moved m f R s (λ j. false) columns s work work
   moved_none {s} {columns} z h e =
-      let held : (j : ℕ) → 1 ≤ j → j ≤ m → Holds s j (columnAt (factorOf m columns) j).counts = λ j a b.
-      let c = stored-column m columns s (subst (λ (n : ℕ). holdsFrom s (factorOf n columns) 1 n ≡ true) e (sound-holds columns s h)) j a b in
+      let held : (j : ℕ) → 1 ≤ j → j ≤ m → Holds s j (column_at (factor_of m columns) j).counts = λ j a b.
+      let c = stored-column m columns s (subst (λ (n : ℕ). holds_from s (factor_of n columns) 1 n ≡ true) e (sound-holds columns s h)) j a b in
       record { rows = c.rows; counts = c.counts } in
       record {
         sized = z;
@@ -133,20 +133,20 @@ module _ {m f : ℕ} {R : List Column} where
 
   module _ {s : Stored} (wide : length s.heads ≡ m) {t u : ℕ → Bool} {cs ds : List Column} {mid after : Stored} {work work' work'' : List ℕ}
       (v : Moved m f R s t cs mid work work') (rest : List Column) (same : Bag cs (R ++ rest)) (w : Moved m f R mid u ds after work' work'') where
-    mid-holds : holdsFrom mid (factorOf m cs) 1 m ≡ true
-    mid-holds = subst (λ (n : ℕ). holdsFrom mid (factorOf n cs) 1 n ≡ true) (ap length v.heads ∙ wide) (sound-holds cs mid v.sound)
+    mid-holds : holds_from mid (factor_of m cs) 1 m ≡ true
+    mid-holds = subst (λ (n : ℕ). holds_from mid (factor_of n cs) 1 n ≡ true) (ap length v.heads ∙ wide) (sound-holds cs mid v.sound)
 
-    after_holds : holdsFrom after (factorOf m ds) 1 m ≡ true
-    after_holds = subst (λ (n : ℕ). holdsFrom after (factorOf n ds) 1 n ≡ true) (ap length (w.heads ∙ v.heads) ∙ wide) (sound-holds ds after w.sound)
+    after_holds : holds_from after (factor_of m ds) 1 m ≡ true
+    after_holds = subst (λ (n : ℕ). holds_from after (factor_of n ds) 1 n ≡ true) (ap length (w.heads ∙ v.heads) ∙ wide) (sound-holds ds after w.sound)
 
     -- a row that stands after, and for R, stands between
-    stands-between : (i j : ℕ) → 1 ≤ j → j ≤ m → Mem i (valuesAt after.rows (recordsOf after j)) → inPattern (factorOf m R) i j ≡ true →
-        Mem i (valuesAt mid.rows (recordsOf mid j))
+    stands-between : (i j : ℕ) → 1 ≤ j → j ≤ m → Mem i (values_at after.rows (records_of after j)) → in_pattern (factor_of m R) i j ≡ true →
+        Mem i (values_at mid.rows (records_of mid j))
     stands-between i j a b k n =
         let r : (1 ≤ i) × (i ≤ m) =
         rises-in {x = i} 1 m (subst (λ (l : List ℕ). Mem i l) (stored-column m ds after after_holds j a b).rows k) (pattern-within-rows m ds j a b) in
         (stands-is m cs mid mid-holds i j r.0 r.1 a b).1
-        (subst (λ (fs : List FactorColumn). inPattern fs i j ≡ true) (sym (order-free m cs (R ++ rest) same)) (growth m R rest i j r.0 r.1 a b n))
+        (subst (λ (fs : List FactorColumn). in_pattern fs i j ≡ true) (sym (order-free m cs (R ++ rest) same)) (growth m R rest i j r.0 r.1 a b n))
 
     pub moved-joins : Moved m f R s (λ j. t j || u j) ds after work work''
     moved-joins =
@@ -158,12 +158,12 @@ module _ {m f : ℕ} {R : List Column} where
           others = λ j a b n. stays-joins (v.others j a b (off (t j) (u j) n).0) (w.others j a b (off (t j) (u j) n).1);
           entries = λ j a b x y h k e n.
               let i : ℕ = at s.rows x in
-              let d : Mem (at after.rows y) (valuesAt after.rows (recordsOf after j)) = values-mem after.rows k in
-              let z : (z : ℕ) × Mem z (recordsOf mid j) × (at mid.rows z ≡ i) =
-              mem-values mid.rows (recordsOf mid j)
-              (stands-between i j a b (subst (λ (l : ℕ). Mem l (valuesAt after.rows (recordsOf after j))) (sym e) d) n) in
+              let d : Mem (at after.rows y) (values_at after.rows (records_of after j)) = values-mem after.rows k in
+              let z : (z : ℕ) × Mem z (records_of mid j) × (at mid.rows z ≡ i) =
+              mem-values mid.rows (records_of mid j)
+              (stands-between i j a b (subst (λ (l : ℕ). Mem l (values_at after.rows (records_of after j))) (sym e) d) n) in
               v.entries j a b x z.0 h z.1 (sym z.2) n ∙
-              w.entries j a b z.0 y z.1 k (z.2 ∙ e) (subst (λ (l : ℕ). inPattern (factorOf m R) l j ≡ true) (sym z.2) n);
+              w.entries j a b z.0 y z.1 k (z.2 ∙ e) (subst (λ (l : ℕ). in_pattern (factor_of m R) l j ≡ true) (sym z.2) n);
           gathers = gathers-join v.gathers w.gathers (λ j a b n. ap length (v.others j a b n).records);
         }
       where

@@ -10,18 +10,18 @@ use lib.ListN.{length, get_or}
 use Rattle.lists.specs.Lists.{sum_of}
 use Rattle.lists.proofs.Member.{mem-left, mem-right, mem-either}
 use Rattle.symbolic.specs.Columns.{Column}
-use Rattle.symbolic.specs.Factor.{factorOf}
-use Rattle.symbolic.specs.Batch.{isTouched}
+use Rattle.symbolic.specs.Factor.{factor_of}
+use Rattle.symbolic.specs.Batch.{is_touched}
 use Rattle.workspace.specs.Regions.{cell, OnlyIn}
-use Rattle.workspace.specs.Layout.{spare, gatherAt}
-use Rattle.workspace.specs.Parts.{lowerPart}
+use Rattle.workspace.specs.Layout.{spare, gather_at}
+use Rattle.workspace.specs.Parts.{lower_part}
 use Rattle.workspace.proofs.Regions.{only-trans}
-use Rattle.snapshot.specs.Snapshot.{countBound, CanPair, RecordsKept, ParentsKept}
+use Rattle.snapshot.specs.Snapshot.{count_bound, CanPair, RecordsKept, ParentsKept}
 use Rattle.snapshot.proofs.Kept.{records-stay, parents-stay}
 use Rattle.book.specs.Book as book
-use Rattle.tables.specs.Stored.{Stored, storedOf}
+use Rattle.tables.specs.Stored.{Stored, stored_of}
 use Rattle.windows.specs.Chosen.{CanCollect}
-use Rattle.exchange.specs.Stages.{movingIds, CanGo, CanLeaveAll, SomeLeaveAll, Moved, CanEnterAll, SomeEnterAll, EnteredAll, CanSwap, Swapped, CanUndo, SomeUndo, Undone}
+use Rattle.exchange.specs.Stages.{moving_ids, CanGo, CanLeaveAll, SomeLeaveAll, Moved, CanEnterAll, SomeEnterAll, EnteredAll, CanSwap, Swapped, CanUndo, SomeUndo, Undone}
 use Rattle.exchange.proofs.Stages.{moved-joins}
 use Rattle.exchange.proofs.Small.{rows-room, rows-small}
 use Rattle.exchange.proofs.Going.{go_on, some_fit}
@@ -66,7 +66,7 @@ module _ {s : Stored} {b : book.Book} {leave enter work : List ℕ} {R A B : Lis
       }
 
   -- records that can be kept, if multiplicities have 16 bits
-  pub can-pair : ((k : ℕ) → get_or s.counts k 0 < countBound) → CanPair s.rows s.counts s.next
+  pub can-pair : ((k : ℕ) → get_or s.counts k 0 < count_bound) → CanPair s.rows s.counts s.next
   can-pair small =
       record {
         rows_long = c.sized.rows_long;
@@ -75,7 +75,7 @@ module _ {s : Stored} {b : book.Book} {leave enter work : List ℕ} {R A B : Lis
         counts-small = small;
       }
 
-  module _ {mid : Stored} {work' : List ℕ} (v : Moved (length s.heads) (length s.next) R s (isTouched (factorOf (length s.heads) (R ++ A)) A) R mid work work') where
+  module _ {mid : Stored} {work' : List ℕ} (v : Moved (length s.heads) (length s.next) R s (is_touched (factor_of (length s.heads) (R ++ A)) A) R mid work work') where
     pub can-enter-all : CanEnterAll mid b enter work' R B
     can-enter-all =
         record {
@@ -93,11 +93,11 @@ module _ {s : Stored} {b : book.Book} {leave enter work : List ℕ} {R A B : Lis
       entered : EnteredAll m f R B mid after work' work'' fits
       entered = subst (λ (n : ℕ). EnteredAll m n R B mid after work' work'' fits) v.long x
 
-      pub swap-only : OnlyIn (gatherAt (length s.heads) (length s.next)) (length s.heads) work work''
+      pub swap-only : OnlyIn (gather_at (length s.heads) (length s.next)) (length s.heads) work work''
       swap-only = only-trans v.gathers.only entered.only
 
       pub swap-low : (i : ℕ) → i < length s.heads →
-          lowerPart (cell work'' (gatherAt (length s.heads) (length s.next)) i) ≡ lowerPart (cell work (gatherAt (length s.heads) (length s.next)) i)
+          lower_part (cell work'' (gather_at (length s.heads) (length s.next)) i) ≡ lower_part (cell work (gather_at (length s.heads) (length s.next)) i)
       swap-low i h = entered.low i h ∙ v.gathers.low i h
 
       pub swap-done : fits ≡ true → Swapped (length s.heads) (length s.next) R A B s after work work'' fits
@@ -111,7 +111,7 @@ module _ {s : Stored} {b : book.Book} {leave enter work : List ℕ} {R A B : Lis
 
       -- the tables that are kept, seen from those after
       pub can-undo : RecordsKept work (spare (length s.heads) (length s.next)) s.rows s.counts s.next →
-          ParentsKept work (gatherAt (length s.heads) (length s.next)) s.parents → ((k : ℕ) → get_or s.counts k 0 < 65536) →
+          ParentsKept work (gather_at (length s.heads) (length s.next)) s.parents → ((k : ℕ) → get_or s.counts k 0 < 65536) →
           length after.parents ≡ length s.parents → length after.rows ≡ length s.rows → length after.counts ≡ length s.counts →
           length after.next ≡ length s.next →
           CanUndo (length s.heads) after.parents after.rows after.counts after.next work'' s.parents s.rows s.counts s.next
@@ -124,13 +124,13 @@ module _ {s : Stored} {b : book.Book} {leave enter work : List ℕ} {R A B : Lis
               counts-long = cl;
               next-long = nl;
             };
-            parents-kept = subst (λ (n : ℕ). ParentsKept work'' (gatherAt m n) s.parents) (sym nl)
+            parents-kept = subst (λ (n : ℕ). ParentsKept work'' (gather_at m n) s.parents) (sym nl)
                 (parents-stay p swap-only.same_length (λ i h. swap-low i (omega (arith, c.sized.parents-long))));
             parents-long = pl;
           }
 
       pub swap-undone : {parents rows counts next : List ℕ} → fits ≡ false → Undone s.parents s.rows s.counts s.next parents rows counts next →
-          Swapped (length s.heads) (length s.next) R A B s (storedOf s.heads parents rows counts next s.free) work work'' false
+          Swapped (length s.heads) (length s.next) R A B s (stored_of s.heads parents rows counts next s.free) work work'' false
       swap-undone h u =
           record {
             fits-is = sym h ∙ entered.fits-is;
@@ -148,11 +148,11 @@ module _ {s : Stored} {b : book.Book} {leave enter work : List ℕ} {R A B : Lis
 
 -- what callers show
 pub some-leave-all : {s : Stored} {b : book.Book} {windows : List ℕ} {minute other : ℕ} {work : List ℕ} {R A : List Column} →
-    CanLeaveAll s b (movingIds b.heads windows minute other) work R A → CanCollect b.heads windows 1 → SomeLeaveAll s b windows minute other work
+    CanLeaveAll s b (moving_ids b.heads windows minute other) work R A → CanCollect b.heads windows 1 → SomeLeaveAll s b windows minute other work
 some-leave-all {R = R} {A} c k = record { R = R; A = A; can = c; scan = k }
 
 pub some-enter-all : {s : Stored} {b : book.Book} {windows : List ℕ} {minute other : ℕ} {work : List ℕ} {R B : List Column} →
-    CanEnterAll s b (movingIds b.heads windows minute other) work R B → CanCollect b.heads windows 1 → SomeEnterAll s b windows minute other work
+    CanEnterAll s b (moving_ids b.heads windows minute other) work R B → CanCollect b.heads windows 1 → SomeEnterAll s b windows minute other work
 some-enter-all {R = R} {B} c k = record { R = R; B = B; can = c; scan = k }
 
 pub some-undo : {m : ℕ} {parents rows counts next work parents₀ rows₀ counts₀ next₀ : List ℕ} → CanUndo m parents rows counts next work parents₀ rows₀ counts₀ next₀ →

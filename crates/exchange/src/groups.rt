@@ -2,13 +2,13 @@
 // The columns on the paths are gathered with their sizes before they change.
 ghost use Rattle.std.specs.Prelude.{◌≡◌, List, ◌++◌, eqb, length};
 ghost use Rattle.symbolic.specs.Columns.{Column};
-ghost use Rattle.symbolic.specs.Factor.{factorOf};
-ghost use Rattle.symbolic.specs.Batch.{isTouched};
-ghost use Rattle.tables.specs.Stored.{storedOf};
+ghost use Rattle.symbolic.specs.Factor.{factor_of};
+ghost use Rattle.symbolic.specs.Batch.{is_touched};
+ghost use Rattle.tables.specs.Stored.{stored_of};
 ghost use Rattle.book.specs.Book.{tables_of};
 ghost use Rattle.updown.specs.Entries.{CanAddBooked, SomeAddBooked};
 ghost use Rattle.windows.specs.Chosen.{CanCollect};
-ghost use Rattle.exchange.specs.Stages.{groupTouches, CanLeave, SomeLeave, GroupDone, GroupEntered, movingIds, CanLeaveAll, SomeLeaveAll, Moved, CanEnterAll, SomeEnterAll, EnteredAll};
+ghost use Rattle.exchange.specs.Stages.{group_touches, CanLeave, SomeLeave, GroupDone, GroupEntered, moving_ids, CanLeaveAll, SomeLeaveAll, Moved, CanEnterAll, SomeEnterAll, EnteredAll};
 
 use book::Id;
 use pool::Rec;
@@ -36,8 +36,8 @@ pub fn leave_group(
     ids: &[u32],
     free: Rec,
 ) -> Rec
-    requires { SomeLeave (storedOf heads.now parents.old rows.old counts.old next.old free.0) (tables_of book_heads.now book_rows.now book_next.now) ids.now work.old }
-    ensures { (N W : List Column) → CanLeave (storedOf heads.now parents.old rows.old counts.old next.old free.0) (tables_of book_heads.now book_rows.now book_next.now) ids.now work.old N W → GroupDone (length heads.now) (length next.old) (storedOf heads.now parents.old rows.old counts.old next.old free.0) (groupTouches (length heads.now) N W) N (storedOf heads.now parents.new rows.new counts.new next.new result.0) work.old work.new }
+    requires { SomeLeave (stored_of heads.now parents.old rows.old counts.old next.old free.0) (tables_of book_heads.now book_rows.now book_next.now) ids.now work.old }
+    ensures { (N W : List Column) → CanLeave (stored_of heads.now parents.old rows.old counts.old next.old free.0) (tables_of book_heads.now book_rows.now book_next.now) ids.now work.old N W → GroupDone (length heads.now) (length next.old) (stored_of heads.now parents.old rows.old counts.old next.old free.0) (group_touches (length heads.now) N W) N (stored_of heads.now parents.new rows.new counts.new next.new result.0) work.old work.new }
 {
     let k = ids.len();
     let mut starts = [0u32; 64];
@@ -77,8 +77,8 @@ pub fn enter_group(
     ids: &[u32],
     free: Rec,
 ) -> Entered
-    requires { SomeAddBooked (storedOf heads.now parents.old rows.old counts.old next.old free.0) (tables_of book_heads.now book_rows.now book_next.now) ids.now work.old }
-    ensures { (N W : List Column) → CanAddBooked (storedOf heads.now parents.old rows.old counts.old next.old free.0) (tables_of book_heads.now book_rows.now book_next.now) ids.now work.old N W → GroupEntered (length heads.now) (length next.old) (storedOf heads.now parents.old rows.old counts.old next.old free.0) N W (storedOf heads.now parents.new rows.new counts.new next.new result.free.0) work.old work.new result.fits }
+    requires { SomeAddBooked (stored_of heads.now parents.old rows.old counts.old next.old free.0) (tables_of book_heads.now book_rows.now book_next.now) ids.now work.old }
+    ensures { (N W : List Column) → CanAddBooked (stored_of heads.now parents.old rows.old counts.old next.old free.0) (tables_of book_heads.now book_rows.now book_next.now) ids.now work.old N W → GroupEntered (length heads.now) (length next.old) (stored_of heads.now parents.old rows.old counts.old next.old free.0) N W (stored_of heads.now parents.new rows.new counts.new next.new result.free.0) work.old work.new result.fits }
 {
     let k = ids.len();
     let mut starts = [0u32; 64];
@@ -118,7 +118,7 @@ pub fn enter_group(
 // Whether no booked id counts at one minute and not at another.
 pub fn none_moves(book_heads: &[u32], windows: &[u32], minute: u32, other: u32) -> bool
     requires { CanCollect book_heads.now windows.now 1 }
-    ensures { result ≡ eqb (length (movingIds book_heads.now windows.now minute other)) 0 }
+    ensures { result ≡ eqb (length (moving_ids book_heads.now windows.now minute other)) 0 }
 {
     let mut first = [0u32; 1];
     let g = windows::collect(book_heads, windows, minute, other, Id(1), &mut first);
@@ -141,8 +141,8 @@ pub fn leave_all(
     other: u32,
     free: Rec,
 ) -> Rec
-    requires { SomeLeaveAll (storedOf heads.now parents.old rows.old counts.old next.old free.0) (tables_of book_heads.now book_rows.now book_next.now) windows.now minute other work.old }
-    ensures { (R A : List Column) → CanLeaveAll (storedOf heads.now parents.old rows.old counts.old next.old free.0) (tables_of book_heads.now book_rows.now book_next.now) (movingIds book_heads.now windows.now minute other) work.old R A → Moved (length heads.now) (length next.old) R (storedOf heads.now parents.old rows.old counts.old next.old free.0) (isTouched (factorOf (length heads.now) (R ++ A)) A) R (storedOf heads.now parents.new rows.new counts.new next.new result.0) work.old work.new }
+    requires { SomeLeaveAll (stored_of heads.now parents.old rows.old counts.old next.old free.0) (tables_of book_heads.now book_rows.now book_next.now) windows.now minute other work.old }
+    ensures { (R A : List Column) → CanLeaveAll (stored_of heads.now parents.old rows.old counts.old next.old free.0) (tables_of book_heads.now book_rows.now book_next.now) (moving_ids book_heads.now windows.now minute other) work.old R A → Moved (length heads.now) (length next.old) R (stored_of heads.now parents.old rows.old counts.old next.old free.0) (is_touched (factor_of (length heads.now) (R ++ A)) A) R (stored_of heads.now parents.new rows.new counts.new next.new result.0) work.old work.new }
 {
     let mut i = Id(1);
     let mut z = free;
@@ -186,8 +186,8 @@ pub fn enter_all(
     other: u32,
     free: Rec,
 ) -> Entered
-    requires { SomeEnterAll (storedOf heads.now parents.old rows.old counts.old next.old free.0) (tables_of book_heads.now book_rows.now book_next.now) windows.now minute other work.old }
-    ensures { (R B : List Column) → CanEnterAll (storedOf heads.now parents.old rows.old counts.old next.old free.0) (tables_of book_heads.now book_rows.now book_next.now) (movingIds book_heads.now windows.now minute other) work.old R B → EnteredAll (length heads.now) (length next.old) R B (storedOf heads.now parents.old rows.old counts.old next.old free.0) (storedOf heads.now parents.new rows.new counts.new next.new result.free.0) work.old work.new result.fits }
+    requires { SomeEnterAll (stored_of heads.now parents.old rows.old counts.old next.old free.0) (tables_of book_heads.now book_rows.now book_next.now) windows.now minute other work.old }
+    ensures { (R B : List Column) → CanEnterAll (stored_of heads.now parents.old rows.old counts.old next.old free.0) (tables_of book_heads.now book_rows.now book_next.now) (moving_ids book_heads.now windows.now minute other) work.old R B → EnteredAll (length heads.now) (length next.old) R B (stored_of heads.now parents.old rows.old counts.old next.old free.0) (stored_of heads.now parents.new rows.new counts.new next.new result.free.0) work.old work.new result.fits }
 {
     let mut i = Id(1);
     let mut z = free;

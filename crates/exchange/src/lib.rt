@@ -3,10 +3,10 @@
 // before, place by place. Book and windows do not change.
 ghost use Rattle.std.specs.Prelude.{List, ℕ, length};
 ghost use Rattle.symbolic.specs.Columns.{Column};
-ghost use Rattle.tables.specs.Stored.{storedOf};
+ghost use Rattle.tables.specs.Stored.{stored_of};
 ghost use Rattle.book.specs.Book.{tables_of};
 ghost use Rattle.exchange.specs.Exchange.{staying, leaving, entering, CanExchange, StoredExchanged};
-ghost use Rattle.exchange.specs.Stages.{movingIds, SomeSwap, CanSwap, Swapped, SomeUndo, CanUndo, Undone};
+ghost use Rattle.exchange.specs.Stages.{moving_ids, SomeSwap, CanSwap, Swapped, SomeUndo, CanUndo, Undone};
 
 pub mod groups;
 pub mod reporting;
@@ -56,8 +56,8 @@ fn swap(
     after: u32,
     free: Rec,
 ) -> Entered
-    requires { SomeSwap (storedOf heads.now parents.old rows.old counts.old next.old free.0) (tables_of book_heads.now book_rows.now book_next.now) windows.now before after work.old }
-    ensures { (R A B : List Column) → CanSwap (storedOf heads.now parents.old rows.old counts.old next.old free.0) (tables_of book_heads.now book_rows.now book_next.now) (movingIds book_heads.now windows.now before after) (movingIds book_heads.now windows.now after before) work.old R A B → Swapped (length heads.now) (length next.old) R A B (storedOf heads.now parents.old rows.old counts.old next.old free.0) (storedOf heads.now parents.new rows.new counts.new next.new result.free.0) work.old work.new result.fits }
+    requires { SomeSwap (stored_of heads.now parents.old rows.old counts.old next.old free.0) (tables_of book_heads.now book_rows.now book_next.now) windows.now before after work.old }
+    ensures { (R A B : List Column) → CanSwap (stored_of heads.now parents.old rows.old counts.old next.old free.0) (tables_of book_heads.now book_rows.now book_next.now) (moving_ids book_heads.now windows.now before after) (moving_ids book_heads.now windows.now after before) work.old R A B → Swapped (length heads.now) (length next.old) R A B (stored_of heads.now parents.old rows.old counts.old next.old free.0) (stored_of heads.now parents.new rows.new counts.new next.new result.free.0) work.old work.new result.fits }
 {
     let z = groups::leave_all(
         heads, parents, rows, counts, next, book_heads, book_rows, book_next, windows, work,
@@ -95,8 +95,8 @@ pub fn exchange(
     after: u32,
     free: Rec,
 ) -> Outcome
-    requires { CanExchange (storedOf heads.now parents.old rows.old counts.old next.old free.0) (tables_of book_heads.now book_rows.now book_next.now) windows.now before work.old }
-    ensures { StoredExchanged (storedOf heads.now parents.old rows.old counts.old next.old free.0) (staying (tables_of book_heads.now book_rows.now book_next.now) windows.now before after) (leaving (tables_of book_heads.now book_rows.now book_next.now) windows.now before after) (entering (tables_of book_heads.now book_rows.now book_next.now) windows.now before after) work.old (storedOf heads.now parents.new rows.new counts.new next.new result.free.0) work.new result.fits result.saved }
+    requires { CanExchange (stored_of heads.now parents.old rows.old counts.old next.old free.0) (tables_of book_heads.now book_rows.now book_next.now) windows.now before work.old }
+    ensures { StoredExchanged (stored_of heads.now parents.old rows.old counts.old next.old free.0) (staying (tables_of book_heads.now book_rows.now book_next.now) windows.now before after) (leaving (tables_of book_heads.now book_rows.now book_next.now) windows.now before after) (entering (tables_of book_heads.now book_rows.now book_next.now) windows.now before after) work.old (stored_of heads.now parents.new rows.new counts.new next.new result.free.0) work.new result.fits result.saved }
 {
     let m = heads.len();
     let f = next.len();

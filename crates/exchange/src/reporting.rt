@@ -2,7 +2,7 @@
 ghost use Rattle.std.specs.Prelude.{◌≡◌, List, ℕ, max, length};
 ghost use Rattle.symbolic.specs.Columns.{Column};
 ghost use Rattle.pool.specs.Chains.{chain};
-ghost use Rattle.tables.specs.Stored.{storedOf};
+ghost use Rattle.tables.specs.Stored.{stored_of};
 ghost use Rattle.commit.specs.Gather.{CanCount};
 ghost use Rattle.exchange.specs.Exchange.{CanReport, SomeReport, Reported};
 
@@ -41,7 +41,7 @@ pub fn report(
     labels: &mut [u16],
 ) -> Summary
     requires { SomeReport heads.now next.now work.now touched.old labels.old }
-    ensures { (ps xs ns : List ℕ) (z : ℕ) (R A B : List Column) → CanReport (storedOf heads.now ps xs ns next.now z) R A B work.now touched.old labels.old → Reported (length heads.now) R A B touched.old labels.old touched.new labels.new result.count result.entries }
+    ensures { (ps xs ns : List ℕ) (z : ℕ) (R A B : List Column) → CanReport (stored_of heads.now ps xs ns next.now z) R A B work.now touched.old labels.old → Reported (length heads.now) R A B touched.old labels.old touched.new labels.new result.count result.entries }
 {
     let m = heads.len();
     let f = next.len();

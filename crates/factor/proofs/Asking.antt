@@ -7,18 +7,18 @@ use mathlib.Core.List.{List, []}
 use Prim.Native.Nat.{ℕ}
 use lib.Dec.{leb}
 use lib.ListN.{length}
-use Rattle.lists.specs.Lists.{pick, isIn, writtenAt}
+use Rattle.lists.specs.Lists.{pick, is_in, written_at}
 use Rattle.lists.proofs.Tests.{cases, eq-or-ne}
-use Rattle.workspace.specs.Regions.{zeroFirst}
-use Rattle.tables.specs.Tables.{Tables, Sizes, State, longEnough, registerOf, isSound}
-use Rattle.calls.specs.Refusals.{Refusal, isAccepted, or_else, unless, bounds, sizesRefusal, workFor, shortRefusal, earlyRefusal}
-use Rattle.calls.specs.Calls.{Question, checking, asking, Lent, workOnly, workAndList, withWork, Call, call_of, sizesAfter}
+use Rattle.workspace.specs.Regions.{zero_first}
+use Rattle.tables.specs.Tables.{Tables, Sizes, State, long_enough, register_of, is_sound}
+use Rattle.calls.specs.Refusals.{Refusal, is_accepted, or_else, unless, bounds, sizes_refusal, work_for, short_refusal, early_refusal}
+use Rattle.calls.specs.Calls.{Question, checking, asking, Lent, work_only, work_and_list, with_work, Call, call_of, sizes_after}
 use Rattle.calls.specs.Questions.{response}
-use Rattle.calls.specs.Numbers.{callEarly, callRefusal, soundRefusal, refusalOf}
-use Rattle.calls.specs.Steps.{Answer, refusedBy, acceptedBy, listsAfter, workAfter, World, AcceptedWorld, Transition}
+use Rattle.calls.specs.Numbers.{call_early, call_refusal, sound_refusal, refusal_of}
+use Rattle.calls.specs.Steps.{Answer, refused_by, accepted_by, lists_after, work_after, World, AcceptedWorld, Transition}
 use Rattle.calls.proofs.Choices.{or-first, or-second, or_assoc}
 use Rattle.calls.proofs.Steps.{accepted-step, refused-step}
-use Rattle.questions.specs.Asked.{replyOf, repliedTo, replied, listLeft}
+use Rattle.questions.specs.Asked.{reply_of, replied_to, replied, list_left}
 use Rattle.admission.specs.Admission.{admission, Admitted}
 use Rattle.admission.proofs.Admitting.{admitted-some, admitted-none}
 
@@ -32,30 +32,30 @@ flat-unless true n = refl
 flat-unless false n = refl
 
 flat-or : (x y : Refusal) → Flat x → Flat y → Flat (or_else x y)
-flat-or x y f g = elim (cases (isAccepted x)) [ inl e ↦ rw e g | inr e ↦ rw e f ]
+flat-or x y f g = elim (cases (is_accepted x)) [ inl e ↦ rw e g | inr e ↦ rw e f ]
 
-flat-sizes : (l : Sizes) → Flat (sizesRefusal bounds l)
+flat-sizes : (l : Sizes) → Flat (sizes_refusal bounds l)
 flat-sizes l =
-    let y : Refusal = unless (isIn 1 16384 l.n) 2 0 in
-    let z : Refusal = unless (isIn l.m 1048576 l.f) 3 0 in
-    let w : Refusal = unless (isIn 1 262144 l.c) 4 0 in
-    flat-or (unless (isIn 1 4096 l.m) 1 0) (or_else y (or_else z w)) (flat-unless (isIn 1 4096 l.m) 1)
-    (flat-or y (or_else z w) (flat-unless (isIn 1 16384 l.n) 2)
-    (flat-or z w (flat-unless (isIn l.m 1048576 l.f) 3) (flat-unless (isIn 1 262144 l.c) 4)))
+    let y : Refusal = unless (is_in 1 16384 l.n) 2 0 in
+    let z : Refusal = unless (is_in l.m 1048576 l.f) 3 0 in
+    let w : Refusal = unless (is_in 1 262144 l.c) 4 0 in
+    flat-or (unless (is_in 1 4096 l.m) 1 0) (or_else y (or_else z w)) (flat-unless (is_in 1 4096 l.m) 1)
+    (flat-or y (or_else z w) (flat-unless (is_in 1 16384 l.n) 2)
+    (flat-or z w (flat-unless (is_in l.m 1048576 l.f) 3) (flat-unless (is_in 1 262144 l.c) 4)))
 
-pub flat-early : (l : Sizes) (g : Bool) (t : Tables) (w : List ℕ) (z : Bool) → (earlyRefusal l g t w z).position ≡ 0
+pub flat-early : (l : Sizes) (g : Bool) (t : Tables) (w : List ℕ) (z : Bool) → (early_refusal l g t w z).position ≡ 0
 flat-early l g t w z =
-    let y : Refusal = or_else (shortRefusal l t w) (unless z 5 0) in
-    flat-or (sizesRefusal bounds l) (or_else (unless g 20 0) y) (flat-sizes l)
+    let y : Refusal = or_else (short_refusal l t w) (unless z 5 0) in
+    flat-or (sizes_refusal bounds l) (or_else (unless g 20 0) y) (flat-sizes l)
     (flat-or (unless g 20 0) y (flat-unless g 20)
-    (flat-or (shortRefusal l t w) (unless z 5 0) (flat-unless (longEnough l t && leb (workFor l) (length w)) 5) (flat-unless z 5)))
+    (flat-or (short_refusal l t w) (unless z 5 0) (flat-unless (long_enough l t && leb (work_for l) (length w)) 5) (flat-unless z 5)))
 
 flat-admission : (s : State) (t : Tables) (w : List ℕ) (z : Bool) → Flat (admission s t w z)
 flat-admission s t w z =
-    flat-or (earlyRefusal s.sizes true t w z) (unless (isSound s t) 6 0) (flat-early s.sizes true t w z) (flat-unless (isSound s t) 6)
+    flat-or (early_refusal s.sizes true t w z) (unless (is_sound s t) 6 0) (flat-early s.sizes true t w z) (flat-unless (is_sound s t) 6)
 
 -- a refusal without a position, as an answer
-pub refused-flat : (x : Refusal) {n : ℕ} → n ≡ x.number → x.position ≡ 0 → replyOf (record { number = n; value = 0 }) ≡ refusedBy x
+pub refused-flat : (x : Refusal) {n : ℕ} → n ≡ x.number → x.position ≡ 0 → reply_of (record { number = n; value = 0 }) ≡ refused_by x
 refused-flat x e f = λ i. record { number = e i; position = sym f i; touched = 0; entries = 0; grade = 0; row = 0; value = 0 }
 
 -- a choice by a test that is known
@@ -64,11 +64,11 @@ picked x y e = ap (λ (b : Bool). pick b x y) e
 
 -- ---- a call whose 1 to 6 are those of an admission
 
--- isLong: the test of its lists, true for a call that has none
-pub record Admits (s : State) (t : Tables) (k : Call) (isLong : Bool) : Type 0 where
-  pub early : callEarly s.sizes t k ≡ earlyRefusal s.sizes true t k.lent.work isLong
-  pub sound : soundRefusal s t k.entry ≡ unless (isSound s t) 6 0
-  pub sizes : sizesAfter s.sizes k.entry ≡ s.sizes
+-- is_long: the test of its lists, true for a call that has none
+pub record Admits (s : State) (t : Tables) (k : Call) (is_long : Bool) : Type 0 where
+  pub early : call_early s.sizes t k ≡ early_refusal s.sizes true t k.lent.work is_long
+  pub sound : sound_refusal s t k.entry ≡ unless (is_sound s t) 6 0
+  pub sizes : sizes_after s.sizes k.entry ≡ s.sizes
 
 module _ (s : State) (t : Tables) where
   pub admits-check : (x : Lent) → Admits s t (call_of checking x) true
@@ -82,55 +82,55 @@ module _ {s : State} {t : Tables} {k : Call} {z : Bool} (m : Admits s t k z) {n 
   w = k.lent.work
 
   abbrev call : Refusal
-  call = callRefusal s.sizes (registerOf s t) k
+  call = call_refusal s.sizes (register_of s t) k
 
-  number_is : refusalOf s t k ≡ or_else (admission s t k.lent.work z) call
+  number_is : refusal_of s t k ≡ or_else (admission s t k.lent.work z) call
   number_is =
-      ap (λ (x : Refusal). or_else x (or_else (soundRefusal s t k.entry) call)) m.early ∙
-      ap (λ (x : Refusal). or_else (earlyRefusal s.sizes true t w z) (or_else x call)) m.sound ∙
-      sym (or_assoc (earlyRefusal s.sizes true t w z) (unless (isSound s t) 6 0) call)
+      ap (λ (x : Refusal). or_else x (or_else (sound_refusal s t k.entry) call)) m.early ∙
+      ap (λ (x : Refusal). or_else (early_refusal s.sizes true t w z) (or_else x call)) m.sound ∙
+      sym (or_assoc (early_refusal s.sizes true t w z) (unless (is_sound s t) 6 0) call)
 
-  pub work-is : w' ≡ workAfter s.sizes t k
+  pub work-is : w' ≡ work_after s.sizes t k
   work-is =
-      a.left ∙ ap (λ (x : Refusal). pick (isAccepted x) (zeroFirst (workFor s.sizes) w) w) (sym m.early) ∙
-      ap (λ (l : Sizes). pick (isAccepted (callEarly s.sizes t k)) (zeroFirst (workFor l) w) w) (sym m.sizes)
+      a.left ∙ ap (λ (x : Refusal). pick (is_accepted x) (zero_first (work_for s.sizes) w) w) (sym m.early) ∙
+      ap (λ (l : Sizes). pick (is_accepted (call_early s.sizes t k)) (zero_first (work_for l) w) w) (sym m.sizes)
 
   -- refused by 1 to 6
-  pub refused-early : n ≢ 0 → {x : Lent} → x ≡ withWork k.lent w' →
-      Transition (record { state = s; tables = t }) k (replyOf (record { number = n; value = 0 })) x (record { state = s; tables = t })
+  pub refused-early : n ≢ 0 → {x : Lent} → x ≡ with_work k.lent w' →
+      Transition (record { state = s; tables = t }) k (reply_of (record { number = n; value = 0 })) x (record { state = s; tables = t })
   refused-early d {x} e =
-      let q : isAccepted (admission s t w z) ≡ false = admitted-some a d in
-      let r : refusalOf s t k ≡ admission s t w z = number_is ∙ or-first (admission s t w z) call q in
+      let q : is_accepted (admission s t w z) ≡ false = admitted-some a d in
+      let r : refusal_of s t k ≡ admission s t w z = number_is ∙ or-first (admission s t w z) call q in
       refused-step (record { state = s; tables = t }) k _ x (record { state = s; tables = t })
       (record {
-        number = ap isAccepted r ∙ q;
-        answer = refused-flat (admission s t w z) a.found (flat-admission s t w z) ∙ ap refusedBy (sym r);
-        lists = e ∙ ap (λ (v : List ℕ). withWork k.lent v) work-is;
+        number = ap is_accepted r ∙ q;
+        answer = refused-flat (admission s t w z) a.found (flat-admission s t w z) ∙ ap refused_by (sym r);
+        lists = e ∙ ap (λ (v : List ℕ). with_work k.lent v) work-is;
         world = refl;
       })
 
   -- admitted: the call's own refusal decides, the answer and the lists are the register's
   module _ (d : n ≡ 0) where
-    own : refusalOf s t k ≡ call
+    own : refusal_of s t k ≡ call
     own = number_is ∙ or-second (admission s t w z) call (admitted-none a d)
 
-    pub asked-step : {b : Answer} {x : Lent} → b ≡ pick (isAccepted call) (acceptedBy s.limits (registerOf s t) k.entry) (refusedBy call) →
+    pub asked-step : {b : Answer} {x : Lent} → b ≡ pick (is_accepted call) (accepted_by s.limits (register_of s t) k.entry) (refused_by call) →
         AcceptedWorld (record { state = s; tables = t }) k.entry (record { state = s; tables = t }) →
-        (isAccepted call ≡ true → x ≡ listsAfter (registerOf s t) k w') → (isAccepted call ≡ false → x ≡ withWork k.lent w') →
+        (is_accepted call ≡ true → x ≡ lists_after (register_of s t) k w') → (is_accepted call ≡ false → x ≡ with_work k.lent w') →
         Transition (record { state = s; tables = t }) k b x (record { state = s; tables = t })
     asked-step {b} {x} answer stays taken refused =
         let u : World = record { state = s; tables = t } in
-        elim (cases (isAccepted call)) [
+        elim (cases (is_accepted call)) [
           | inl q ↦ accepted-step u k b x u (record {
-            number = ap isAccepted own ∙ q;
-            answer = answer ∙ ap (λ (c : Bool). pick c (acceptedBy s.limits (registerOf s t) k.entry) (refusedBy call)) q;
-            lists = taken q ∙ ap (λ (v : List ℕ). listsAfter (registerOf s t) k v) work-is;
+            number = ap is_accepted own ∙ q;
+            answer = answer ∙ ap (λ (c : Bool). pick c (accepted_by s.limits (register_of s t) k.entry) (refused_by call)) q;
+            lists = taken q ∙ ap (λ (v : List ℕ). lists_after (register_of s t) k v) work-is;
             world = stays;
           })
           | inr q ↦ refused-step u k b x u (record {
-            number = ap isAccepted own ∙ q;
-            answer = answer ∙ ap (λ (c : Bool). pick c (acceptedBy s.limits (registerOf s t) k.entry) (refusedBy call)) q ∙ ap refusedBy (sym own);
-            lists = refused q ∙ ap (λ (v : List ℕ). withWork k.lent v) work-is;
+            number = ap is_accepted own ∙ q;
+            answer = answer ∙ ap (λ (c : Bool). pick c (accepted_by s.limits (register_of s t) k.entry) (refused_by call)) q ∙ ap refused_by (sym own);
+            lists = refused q ∙ ap (λ (v : List ℕ). with_work k.lent v) work-is;
             world = refl;
           })
         ]
@@ -142,30 +142,30 @@ module _ (s : State) (t : Tables) (w : List ℕ) {n : ℕ} {w' : List ℕ} (a : 
   here = record { state = s; tables = t }
 
   -- a check: 0 or the number
-  pub check-step : Transition here (call_of checking (workOnly w)) (replyOf (record { number = n; value = 0 })) (workOnly w') here
+  pub check-step : Transition here (call_of checking (work_only w)) (reply_of (record { number = n; value = 0 })) (work_only w') here
   check-step =
       elim (eq-or-ne n 0) [
-        | inl d ↦ asked-step (admits-check s t (workOnly w)) a d (ap (λ (k : ℕ). replyOf (record { number = k; value = 0 })) d) refl (λ q. refl) (λ q. refl)
-        | inr d ↦ refused-early (admits-check s t (workOnly w)) a d refl
+        | inl d ↦ asked-step (admits-check s t (work_only w)) a d (ap (λ (k : ℕ). reply_of (record { number = k; value = 0 })) d) refl (λ q. refl) (λ q. refl)
+        | inr d ↦ refused-early (admits-check s t (work_only w)) a d refl
       ]
 
   module _ (d : n ≡ 0) {b : Answer} (q : Question) where
     -- a question whose list is written from place p on
-    pub list-step : (p : ℕ) (xs : List ℕ) {ys : List ℕ} → b ≡ repliedTo (registerOf s t) q p xs → ys ≡ listLeft (registerOf s t) q p xs →
-        Transition here (call_of (asking q p) (workAndList w xs)) b (workAndList w' ys) here
+    pub list-step : (p : ℕ) (xs : List ℕ) {ys : List ℕ} → b ≡ replied_to (register_of s t) q p xs → ys ≡ list_left (register_of s t) q p xs →
+        Transition here (call_of (asking q p) (work_and_list w xs)) b (work_and_list w' ys) here
     list-step p xs e f =
-        let new : List ℕ = writtenAt p (response (registerOf s t) q).list xs in
-        asked-step (admits-ask s t q p (workAndList w xs)) a d e refl (λ z. ap (workAndList w') (f ∙ picked new xs z)) (λ z. ap (workAndList w') (f ∙ picked new xs z))
+        let new : List ℕ = written_at p (response (register_of s t) q).list xs in
+        asked-step (admits-ask s t q p (work_and_list w xs)) a d e refl (λ z. ap (work_and_list w') (f ∙ picked new xs z)) (λ z. ap (work_and_list w') (f ∙ picked new xs z))
 
     -- the same where the question used the work table and left it as it was
-    pub kept_step : (p : ℕ) (xs : List ℕ) {ys v : List ℕ} → b ≡ repliedTo (registerOf s t) q p xs → ys ≡ listLeft (registerOf s t) q p xs → v ≡ w' →
-        Transition here (call_of (asking q p) (workAndList w xs)) b (workAndList v ys) here
+    pub kept_step : (p : ℕ) (xs : List ℕ) {ys v : List ℕ} → b ≡ replied_to (register_of s t) q p xs → ys ≡ list_left (register_of s t) q p xs → v ≡ w' →
+        Transition here (call_of (asking q p) (work_and_list w xs)) b (work_and_list v ys) here
     kept_step p xs {ys} e f g =
-        subst (λ (v : List ℕ). Transition here (call_of (asking q p) (workAndList w xs)) b (workAndList v ys) here) (sym g) (list-step p xs e f)
+        subst (λ (v : List ℕ). Transition here (call_of (asking q p) (work_and_list w xs)) b (work_and_list v ys) here) (sym g) (list-step p xs e f)
 
     -- a question that has none
-    pub plain_step : (response (registerOf s t) q).list ≡ [] → b ≡ replied (registerOf s t) q →
-        Transition here (call_of (asking q 0) (workOnly w)) b (workOnly w') here
+    pub plain_step : (response (register_of s t) q).list ≡ [] → b ≡ replied (register_of s t) q →
+        Transition here (call_of (asking q 0) (work_only w)) b (work_only w') here
     plain_step none e =
-        asked-step (admits-ask s t q 0 (workOnly w)) a d e refl
-        (λ z. ap (λ (xs : List ℕ). workAndList w' (writtenAt 0 xs [])) (sym none)) (λ z. refl)
+        asked-step (admits-ask s t q 0 (work_only w)) a d e refl
+        (λ z. ap (λ (xs : List ℕ). work_and_list w' (written_at 0 xs [])) (sym none)) (λ z. refl)

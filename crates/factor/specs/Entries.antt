@@ -1,9 +1,9 @@
 -- The public entries' records as the definitions of calls/ have them: the factor as sizes, limits, free heads and clock, tables, answers. A contract is `Transition`
 -- of the entry's call over these (`OpenStep`, `ReadStep`), and nothing else. Assumes nothing: these are definitions.
 use Rattle.std.specs.Prelude.{List, ℕ}
-use Rattle.symbolic.specs.Grades.{Limits, limitsOf}
-use Rattle.tables.specs.Tables.{Tables, Sizes, State, sizesOf}
-use Rattle.calls.specs.Calls.{opening, Lent, workOnly, Call, call_of}
+use Rattle.symbolic.specs.Grades.{Limits, limits_of}
+use Rattle.tables.specs.Tables.{Tables, Sizes, State, sizes_of}
+use Rattle.calls.specs.Calls.{opening, Lent, work_only, Call, call_of}
 use Rattle.calls.specs.Steps.{Answer, World, Transition}
 use Rattle.factor.specs.declared.Factor.{Factor}
 use Rattle.factor.specs.declared.Opening.{Opening}
@@ -13,31 +13,31 @@ use Rattle.factor.specs.declared.Opening.TheVariants.{Opened, Refused}
 abbrev pub state_of : Factor → State
 state_of x =
     record {
-      sizes = sizesOf x.m x.n x.f x.c;
-      limits = limitsOf x.grade2 x.grade3 x.grade4;
+      sizes = sizes_of x.m x.n x.f x.c;
+      limits = limits_of x.grade2 x.grade3 x.grade4;
       free = x.free;
-      bookFree = x.book_free;
+      book_free = x.book_free;
       clock = x.clock;
     }
 
 -- a factor with the tables that are lent to its entries
-abbrev pub worldOf : Factor → Tables → World
-worldOf x t = record { state = state_of x; tables = t }
+abbrev pub world_of : Factor → Tables → World
+world_of x t = record { state = state_of x; tables = t }
 
 -- an opening's answer: accepted, all numbers are 0; refused, the number
-abbrev pub openingAnswer : Opening → Answer
-openingAnswer (Opened x) = record { number = 0; position = 0; touched = 0; entries = 0; grade = 0; row = 0; value = 0 }
-openingAnswer (Refused n) = record { number = n; position = 0; touched = 0; entries = 0; grade = 0; row = 0; value = 0 }
+abbrev pub opening_answer : Opening → Answer
+opening_answer (Opened x) = record { number = 0; position = 0; touched = 0; entries = 0; grade = 0; row = 0; value = 0 }
+opening_answer (Refused n) = record { number = n; position = 0; touched = 0; entries = 0; grade = 0; row = 0; value = 0 }
 
 -- the record after an opening: "after a refused opening the record from before it serves on"
-abbrev pub stateAfter : Opening → State → State
-stateAfter (Opened x) s = state_of x
-stateAfter (Refused n) s = s
+abbrev pub state_after : Opening → State → State
+state_after (Opened x) s = state_of x
+state_after (Refused n) s = s
 
 -- OPEN, whatever record there was before
 abbrev pub OpenStep : (asked : Sizes) (limits : Limits) (t : Tables) (work : List ℕ) (r : Opening) (t' : Tables) (work' : List ℕ) → Type 0
 OpenStep l g t w r t' w' =
-    (s : State) → Transition (record { state = s; tables = t }) (call_of (opening l g) (workOnly w)) (openingAnswer r) (workOnly w') (record { state = stateAfter r s; tables = t' })
+    (s : State) → Transition (record { state = s; tables = t }) (call_of (opening l g) (work_only w)) (opening_answer r) (work_only w') (record { state = state_after r s; tables = t' })
 
 -- a check or a question: record and tables are as before
 abbrev pub ReadStep : World → Call → Answer → Lent → Type 0

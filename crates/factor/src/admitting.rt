@@ -1,8 +1,8 @@
 // The record as functions inside the library take it, and the admission of a call on it: for the entries here and in `changes`.
 ghost use Rattle.std.specs.Prelude.{◌≡◌};
-ghost use Rattle.tables.specs.Lent.{tablesIn};
+ghost use Rattle.tables.specs.Lent.{tables_in};
 ghost use Rattle.admission.specs.Admission.{Admitted};
-ghost use Rattle.state.specs.Record.{state_of as recordState};
+ghost use Rattle.state.specs.Record.{state_of as record_state};
 ghost use Rattle.factor.specs.Entries.{state_of};
 
 use crate::Factor;
@@ -12,7 +12,7 @@ use state::State;
 impl Factor {
     // The record by value.
     pub fn state(self) -> State
-        ensures { recordState result ≡ state_of self }
+        ensures { record_state result ≡ state_of self }
     {
         State {
             m: self.m,
@@ -43,7 +43,7 @@ impl Factor {
         work: &mut [u32],
         lists: bool,
     ) -> u32
-        ensures { Admitted (state_of self) (tablesIn heads parents rows counts next book_heads book_rows book_next windows) work.old lists result work.new }
+        ensures { Admitted (state_of self) (tables_in heads parents rows counts next book_heads book_rows book_next windows) work.old lists result work.new }
     {
         admission::admit(
             self.state(),

@@ -1,15 +1,15 @@
 // A factor's record, and the public entries that open it, check its tables and answer questions, two of these in meeting.rt; `changes` has those that add and remove, `clock` the one that sets the clock.
 // Each refuses unusable input by number and fixes everything lent; an opening writes all tables, the others none but the work table. Numbers 1 to 6 and 20 are found by
 // `admission`, what an opening writes is written by `opening`. A caller that has proved its tables sound uses the unchecked twins of unchecked.rt.
-ghost use Rattle.symbolic.specs.Grades.{limitsOf};
-ghost use Rattle.tables.specs.Tables.{sizesOf};
-ghost use Rattle.tables.specs.Lent.{tablesIn, tablesOut};
-ghost use Rattle.questions.specs.Asked.{replyOf, foundOf};
+ghost use Rattle.symbolic.specs.Grades.{limits_of};
+ghost use Rattle.tables.specs.Tables.{sizes_of};
+ghost use Rattle.tables.specs.Lent.{tables_in, tables_out};
+ghost use Rattle.questions.specs.Asked.{reply_of, found_of};
 ghost use Rattle.calls.specs.Calls.{call_of};
 ghost use Rattle.calls.specs.Calls.Entry.{checking, asking};
-ghost use Rattle.calls.specs.Calls.Question.{askNextRow, askParent, askPath, askColumn};
-ghost use Rattle.calls.specs.Lent.{workIn, workOut, listIn, listOut};
-ghost use Rattle.factor.specs.Entries.{worldOf, OpenStep, ReadStep};
+ghost use Rattle.calls.specs.Calls.Question.{ask_next_row, ask_parent, ask_path, ask_column};
+ghost use Rattle.calls.specs.Lent.{work_in, work_out, list_in, list_out};
+ghost use Rattle.factor.specs.Entries.{world_of, OpenStep, ReadStep};
 
 mod admitting;
 mod meeting;
@@ -74,7 +74,7 @@ impl Factor {
         windows: &mut [u32],
         work: &mut [u32],
     ) -> Opening
-        ensures { OpenStep (sizesOf m n f c) (limitsOf grade2 grade3 grade4) (tablesIn heads parents rows counts next book_heads book_rows book_next windows) work.old result (tablesOut heads parents rows counts next book_heads book_rows book_next windows) work.new }
+        ensures { OpenStep (sizes_of m n f c) (limits_of grade2 grade3 grade4) (tables_in heads parents rows counts next book_heads book_rows book_next windows) work.old result (tables_out heads parents rows counts next book_heads book_rows book_next windows) work.new }
     {
         let records = early_refusals::default_records(m, f);
         let limits = early_refusals::limits::default_limits(grade2, grade3, grade4);
@@ -134,7 +134,7 @@ impl Factor {
         windows: &[u32],
         work: &mut [u32],
     ) -> Reply
-        ensures { ReadStep (worldOf self (tablesIn heads parents rows counts next book_heads book_rows book_next windows)) (call_of checking (workIn work)) (replyOf result) (workOut work) }
+        ensures { ReadStep (world_of self (tables_in heads parents rows counts next book_heads book_rows book_next windows)) (call_of checking (work_in work)) (reply_of result) (work_out work) }
     {
         let number = self.admit(
             heads, parents, rows, counts, next, book_heads, book_rows, book_next, windows, work,
@@ -159,7 +159,7 @@ impl Factor {
         i: Row,
         j: Row,
     ) -> Found
-        ensures { ReadStep (worldOf self (tablesIn heads parents rows counts next book_heads book_rows book_next windows)) (call_of (asking (askNextRow i.0 j.0) 0) (workIn work)) (foundOf result) (workOut work) }
+        ensures { ReadStep (world_of self (tables_in heads parents rows counts next book_heads book_rows book_next windows)) (call_of (asking (ask_next_row i.0 j.0) 0) (work_in work)) (found_of result) (work_out work) }
     {
         let number = self.admit(
             heads, parents, rows, counts, next, book_heads, book_rows, book_next, windows, work,
@@ -192,7 +192,7 @@ impl Factor {
         work: &mut [u32],
         j: Row,
     ) -> Reply
-        ensures { ReadStep (worldOf self (tablesIn heads parents rows counts next book_heads book_rows book_next windows)) (call_of (asking (askParent j.0) 0) (workIn work)) (replyOf result) (workOut work) }
+        ensures { ReadStep (world_of self (tables_in heads parents rows counts next book_heads book_rows book_next windows)) (call_of (asking (ask_parent j.0) 0) (work_in work)) (reply_of result) (work_out work) }
     {
         let number = self.admit(
             heads, parents, rows, counts, next, book_heads, book_rows, book_next, windows, work,
@@ -223,7 +223,7 @@ impl Factor {
         j: Row,
         place: usize,
     ) -> Reply
-        ensures { ReadStep (worldOf self (tablesIn heads parents rows counts next book_heads book_rows book_next windows)) (call_of (asking (askPath j.0) place) (listIn work list)) (replyOf result) (listOut work list) }
+        ensures { ReadStep (world_of self (tables_in heads parents rows counts next book_heads book_rows book_next windows)) (call_of (asking (ask_path j.0) place) (list_in work list)) (reply_of result) (list_out work list) }
     {
         let number = self.admit(
             heads, parents, rows, counts, next, book_heads, book_rows, book_next, windows, work,
@@ -255,7 +255,7 @@ impl Factor {
         j: Row,
         place: usize,
     ) -> Reply
-        ensures { ReadStep (worldOf self (tablesIn heads parents rows counts next book_heads book_rows book_next windows)) (call_of (asking (askColumn j.0) place) (listIn work list)) (replyOf result) (listOut work list) }
+        ensures { ReadStep (world_of self (tables_in heads parents rows counts next book_heads book_rows book_next windows)) (call_of (asking (ask_column j.0) place) (list_in work list)) (reply_of result) (list_out work list) }
     {
         let number = self.admit(
             heads, parents, rows, counts, next, book_heads, book_rows, book_next, windows, work,

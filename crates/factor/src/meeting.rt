@@ -1,11 +1,11 @@
 // Public questions about a delivery run, which is a row: the columns that meet it, and the row where the paths of some rows join.
-ghost use Rattle.tables.specs.Lent.{tablesIn};
-ghost use Rattle.questions.specs.Asked.{replyOf};
+ghost use Rattle.tables.specs.Lent.{tables_in};
+ghost use Rattle.questions.specs.Asked.{reply_of};
 ghost use Rattle.calls.specs.Calls.{call_of};
 ghost use Rattle.calls.specs.Calls.Entry.{asking};
-ghost use Rattle.calls.specs.Calls.Question.{askMeets, askCommon};
-ghost use Rattle.calls.specs.Lent.{workIn, workOut, listIn, listOut};
-ghost use Rattle.factor.specs.Entries.{worldOf, ReadStep};
+ghost use Rattle.calls.specs.Calls.Question.{ask_meets, ask_common};
+ghost use Rattle.calls.specs.Lent.{work_in, work_out, list_in, list_out};
+ghost use Rattle.factor.specs.Entries.{world_of, ReadStep};
 
 use crate::Factor;
 use book::Row;
@@ -29,7 +29,7 @@ impl Factor {
         i: Row,
         place: usize,
     ) -> Reply
-        ensures { ReadStep (worldOf self (tablesIn heads parents rows counts next book_heads book_rows book_next windows)) (call_of (asking (askMeets i.0) place) (listIn work list)) (replyOf result) (listOut work list) }
+        ensures { ReadStep (world_of self (tables_in heads parents rows counts next book_heads book_rows book_next windows)) (call_of (asking (ask_meets i.0) place) (list_in work list)) (reply_of result) (list_out work list) }
     {
         let number = self.admit(
             heads, parents, rows, counts, next, book_heads, book_rows, book_next, windows, work,
@@ -59,7 +59,7 @@ impl Factor {
         work: &mut [u32],
         row_list: &[u32],
     ) -> Reply
-        ensures { ReadStep (worldOf self (tablesIn heads parents rows counts next book_heads book_rows book_next windows)) (call_of (asking (askCommon row_list.now) 0) (workIn work)) (replyOf result) (workOut work) }
+        ensures { ReadStep (world_of self (tables_in heads parents rows counts next book_heads book_rows book_next windows)) (call_of (asking (ask_common row_list.now) 0) (work_in work)) (reply_of result) (work_out work) }
     {
         let number = self.admit(
             heads, parents, rows, counts, next, book_heads, book_rows, book_next, windows, work,

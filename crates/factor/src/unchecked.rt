@@ -2,10 +2,10 @@
 // W work places are zero. Other questions take no work table. A question costs what it reads; include/nigvalds.h says what the columns that meet a row and a common
 // row cost after the read-through.
 ghost use Rattle.std.specs.Prelude.{◌≡◌};
-ghost use Rattle.tables.specs.Tables.{registerOf};
-ghost use Rattle.tables.specs.Lent.{tablesIn, tablesNow};
-ghost use Rattle.calls.specs.Calls.Question.{askNextRow, askParent, askPath, askColumn, askMeets, askCommon};
-ghost use Rattle.questions.specs.Asked.{replyOf, foundOf, repliedTo, replied, listLeft};
+ghost use Rattle.tables.specs.Tables.{register_of};
+ghost use Rattle.tables.specs.Lent.{tables_in, tables_now};
+ghost use Rattle.calls.specs.Calls.Question.{ask_next_row, ask_parent, ask_path, ask_column, ask_meets, ask_common};
+ghost use Rattle.questions.specs.Asked.{reply_of, found_of, replied_to, replied, list_left};
 ghost use Rattle.factor.specs.Entries.{state_of};
 ghost use Rattle.admission.specs.Admission.{Usable, CanUse};
 
@@ -29,8 +29,8 @@ impl Factor {
         i: Row,
         j: Row,
     ) -> Found
-        requires { Usable (state_of self) (tablesNow heads parents rows counts next book_heads book_rows book_next windows) }
-        ensures { foundOf result ≡ replied (registerOf (state_of self) (tablesIn heads parents rows counts next book_heads book_rows book_next windows)) (askNextRow i.0 j.0) }
+        requires { Usable (state_of self) (tables_now heads parents rows counts next book_heads book_rows book_next windows) }
+        ensures { found_of result ≡ replied (register_of (state_of self) (tables_in heads parents rows counts next book_heads book_rows book_next windows)) (ask_next_row i.0 j.0) }
     {
         let m = self.m as usize;
         let f = self.f as usize;
@@ -51,8 +51,8 @@ impl Factor {
         windows: &[u32],
         j: Row,
     ) -> Reply
-        requires { Usable (state_of self) (tablesNow heads parents rows counts next book_heads book_rows book_next windows) }
-        ensures { replyOf result ≡ replied (registerOf (state_of self) (tablesIn heads parents rows counts next book_heads book_rows book_next windows)) (askParent j.0) }
+        requires { Usable (state_of self) (tables_now heads parents rows counts next book_heads book_rows book_next windows) }
+        ensures { reply_of result ≡ replied (register_of (state_of self) (tables_in heads parents rows counts next book_heads book_rows book_next windows)) (ask_parent j.0) }
     {
         let m = self.m as usize;
         questions::parent(&parents[..m], j)
@@ -74,9 +74,9 @@ impl Factor {
         j: Row,
         place: usize,
     ) -> Reply
-        requires { Usable (state_of self) (tablesNow heads parents rows counts next book_heads book_rows book_next windows) }
-        ensures reply { replyOf result ≡ repliedTo (registerOf (state_of self) (tablesIn heads parents rows counts next book_heads book_rows book_next windows)) (askPath j.0) place list.old }
-        ensures written { list.new ≡ listLeft (registerOf (state_of self) (tablesIn heads parents rows counts next book_heads book_rows book_next windows)) (askPath j.0) place list.old }
+        requires { Usable (state_of self) (tables_now heads parents rows counts next book_heads book_rows book_next windows) }
+        ensures reply { reply_of result ≡ replied_to (register_of (state_of self) (tables_in heads parents rows counts next book_heads book_rows book_next windows)) (ask_path j.0) place list.old }
+        ensures written { list.new ≡ list_left (register_of (state_of self) (tables_in heads parents rows counts next book_heads book_rows book_next windows)) (ask_path j.0) place list.old }
     {
         let m = self.m as usize;
         questions::path(&parents[..m], list, j, place)
@@ -98,9 +98,9 @@ impl Factor {
         j: Row,
         place: usize,
     ) -> Reply
-        requires { Usable (state_of self) (tablesNow heads parents rows counts next book_heads book_rows book_next windows) }
-        ensures reply { replyOf result ≡ repliedTo (registerOf (state_of self) (tablesIn heads parents rows counts next book_heads book_rows book_next windows)) (askColumn j.0) place list.old }
-        ensures written { list.new ≡ listLeft (registerOf (state_of self) (tablesIn heads parents rows counts next book_heads book_rows book_next windows)) (askColumn j.0) place list.old }
+        requires { Usable (state_of self) (tables_now heads parents rows counts next book_heads book_rows book_next windows) }
+        ensures reply { reply_of result ≡ replied_to (register_of (state_of self) (tables_in heads parents rows counts next book_heads book_rows book_next windows)) (ask_column j.0) place list.old }
+        ensures written { list.new ≡ list_left (register_of (state_of self) (tables_in heads parents rows counts next book_heads book_rows book_next windows)) (ask_column j.0) place list.old }
     {
         let m = self.m as usize;
         let f = self.f as usize;
@@ -132,9 +132,9 @@ impl Factor {
         i: Row,
         place: usize,
     ) -> Reply
-        requires { CanUse (state_of self) (tablesNow heads parents rows counts next book_heads book_rows book_next windows) work.old }
-        ensures reply { replyOf result ≡ repliedTo (registerOf (state_of self) (tablesIn heads parents rows counts next book_heads book_rows book_next windows)) (askMeets i.0) place list.old }
-        ensures written { list.new ≡ listLeft (registerOf (state_of self) (tablesIn heads parents rows counts next book_heads book_rows book_next windows)) (askMeets i.0) place list.old }
+        requires { CanUse (state_of self) (tables_now heads parents rows counts next book_heads book_rows book_next windows) work.old }
+        ensures reply { reply_of result ≡ replied_to (register_of (state_of self) (tables_in heads parents rows counts next book_heads book_rows book_next windows)) (ask_meets i.0) place list.old }
+        ensures written { list.new ≡ list_left (register_of (state_of self) (tables_in heads parents rows counts next book_heads book_rows book_next windows)) (ask_meets i.0) place list.old }
         ensures kept { work.new ≡ work.old }
     {
         let m = self.m as usize;
@@ -166,8 +166,8 @@ impl Factor {
         windows: &[u32],
         row_list: &[u32],
     ) -> Reply
-        requires { Usable (state_of self) (tablesNow heads parents rows counts next book_heads book_rows book_next windows) }
-        ensures { replyOf result ≡ replied (registerOf (state_of self) (tablesIn heads parents rows counts next book_heads book_rows book_next windows)) (askCommon row_list.now) }
+        requires { Usable (state_of self) (tables_now heads parents rows counts next book_heads book_rows book_next windows) }
+        ensures { reply_of result ≡ replied (register_of (state_of self) (tables_in heads parents rows counts next book_heads book_rows book_next windows)) (ask_common row_list.now) }
     {
         let m = self.m as usize;
         questions::ancestors::common(&parents[..m], row_list)

@@ -7,7 +7,7 @@ use Prim.Native.Nat.{ℕ, ◌+◌, ◌-◌, ◌*◌, ◌/◌, ◌%◌, ◌≤◌
 use native.Mathlib.Omega.{arith}
 use lib.Dec.{eqb}
 use borrow.Author.Tests.{lt-ltb, le-ltb, eqb-true}
-use Rattle.free_chain.specs.Pieces.{Leads, length_of, standOf, start_of, Pieces, CanAddUp, AddsTo}
+use Rattle.free_chain.specs.Pieces.{Leads, length_of, stand_of, start_of, Pieces, CanAddUp, AddsTo}
 use Rattle.free_chain.proofs.Leading.{leads-join}
 
 -- ---- where pieces start
@@ -29,10 +29,10 @@ pub record Adding (scratch : List ℕ) (cuts total r left : ℕ) : Type 0 where
   pub within : left ≤ cuts
   pub stand : r ≤ 1024 * cuts
 
-pub adding-start : {w : List ℕ} {c : ℕ} → CanAddUp w c → Adding w c (length_of w c) (standOf w c) c
+pub adding-start : {w : List ℕ} {c : ℕ} → CanAddUp w c → Adding w c (length_of w c) (stand_of w c) c
 adding-start {w} {c} p =
     record {
-      leads = λ rs ns h ps. subst (λ (x : ℕ). Leads rs ns (length_of w c) x (standOf w c)) (start-head c h) (ps c (omega arith)).leads;
+      leads = λ rs ns h ps. subst (λ (x : ℕ). Leads rs ns (length_of w c) x (stand_of w c)) (start-head c h) (ps c (omega arith)).leads;
       small = omega (arith, p.size c (omega arith), p.room.small);
       within = omega arith;
       stand = omega (arith, p.stand c (omega arith), p.room.above);
@@ -47,10 +47,10 @@ module _ {w : List ℕ} {c total r left : ℕ} (p : CanAddUp w c) (i : Adding w 
   pub adding-fits : r ≢ 0 → (length_of w ((r - 1) / 1024) ≤ 1073741824) × (total ≤ 1125900000000000000)
   adding-fits some = (omega (arith, p.size ((r - 1) / 1024) (omega (arith, adding-piece some)), p.room.small), omega (arith, i.small, p.room.small, p.room.below))
 
-  pub adding-next : r ≢ 0 → left ≢ 0 → (r - 1) % 1024 ≡ 0 → Adding w c (total + length_of w ((r - 1) / 1024)) (standOf w ((r - 1) / 1024)) (left - 1)
+  pub adding-next : r ≢ 0 → left ≢ 0 → (r - 1) % 1024 ≡ 0 → Adding w c (total + length_of w ((r - 1) / 1024)) (stand_of w ((r - 1) / 1024)) (left - 1)
   adding-next some more cut =
       record {
-        leads = λ rs ns h ps. leads-join rs ns total (length_of w s) h r (standOf w s) (i.leads rs ns h ps) (next rs ns h ps);
+        leads = λ rs ns h ps. leads-join rs ns total (length_of w s) h r (stand_of w s) (i.leads rs ns h ps) (next rs ns h ps);
         small = omega (arith, p.size s (omega arith), p.room.small, i.small);
         within = omega (arith, i.within);
         stand = omega (arith, p.stand s (omega arith), p.room.above);
@@ -65,8 +65,8 @@ module _ {w : List ℕ} {c total r left : ℕ} (p : CanAddUp w c) (i : Adding w 
       here : (h : ℕ) → start_of c h s ≡ r
       here h = omega (arith, start-cut c h s low)
 
-      next : (rs ns : List ℕ) (h : ℕ) → Pieces rs ns c (start_of c h) w → Leads rs ns (length_of w s) r (standOf w s)
-      next rs ns h ps = subst (λ (x : ℕ). Leads rs ns (length_of w s) x (standOf w s)) (here h) (ps s (omega arith)).leads
+      next : (rs ns : List ℕ) (h : ℕ) → Pieces rs ns c (start_of c h) w → Leads rs ns (length_of w s) r (stand_of w s)
+      next rs ns h ps = subst (λ (x : ℕ). Leads rs ns (length_of w s) x (stand_of w s)) (here h) (ps s (omega arith)).leads
 
   pub adding-end : (k : ℕ) → r ≡ 0 → AddsTo w c k (eqb total k)
   adding-end k e rs ns h ps a =

@@ -12,7 +12,7 @@ use lib.Seq.{take-suc, take-add, take_all, length-take-le}
 use Rattle.lists.specs.Lists.{one, times}
 use Rattle.lists.proofs.Tests.{one-le}
 use Rattle.lists.proofs.Times.{times-nil, times-self, times-other, times-append, times-length}
-use Rattle.pool.specs.Free.{zeroPairs}
+use Rattle.pool.specs.Free.{zero_pairs}
 
 -- ---- zeros of one list
 
@@ -64,32 +64,32 @@ module _ {xs : List ℕ} {i n : ℕ} (z : ZerosTo xs i n) where
 
 -- ---- zeros of both of two lists
 
-pairs-nil : (us : List ℕ) → zeroPairs [] us ≡ 0
-unfolding zeroPairs
+pairs-nil : (us : List ℕ) → zero_pairs [] us ≡ 0
+unfolding zero_pairs
 pairs-nil us = refl
 
-pairs-le : (xs us : List ℕ) → zeroPairs xs us ≤ length xs
-unfolding zeroPairs
+pairs-le : (xs us : List ℕ) → zero_pairs xs us ≤ length xs
+unfolding zero_pairs
 pairs-le [] us = omega arith
 pairs-le (x ∷ xs) [] = omega arith
 pairs-le (x ∷ xs) (u ∷ us) = omega (arith, pairs-le xs us, one-le (eqb x 0 && eqb u 0))
 
-pairs-append : (xs ys us vs : List ℕ) → length us ≡ length xs → zeroPairs (xs ++ ys) (us ++ vs) ≡ zeroPairs xs us + zeroPairs ys vs
-unfolding zeroPairs
+pairs-append : (xs ys us vs : List ℕ) → length us ≡ length xs → zero_pairs (xs ++ ys) (us ++ vs) ≡ zero_pairs xs us + zero_pairs ys vs
+unfolding zero_pairs
 pairs-append [] ys [] vs e = omega arith
 pairs-append [] ys (u ∷ us) vs e = absurd (omega arith)
 pairs-append (x ∷ xs) ys [] vs e = absurd (omega arith)
 pairs-append (x ∷ xs) ys (u ∷ us) vs e = omega (arith, pairs-append xs ys us vs (omega arith))
 
-pairs-one : (x u : ℕ) (b : Bool) → (eqb x 0 && eqb u 0) ≡ b → zeroPairs (x ∷ []) (u ∷ []) ≡ one b
-unfolding zeroPairs
+pairs-one : (x u : ℕ) (b : Bool) → (eqb x 0 && eqb u 0) ≡ b → zero_pairs (x ∷ []) (u ∷ []) ≡ one b
+unfolding zero_pairs
 pairs-one x u b e = rw e (omega arith)
 
 -- n of the records before place i have 0 in both
 pub record PairsTo (rows counts : List ℕ) (i n : ℕ) : Type 0 where
   pub within : i ≤ length rows
   pub few : n ≤ i
-  pub count : n ≡ zeroPairs (take i rows) (take i counts)
+  pub count : n ≡ zero_pairs (take i rows) (take i counts)
 
 pub pairs-none : (xs us : List ℕ) → PairsTo xs us 0 0
 pairs-none xs us = record { within = omega arith; few = omega arith; count = sym (pairs-nil []) }
@@ -98,7 +98,7 @@ module _ {xs us : List ℕ} {i n : ℕ} (z : PairsTo xs us i n) (same : length u
   pairs-take : length (take i us) ≡ length (take i xs)
   pairs-take = omega (arith, z.within, length-take-le i us (omega (arith, z.within)), length-take-le i xs z.within)
 
-  pairs_next : i < length xs → zeroPairs (take (i + 1) xs) (take (i + 1) us) ≡ zeroPairs (take i xs) (take i us) + zeroPairs (get_or xs i 0 ∷ []) (get_or us i 0 ∷ [])
+  pairs_next : i < length xs → zero_pairs (take (i + 1) xs) (take (i + 1) us) ≡ zero_pairs (take i xs) (take i us) + zero_pairs (get_or xs i 0 ∷ []) (get_or us i 0 ∷ [])
   pairs_next h =
       let k : i < length us = omega arith in
       rw (add-one i, take-suc xs i 0 h, take-suc us i 0 k) (pairs-append (take i xs) (get_or xs i 0 ∷ []) (take i us) (get_or us i 0 ∷ []) pairs-take)
@@ -111,26 +111,26 @@ module _ {xs us : List ℕ} {i n : ℕ} (z : PairsTo xs us i n) (same : length u
   pairs-miss h e =
       record { within = omega arith; few = omega (arith, z.few); count = omega (arith, z.count, pairs_next h, pairs-one (get_or xs i 0) (get_or us i 0) false e) }
 
-  pub pairs_end : length xs ≤ i → n ≡ zeroPairs xs us
+  pub pairs_end : length xs ≤ i → n ≡ zero_pairs xs us
   pairs_end h = z.count ∙ rw (take_all i xs h, take_all i us (omega arith)) refl
 
   -- k of the next b records have 0 in both
-  pairs-more : (b k : ℕ) → i + b ≤ length xs → k ≡ zeroPairs (take b (drop i xs)) (take b (drop i us)) → PairsTo xs us (i + b) (n + k)
+  pairs-more : (b k : ℕ) → i + b ≤ length xs → k ≡ zero_pairs (take b (drop i xs)) (take b (drop i us)) → PairsTo xs us (i + b) (n + k)
   pairs-more b k h e =
       let part : length (take b (drop i xs)) ≡ b = length-take-le b (drop i xs) (omega (arith, length-drop i xs)) in
-      let all : zeroPairs (take (i + b) xs) (take (i + b) us) ≡ zeroPairs (take i xs) (take i us) + zeroPairs (take b (drop i xs)) (take b (drop i us)) =
+      let all : zero_pairs (take (i + b) xs) (take (i + b) us) ≡ zero_pairs (take i xs) (take i us) + zero_pairs (take b (drop i xs)) (take b (drop i us)) =
       rw (take-add i b xs, take-add i b us) (pairs-append (take i xs) (take b (drop i xs)) (take i us) (take b (drop i us)) pairs-take) in
       record { within = h; few = omega (arith, z.few, pairs-le (take b (drop i xs)) (take b (drop i us))); count = omega (arith, z.count) }
 
   -- k of the records from place i to place e have 0 in both
-  pub pairs-block : (e k : ℕ) → i ≤ e → e ≤ length xs → k ≡ zeroPairs (take (e - i) (drop i xs)) (take (e - i) (drop i us)) → PairsTo xs us e (n + k)
+  pub pairs-block : (e k : ℕ) → i ≤ e → e ≤ length xs → k ≡ zero_pairs (take (e - i) (drop i xs)) (take (e - i) (drop i us)) → PairsTo xs us e (n + k)
   pairs-block e k p q h =
       let b : i + (e - i) ≡ e = omega arith in
       subst (λ (x : ℕ). PairsTo xs us x (n + k)) b (pairs-more (e - i) k (omega arith) h)
 
   -- k of the rest have 0 in both
-  pub pairs-rest : (k : ℕ) → k ≡ zeroPairs (take (length xs - i) (drop i xs)) (take (length us - i) (drop i us)) → PairsTo xs us (length xs) (n + k)
-  pairs-rest k h = pairs-block (length xs) k z.within (omega arith) (subst (λ (x : ℕ). k ≡ zeroPairs (take (length xs - i) (drop i xs)) (take (x - i) (drop i us))) same h)
+  pub pairs-rest : (k : ℕ) → k ≡ zero_pairs (take (length xs - i) (drop i xs)) (take (length us - i) (drop i us)) → PairsTo xs us (length xs) (n + k)
+  pairs-rest k h = pairs-block (length xs) k z.within (omega arith) (subst (λ (x : ℕ). k ≡ zero_pairs (take (length xs - i) (drop i xs)) (take (x - i) (drop i us))) same h)
 
 -- the length of a part
 pub part_length : (xs : List ℕ) (a e : ℕ) → a ≤ e → e ≤ length xs → length (take (e - a) (drop a xs)) ≡ e - a

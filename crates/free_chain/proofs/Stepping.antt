@@ -9,7 +9,7 @@ use lib.ListN.{length, get_or, set, length-set}
 use lib.Seq.{get_or-set_same, get_or-set_other, set-get_or}
 use Rattle.lists.specs.Lists.{at}
 use Rattle.lists.proofs.Tests.{eq-or-ne}
-use Rattle.free_chain.specs.Pieces.{Leads, RunsTo, length_of, standOf, withPiece, Stands, CanStep, Stepped, Kept, queueOf, Queued}
+use Rattle.free_chain.specs.Pieces.{Leads, RunsTo, length_of, stand_of, with_piece, Stands, CanStep, Stepped, Kept, queue_of, Queued}
 use Rattle.free_chain.proofs.Leading.{leads-none, leads_one, leads-join, leads-run}
 
 -- ---- what a step of the code does
@@ -20,8 +20,8 @@ module _ {rs ns w : List ℕ} {s : ℕ} (p : CanStep rs ns w s) where
   stepped-still =
       record {
         steps = 0;
-        stop = standOf w s;
-        leads = leads-none rs ns (standOf w s);
+        stop = stand_of w s;
+        leads = leads-none rs ns (stand_of w s);
         size = omega (arith, p.size);
         stand = p.stand;
         written = same;
@@ -30,27 +30,27 @@ module _ {rs ns w : List ℕ} {s : ℕ} (p : CanStep rs ns w s) where
       none : (n : ℕ) → n + 0 ≡ n
       none n = omega arith
 
-      same : w ≡ withPiece w s (length_of w s + 0) (standOf w s)
+      same : w ≡ with_piece w s (length_of w s + 0) (stand_of w s)
       same = rw (none (length_of w s), set-get_or w (2 * s) 0, set-get_or w (2 * s + 1) 0) refl
 
   -- a run to place e, and on to what follows there
-  pub stepped-on : (e a : ℕ) → standOf w s ≢ 0 → RunsTo ns (standOf w s - 1) e → get_or ns e 0 ≡ a → (a ≡ 0 → get_or rs e 0 ≡ 0) →
-      length_of w s + (e - (standOf w s - 1) + 1) ≤ length ns → a ≤ length ns → Stepped rs ns w (withPiece w s (length_of w s + (e - (standOf w s - 1) + 1)) a) s
+  pub stepped-on : (e a : ℕ) → stand_of w s ≢ 0 → RunsTo ns (stand_of w s - 1) e → get_or ns e 0 ≡ a → (a ≡ 0 → get_or rs e 0 ≡ 0) →
+      length_of w s + (e - (stand_of w s - 1) + 1) ≤ length ns → a ≤ length ns → Stepped rs ns w (with_piece w s (length_of w s + (e - (stand_of w s - 1) + 1)) a) s
   stepped-on e a some run next zero fits high =
       record {
-        steps = e - (standOf w s - 1) + 1;
+        steps = e - (stand_of w s - 1) + 1;
         stop = a;
-        leads = leads-join rs ns (e - (standOf w s - 1)) 1 (standOf w s) (e + 1) a along after;
+        leads = leads-join rs ns (e - (stand_of w s - 1)) 1 (stand_of w s) (e + 1) a along after;
         size = fits;
         stand = high;
         written = refl;
       }
     where
-      first : standOf w s - 1 + 1 ≡ standOf w s
+      first : stand_of w s - 1 + 1 ≡ stand_of w s
       first = omega arith
 
-      along : Leads rs ns (e - (standOf w s - 1)) (standOf w s) (e + 1)
-      along = subst (λ (x : ℕ). Leads rs ns (e - (standOf w s - 1)) x (e + 1)) first (leads-run rs ns run)
+      along : Leads rs ns (e - (stand_of w s - 1)) (stand_of w s) (e + 1)
+      along = subst (λ (x : ℕ). Leads rs ns (e - (stand_of w s - 1)) x (e + 1)) first (leads-run rs ns run)
 
       place : (x : ℕ) → x ≡ x + 1 - 1
       place x = omega arith
@@ -67,30 +67,30 @@ module _ {rs ns w : List ℕ} {s : ℕ} (p : CanStep rs ns w s) where
 -- ---- a piece written
 
 module _ (w : List ℕ) (s n a : ℕ) where
-  pub piece-size : length (withPiece w s n a) ≡ length w
+  pub piece-size : length (with_piece w s n a) ≡ length w
   piece-size = length-set (set w (2 * s) n) (2 * s + 1) a ∙ length-set w (2 * s) n
 
-  pub piece-length : 2 * s + 1 < length w → length_of (withPiece w s n a) s ≡ n
+  pub piece-length : 2 * s + 1 < length w → length_of (with_piece w s n a) s ≡ n
   piece-length h = get_or-set_other (set w (2 * s) n) (2 * s + 1) (2 * s) a 0 (λ e. omega arith) ∙ get_or-set_same w (2 * s) n 0 (omega arith)
 
-  pub piece-stand : 2 * s + 1 < length w → standOf (withPiece w s n a) s ≡ a
+  pub piece-stand : 2 * s + 1 < length w → stand_of (with_piece w s n a) s ≡ a
   piece-stand h = get_or-set_same (set w (2 * s) n) (2 * s + 1) a 0 (omega (arith, length-set w (2 * s) n))
 
-  pub piece-other : (j : ℕ) → j ≢ 2 * s → j ≢ 2 * s + 1 → get_or (withPiece w s n a) j 0 ≡ get_or w j 0
+  pub piece-other : (j : ℕ) → j ≢ 2 * s → j ≢ 2 * s + 1 → get_or (with_piece w s n a) j 0 ≡ get_or w j 0
   piece-other j p q = get_or-set_other (set w (2 * s) n) (2 * s + 1) j a 0 q ∙ get_or-set_other w (2 * s) j n 0 p
 
 -- a piece that has this length and stands here
-pub stands-with : (rs ns w : List ℕ) (start s n a : ℕ) → Leads rs ns n start a → n ≤ length ns → a ≤ length ns → length_of w s ≡ n → standOf w s ≡ a → Stands rs ns w start s
+pub stands-with : (rs ns w : List ℕ) (start s n a : ℕ) → Leads rs ns n start a → n ≤ length ns → a ≤ length ns → length_of w s ≡ n → stand_of w s ≡ a → Stands rs ns w start s
 stands-with rs ns w start s n a l p q d e =
     record {
-      leads = subst (λ (x : ℕ). Leads rs ns x start (standOf w s)) (sym d) (subst (λ (x : ℕ). Leads rs ns n start x) (sym e) l);
+      leads = subst (λ (x : ℕ). Leads rs ns x start (stand_of w s)) (sym d) (subst (λ (x : ℕ). Leads rs ns n start x) (sym e) l);
       size = omega arith;
       stand = omega arith;
     }
 
 -- a piece that stays as it was
-pub stands_same : {rs ns w₀ : List ℕ} {start s : ℕ} (w : List ℕ) → Stands rs ns w₀ start s → length_of w s ≡ length_of w₀ s → standOf w s ≡ standOf w₀ s → Stands rs ns w start s
-stands_same {rs} {ns} {w₀} {start} {s} w t d e = stands-with rs ns w start s (length_of w₀ s) (standOf w₀ s) t.leads t.size t.stand d e
+pub stands_same : {rs ns w₀ : List ℕ} {start s : ℕ} (w : List ℕ) → Stands rs ns w₀ start s → length_of w s ≡ length_of w₀ s → stand_of w s ≡ stand_of w₀ s → Stands rs ns w start s
+stands_same {rs} {ns} {w₀} {start} {s} w t d e = stands-with rs ns w start s (length_of w₀ s) (stand_of w₀ s) t.leads t.size t.stand d e
 
 -- ---- what a step leaves
 
@@ -102,7 +102,7 @@ module _ {rs ns w₀ w : List ℕ} {s : ℕ} (t : Stepped rs ns w₀ w s) (c : �
   other j p q = rw t.written (piece-other w₀ s (length_of w₀ s + t.steps) t.stop j p q)
 
   -- every piece that stood
-  pub kept_step : queueOf c ≤ length w₀ → Kept rs ns c w₀ w
+  pub kept_step : queue_of c ≤ length w₀ → Kept rs ns c w₀ w
   kept_step long f ps x h =
       elim (eq-or-ne x s) [
         | inl e ↦ subst (λ (y : ℕ). Stands rs ns w (f y) y) (sym e) here
@@ -122,7 +122,7 @@ module _ {rs ns w₀ w : List ℕ} {s : ℕ} (t : Stepped rs ns w₀ w s) (c : �
           s
           (length_of w₀ s + t.steps)
           t.stop
-          (leads-join rs ns (length_of w₀ s) t.steps (f s) (standOf w₀ s) t.stop stood.leads t.leads)
+          (leads-join rs ns (length_of w₀ s) t.steps (f s) (stand_of w₀ s) t.stop stood.leads t.leads)
           t.size
           t.stand
           (rw t.written (piece-length w₀ s (length_of w₀ s + t.steps) t.stop (omega arith)))
@@ -133,5 +133,5 @@ module _ {rs ns w₀ w : List ℕ} {s : ℕ} (t : Stepped rs ns w₀ w s) (c : �
   queue-step u =
       record {
         few = u.few;
-        pieces = λ q h. subst (λ (x : ℕ). x ≤ c) (sym (other (queueOf c + q) (λ e. omega arith) (λ e. omega arith))) (u.pieces q h);
+        pieces = λ q h. subst (λ (x : ℕ). x ≤ c) (sym (other (queue_of c + q) (λ e. omega arith) (λ e. omega arith))) (u.pieces q h);
       }

@@ -13,7 +13,7 @@ use borrow.Author.Tests.{eq-eqb, eqb-true}
 use Rattle.lists.specs.Lists.{at, Decides}
 use Rattle.lists.proofs.Tests.{zero-or-pos}
 use Rattle.pool.specs.Chains.{chain, last_of, Linked}
-use Rattle.pool.specs.Ends.{lastFrom}
+use Rattle.pool.specs.Ends.{last_from}
 use Rattle.pool.specs.Free.{FreeHas}
 use Rattle.pool.proofs.Chains.{linked-chain, linked-end, linked-head, linked-self}
 use Rattle.free_chain.specs.Pieces.{Leads}
@@ -83,7 +83,7 @@ module _ {rs ns : List ℕ} {k h r z n : ℕ} (w : Walking rs ns k h r z n) wher
     records : chain ns h ≡ passed k ns h
     records = linked-chain ns h (passed k ns h) (leads-linked [] ns k h whole)
 
-    last : z ≡ lastFrom ns h
+    last : z ≡ last_from ns h
     last = w.last-is ∙ ap (λ (x : ℕ). last_of 0 (passed x ns h)) same ∙ ap (last_of 0) (sym records)
 
     has : (1 ≤ k → at rs z ≡ 0) → FreeHas rs ns h k

@@ -30,34 +30,34 @@ abbrev pub length_of : (scratch : List ℕ) → (piece : ℕ) → ℕ
 length_of w s = get_or w (2 * s) 0
 
 -- where a piece stands
-abbrev pub standOf : (scratch : List ℕ) → (piece : ℕ) → ℕ
-standOf w s = get_or w (2 * s + 1) 0
+abbrev pub stand_of : (scratch : List ℕ) → (piece : ℕ) → ℕ
+stand_of w s = get_or w (2 * s + 1) 0
 
 -- scratch with another length and stand of a piece
-abbrev pub withPiece : (scratch : List ℕ) → (piece size stand : ℕ) → List ℕ
-withPiece w s n r = set (set w (2 * s) n) (2 * s + 1) r
+abbrev pub with_piece : (scratch : List ℕ) → (piece size stand : ℕ) → List ℕ
+with_piece w s n r = set (set w (2 * s) n) (2 * s + 1) r
 
 -- a piece that starts at a record: its length leads to where it stands
 pub record Stands (rows next scratch : List ℕ) (start s : ℕ) : Type 0 where
-  pub leads : Leads rows next (length_of scratch s) start (standOf scratch s)
+  pub leads : Leads rows next (length_of scratch s) start (stand_of scratch s)
   pub size : length_of scratch s ≤ length next
-  pub stand : standOf scratch s ≤ length next
+  pub stand : stand_of scratch s ≤ length next
 
 -- what a step of a piece asks
 pub record CanStep (rows next scratch : List ℕ) (s : ℕ) : Type 0 where
   pub can : OnePool rows next
   pub room : 2 * s + 1 < length scratch
   pub size : length_of scratch s ≤ length next
-  pub stand : standOf scratch s ≤ length next
+  pub stand : stand_of scratch s ≤ length next
 
 -- after a step of a piece: some steps lead on from where it stood, or none, and are added to it
 pub record Stepped (rows next scratch₀ scratch : List ℕ) (s : ℕ) : Type 0 where
   pub steps : ℕ
   pub stop : ℕ
-  pub leads : Leads rows next steps (standOf scratch₀ s) stop
+  pub leads : Leads rows next steps (stand_of scratch₀ s) stop
   pub size : length_of scratch₀ s + steps ≤ length next
   pub stand : stop ≤ length next
-  pub written : scratch ≡ withPiece scratch₀ s (length_of scratch₀ s + steps) stop
+  pub written : scratch ≡ with_piece scratch₀ s (length_of scratch₀ s + steps) stop
 
 -- ---- all pieces
 
@@ -74,13 +74,13 @@ abbrev pub Kept : (rows next : List ℕ) → (cuts : ℕ) → (scratch₀ scratc
 Kept rs ns c w₀ w = (f : ℕ → ℕ) → Pieces rs ns c f w₀ → Pieces rs ns c f w
 
 -- the place where the queue begins
-abbrev pub queueOf : (cuts : ℕ) → ℕ
-queueOf c = 2 * (c + 1)
+abbrev pub queue_of : (cuts : ℕ) → ℕ
+queue_of c = 2 * (c + 1)
 
 -- n pieces are queued
 pub record Queued (scratch : List ℕ) (cuts n : ℕ) : Type 0 where
   pub few : n ≤ cuts + 1
-  pub pieces : (q : ℕ) → q < n → get_or scratch (queueOf cuts + q) 0 ≤ cuts
+  pub pieces : (q : ℕ) → q < n → get_or scratch (queue_of cuts + q) 0 ≤ cuts
 
 -- scratch has room for the pieces and the queue, and the cuts are the pool's
 pub record Room (size : ℕ) (scratch : List ℕ) (cuts : ℕ) : Type 0 where
@@ -91,7 +91,7 @@ pub record Room (size : ℕ) (scratch : List ℕ) (cuts : ℕ) : Type 0 where
 
 -- a piece has length 0 and stands at its start
 abbrev pub LaidAt : (scratch : List ℕ) → (start piece : ℕ) → Type 0
-LaidAt w a s = (length_of w s ≡ 0) × (standOf w s ≡ a)
+LaidAt w a s = (length_of w s ≡ 0) × (stand_of w s ≡ a)
 
 -- every piece laid out, and n of them queued
 pub record Laid (cuts head : ℕ) (scratch : List ℕ) (n : ℕ) : Type 0 where
@@ -117,7 +117,7 @@ pub record CanAddUp (scratch : List ℕ) (cuts : ℕ) : Type 0 where
   pub records : ℕ
   pub room : Room records scratch cuts
   pub size : (s : ℕ) → s ≤ cuts → length_of scratch s ≤ records
-  pub stand : (s : ℕ) → s ≤ cuts → standOf scratch s ≤ records
+  pub stand : (s : ℕ) → s ≤ cuts → stand_of scratch s ≤ records
 
 -- a sum that comes to the end: if the answer is yes, k steps lead from any head whose piece is the last one to 0
 abbrev pub AddsTo : (scratch : List ℕ) → (cuts k : ℕ) → (answer : Bool) → Type 0

@@ -1,7 +1,7 @@
 // The records of a pool that no column has: how many have row 0, by a pass in order, and whether the free chain has just so many, for any contents.
 ghost use Rattle.std.specs.Prelude.{◌≤◌, ◌≡◌, length};
 ghost use Rattle.lists.specs.Lists.{Decides, times};
-ghost use Rattle.pool.specs.Free.{FreeHas, zeroPairs};
+ghost use Rattle.pool.specs.Free.{FreeHas, zero_pairs};
 ghost use Rattle.free_chain.specs.Pieces.{OnePool};
 
 use pool::Rec;
@@ -46,7 +46,7 @@ pub fn zeros(rows: &[u16]) -> usize
 // How many of at most 65,535 records have row and multiplicity 0.
 fn zero_pairs_of(rows: &[u16], counts: &[u16]) -> u16
     requires { (length rows.now ≤ 65535) × (length counts.now ≡ length rows.now) }
-    ensures { result ≡ zeroPairs rows.now counts.now }
+    ensures { result ≡ zero_pairs rows.now counts.now }
 {
     let mut pairs: u16 = 0;
     let mut i: usize = 0;
@@ -64,7 +64,7 @@ fn zero_pairs_of(rows: &[u16], counts: &[u16]) -> u16
 // How many records have row and multiplicity 0.
 pub fn zero_pairs(rows: &[u16], counts: &[u16]) -> usize
     requires { length counts.now ≡ length rows.now }
-    ensures { result ≡ zeroPairs rows.now counts.now }
+    ensures { result ≡ zero_pairs rows.now counts.now }
 {
     let mut n: usize = 0;
     let mut a: usize = 0;

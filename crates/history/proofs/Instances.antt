@@ -2,18 +2,18 @@
 -- Nothing else is unfolded so far; elsewhere the factor stays shut.
 -- Assumes nothing.
 use mathlib.Core.Path.{refl}
-use Rattle.lists.specs.Lists.{all, any, among, sum_of, up_from, pairsOf}
-use Rattle.symbolic.specs.Columns.{startingWith, countedBy, withMinutes, live_of}
-use Rattle.symbolic.specs.Factor.{childrenWith, countsFrom, firstAbove, buildFrom, patternFrom, nonZero, pathFrom, sizeSum}
-use Rattle.symbolic.specs.Batch.{passing, labelFrom}
-use Rattle.symbolic.specs.NextRow.{firstFrom}
-use Rattle.symbolic.specs.Change.{ids_of, without, columnOf, columnsOf}
-use Rattle.calls.specs.Refusals.{batchOf, rowsRefusal, columnsRefusal, idsRefusal}
+use Rattle.lists.specs.Lists.{all, any, among, sum_of, up_from, pairs_of}
+use Rattle.symbolic.specs.Columns.{starting_with, counted_by, with_minutes, live_of}
+use Rattle.symbolic.specs.Factor.{children_with, counts_from, first_above, build_from, pattern_from, non_zero, path_from, size_sum}
+use Rattle.symbolic.specs.Batch.{passing, label_from}
+use Rattle.symbolic.specs.NextRow.{first_from}
+use Rattle.symbolic.specs.Change.{ids_of, without, column_of, columns_of}
+use Rattle.calls.specs.Refusals.{batch_of, rows_refusal, columns_refusal, ids_refusal}
 use Rattle.calls.specs.Changes.{labelled}
 use Rattle.history.specs.Instances.{StarredInstances, NinthInstance, LimitInstances, RecordInstances, MeetingInstances, NextInstances, WindowInstances}
 
 pub starred-instances : StarredInstances
-unfolding any among sum_of up_from startingWith countedBy live_of childrenWith countsFrom firstAbove buildFrom patternFrom nonZero pathFrom sizeSum passing labelFrom labelled ids_of without columnOf columnsOf withMinutes batchOf rowsRefusal columnsRefusal pairsOf
+unfolding any among sum_of up_from starting_with counted_by live_of children_with counts_from first_above build_from pattern_from non_zero path_from size_sum passing label_from labelled ids_of without column_of columns_of with_minutes batch_of rows_refusal columns_refusal pairs_of
 starred-instances =
     record {
       fresh = (refl, refl);
@@ -45,11 +45,11 @@ starred-instances =
     }
 
 pub ninth-instance : NinthInstance
-unfolding among sum_of startingWith countedBy live_of childrenWith countsFrom firstAbove buildFrom pathFrom ids_of without withMinutes batchOf rowsRefusal columnsRefusal idsRefusal
+unfolding among sum_of starting_with counted_by live_of children_with counts_from first_above build_from path_from ids_of without with_minutes batch_of rows_refusal columns_refusal ids_refusal
 ninth-instance = record { emptied = refl; repeated = refl; equal-rows = refl; path = refl }
 
 pub limit-instances : LimitInstances
-unfolding any among sum_of up_from startingWith countedBy live_of childrenWith countsFrom firstAbove buildFrom patternFrom nonZero pathFrom sizeSum passing labelFrom labelled without columnOf columnsOf withMinutes batchOf
+unfolding any among sum_of up_from starting_with counted_by live_of children_with counts_from first_above build_from pattern_from non_zero path_from size_sum passing label_from labelled without column_of columns_of with_minutes batch_of
 limit-instances =
     record {
       opening-000 = refl;
@@ -94,7 +94,7 @@ record-instances =
     }
 
 pub meeting-instances : MeetingInstances
-unfolding all among startingWith countedBy live_of childrenWith countsFrom firstAbove buildFrom pathFrom passing withMinutes batchOf
+unfolding all among starting_with counted_by live_of children_with counts_from first_above build_from path_from passing with_minutes batch_of
 meeting-instances =
     record {
       meets-1 = refl;
@@ -128,7 +128,7 @@ meeting-instances =
     }
 
 pub next-instances : NextInstances
-unfolding among startingWith countedBy live_of childrenWith countsFrom firstAbove buildFrom patternFrom nonZero withMinutes batchOf firstFrom
+unfolding among starting_with counted_by live_of children_with counts_from first_above build_from pattern_from non_zero with_minutes batch_of first_from
 next-instances =
     record {
       stands = refl;
@@ -147,7 +147,7 @@ next-instances =
     }
 
 pub window-instances : WindowInstances
-unfolding all any among sum_of up_from startingWith countedBy live_of childrenWith countsFrom firstAbove buildFrom patternFrom nonZero pathFrom sizeSum passing labelFrom labelled ids_of without columnOf columnsOf withMinutes batchOf rowsRefusal columnsRefusal idsRefusal
+unfolding all any among sum_of up_from starting_with counted_by live_of children_with counts_from first_above build_from pattern_from non_zero path_from size_sum passing label_from labelled ids_of without column_of columns_of with_minutes batch_of rows_refusal columns_refusal ids_refusal
 window-instances =
     record {
       none = refl;

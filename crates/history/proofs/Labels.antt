@@ -11,15 +11,15 @@ use Rattle.lists.specs.Lists.{Mem, first, later}
 use Rattle.lists.proofs.Tests.{eq-or-ne}
 use Rattle.lists.proofs.Rising.{rises-in}
 use Rattle.symbolic.specs.Columns.{Column, smallest, Register, live}
-use Rattle.symbolic.specs.Factor.{factorFor, parent_of}
+use Rattle.symbolic.specs.Factor.{factor_for, parent_of}
 use Rattle.symbolic.specs.Definition.{OnPath}
-use Rattle.symbolic.specs.Batch.{atPosition, isTouched, label_of}
+use Rattle.symbolic.specs.Batch.{at_position, is_touched, label_of}
 use Rattle.symbolic.proofs.Labels.{touched-label, label-path, path-label}
 use Rattle.symbolic.proofs.Theorems.{defined}
-use Rattle.calls.specs.Calls.{Change, adding, removing, setting, isBatch}
-use Rattle.calls.specs.Changes.{effect, touchedBy, labelled}
+use Rattle.calls.specs.Calls.{Change, adding, removing, setting, is_batch}
+use Rattle.calls.specs.Changes.{effect, touched_by, labelled}
 use Rattle.calls.proofs.Changes.{touched-rise}
-use Rattle.history.specs.Statements.{valueFor, IsFactorOf, OnPathOf, IsLabel}
+use Rattle.history.specs.Statements.{value_for, IsFactorOf, OnPathOf, IsLabel}
 use Rattle.history.proofs.Reports.{path-same, parents-agree, on-touched, reports-exactly}
 
 -- ---- the list of labels
@@ -29,8 +29,8 @@ unfolding labelled
 labelled-length f [] = refl
 labelled-length f (j ∷ js) = ap suc (labelled-length f js)
 
-pub label-beside : (f : ℕ → ℕ) (js : List ℕ) (j : ℕ) → Mem j js → valueFor js (labelled f js) j ≡ f j
-unfolding labelled valueFor
+pub label-beside : (f : ℕ → ℕ) (js : List ℕ) (j : ℕ) → Mem j js → value_for js (labelled f js) j ≡ f j
+unfolding labelled value_for
 label-beside f [] j n = elim n [ ]
 label-beside f (i ∷ is) j n =
     elim (eq-or-ne i j) [
@@ -45,29 +45,29 @@ label-beside f (i ∷ is) j n =
 -- ---- in every tree that meets the definition
 
 module _ (r : Register) (M : ℕ → ℕ → ℕ) (P : ℕ → ℕ) (h : IsFactorOf r M P) (batch : List Column) (j : ℕ) where
-  label-just : j ≤ r.m → isTouched (factorFor r) batch j ≡ true → IsLabel r.m P batch j (label_of (factorFor r) batch j)
+  label-just : j ≤ r.m → is_touched (factor_for r) batch j ≡ true → IsLabel r.m P batch j (label_of (factor_for r) batch j)
   label-just b t =
-      let l : ℕ = label_of (factorFor r) batch j in
-      let p : 0 < l = touched-label (factorFor r) batch j t in
-      let w : (l ≤ length batch) × (1 ≤ smallest (atPosition batch l)) × (smallest (atPosition batch l) ≤ r.m) × OnPath (parent_of (factorFor r)) (smallest (atPosition batch l)) j =
+      let l : ℕ = label_of (factor_for r) batch j in
+      let p : 0 < l = touched-label (factor_for r) batch j t in
+      let w : (l ≤ length batch) × (1 ≤ smallest (at_position batch l)) × (smallest (at_position batch l) ≤ r.m) × OnPath (parent_of (factor_for r)) (smallest (at_position batch l)) j =
       label-path r.m (live r) batch j b p in (
         (
           p,
           w.0,
           w.1,
           w.2,
-          path-same r.m (parent_of (factorFor r)) P (λ k x y. sym (parents-agree r M P h k x y)) (λ k x y z. ((defined r.m (live r)).parent_in k x y z).1) w.1 w.2 w.3,
+          path-same r.m (parent_of (factor_for r)) P (λ k x y. sym (parents-agree r M P h k x y)) (λ k x y z. ((defined r.m (live r)).parent_in k x y z).1) w.1 w.2 w.3,
         ),
         λ i u. path-label r.m (live r) batch j i u.0 u.1 u.2 u.3
-            (path-same r.m P (parent_of (factorFor r)) (parents-agree r M P h) (λ k x y z. (h.parent_in k x y z).1) u.2 u.3 u.4),
+            (path-same r.m P (parent_of (factor_for r)) (parents-agree r M P h) (λ k x y z. (h.parent_in k x y z).1) u.2 u.3 u.4),
       )
 
-  pub label-on : j ≤ r.m → OnPathOf r.m P batch j → IsLabel r.m P batch j (label_of (factorFor r) batch j)
+  pub label-on : j ≤ r.m → OnPathOf r.m P batch j → IsLabel r.m P batch j (label_of (factor_for r) batch j)
   label-on b u = label-just b (on-touched r M P h batch j u)
 
 -- the label that a batch gives a touched column
-pub labels-largest : (r : Register) (c : Change) → isBatch c ≡ true → (M N : ℕ → ℕ → ℕ) (P Q : ℕ → ℕ) → IsFactorOf r M P → IsFactorOf (effect r c).register N Q →
-    (j : ℕ) → Mem j (touchedBy r c) →
+pub labels-largest : (r : Register) (c : Change) → is_batch c ≡ true → (M N : ℕ → ℕ → ℕ) (P Q : ℕ → ℕ) → IsFactorOf r M P → IsFactorOf (effect r c).register N Q →
+    (j : ℕ) → Mem j (touched_by r c) →
     IsLabel r.m P (effect r c).leave j ((effect r c).label j) ⊎ IsLabel r.m Q (effect r c).enter j ((effect r c).label j)
 labels-largest r c z M N P Q h k j n =
     let b : (1 ≤ j) × (j ≤ r.m) = rises-in 1 r.m n (touched-rise r c) in
@@ -76,7 +76,7 @@ labels-largest r c z M N P Q h k j n =
     nobody : (S : ℕ → ℕ) → OnPathOf r.m S [] j → (X : Type 0) → X
     nobody S u X = elim u.1 [ ]
 
-    each : (c : Change) → isBatch c ≡ true → IsFactorOf (effect r c).register N Q → j ≤ r.m →
+    each : (c : Change) → is_batch c ≡ true → IsFactorOf (effect r c).register N Q → j ≤ r.m →
         OnPathOf r.m P (effect r c).leave j ⊎ OnPathOf r.m Q (effect r c).enter j →
         IsLabel r.m P (effect r c).leave j ((effect r c).label j) ⊎ IsLabel r.m Q (effect r c).enter j ((effect r c).label j)
     each (adding is ns rs ps qs) z k b (inl u) = nobody P u _

@@ -8,15 +8,15 @@ use mathlib.Core.List.{[], ◌∷◌}
 use Rattle.symbolic.specs.Grades.{Limits}
 use Rattle.tables.specs.Tables.{Sizes}
 use Rattle.calls.specs.Refusals.{accepted}
-use Rattle.calls.specs.Calls.{Entry, opening, Lent, call_of, isOpening}
-use Rattle.calls.specs.Numbers.{callEarly}
+use Rattle.calls.specs.Calls.{Entry, opening, Lent, call_of, is_opening}
+use Rattle.calls.specs.Numbers.{call_early}
 use Rattle.calls.specs.Steps.{Answer, World, Transition}
 use Rattle.calls.proofs.Choices.{or-both}
 use Rattle.calls.proofs.Numbers.{Ready, early-facts, Found, accepted-found}
 use Rattle.calls.proofs.Steps.{Accepted, step-taken, change-of}
-use Rattle.history.specs.Runs.{Run, Plain, plainAfter, Begun}
+use Rattle.history.specs.Runs.{Run, Plain, plain_after, Begun}
 use Rattle.history.specs.Statements.{Demand3, RunSplits, plain_of, AnySound, LiveIs, OpeningSound, DefaultNamed, DefaultInRange, DefaultShort, LeftAtZero, NamedKept, ZeroRefused, MeetsStand, CommonLies}
-use Rattle.history.proofs.Invariant.{Inv, inv-found, inv-consistent, openedPlain, openedWorld, inv-opened}
+use Rattle.history.proofs.Invariant.{Inv, inv-found, inv-consistent, opened_plain, opened_world, inv-opened}
 use Rattle.history.proofs.Steps.{inv-justified, inv-step, inv-run}
 use Rattle.history.specs.NextRow.{NextTaken, NextStands, NextIsParent, WalkIsColumn, WalkStays, WalkEnds}
 use Rattle.history.proofs.Openings.{default-named as named, default-in-range as in-range, default-short as short, left-at-zero as left, named-kept as kept, zero-refused as refused}
@@ -27,13 +27,13 @@ use Rattle.history.proofs.Walking.{next-taken as taken, next-answered, parent-an
 -- ---- an accepted opening
 
 module _ (u : World) (l : Sizes) (g : Limits) (w : Lent) (a : Answer) (x : Lent) (v : World) (s : Transition u (call_of (opening l g) w) a x v) (n : a.number ≡ 0) where
-  opened-inv : Inv (openedPlain l g) v
+  opened-inv : Inv (opened_plain l g) v
   opened-inv =
       let t : Accepted u (call_of (opening l g) w) a x v = step-taken u (call_of (opening l g) w) a x v s n in
-      let q : v ≡ openedWorld l g u.tables = λ j. record { state = t.world.0 j; tables = t.world.1 j } in
+      let q : v ≡ opened_world l g u.tables = λ j. record { state = t.world.0 j; tables = t.world.1 j } in
       let r : Ready u.state.sizes u.tables (call_of (opening l g) w) =
-      early-facts u.state.sizes u.tables (call_of (opening l g) w) (or-both (callEarly u.state.sizes u.tables (call_of (opening l g) w)) accepted t.number).0 in
-      subst (λ (y : World). Inv (openedPlain l g) y) (sym q) (inv-opened l g u.state.sizes u.tables w r)
+      early-facts u.state.sizes u.tables (call_of (opening l g) w) (or-both (call_early u.state.sizes u.tables (call_of (opening l g) w)) accepted t.number).0 in
+      subst (λ (y : World). Inv (opened_plain l g) y) (sym q) (inv-opened l g u.state.sizes u.tables w r)
 
 pub opening-sound : OpeningSound
 opening-sound u l g w a x v s n = (opened-inv u l g w a x v s n).sound
@@ -80,10 +80,10 @@ run-splits u v (d ∷ before) after e r =
 -- ---- any sound tables
 
 pub any-sound : AnySound
-unfolding plainAfter
+unfolding plain_after
 any-sound u e v s n b =
     let t : Accepted u e.call e.answer e.left v = step-taken u e.call e.answer e.left v s n in
-    let f : Found u.state u.tables = accepted-found u.state u.tables e.call (subst (λ (i : Entry). isOpening i ≡ false) (sym (change-of e.call.entry b).1) refl) t.number in
+    let f : Found u.state u.tables = accepted-found u.state u.tables e.call (subst (λ (i : Entry). is_opening i ≡ false) (sym (change-of e.call.entry b).1) refl) t.number in
     let i : Inv (plain_of u) u = inv-found u f in
     (inv-consistent i, inv-justified i e v s, inv-consistent (inv-step i e v s))
 

@@ -4,10 +4,10 @@
 use Rattle.std.specs.Prelude.{◌≡◌, List, [], ◌∷◌, eqb}
 use Rattle.lists.specs.Lists.{pick}
 use Rattle.symbolic.specs.Columns.{Register}
-use Rattle.symbolic.specs.Grades.{Limits, limitsFor}
+use Rattle.symbolic.specs.Grades.{Limits, limits_for}
 use Rattle.tables.specs.Tables.{Sizes}
-use Rattle.calls.specs.Calls.{opening, Lent, Call, call_of, withDefault, sizesAfter, limitsAfter}
-use Rattle.calls.specs.Changes.{registerAfter}
+use Rattle.calls.specs.Calls.{opening, Lent, Call, call_of, with_default, sizes_after, limits_after}
+use Rattle.calls.specs.Changes.{register_after}
 use Rattle.calls.specs.Steps.{Answer, World, Transition}
 
 -- a call with everything lent to it, the numbers it answered and the lists it left
@@ -28,15 +28,15 @@ pub record Plain : Type 0 where
   pub register : Register
 
 -- the register after one more call: "A refused call, a check or a question: nothing changes."
-abbrev pub plainNext : Plain → Event → Plain
-plainNext p e =
+abbrev pub plain_next : Plain → Event → Plain
+plain_next p e =
     pick (eqb e.answer.number 0)
-    (record { sizes = sizesAfter p.sizes e.call.entry; limits = limitsAfter p.limits e.call.entry; register = registerAfter p.register e.call.entry }) p
+    (record { sizes = sizes_after p.sizes e.call.entry; limits = limits_after p.limits e.call.entry; register = register_after p.register e.call.entry }) p
 
 -- the register after a list of calls
-unfoldable pub plainAfter : Plain → List Event → Plain
-plainAfter p [] = p
-plainAfter p (e ∷ es) = plainAfter (plainNext p e) es
+unfoldable pub plain_after : Plain → List Event → Plain
+plain_after p [] = p
+plain_after p (e ∷ es) = plain_after (plain_next p e) es
 
 -- "It starts just after an accepted opening of any sizes", and limits: u is what it left, "at first the opening's m and no column"; document 02: "An opened factor
 -- stands at minute 0"
@@ -49,4 +49,4 @@ pub record Begun (u : World) (p : Plain) : Type 0 where
   pub left : Lent
   pub step : Transition before (call_of (opening asked limits) lent) answer left u
   pub taken : answer.number ≡ 0
-  pub plain : p ≡ record { sizes = withDefault asked; limits = limitsFor limits; register = record { m = asked.m; clock = 0; columns = [] } }
+  pub plain : p ≡ record { sizes = with_default asked; limits = limits_for limits; register = record { m = asked.m; clock = 0; columns = [] } }

@@ -8,14 +8,14 @@ use native.Mathlib.Omega.{arith}
 use lib.Dec.{eqb}
 use lib.ListN.{length, get_or}
 use Rattle.lists.specs.Lists.{pick, all, rises}
-use Rattle.symbolic.specs.Columns.{Column, fitsRows, Register, live}
+use Rattle.symbolic.specs.Columns.{Column, fits_rows, Register, live}
 use Rattle.symbolic.specs.Grades.{Limits}
 use Rattle.symbolic.proofs.Live.{live-length}
 use Rattle.tables.specs.Tables.{Tables}
-use Rattle.calls.specs.Steps.{bookedIn}
+use Rattle.calls.specs.Steps.{booked_in}
 use Rattle.updown.specs.Entries.{CanPlan}
 use Rattle.updown.proofs.Filled.{whole-rows}
-use Rattle.steps.specs.Outcome.{cutWorld, storedWhole, CanFind}
+use Rattle.steps.specs.Outcome.{cut_world, stored_whole, CanFind}
 use Rattle.steps.proofs.Cut.{sizes-are, stored-sized, stored-sound, columns-few, work-long, work-zero, flags-zero}
 
 -- ---- one column, inside its window or not
@@ -30,11 +30,11 @@ inside-start xs false = refl
 
 -- ---- the batch
 
-module _ {t : Tables} {lim : Limits} {o f g : ℕ} {w : List ℕ} (can : CanFind (cutWorld t lim o f g) w) where
-  pub plan-can : (W : List Column) → all (fitsRows (length t.heads)) W ≡ true → 1 ≤ length W → length W ≤ 64 →
-      CanPlan (storedWhole t f) (live (bookedIn (cutWorld t lim o f g))) W w
+module _ {t : Tables} {lim : Limits} {o f g : ℕ} {w : List ℕ} (can : CanFind (cut_world t lim o f g) w) where
+  pub plan-can : (W : List Column) → all (fits_rows (length t.heads)) W ≡ true → 1 ≤ length W → length W ≤ 64 →
+      CanPlan (stored_whole t f) (live (booked_in (cut_world t lim o f g))) W w
   plan-can W fits some few =
-      let r : Register = bookedIn (cutWorld t lim o f g) in
+      let r : Register = booked_in (cut_world t lim o f g) in
       record {
         sized = stored-sized can;
         sound = stored-sound can;

@@ -6,28 +6,28 @@ use mathlib.Core.Bool.{true, false, true≢false}
 use mathlib.Core.List.{List}
 use Prim.Native.Nat.{ℕ}
 use borrow.Author.Tests.{eq-eqb, ne_eqb}
-use Rattle.calls.specs.Refusals.{isAccepted}
+use Rattle.calls.specs.Refusals.{is_accepted}
 use Rattle.calls.specs.Calls.{Change}
 use Rattle.calls.specs.Steps.{World}
-use Rattle.steps.specs.Outcome.{numberFor}
-use Rattle.judging.specs.Judging.{verdictNumber, BatchPlan, Judged}
+use Rattle.steps.specs.Outcome.{number_for}
+use Rattle.judging.specs.Judging.{verdict_number, BatchPlan, Judged}
 use Rattle.judging.specs.declared.Verdict.{Verdict}
 
 -- a verdict that refuses leaves the work table; whatever the change
-pub refused-judged : {u : World} {c : Change} {before after : List ℕ} {x : Verdict} → verdictNumber x ≡ numberFor u c → isAccepted (verdictNumber x) ≡ false →
+pub refused-judged : {u : World} {c : Change} {before after : List ℕ} {x : Verdict} → verdict_number x ≡ number_for u c → is_accepted (verdict_number x) ≡ false →
     after ≡ before → Judged u c before after x
 refused-judged e h same =
-    record { number_is = e; plan = λ z. absurd (true≢false (sym z ∙ ap isAccepted (sym e) ∙ h)); unchanged = λ z. same }
+    record { number_is = e; plan = λ z. absurd (true≢false (sym z ∙ ap is_accepted (sym e) ∙ h)); unchanged = λ z. same }
 
 -- one that accepts has the plan
-pub planned-judged : {u : World} {c : Change} {before after : List ℕ} {x : Verdict} → verdictNumber x ≡ numberFor u c → isAccepted (verdictNumber x) ≡ true →
+pub planned-judged : {u : World} {c : Change} {before after : List ℕ} {x : Verdict} → verdict_number x ≡ number_for u c → is_accepted (verdict_number x) ≡ true →
     BatchPlan u c before after x.plan → Judged u c before after x
 planned-judged e h p =
-    record { number_is = e; plan = λ z. p; unchanged = λ z. absurd (true≢false (sym (ap isAccepted (sym e) ∙ h) ∙ z)) }
+    record { number_is = e; plan = λ z. p; unchanged = λ z. absurd (true≢false (sym (ap is_accepted (sym e) ∙ h) ∙ z)) }
 
 module _ {u : World} {c : Change} {before after : List ℕ} {x : Verdict} (j : Judged u c before after x) where
-  pub judged-taken : x.refusal.number ≡ 0 → isAccepted (numberFor u c) ≡ true
-  judged-taken e = ap isAccepted (sym j.number_is) ∙ eq-eqb x.refusal.number 0 e
+  pub judged-taken : x.refusal.number ≡ 0 → is_accepted (number_for u c) ≡ true
+  judged-taken e = ap is_accepted (sym j.number_is) ∙ eq-eqb x.refusal.number 0 e
 
-  pub judged-not : x.refusal.number ≢ 0 → isAccepted (numberFor u c) ≡ false
-  judged-not e = ap isAccepted (sym j.number_is) ∙ ne_eqb x.refusal.number 0 e
+  pub judged-not : x.refusal.number ≢ 0 → is_accepted (number_for u c) ≡ false
+  judged-not e = ap is_accepted (sym j.number_is) ∙ ne_eqb x.refusal.number 0 e

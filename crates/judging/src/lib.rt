@@ -1,8 +1,8 @@
 // A batch judged on sound tables before anything is written: its refusal is searched for, and where there is none its plan is made in the work table. Costs only the
 // touched paths.
 ghost use Rattle.std.specs.Prelude.{◌≡◌, false};
-ghost use Rattle.tables.specs.Lent.{tablesIn, tablesNow};
-ghost use Rattle.calls.specs.Lent.{addingOf, removingOf};
+ghost use Rattle.tables.specs.Lent.{tables_in, tables_now};
+ghost use Rattle.calls.specs.Lent.{adding_of, removing_of};
 ghost use Rattle.judging.specs.Judging.{SomeRows, AddJudged, SomeFree, RemoveJudged};
 
 use book::Row;
@@ -62,7 +62,7 @@ pub fn judge_add(
     clock: u32,
 ) -> Verdict
     requires { SomeRows heads.now parents.now rows.now counts.now next.now book_heads.now book_next.now clock free.0 book_free.0 work.old }
-    ensures { AddJudged heads.now parents.now rows.now counts.now next.now book_heads.now book_next.now clock free.0 book_free.0 (addingOf ids row_counts row_list firsts seconds) work.old work.new result }
+    ensures { AddJudged heads.now parents.now rows.now counts.now next.now book_heads.now book_next.now clock free.0 book_free.0 (adding_of ids row_counts row_list firsts seconds) work.old work.new result }
 {
     let found = refusals::find_add(
         book_heads,
@@ -118,8 +118,8 @@ pub fn judge_remove(
     ids: &[u32],
     clock: u32,
 ) -> Verdict
-    requires { SomeFree (tablesNow heads parents rows counts next book_heads book_rows book_next windows) clock work.old }
-    ensures { RemoveJudged (tablesIn heads parents rows counts next book_heads book_rows book_next windows) clock (removingOf ids) work.old work.new result }
+    requires { SomeFree (tables_now heads parents rows counts next book_heads book_rows book_next windows) clock work.old }
+    ensures { RemoveJudged (tables_in heads parents rows counts next book_heads book_rows book_next windows) clock (removing_of ids) work.old work.new result }
 {
     let found = refusals::find_remove(book_heads, ids);
     if found.number != 0 {

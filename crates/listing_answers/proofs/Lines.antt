@@ -11,70 +11,70 @@ use lib.Seq.{take_at}
 use borrow.Author.Tests.{ltb-false, le-leb}
 use Rattle.lists.specs.Lists.{pick, same, over}
 use Rattle.lists.proofs.Tests.{cases}
-use Rattle.listing_text.specs.Command.{first_word, laterWords, numbersOf, openOf, addOf, addedRows, dropOf, showOf, openWord, addWord, dropWord, showWord, commandOf, rows_of}
+use Rattle.listing_text.specs.Command.{first_word, later_words, numbers_of, open_of, add_of, added_rows, drop_of, show_of, open_word, add_word, drop_word, show_word, command_of, rows_of}
 use Rattle.listing_text.specs.declared.command.Command.{Command}
 use Rattle.listing_text.specs.declared.command.Command.TheVariants.{Open, Add, Drop, Show, Unknown}
 
 -- whether a command is an addition, and of how many rows
-abbrev isAdd : Command → Bool
-isAdd (Open m n f c) = false
-isAdd (Add i n) = true
-isAdd (Drop i) = false
-isAdd Show = false
-isAdd Unknown = false
+abbrev is_add : Command → Bool
+is_add (Open m n f c) = false
+is_add (Add i n) = true
+is_add (Drop i) = false
+is_add Show = false
+is_add Unknown = false
 
-abbrev rowsSaid : Command → ℕ
-rowsSaid (Open m n f c) = 0
-rowsSaid (Add i n) = n
-rowsSaid (Drop i) = 0
-rowsSaid Show = 0
-rowsSaid Unknown = 0
+abbrev rows_said : Command → ℕ
+rows_said (Open m n f c) = 0
+rows_said (Add i n) = n
+rows_said (Drop i) = 0
+rows_said Show = 0
+rows_said Unknown = 0
 
-open-other : (ns : List ℕ) → isAdd (openOf ns) ≡ false
-unfolding openOf
+open-other : (ns : List ℕ) → is_add (open_of ns) ≡ false
+unfolding open_of
 open-other ns = elim (cases (eqb (length ns) 4)) [ inl e ↦ rw e refl | inr e ↦ rw e refl ]
 
-drop-other : (ns : List ℕ) → isAdd (dropOf ns) ≡ false
-unfolding dropOf
+drop-other : (ns : List ℕ) → is_add (drop_of ns) ≡ false
+unfolding drop_of
 drop-other ns = elim (cases (eqb (length ns) 1)) [ inl e ↦ rw e refl | inr e ↦ rw e refl ]
 
-show-other : (ws : List (List ℕ)) → isAdd (showOf ws) ≡ false
-unfolding showOf
+show-other : (ws : List (List ℕ)) → is_add (show_of ws) ≡ false
+unfolding show_of
 show-other ws = elim (cases (eqb (length ws) 0)) [ inl e ↦ rw e refl | inr e ↦ rw e refl ]
 
-add-said : (ns : List ℕ) → isAdd (addOf ns) ≡ true → length (addedRows ns) ≡ rowsSaid (addOf ns)
-unfolding addOf addedRows
+add-said : (ns : List ℕ) → is_add (add_of ns) ≡ true → length (added_rows ns) ≡ rows_said (add_of ns)
+unfolding add_of added_rows
 add-said ns h =
     elim (cases (leb 2 (length ns))) [ inl e ↦ rw e (length-drop 1 ns) | inr e ↦ absurd (false≢true (rw e at h)) ]
 
-last-other : (line : List ℕ) → isAdd (pick (same (first_word line) showWord) (showOf (laterWords line)) Unknown) ≡ false
+last-other : (line : List ℕ) → is_add (pick (same (first_word line) show_word) (show_of (later_words line)) Unknown) ≡ false
 last-other line =
-    elim (cases (same (first_word line) showWord)) [ inl e ↦ rw e (show-other (laterWords line)) | inr e ↦ rw e refl ]
+    elim (cases (same (first_word line) show_word)) [ inl e ↦ rw e (show-other (later_words line)) | inr e ↦ rw e refl ]
 
 later-other : (line : List ℕ) →
-    isAdd (pick (same (first_word line) dropWord) (dropOf (numbersOf line)) (pick (same (first_word line) showWord) (showOf (laterWords line)) Unknown)) ≡ false
+    is_add (pick (same (first_word line) drop_word) (drop_of (numbers_of line)) (pick (same (first_word line) show_word) (show_of (later_words line)) Unknown)) ≡ false
 later-other line =
-    elim (cases (same (first_word line) dropWord)) [ inl e ↦ rw e (drop-other (numbersOf line)) | inr e ↦ rw e (last-other line) ]
+    elim (cases (same (first_word line) drop_word)) [ inl e ↦ rw e (drop-other (numbers_of line)) | inr e ↦ rw e (last-other line) ]
 
-counted : (line : List ℕ) → isAdd (commandOf line) ≡ true → length (rows_of line) ≡ rowsSaid (commandOf line)
-unfolding commandOf rows_of
+counted : (line : List ℕ) → is_add (command_of line) ≡ true → length (rows_of line) ≡ rows_said (command_of line)
+unfolding command_of rows_of
 counted line h =
     elim (cases (ltb 1999 (length line))) [
       | inl e ↦ absurd (false≢true (rw e at h))
-      | inr e ↦ rw (e, le-leb (length line) 1999 (ltb-false 1999 (length line) e)) (elim (cases (same (first_word line) openWord)) [
-        | inl f ↦ absurd (false≢true (sym (open-other (numbersOf line)) ∙ (rw (e, f) at h)))
-        | inr f ↦ elim (cases (same (first_word line) addWord)) [
-          | inl g ↦ rw (f, g) (add-said (numbersOf line) (rw (e, f, g) at h))
+      | inr e ↦ rw (e, le-leb (length line) 1999 (ltb-false 1999 (length line) e)) (elim (cases (same (first_word line) open_word)) [
+        | inl f ↦ absurd (false≢true (sym (open-other (numbers_of line)) ∙ (rw (e, f) at h)))
+        | inr f ↦ elim (cases (same (first_word line) add_word)) [
+          | inl g ↦ rw (f, g) (add-said (numbers_of line) (rw (e, f, g) at h))
           | inr g ↦ absurd (false≢true (sym (later-other line) ∙ (rw (e, f, g) at h)))
         ]
       ])
     ]
 
-pub rows-counted : (line : List ℕ) (i n : ℕ) → commandOf line ≡ Add i n → length (rows_of line) ≡ n
-rows-counted line i n e = counted line (ap isAdd e) ∙ ap rowsSaid e
+pub rows-counted : (line : List ℕ) (i n : ℕ) → command_of line ≡ Add i n → length (rows_of line) ≡ n
+rows-counted line i n e = counted line (ap is_add e) ∙ ap rows_said e
 
 -- the list has places for them, and they stand at its front
-module _ (line old list : List ℕ) (i n : ℕ) (e : commandOf line ≡ Add i n) (f : list ≡ over (rows_of line) old) where
+module _ (line old list : List ℕ) (i n : ℕ) (e : command_of line ≡ Add i n) (f : list ≡ over (rows_of line) old) where
   pub rows_fit : n ≤ length list
   rows_fit = omega (arith, rows-counted line i n e, ap length f, length-append (rows_of line) (drop (length (rows_of line)) old))
 

@@ -1,13 +1,13 @@
 // The commands that change the factor: open, add and drop, each with the line of its answer.
 ghost use Rattle.std.specs.Prelude.{[], ◌∷◌, ◌≤◌, length, take};
 ghost use Rattle.calls.specs.Calls.Change.{adding, removing};
-ghost use Rattle.tables.specs.Tables.{sizesOf};
-ghost use Rattle.tables.specs.Lent.{tablesIn, tablesOut};
-ghost use Rattle.answers.specs.Answers.{changedAnswer};
+ghost use Rattle.tables.specs.Tables.{sizes_of};
+ghost use Rattle.tables.specs.Lent.{tables_in, tables_out};
+ghost use Rattle.answers.specs.Answers.{changed_answer};
 ghost use Rattle.listing_text.specs.Text.{Written};
 ghost use Rattle.listing_answers.specs.Listing.{BatchAnswered, IsReady, OpenPrinted, Answers};
-ghost use Rattle.listing_memory.specs.Lent.{memoryIn, memoryOut, memoryNow};
-ghost use Rattle.listing_show.specs.Showing.{answerLine};
+ghost use Rattle.listing_memory.specs.Lent.{memory_in, memory_out, memory_now};
+ghost use Rattle.listing_show.specs.Showing.{answer_line};
 
 use answers::Changed;
 use factor::Factor;
@@ -17,7 +17,7 @@ use listing_text::text;
 // The line of a batch's answer.
 fn changed_line(out: &mut [u8], x: Changed) -> usize
     requires { 40 ≤ length out.old }
-    ensures { Written out.old 0 (answerLine (changedAnswer x)) out.new result }
+    ensures { Written out.old 0 (answer_line (changed_answer x)) out.new result }
 {
     if x.number == 0 {
         return text::ok_line(out, 0, x.touched, x.entries, x.grade);
@@ -45,7 +45,7 @@ pub fn open_line(
     c: u32,
 ) -> Printed
     requires { 40 ≤ length out.old }
-    ensures { OpenPrinted (sizesOf m n f c) (tablesIn heads parents rows counts next book_heads book_rows book_next windows) work.old factor out.old (tablesOut heads parents rows counts next book_heads book_rows book_next windows) work.new out.new result }
+    ensures { OpenPrinted (sizes_of m n f c) (tables_in heads parents rows counts next book_heads book_rows book_next windows) work.old factor out.old (tables_out heads parents rows counts next book_heads book_rows book_next windows) work.new out.new result }
 {
     let opened = Factor::open(
         m, n, f, c, 0, 0, 0, heads, parents, rows, counts, next, book_heads, book_rows, book_next,
@@ -76,8 +76,8 @@ pub fn add_line(
 ) -> Printed
     requires room { 40 ≤ length out.old }
     requires listed { count ≤ length list.now }
-    requires usable { IsReady (memoryNow factor heads parents rows counts next book_heads book_rows book_next windows work touched labels) }
-    ensures { Answers (BatchAnswered (memoryIn factor heads parents rows counts next book_heads book_rows book_next windows work touched labels) (adding (id ∷ []) (count ∷ []) (take count list.now) (0 ∷ []) (0 ∷ []))) out.old out.new result (memoryOut result.factor heads parents rows counts next book_heads book_rows book_next windows work touched labels) }
+    requires usable { IsReady (memory_now factor heads parents rows counts next book_heads book_rows book_next windows work touched labels) }
+    ensures { Answers (BatchAnswered (memory_in factor heads parents rows counts next book_heads book_rows book_next windows work touched labels) (adding (id ∷ []) (count ∷ []) (take count list.now) (0 ∷ []) (0 ∷ []))) out.old out.new result (memory_out result.factor heads parents rows counts next book_heads book_rows book_next windows work touched labels) }
 {
     if factor.m == 0 {
         let end = text::no_line(out, 0, 1, 0);
@@ -132,8 +132,8 @@ pub fn drop_line(
     id: u32,
 ) -> Printed
     requires room { 40 ≤ length out.old }
-    requires usable { IsReady (memoryNow factor heads parents rows counts next book_heads book_rows book_next windows work touched labels) }
-    ensures { Answers (BatchAnswered (memoryIn factor heads parents rows counts next book_heads book_rows book_next windows work touched labels) (removing (id ∷ []))) out.old out.new result (memoryOut result.factor heads parents rows counts next book_heads book_rows book_next windows work touched labels) }
+    requires usable { IsReady (memory_now factor heads parents rows counts next book_heads book_rows book_next windows work touched labels) }
+    ensures { Answers (BatchAnswered (memory_in factor heads parents rows counts next book_heads book_rows book_next windows work touched labels) (removing (id ∷ []))) out.old out.new result (memory_out result.factor heads parents rows counts next book_heads book_rows book_next windows work touched labels) }
 {
     if factor.m == 0 {
         let end = text::no_line(out, 0, 1, 0);

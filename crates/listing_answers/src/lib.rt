@@ -4,7 +4,7 @@ mod changing;
 
 ghost use Rattle.std.specs.Prelude.{◌≤◌, length};
 ghost use Rattle.listing_answers.specs.Listing.{Ready, Answered, Answers};
-ghost use Rattle.listing_memory.specs.Lent.{memoryIn, memoryOut, memoryNow};
+ghost use Rattle.listing_memory.specs.Lent.{memory_in, memory_out, memory_now};
 
 use factor::Factor;
 use listing_memory::Printed;
@@ -32,9 +32,9 @@ pub fn answer(
 ) -> Printed
     requires places { 1000 ≤ length list.old }
     requires room { 91520 ≤ length out.old }
-    requires ready { Ready (memoryNow factor heads parents rows counts next book_heads book_rows book_next windows work touched labels) }
-    ensures answered { Answers (Answered (memoryIn factor heads parents rows counts next book_heads book_rows book_next windows work touched labels) line.now) out.old out.new result (memoryOut result.factor heads parents rows counts next book_heads book_rows book_next windows work touched labels) }
-    ensures ready { Ready (memoryOut result.factor heads parents rows counts next book_heads book_rows book_next windows work touched labels) }
+    requires ready { Ready (memory_now factor heads parents rows counts next book_heads book_rows book_next windows work touched labels) }
+    ensures answered { Answers (Answered (memory_in factor heads parents rows counts next book_heads book_rows book_next windows work touched labels) line.now) out.old out.new result (memory_out result.factor heads parents rows counts next book_heads book_rows book_next windows work touched labels) }
+    ensures ready { Ready (memory_out result.factor heads parents rows counts next book_heads book_rows book_next windows work touched labels) }
 {
     let asked = command::parse(line, list);
     match asked {

@@ -12,11 +12,11 @@ use lib.Seq.{length-take-le}
 use borrow.Author.Tests.{ltb-false, lt-ltb, le-ltb}
 use Rattle.lists.specs.Lists.{pick, one}
 use Rattle.lists.proofs.Tests.{lt-or-le}
-use Rattle.listing_lines.specs.Lines.{beforeNewline, Grown, lines_from, lines_of}
+use Rattle.listing_lines.specs.Lines.{before_newline, Grown, lines_from, lines_of}
 use Rattle.listing_lines.specs.declared.Taken.{Taken}
 use Rattle.listing_lines.proofs.Lines.{grown-within}
 use Rattle.listing_lines.proofs.Texts.{grown-held, grown-line, grown-part, grown-all, held-some, lines_end}
-use Rattle.streams.specs.Passing.{Finished, readsLeft, Read, Wrote, Issued, Flushed}
+use Rattle.streams.specs.Passing.{Finished, reads_left, Read, Wrote, Issued, Flushed}
 use Rattle.streams.specs.declared.Streams.{Streams}
 use Rattle.streams.specs.declared.Reading.{Reading}
 use Rattle.streams.specs.declared.Waiting.{Waiting}
@@ -37,10 +37,10 @@ piece-read {after = after} w q =
     }
 
 -- a piece with bytes leaves fewer reads, one without none
-pub piece-less : {s : Streams} {out : List ℕ} {waiting : ℕ} {piece : List ℕ} {r : Reading} → PieceRead s out waiting piece r → readsLeft r.streams + one (ltb 0 r.count) ≤ readsLeft s
+pub piece-less : {s : Streams} {out : List ℕ} {waiting : ℕ} {piece : List ℕ} {r : Reading} → PieceRead s out waiting piece r → reads_left r.streams + one (ltb 0 r.count) ≤ reads_left s
 piece-less {s} {r = r} p =
     elim (lt-or-le 0 r.count) [
-      | inl h ↦ let l : readsLeft r.streams < readsLeft s = p.less h in omega (arith, ap one (lt-ltb 0 r.count h))
+      | inl h ↦ let l : reads_left r.streams < reads_left s = p.less h in omega (arith, ap one (lt-ltb 0 r.count h))
       | inr h ↦ omega (arith, p.most, ap one (le-ltb 0 r.count h))
     ]
 
@@ -88,7 +88,7 @@ module _ {piece₀ out : List ℕ} {s₀ : Streams} {place₀ count₀ waiting�
 
   module _ {line' : List ℕ} {t : Taken} (g : Grown (take count piece) line place filled line' t) where
     abbrev bytes : List ℕ
-    bytes = beforeNewline (drop place (take count piece))
+    bytes = before_newline (drop place (take count piece))
 
     held_more : Holds line' t.length (a.bytes ++ bytes)
     held_more =
@@ -110,7 +110,7 @@ module _ {piece₀ out : List ℕ} {s₀ : Streams} {place₀ count₀ waiting�
           let all : length bytes + place ≡ count = grown-all g e (omega (arith, a.within, count_long)) ∙ count_long in
           let most : r.count ≤ 4096 = omega (arith, p.within, long, a.piece-long) in
           elim (lt-or-le 0 r.count) [
-            | inl h ↦ let l : readsLeft r.streams < readsLeft s = p.less h in omega (arith, a.spent)
+            | inl h ↦ let l : reads_left r.streams < reads_left s = p.less h in omega (arith, a.spent)
             | inr h ↦ omega (arith, a.spent, p.most)
           ]
 
@@ -142,7 +142,7 @@ module _ {piece₀ out : List ℕ} (x₀ : Input) (added : ℕ) {piece line : Li
       let within : t.place ≤ count = omega (arith, grown-within g (omega (arith, a.within, count_long a)), count_long a) in
       record {
         got = a.got;
-        bytes = a.bytes ++ beforeNewline (drop place (take count piece));
+        bytes = a.bytes ++ before_newline (drop place (take count piece));
         issued = λ i o q. f.issued (i ++ a.got) o (a.issued i o q);
         first = λ rest c. a.first rest ∙ grown-line g e a.bytes rest;
         held = held_more a g;

@@ -3,7 +3,7 @@
 use Rattle.std.specs.Prelude.{◌≡◌, false, List, [], ◌∷◌, ◌++◌, ℕ, ◌+◌, ◌-◌, ◌*◌, ◌≤◌, ◌<◌, length, take, drop}
 use Rattle.lists.specs.Lists.{pick, one}
 use Rattle.listing_lines.specs.Lines.{lines_of}
-use Rattle.streams.specs.Passing.{Finished, readsLeft, Issued}
+use Rattle.streams.specs.Passing.{Finished, reads_left, Issued}
 use Rattle.streams.specs.declared.Streams.{Streams}
 use Rattle.streams.specs.declared.Reading.{Reading}
 use Rattle.listing_input.specs.declared.Input.{Input}
@@ -22,7 +22,7 @@ Holds xs n h = take n xs ≡ take 2000 h
 
 -- a number that falls with each byte taken: no more bytes can come
 abbrev pub ahead : Streams → (place count : ℕ) → ℕ
-ahead s a n = readsLeft s * 4097 + (n - a)
+ahead s a n = reads_left s * 4097 + (n - a)
 
 -- what waited is written, then the next piece is read
 pub record PieceRead (s : Streams) (out : List ℕ) (waiting : ℕ) (piece : List ℕ) (r : Reading) : Type 0 where
@@ -30,8 +30,8 @@ pub record PieceRead (s : Streams) (out : List ℕ) (waiting : ℕ) (piece : Lis
   pub issued : (i o : List ℕ) → Issued s out waiting i o → Issued r.streams out 0 (i ++ take r.count piece) o
   pub none : 1 ≤ length piece → r.count ≡ 0 → Finished r.streams
   pub later : Finished s → (r.count ≡ 0) × Finished r.streams
-  pub most : readsLeft r.streams ≤ readsLeft s
-  pub less : 1 ≤ r.count → readsLeft r.streams < readsLeft s
+  pub most : reads_left r.streams ≤ reads_left s
+  pub less : 1 ≤ r.count → reads_left r.streams < reads_left s
 
 -- between two lines, when some bytes were added to those that wait
 pub record Between (piece line out : List ℕ) (x : Input) (added : ℕ) : Type 0 where

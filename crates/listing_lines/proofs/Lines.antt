@@ -13,33 +13,33 @@ use lib.Seq.{length-take-le, take_all, take-suc-set, take-append-le, drop-cons}
 use borrow.Author.Tests.{ne_eqb}
 use Rattle.lists.specs.Lists.{one}
 use Rattle.lists.proofs.Tests.{cases}
-use Rattle.listing_lines.specs.Lines.{beforeNewline, hasNewline, Growing, Grown}
+use Rattle.listing_lines.specs.Lines.{before_newline, has_newline, Growing, Grown}
 use Rattle.listing_lines.specs.declared.Taken.{Taken}
 
 -- ---- the first byte
 
-before-newline : (bs : List ℕ) → beforeNewline (10 ∷ bs) ≡ []
-unfolding beforeNewline
+before-newline : (bs : List ℕ) → before_newline (10 ∷ bs) ≡ []
+unfolding before_newline
 before-newline bs = refl
 
-before-other : (b : ℕ) (bs : List ℕ) → b ≢ 10 → beforeNewline (b ∷ bs) ≡ b ∷ beforeNewline bs
-unfolding beforeNewline
+before-other : (b : ℕ) (bs : List ℕ) → b ≢ 10 → before_newline (b ∷ bs) ≡ b ∷ before_newline bs
+unfolding before_newline
 before-other b bs d = rw (ne_eqb b 10 d) refl
 
-has-newline : (bs : List ℕ) → hasNewline (10 ∷ bs) ≡ true
-unfolding hasNewline
+has-newline : (bs : List ℕ) → has_newline (10 ∷ bs) ≡ true
+unfolding has_newline
 has-newline bs = refl
 
-has_other : (b : ℕ) (bs : List ℕ) → b ≢ 10 → hasNewline (b ∷ bs) ≡ hasNewline bs
-unfolding hasNewline
+has_other : (b : ℕ) (bs : List ℕ) → b ≢ 10 → has_newline (b ∷ bs) ≡ has_newline bs
+unfolding has_newline
 has_other b bs d = rw (ne_eqb b 10 d) refl
 
-before-none : beforeNewline [] ≡ []
-unfolding beforeNewline
+before-none : before_newline [] ≡ []
+unfolding before_newline
 before-none = refl
 
-has-none : hasNewline [] ≡ false
-unfolding hasNewline
+has-none : has_newline [] ≡ false
+unfolding has_newline
 has-none = refl
 
 -- ---- byte by byte
@@ -48,9 +48,9 @@ pub record Filling (piece line₀ : List ℕ) (place filled₀ : ℕ) (line : Li
   pub within : next ≤ length piece
   pub fits : filled ≤ length line₀
   pub long : length line ≡ length line₀
-  pub same : take (length line₀) (take filled line ++ beforeNewline (drop next piece)) ≡ take (length line₀) (take filled₀ line₀ ++ beforeNewline (drop place piece))
-  pub has : hasNewline (drop next piece) ≡ hasNewline (drop place piece)
-  pub passed : next + length (beforeNewline (drop next piece)) ≡ place + length (beforeNewline (drop place piece))
+  pub same : take (length line₀) (take filled line ++ before_newline (drop next piece)) ≡ take (length line₀) (take filled₀ line₀ ++ before_newline (drop place piece))
+  pub has : has_newline (drop next piece) ≡ has_newline (drop place piece)
+  pub passed : next + length (before_newline (drop next piece)) ≡ place + length (before_newline (drop place piece))
 
 pub filling-start : {piece line : List ℕ} {place filled : ℕ} → Growing piece line place filled → Filling piece line place filled line place filled
 filling-start g = record { within = g.within; fits = g.fits; long = refl; same = refl; has = refl; passed = refl }
@@ -66,11 +66,11 @@ module _ {piece line₀ : List ℕ} {place filled₀ : ℕ} {line : List ℕ} {n
   pub filling-end : length piece ≤ next → Grown piece line₀ place filled₀ line (record { place = next; length = filled; ended = false })
   filling-end h =
       let e : drop next piece ≡ [] = drop_of_length-le piece {i = next} h in
-      let b : beforeNewline (drop next piece) ≡ [] = ap beforeNewline e ∙ before-none in
+      let b : before_newline (drop next piece) ≡ [] = ap before_newline e ∙ before-none in
       record {
-        line-is = sym (whole (beforeNewline (drop next piece)) b) ∙ f.same;
+        line-is = sym (whole (before_newline (drop next piece)) b) ∙ f.same;
         fits = f.fits;
-        ended_is = sym (ap hasNewline e ∙ has-none) ∙ f.has;
+        ended_is = sym (ap has_newline e ∙ has-none) ∙ f.has;
         place_is = omega (arith, f.passed, ap length b);
       }
 
@@ -82,11 +82,11 @@ module _ {piece line₀ : List ℕ} {place filled₀ : ℕ} {line : List ℕ} {n
     pub filling-newline : get_or piece next 0 ≡ 10 → Grown piece line₀ place filled₀ line (record { place = next + 1; length = filled; ended = true })
     filling-newline n =
         let e : drop next piece ≡ 10 ∷ drop (suc next) piece = cut ∙ ap (λ (b : ℕ). b ∷ drop (suc next) piece) n in
-        let b : beforeNewline (drop next piece) ≡ [] = ap beforeNewline e ∙ before-newline (drop (suc next) piece) in
+        let b : before_newline (drop next piece) ≡ [] = ap before_newline e ∙ before-newline (drop (suc next) piece) in
         record {
-          line-is = sym (whole (beforeNewline (drop next piece)) b) ∙ f.same;
+          line-is = sym (whole (before_newline (drop next piece)) b) ∙ f.same;
           fits = f.fits;
-          ended_is = sym (ap hasNewline e ∙ has-newline (drop (suc next) piece)) ∙ f.has;
+          ended_is = sym (ap has_newline e ∙ has-newline (drop (suc next) piece)) ∙ f.has;
           place_is = omega (arith, f.passed, ap length b);
         }
 
@@ -95,16 +95,16 @@ module _ {piece line₀ : List ℕ} {place filled₀ : ℕ} {line : List ℕ} {n
       rest : drop (suc next) piece ≡ drop (next + 1) piece
       rest = ap (λ (n : ℕ). drop n piece) (sym (add-one next))
 
-      before : beforeNewline (drop next piece) ≡ get_or piece next 0 ∷ beforeNewline (drop (next + 1) piece)
+      before : before_newline (drop next piece) ≡ get_or piece next 0 ∷ before_newline (drop (next + 1) piece)
       before =
-          ap beforeNewline cut ∙ before-other (get_or piece next 0) (drop (suc next) piece) d ∙
-          ap (λ (l : List ℕ). get_or piece next 0 ∷ beforeNewline l) rest
+          ap before_newline cut ∙ before-other (get_or piece next 0) (drop (suc next) piece) d ∙
+          ap (λ (l : List ℕ). get_or piece next 0 ∷ before_newline l) rest
 
-      has_rest : hasNewline (drop (next + 1) piece) ≡ hasNewline (drop place piece)
+      has_rest : has_newline (drop (next + 1) piece) ≡ has_newline (drop place piece)
       has_rest =
-          ap hasNewline (sym rest) ∙ sym (has_other (get_or piece next 0) (drop (suc next) piece) d) ∙ ap hasNewline (sym cut) ∙ f.has
+          ap has_newline (sym rest) ∙ sym (has_other (get_or piece next 0) (drop (suc next) piece) d) ∙ ap has_newline (sym cut) ∙ f.has
 
-      passed-rest : next + 1 + length (beforeNewline (drop (next + 1) piece)) ≡ place + length (beforeNewline (drop place piece))
+      passed-rest : next + 1 + length (before_newline (drop (next + 1) piece)) ≡ place + length (before_newline (drop place piece))
       passed-rest = omega (arith, f.passed, ap length before)
 
       -- there is room for it
@@ -113,8 +113,8 @@ module _ {piece line₀ : List ℕ} {place filled₀ : ℕ} {line : List ℕ} {n
           let b : ℕ = get_or piece next 0 in
           let l : take (filled + 1) (set line filled b) ≡ take filled line ++ (b ∷ []) =
           ap (λ (n : ℕ). take n (set line filled b)) (add-one filled) ∙ take-suc-set line filled b r in
-          let j : take (filled + 1) (set line filled b) ++ beforeNewline (drop (next + 1) piece) ≡ take filled line ++ beforeNewline (drop next piece) =
-          ap (λ (x : List ℕ). x ++ beforeNewline (drop (next + 1) piece)) l ∙ append_assoc (take filled line) (b ∷ []) (beforeNewline (drop (next + 1) piece)) ∙
+          let j : take (filled + 1) (set line filled b) ++ before_newline (drop (next + 1) piece) ≡ take filled line ++ before_newline (drop next piece) =
+          ap (λ (x : List ℕ). x ++ before_newline (drop (next + 1) piece)) l ∙ append_assoc (take filled line) (b ∷ []) (before_newline (drop (next + 1) piece)) ∙
           ap (λ (x : List ℕ). take filled line ++ x) (sym before) in
           record {
             within = omega arith;
@@ -134,16 +134,16 @@ module _ {piece line₀ : List ℕ} {place filled₀ : ℕ} {line : List ℕ} {n
             within = omega arith;
             fits = f.fits;
             long = f.long;
-            same = take-append-le (length line₀) (take filled line) (beforeNewline (drop (next + 1) piece)) (omega arith) ∙
-                sym (take-append-le (length line₀) (take filled line) (beforeNewline (drop next piece)) (omega arith)) ∙ f.same;
+            same = take-append-le (length line₀) (take filled line) (before_newline (drop (next + 1) piece)) (omega arith) ∙
+                sym (take-append-le (length line₀) (take filled line) (before_newline (drop next piece)) (omega arith)) ∙ f.same;
             has = has_rest;
             passed = passed-rest;
           }
 
 -- ---- how far it goes
 
-passed-most : (bs : List ℕ) → length (beforeNewline bs) + one (hasNewline bs) ≤ length bs
-unfolding beforeNewline hasNewline
+passed-most : (bs : List ℕ) → length (before_newline bs) + one (has_newline bs) ≤ length bs
+unfolding before_newline has_newline
 passed-most [] = omega arith
 passed-most (b ∷ bs) = elim (cases (eqb b 10)) [ inl e ↦ rw e (omega arith) | inr e ↦ rw e (omega (arith, passed-most bs)) ]
 

@@ -12,42 +12,42 @@ use lib.Seq.{length-take-le, take_all, take-append-le, drop-drop}
 use borrow.Author.Tests.{lt-ltb, le-ltb}
 use Rattle.lists.specs.Lists.{pick, one}
 use Rattle.lists.proofs.Tests.{cases, lt-or-le}
-use Rattle.listing_lines.specs.Lines.{beforeNewline, hasNewline, Grown, lastLine, lines_from, lines_of}
+use Rattle.listing_lines.specs.Lines.{before_newline, has_newline, Grown, last_line, lines_from, lines_of}
 use Rattle.listing_lines.specs.declared.Taken.{Taken}
 
 -- ---- the first line of a text
 
-has_rest : (b : ℕ) (d : List ℕ) → eqb b 10 ≡ false → hasNewline (b ∷ d) ≡ hasNewline d
-unfolding hasNewline
+has_rest : (b : ℕ) (d : List ℕ) → eqb b 10 ≡ false → has_newline (b ∷ d) ≡ has_newline d
+unfolding has_newline
 has_rest b d e = rw e refl
 
-has_first : (b : ℕ) (d : List ℕ) → eqb b 10 ≡ true → hasNewline (b ∷ d) ≡ true
-unfolding hasNewline
+has_first : (b : ℕ) (d : List ℕ) → eqb b 10 ≡ true → has_newline (b ∷ d) ≡ true
+unfolding has_newline
 has_first b d e = rw e refl
 
-lines-line : (h d more : List ℕ) → hasNewline d ≡ true → lines_from h (d ++ more) ≡ (h ++ beforeNewline d) ∷ lines_of (drop (suc (length (beforeNewline d))) d ++ more)
-unfolding beforeNewline hasNewline lines_from
+lines-line : (h d more : List ℕ) → has_newline d ≡ true → lines_from h (d ++ more) ≡ (h ++ before_newline d) ∷ lines_of (drop (suc (length (before_newline d))) d ++ more)
+unfolding before_newline has_newline lines_from
 lines-line h [] more n = absurd (false≢true n)
 lines-line h (b ∷ d) more n =
     elim (cases (eqb b 10)) [
       | inl e ↦ rw e (ap (λ (l : List ℕ). l ∷ lines_from [] (d ++ more)) (sym (append-nil h)))
       | inr e ↦ rw e (lines-line (h ++ (b ∷ [])) d more (sym (has_rest b d e) ∙ n) ∙
-          ap (λ (l : List ℕ). l ∷ lines_from [] (drop (suc (length (beforeNewline d))) d ++ more)) (append_assoc h (b ∷ []) (beforeNewline d)))
+          ap (λ (l : List ℕ). l ∷ lines_from [] (drop (suc (length (before_newline d))) d ++ more)) (append_assoc h (b ∷ []) (before_newline d)))
     ]
 
-lines-part : (h d more : List ℕ) → hasNewline d ≡ false → lines_from h (d ++ more) ≡ lines_from (h ++ beforeNewline d) more
-unfolding beforeNewline hasNewline lines_from
+lines-part : (h d more : List ℕ) → has_newline d ≡ false → lines_from h (d ++ more) ≡ lines_from (h ++ before_newline d) more
+unfolding before_newline has_newline lines_from
 lines-part h [] more n = ap (λ (l : List ℕ). lines_from l more) (sym (append-nil h))
 lines-part h (b ∷ d) more n =
     elim (cases (eqb b 10)) [
       | inl e ↦ absurd (true≢false (sym (has_first b d e) ∙ n))
       | inr e ↦ rw e (lines-part (h ++ (b ∷ [])) d more (sym (has_rest b d e) ∙ n) ∙
-          ap (λ (l : List ℕ). lines_from l more) (append_assoc h (b ∷ []) (beforeNewline d)))
+          ap (λ (l : List ℕ). lines_from l more) (append_assoc h (b ∷ []) (before_newline d)))
     ]
 
 -- a piece without a newline is all before it
-part-long : (d : List ℕ) → hasNewline d ≡ false → length (beforeNewline d) ≡ length d
-unfolding beforeNewline hasNewline
+part-long : (d : List ℕ) → has_newline d ≡ false → length (before_newline d) ≡ length d
+unfolding before_newline has_newline
 part-long [] n = refl
 part-long (b ∷ d) n =
     elim (cases (eqb b 10)) [ inl e ↦ absurd (true≢false (sym (has_first b d e) ∙ n)) | inr e ↦ rw e (ap suc (part-long d (sym (has_rest b d e) ∙ n))) ]
@@ -67,7 +67,7 @@ cut-part n a b =
 module _ {piece xs : List ℕ} {place n : ℕ} {ys : List ℕ} {r : Taken} (g : Grown piece xs place n ys r) where
   -- the bytes that a piece has of the line
   abbrev pub bytes_of : List ℕ
-  bytes_of = beforeNewline (drop place piece)
+  bytes_of = before_newline (drop place piece)
 
   -- the line so far, with them
   pub grown-held : (h : List ℕ) → take n xs ≡ take (length xs) h → take r.length ys ≡ take (length xs) (h ++ bytes_of)
@@ -93,11 +93,11 @@ module _ {piece xs : List ℕ} {place n : ℕ} {ys : List ℕ} {r : Taken} (g : 
 cut-none : (h : List ℕ) → length (take 2000 h) ≡ 0 → length h ≡ 0
 cut-none h e = elim (lt-or-le (length h) 2000) [ inl l ↦ sym (ap length (take_all 2000 h (omega arith))) ∙ e | inr l ↦ absurd (omega (arith, length-take-le 2000 h l)) ]
 
-none_last : (h : List ℕ) → length h ≡ 0 → lastLine h ≡ []
+none_last : (h : List ℕ) → length h ≡ 0 → last_line h ≡ []
 none_last [] e = refl
 none_last (b ∷ h) e = absurd (omega arith)
 
-some-last : (h : List ℕ) → 0 < length h → lastLine h ≡ h ∷ []
+some-last : (h : List ℕ) → 0 < length h → last_line h ≡ h ∷ []
 some-last [] e = absurd (omega arith)
 some-last (b ∷ h) e = refl
 
@@ -109,7 +109,7 @@ cut-some (b ∷ h) e = omega arith
 pub held-some : (xs h : List ℕ) (n : ℕ) → n ≤ length xs → take n xs ≡ take 2000 h → 0 < n → 0 < length h
 held-some xs h n l q s = cut-some h (omega (arith, ap length q, length-take-le n xs l))
 
-lines-nil : (h : List ℕ) → lines_from h [] ≡ lastLine h
+lines-nil : (h : List ℕ) → lines_from h [] ≡ last_line h
 unfolding lines_from
 lines-nil h = refl
 

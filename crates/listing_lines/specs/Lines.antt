@@ -5,14 +5,14 @@ use Rattle.lists.specs.Lists.{pick, one}
 use Rattle.listing_lines.specs.declared.Taken.{Taken}
 
 -- the bytes before the first newline
-unfoldable pub beforeNewline : List ℕ → List ℕ
-beforeNewline [] = []
-beforeNewline (b ∷ bs) = pick (eqb b 10) [] (b ∷ beforeNewline bs)
+unfoldable pub before_newline : List ℕ → List ℕ
+before_newline [] = []
+before_newline (b ∷ bs) = pick (eqb b 10) [] (b ∷ before_newline bs)
 
 -- whether there is a newline
-unfoldable pub hasNewline : List ℕ → Bool
-hasNewline [] = false
-hasNewline (b ∷ bs) = pick (eqb b 10) true (hasNewline bs)
+unfoldable pub has_newline : List ℕ → Bool
+has_newline [] = false
+has_newline (b ∷ bs) = pick (eqb b 10) true (has_newline bs)
 
 -- a place of the piece, and a line no longer than its list
 pub record Growing (piece line : List ℕ) (place filled : ℕ) : Type 0 where
@@ -21,21 +21,21 @@ pub record Growing (piece line : List ℕ) (place filled : ℕ) : Type 0 where
 
 -- the line with the bytes added, as many as there is room for; the place is past them and past the newline
 pub record Grown (piece line₀ : List ℕ) (place filled : ℕ) (line : List ℕ) (r : Taken) : Type 0 where
-  pub line-is : take r.length line ≡ take (length line₀) (take filled line₀ ++ beforeNewline (drop place piece))
+  pub line-is : take r.length line ≡ take (length line₀) (take filled line₀ ++ before_newline (drop place piece))
   pub fits : r.length ≤ length line₀
-  pub ended_is : r.ended ≡ hasNewline (drop place piece)
-  pub place_is : r.place ≡ place + length (beforeNewline (drop place piece)) + one r.ended
+  pub ended_is : r.ended ≡ has_newline (drop place piece)
+  pub place_is : r.place ≡ place + length (before_newline (drop place piece)) + one r.ended
 
 -- ---- the lines of a text
 
 -- the line after the last newline, if it is not empty
-abbrev pub lastLine : (held : List ℕ) → List (List ℕ)
-lastLine [] = []
-lastLine (b ∷ bs) = (b ∷ bs) ∷ []
+abbrev pub last_line : (held : List ℕ) → List (List ℕ)
+last_line [] = []
+last_line (b ∷ bs) = (b ∷ bs) ∷ []
 
 -- "A newline ends a line": the lines of a text, the first of them with the bytes held before it
 unfoldable pub lines_from : (held text : List ℕ) → List (List ℕ)
-lines_from h [] = lastLine h
+lines_from h [] = last_line h
 lines_from h (b ∷ bs) = pick (eqb b 10) (h ∷ lines_from [] bs) (lines_from (h ++ (b ∷ [])) bs)
 
 -- all lines of a text: the last may lack its newline

@@ -9,14 +9,14 @@ use lib.ListN.{length, take}
 use lib.Seq.{take_all, length-take-le}
 use borrow.Author.Tests.{lt-ltb, lt-leb}
 use Rattle.lists.proofs.Tests.{lt-or-le}
-use Rattle.listing_text.specs.Command.{commandOf, rows_of}
+use Rattle.listing_text.specs.Command.{command_of, rows_of}
 use Rattle.listing_text.specs.declared.command.Command.{Command}
 use Rattle.listing_text.specs.declared.command.Command.TheVariants.{Unknown}
 use Rattle.listing_memory.specs.Memory.{Memory}
 use Rattle.listing_answers.specs.Listing.{CommandAnswered, Answered}
 
-long-command : (line : List ℕ) → 1999 < length line → commandOf line ≡ Unknown
-unfolding commandOf
+long-command : (line : List ℕ) → 1999 < length line → command_of line ≡ Unknown
+unfolding command_of
 long-command line h = rw (lt-ltb 1999 (length line) h) refl
 
 long-rows : (line : List ℕ) → 1999 < length line → rows_of line ≡ []
@@ -27,10 +27,10 @@ long-rows line h = rw (lt-leb (length line) 1999 h) refl
 cut-long : (line : List ℕ) → 2000 ≤ length line → 1999 < length (take 2000 line)
 cut-long line h = omega (arith, length-take-le 2000 line h)
 
-pub cut-command : (line : List ℕ) → commandOf (take 2000 line) ≡ commandOf line
+pub cut-command : (line : List ℕ) → command_of (take 2000 line) ≡ command_of line
 cut-command line =
     elim (lt-or-le (length line) 2000) [
-      | inl h ↦ ap commandOf (take_all 2000 line (omega arith))
+      | inl h ↦ ap command_of (take_all 2000 line (omega arith))
       | inr h ↦ long-command (take 2000 line) (cut-long line h) ∙ sym (long-command line (omega arith))
     ]
 
@@ -45,4 +45,4 @@ cut-rows line =
 pub cut-answered : (u : Memory) (line bytes : List ℕ) (v : Memory) → Answered u (take 2000 line) bytes v ≡ Answered u line bytes v
 cut-answered u line bs v =
     ap (λ (k : Command). CommandAnswered k (rows_of (take 2000 line)) u bs v) (cut-command line) ∙
-    ap (λ (rs : List ℕ). CommandAnswered (commandOf line) rs u bs v) (cut-rows line)
+    ap (λ (rs : List ℕ). CommandAnswered (command_of line) rs u bs v) (cut-rows line)

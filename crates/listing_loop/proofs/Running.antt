@@ -11,7 +11,7 @@ use borrow.Rule.Slice.PartMut.{put_mid, same_len_mid}
 use Rattle.lists.specs.Lists.{pick}
 use Rattle.listing_text.specs.Text.{Written}
 use Rattle.listing_lines.specs.Lines.{lines_from, lines_of}
-use Rattle.listing_show.specs.Showing.{noState}
+use Rattle.listing_show.specs.Showing.{no_state}
 use Rattle.listing_memory.specs.Memory.{Memory, Lengths}
 use Rattle.listing_memory.specs.declared.Printed.{Printed}
 use Rattle.listing_answers.specs.Listing.{Ready, Answered, Answers}
@@ -187,5 +187,5 @@ module _ {u : Memory} {piece line out : List ℕ} {x : Input} {v : Memory} (f : 
 
 -- ---- the whole program
 
-pub listed : {u : Memory} {r : Streams} → AllAnswered u r → Lengths u → u.world.state ≡ noState → Listed r
+pub listed : {u : Memory} {r : Streams} → AllAnswered u r → Lengths u → u.world.state ≡ no_state → Listed r
 listed {u} a l e = record { first = u; lengths = l; closed = e; all = a }

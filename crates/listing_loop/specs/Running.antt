@@ -2,7 +2,7 @@
 -- a text has `lines_of` of crates/listing_lines. Laws: proofs/Running.antt. Assumes nothing: these are definitions.
 use Rattle.std.specs.Prelude.{◌≡◌, List, [], ◌∷◌, ◌++◌, ℕ}
 use Rattle.listing_lines.specs.Lines.{lines_of}
-use Rattle.listing_show.specs.Showing.{noState}
+use Rattle.listing_show.specs.Showing.{no_state}
 use Rattle.listing_memory.specs.Memory.{Memory, Lengths}
 use Rattle.listing_answers.specs.Listing.{Answered}
 use Rattle.streams.specs.Passing.{Passed, Finished}
@@ -27,5 +27,5 @@ pub record AllAnswered (u : Memory) (r : Streams) : Type 0 where
 pub record Listed (r : Streams) : Type 0 where
   pub first : Memory
   pub lengths : Lengths first
-  pub closed : first.world.state ≡ noState
+  pub closed : first.world.state ≡ no_state
   pub all : AllAnswered first r

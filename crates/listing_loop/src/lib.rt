@@ -3,7 +3,7 @@
 // answers, in order, to the lines of all bytes that the reads gave, the last line among them if it lacks its newline.
 ghost use Rattle.std.specs.Prelude.{◌≡◌, [], ◌≤◌, length};
 ghost use Rattle.listing_answers.specs.Listing.{Ready};
-ghost use Rattle.listing_memory.specs.Lent.{memoryIn, memoryNow};
+ghost use Rattle.listing_memory.specs.Lent.{memory_in, memory_now};
 ghost use Rattle.streams.specs.Passing.{Passed};
 ghost use Rattle.listing_loop.specs.Running.{AllAnswered, Listed};
 
@@ -34,11 +34,11 @@ fn serve(
 ) -> Streams
     requires places { 1000 ≤ length list.old }
     requires room { 91520 ≤ length out.old }
-    requires ready { Ready (memoryNow factor heads parents rows counts next book_heads book_rows book_next windows work touched labels) }
+    requires ready { Ready (memory_now factor heads parents rows counts next book_heads book_rows book_next windows work touched labels) }
     requires whole { length line.old ≡ 2000 }
     requires piece { length piece.old ≡ 4096 }
     requires fresh { Passed streams [] [] }
-    ensures { AllAnswered (memoryIn factor heads parents rows counts next book_heads book_rows book_next windows work touched labels) result }
+    ensures { AllAnswered (memory_in factor heads parents rows counts next book_heads book_rows book_next windows work touched labels) result }
 {
     let begun = Input {
         streams,

@@ -6,18 +6,18 @@ use Prim.Native.Nat.{◌≤◌}
 use native.Mathlib.Omega.{arith}
 use lib.Dec.{leb}
 use lib.ListN.{length}
-use Rattle.tables.specs.Tables.{Sizes, sizesOf, longEnough}
-use Rattle.calls.specs.Refusals.{workFor}
+use Rattle.tables.specs.Tables.{Sizes, sizes_of, long_enough}
+use Rattle.calls.specs.Refusals.{work_for}
 use Rattle.listing_memory.specs.Memory.{Memory, Lengths}
 
 -- document 01's sizes
 abbrev pub served : Sizes
-served = sizesOf 64 256 2048 2048
+served = sizes_of 64 256 2048 2048
 
-pub serves-tables : (u : Memory) → Lengths u → longEnough served u.world.tables ≡ true
+pub serves-tables : (u : Memory) → Lengths u → long_enough served u.world.tables ≡ true
 serves-tables u l = rw (l.heads, l.parents, l.rows, l.counts, l.next, l.book-heads, l.book-rows, l.book-next, l.windows) refl
 
-pub serves-work : (u : Memory) → Lengths u → leb (workFor served) (length u.work) ≡ true
+pub serves-work : (u : Memory) → Lengths u → leb (work_for served) (length u.work) ≡ true
 serves-work u l = rw l.work refl
 
 pub serves-report : (u : Memory) → Lengths u → (64 ≤ length u.touched) × (64 ≤ length u.labels)

@@ -3,11 +3,11 @@
 use Rattle.std.specs.Prelude.{◌≡◌, List, ℕ, length}
 use Rattle.tables.specs.Tables.{Tables}
 use Rattle.calls.specs.Steps.{World}
-use Rattle.factor.specs.Entries.{worldOf}
+use Rattle.factor.specs.Entries.{world_of}
 use Rattle.factor.specs.declared.Factor.{Factor}
 use Rattle.factor.specs.declared.Opening.{Opening}
 use Rattle.factor.specs.declared.Opening.TheVariants.{Opened, Refused}
-use Rattle.listing_text.specs.Text.{okLine, noLine, Written}
+use Rattle.listing_text.specs.Text.{ok_line, no_line, Written}
 use Rattle.listing_memory.specs.declared.Printed.{Printed}
 
 -- ---- what the program keeps
@@ -20,8 +20,8 @@ pub record Memory : Type 0 where
   pub labels : List ℕ
 
 -- a factor with its tables and lists as one record
-abbrev pub memoryOf : Factor → Tables → (work touched labels : List ℕ) → Memory
-memoryOf x t w a b = record { world = worldOf x t; work = w; touched = a; labels = b }
+abbrev pub memory_of : Factor → Tables → (work touched labels : List ℕ) → Memory
+memory_of x t w a b = record { world = world_of x t; work = w; touched = a; labels = b }
 
 -- "Its tables serve m 64, n 256, F 2,048, C 2,048": a table for just these, and W for them
 pub record Lengths (u : Memory) : Type 0 where
@@ -30,9 +30,9 @@ pub record Lengths (u : Memory) : Type 0 where
   pub rows : length u.world.tables.rows ≡ 2048
   pub counts : length u.world.tables.counts ≡ 2048
   pub next : length u.world.tables.next ≡ 2048
-  pub book-heads : length u.world.tables.bookHeads ≡ 256
-  pub book-rows : length u.world.tables.bookRows ≡ 2048
-  pub book-next : length u.world.tables.bookNext ≡ 2048
+  pub book-heads : length u.world.tables.book_heads ≡ 256
+  pub book-rows : length u.world.tables.book_rows ≡ 2048
+  pub book-next : length u.world.tables.book_next ≡ 2048
   pub windows : length u.world.tables.windows ≡ 512
   pub work : length u.work ≡ 12032
   pub touched : length u.touched ≡ 64
@@ -41,16 +41,16 @@ pub record Lengths (u : Memory) : Type 0 where
 -- ---- an opening
 
 -- the factor after an opening: "A refused open keeps the factor there was"
-abbrev pub factorAfter : Opening → Factor → Factor
-factorAfter (Opened y) x = y
-factorAfter (Refused n) x = x
+abbrev pub factor_after : Opening → Factor → Factor
+factor_after (Opened y) x = y
+factor_after (Refused n) x = x
 
 -- `ok 0 0 0`, or the number
-abbrev pub openingLine : Opening → List ℕ
-openingLine (Opened y) = okLine 0 0 0
-openingLine (Refused n) = noLine n 0
+abbrev pub opening_line : Opening → List ℕ
+opening_line (Opened y) = ok_line 0 0 0
+opening_line (Refused n) = no_line n 0
 
 -- the factor and the line after an opening
 pub record OpeningPrinted (x₀ : Factor) (opened : Opening) (out₀ out : List ℕ) (x : Printed) : Type 0 where
-  pub factor-is : x.factor ≡ factorAfter opened x₀
-  pub line : Written out₀ 0 (openingLine opened) out x.end
+  pub factor-is : x.factor ≡ factor_after opened x₀
+  pub line : Written out₀ 0 (opening_line opened) out x.end

@@ -2,7 +2,7 @@
 // opening (`closed`) and after one (`opened_line`).
 ghost use Rattle.std.specs.Prelude.{◌≡◌, ◌≤◌, length};
 ghost use Rattle.factor.specs.Entries.{state_of};
-ghost use Rattle.listing_show.specs.Showing.{noState};
+ghost use Rattle.listing_show.specs.Showing.{no_state};
 ghost use Rattle.listing_memory.specs.Memory.{OpeningPrinted};
 
 use factor::{Factor, Opening};
@@ -17,7 +17,7 @@ pub struct Printed {
 
 // The factor before an accepted opening: all numbers 0.
 pub fn closed() -> Factor
-    ensures { state_of result ≡ noState }
+    ensures { state_of result ≡ no_state }
 {
     Factor {
         m: 0,

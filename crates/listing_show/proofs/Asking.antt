@@ -10,63 +10,63 @@ use lib.Dec.{eqb}
 use lib.ListN.{length, take, drop}
 use lib.Seq.{take_at}
 use borrow.Author.Tests.{le-leb}
-use Rattle.lists.specs.Lists.{pick, pairsOf, writtenAt}
+use Rattle.lists.specs.Lists.{pick, pairs_of, written_at}
 use Rattle.lists.proofs.Tests.{cases}
 use Rattle.symbolic.specs.Columns.{Register, live}
-use Rattle.symbolic.specs.Factor.{factorFor, columnAt, parent_of, patternFrom, nonZero, size_of}
+use Rattle.symbolic.specs.Factor.{factor_for, column_at, parent_of, pattern_from, non_zero, size_of}
 use Rattle.symbolic.proofs.Build.{counts-length}
 use Rattle.symbolic.proofs.Patterns.{pattern-short}
-use Rattle.calls.specs.Calls.{askParent, askColumn}
-use Rattle.calls.specs.Questions.{columnList}
-use Rattle.calls.specs.Refusals.{accepted, isAccepted, rowRefusal}
-use Rattle.calls.specs.Numbers.{askRefusal}
-use Rattle.calls.specs.Steps.{Answer, refusedBy}
-use Rattle.questions.specs.Asked.{replyOf, repliedTo, replied, listLeft}
+use Rattle.calls.specs.Calls.{ask_parent, ask_column}
+use Rattle.calls.specs.Questions.{column_list}
+use Rattle.calls.specs.Refusals.{accepted, is_accepted, row_refusal}
+use Rattle.calls.specs.Numbers.{ask_refusal}
+use Rattle.calls.specs.Steps.{Answer, refused_by}
+use Rattle.questions.specs.Asked.{reply_of, replied_to, replied, list_left}
 use Rattle.questions.specs.declared.Reply.{Reply}
 
 -- ---- how many entries a column has
 
-entries-two : (a : ℕ) (ns : List ℕ) → length (pairsOf (patternFrom a ns) (nonZero ns)) ≡ 2 * length (patternFrom a ns)
-unfolding patternFrom nonZero pairsOf
+entries-two : (a : ℕ) (ns : List ℕ) → length (pairs_of (pattern_from a ns) (non_zero ns)) ≡ 2 * length (pattern_from a ns)
+unfolding pattern_from non_zero pairs_of
 entries-two a [] = refl
 entries-two a (n ∷ ns) =
     elim (cases (eqb n 0)) [ inl e ↦ rw e (entries-two (suc a) ns) | inr e ↦ rw e (omega (arith, entries-two (suc a) ns)) ]
 
 module _ (r : Register) (j : ℕ) (low : 1 ≤ j) (high : j ≤ r.m) where
-  pub entries-places : length (columnList r j) ≡ 2 * size_of (columnAt (factorFor r) j)
-  entries-places = entries-two 1 (columnAt (factorFor r) j).counts
+  pub entries-places : length (column_list r j) ≡ 2 * size_of (column_at (factor_for r) j)
+  entries-places = entries-two 1 (column_at (factor_for r) j).counts
 
-  pub entries-most : size_of (columnAt (factorFor r) j) ≤ r.m
-  entries-most = omega (arith, pattern-short 1 (columnAt (factorFor r) j).counts, counts-length r.m (live r) j low high)
+  pub entries-most : size_of (column_at (factor_for r) j) ≤ r.m
+  entries-most = omega (arith, pattern-short 1 (column_at (factor_for r) j).counts, counts-length r.m (live r) j low high)
 
   -- ---- what is answered
 
-  row-taken : rowRefusal r.m j ≡ accepted
+  row-taken : row_refusal r.m j ≡ accepted
   row-taken = rw (le-leb 1 j low, le-leb j r.m high) refl
 
   module _ (a : Reply) where
-    pub parent-answered : replyOf a ≡ replied r (askParent j) → a.value ≡ parent_of (factorFor r) j
+    pub parent-answered : reply_of a ≡ replied r (ask_parent j) → a.value ≡ parent_of (factor_for r) j
     parent-answered e = ap (λ (x : Answer). x.value) (e ∙ taken)
       where
-        taken : replied r (askParent j) ≡ replyOf (record { number = 0; value = parent_of (factorFor r) j })
+        taken : replied r (ask_parent j) ≡ reply_of (record { number = 0; value = parent_of (factor_for r) j })
         taken = rw row-taken refl
 
-    module _ (list : List ℕ) (room : length (columnList r j) ≤ length list) where
-      column-taken : isAccepted (askRefusal r (askColumn j) 0 list) ≡ true
+    module _ (list : List ℕ) (room : length (column_list r j) ≤ length list) where
+      column-taken : is_accepted (ask_refusal r (ask_column j) 0 list) ≡ true
       column-taken =
-          let h : 0 + length (columnList r j) ≤ length list = omega arith in
-          rw (row-taken, le-leb (0 + length (columnList r j)) (length list) h) refl
+          let h : 0 + length (column_list r j) ≤ length list = omega arith in
+          rw (row-taken, le-leb (0 + length (column_list r j)) (length list) h) refl
 
-      pub column-answered : replyOf a ≡ repliedTo r (askColumn j) 0 list → a.value ≡ size_of (columnAt (factorFor r) j)
+      pub column-answered : reply_of a ≡ replied_to r (ask_column j) 0 list → a.value ≡ size_of (column_at (factor_for r) j)
       column-answered e =
           ap (λ (x : Answer). x.value)
-          (e ∙ ap (λ (z : Bool). pick z (replyOf (record { number = 0; value = size_of (columnAt (factorFor r) j) })) (refusedBy (askRefusal r (askColumn j) 0 list))) column-taken)
+          (e ∙ ap (λ (z : Bool). pick z (reply_of (record { number = 0; value = size_of (column_at (factor_for r) j) })) (refused_by (ask_refusal r (ask_column j) 0 list))) column-taken)
 
-      column-list : listLeft r (askColumn j) 0 list ≡ columnList r j ++ drop (0 + length (columnList r j)) list
-      column-list = ap (λ (z : Bool). pick z (writtenAt 0 (columnList r j) list) list) column-taken
+      column-list : list_left r (ask_column j) 0 list ≡ column_list r j ++ drop (0 + length (column_list r j)) list
+      column-list = ap (λ (z : Bool). pick z (written_at 0 (column_list r j) list) list) column-taken
 
-      pub column-listed : (list' : List ℕ) → list' ≡ listLeft r (askColumn j) 0 list → (n : ℕ) → n ≡ size_of (columnAt (factorFor r) j) →
-          take (2 * n) list' ≡ columnList r j
+      pub column-listed : (list' : List ℕ) → list' ≡ list_left r (ask_column j) 0 list → (n : ℕ) → n ≡ size_of (column_at (factor_for r) j) →
+          take (2 * n) list' ≡ column_list r j
       column-listed list' e n q =
           ap (λ (x : List ℕ). take (2 * n) x) (e ∙ column-list) ∙
-          take_at (columnList r j) (drop (0 + length (columnList r j)) list) (2 * n) (omega (arith, entries-places))
+          take_at (column_list r j) (drop (0 + length (column_list r j)) list) (2 * n) (omega (arith, entries-places))

@@ -8,13 +8,13 @@ use native.Mathlib.Omega.{arith}
 use native.Mathlib.Numerals.{add-one}
 use lib.ListN.{length, get_or, take, drop, take-append-drop}
 use Rattle.symbolic.specs.Columns.{Register}
-use Rattle.tables.specs.Tables.{Tables, State, registerOf}
-use Rattle.calls.specs.Refusals.{isAccepted}
+use Rattle.tables.specs.Tables.{Tables, State, register_of}
+use Rattle.calls.specs.Refusals.{is_accepted}
 use Rattle.calls.proofs.Refusals.{sizes-facts}
 use Rattle.admission.specs.Admission.{Usable}
-use Rattle.listing_text.specs.Text.{newline, okLine, noLine, showHead, showPair, showPairs, showLine, Room, Written}
+use Rattle.listing_text.specs.Text.{newline, ok_line, no_line, show_head, show_pair, show_pairs, show_line, Room, Written}
 use Rattle.listing_text.proofs.Printing.{written-join, pairs-push, ok-room, no_room, head-room, pair-room}
-use Rattle.listing_show.specs.Showing.{shownLine, shownTo, shownBy, noState, PairsRoom, PairsWritten, CanShowAll, LineWritten}
+use Rattle.listing_show.specs.Showing.{shown_line, shown_to, shown_by, no_state, PairsRoom, PairsWritten, CanShowAll, LineWritten}
 
 -- nothing is written
 pub written_none : (out : List ℕ) (at : ℕ) → at ≤ length out → Written out at [] out at
@@ -24,28 +24,28 @@ written_none out at h =
 
 -- ---- room for a line, whatever its numbers
 
-pub ok-fits : {out : List ℕ} {t e g : ℕ} → t < 2 ^ 32 → e < 2 ^ 32 → g < 2 ^ 32 → 40 ≤ length out → Room out 0 (okLine t e g)
+pub ok-fits : {out : List ℕ} {t e g : ℕ} → t < 2 ^ 32 → e < 2 ^ 32 → g < 2 ^ 32 → 40 ≤ length out → Room out 0 (ok_line t e g)
 ok-fits {out} {t} {e} {g} p q r h = record { room = omega (arith, ok-room t e g p q r) }
 
-pub no-fits : {out : List ℕ} {n k : ℕ} → n < 2 ^ 32 → k < 2 ^ 32 → 40 ≤ length out → Room out 0 (noLine n k)
+pub no-fits : {out : List ℕ} {n k : ℕ} → n < 2 ^ 32 → k < 2 ^ 32 → 40 ≤ length out → Room out 0 (no_line n k)
 no-fits {out} {n} {k} p q h = record { room = omega (arith, no_room n k p q) }
 
-pub head-fits : {out : List ℕ} {at j k : ℕ} → j < 2 ^ 32 → k < 2 ^ 32 → at + 21 ≤ length out → Room out at (showHead j k)
+pub head-fits : {out : List ℕ} {at j k : ℕ} → j < 2 ^ 32 → k < 2 ^ 32 → at + 21 ≤ length out → Room out at (show_head j k)
 head-fits {out} {at} {j} {k} p q h = record { room = omega (arith, head-room j k p q) }
 
-pub head-within : {out₀ out : List ℕ} {at next j k : ℕ} → Written out₀ at (showHead j k) out next → j < 2 ^ 32 → k < 2 ^ 32 → next ≤ at + 21
+pub head-within : {out₀ out : List ℕ} {at next j k : ℕ} → Written out₀ at (show_head j k) out next → j < 2 ^ 32 → k < 2 ^ 32 → next ≤ at + 21
 head-within {j = j} {k = k} w p q = omega (arith, w.next-is, head-room j k p q)
 
 -- ---- the pairs of a column
 
 pub record Pairing (out₀ entries : List ℕ) (at count : ℕ) (out : List ℕ) (end i : ℕ) : Type 0 where
-  pub done : Written out₀ at (showPairs (take (2 * i) entries)) out end
+  pub done : Written out₀ at (show_pairs (take (2 * i) entries)) out end
   pub short : end ≤ at + 22 * i
   pub long : length out ≡ length out₀
   pub most : i ≤ count
 
-no_pairs : (entries : List ℕ) → showPairs (take (2 * 0) entries) ≡ []
-unfolding showPairs
+no_pairs : (entries : List ℕ) → show_pairs (take (2 * 0) entries) ≡ []
+unfolding show_pairs
 no_pairs entries = refl
 
 module _ {out₀ entries : List ℕ} {at count : ℕ} (room : PairsRoom (length out₀) (length entries) at count) where
@@ -63,23 +63,23 @@ module _ {out₀ entries : List ℕ} {at count : ℕ} (room : PairsRoom (length 
     pairing-end h =
         let e : i ≡ count = omega (arith, p.most) in
         record {
-          pairs = subst (λ (k : ℕ). Written out₀ at (showPairs (take (2 * k) entries)) out end) e p.done;
+          pairs = subst (λ (k : ℕ). Written out₀ at (show_pairs (take (2 * k) entries)) out end) e p.done;
           short = subst (λ (k : ℕ). end ≤ at + 22 * k) e p.short;
         }
 
     module _ (h : i < count) (a : get_or entries (2 * i) 0 < 2 ^ 32) (b : get_or entries (2 * i + 1) 0 < 2 ^ 32) where
-      pair-most : length (showPair (get_or entries (2 * i) 0) (get_or entries (2 * i + 1) 0)) ≤ 22
+      pair-most : length (show_pair (get_or entries (2 * i) 0) (get_or entries (2 * i + 1) 0)) ≤ 22
       pair-most = pair-room (get_or entries (2 * i) 0) (get_or entries (2 * i + 1) 0) a b
 
-      pub pairing-room : end + length (showPair (get_or entries (2 * i) 0) (get_or entries (2 * i + 1) 0)) ≤ length out
+      pub pairing-room : end + length (show_pair (get_or entries (2 * i) 0) (get_or entries (2 * i + 1) 0)) ≤ length out
       pairing-room = omega (arith, pair-most, p.short, p.long, room.fits)
 
-      pub pairing-keep : {out' : List ℕ} {end' : ℕ} → Written out end (showPair (get_or entries (2 * i) 0) (get_or entries (2 * i + 1) 0)) out' end' →
+      pub pairing-keep : {out' : List ℕ} {end' : ℕ} → Written out end (show_pair (get_or entries (2 * i) 0) (get_or entries (2 * i + 1) 0)) out' end' →
           length out' ≡ length out → Pairing out₀ entries at count out' end' (i + 1)
       pairing-keep {out'} {end'} w l =
           let q : 2 * (i + 1) ≡ 2 * i + 2 = omega arith in
-          let s : showPairs (take (2 * i) entries) ++ showPair (get_or entries (2 * i) 0) (get_or entries (2 * i + 1) 0) ≡ showPairs (take (2 * (i + 1)) entries) =
-          sym (ap (λ (n : ℕ). showPairs (take n entries)) q ∙ pairs-push entries i (omega (arith, room.entries))) in
+          let s : show_pairs (take (2 * i) entries) ++ show_pair (get_or entries (2 * i) 0) (get_or entries (2 * i + 1) 0) ≡ show_pairs (take (2 * (i + 1)) entries) =
+          sym (ap (λ (n : ℕ). show_pairs (take n entries)) q ∙ pairs-push entries i (omega (arith, room.entries))) in
           record {
             done = subst (λ (bs : List ℕ). Written out₀ at bs out' end') s (written-join (omega (arith, p.short, room.fits)) p.done w);
             short = omega (arith, p.short, pair-most, w.next-is);
@@ -89,31 +89,31 @@ module _ {out₀ entries : List ℕ} {at count : ℕ} (room : PairsRoom (length 
 
 -- ---- the line of a column: head, pairs, newline
 
-pub line-whole : {out₀ out₁ out₂ out₃ : List ℕ} {at next end last : ℕ} (j p : ℕ) (es : List ℕ) → Written out₀ at (showHead j p) out₁ next →
-    Written out₁ next (showPairs es) out₂ end → Written out₂ end newline out₃ last → end ≤ length out₀ → length out₁ ≡ length out₀ →
-    Written out₀ at (showLine j p es) out₃ last
-unfolding showLine
+pub line-whole : {out₀ out₁ out₂ out₃ : List ℕ} {at next end last : ℕ} (j p : ℕ) (es : List ℕ) → Written out₀ at (show_head j p) out₁ next →
+    Written out₁ next (show_pairs es) out₂ end → Written out₂ end newline out₃ last → end ≤ length out₀ → length out₁ ≡ length out₀ →
+    Written out₀ at (show_line j p es) out₃ last
+unfolding show_line
 line-whole j p es a b d h l =
     written-join h (written-join (omega (arith, b.next-is)) a b) d
 
 -- ---- the lines of all columns
 
 pub record Lines (r : Register) (out₀ out : List ℕ) (end j : ℕ) : Type 0 where
-  pub done : Written out₀ 0 (shownTo r j) out end
+  pub done : Written out₀ 0 (shown_to r j) out end
   pub short : end ≤ 1430 * j
   pub long : length out ≡ length out₀
 
 pub lines_start : (r : Register) (out : List ℕ) → Lines r out out 0 0
-unfolding shownTo
+unfolding shown_to
 lines_start r out = record { done = written_none out 0 (omega arith); short = omega arith; long = refl }
 
-pub lines_keep : {s : State} {t : Tables} {out₀ out out' : List ℕ} {end j end' : ℕ} → Lines (registerOf s t) out₀ out end j → end ≤ length out₀ →
-    LineWritten s t out (j + 1) end out' end' → length out' ≡ length out → Lines (registerOf s t) out₀ out' end' (j + 1)
-unfolding shownTo
+pub lines_keep : {s : State} {t : Tables} {out₀ out out' : List ℕ} {end j end' : ℕ} → Lines (register_of s t) out₀ out end j → end ≤ length out₀ →
+    LineWritten s t out (j + 1) end out' end' → length out' ≡ length out → Lines (register_of s t) out₀ out' end' (j + 1)
+unfolding shown_to
 lines_keep {s} {t} {out₀} {out} {out'} {end} {j} {end'} p h w l =
-    let r : Register = registerOf s t in
-    let e : shownTo r j ++ shownLine r (j + 1) ≡ shownTo r (j + 1) =
-    ap (λ (k : ℕ). shownTo r j ++ shownLine r k) (add-one j) ∙ ap (λ (k : ℕ). shownTo r k) (sym (add-one j)) in
+    let r : Register = register_of s t in
+    let e : shown_to r j ++ shown_line r (j + 1) ≡ shown_to r (j + 1) =
+    ap (λ (k : ℕ). shown_to r j ++ shown_line r k) (add-one j) ∙ ap (λ (k : ℕ). shown_to r k) (sym (add-one j)) in
     record {
       done = subst (λ (bs : List ℕ). Written out₀ 0 bs out' end') e (written-join h p.done w.line);
       short = omega (arith, p.short, w.short);
@@ -122,17 +122,17 @@ lines_keep {s} {t} {out₀} {out} {out'} {end} {j} {end'} p h w l =
 
 -- ---- all of them, or the refusal
 
-pub shown-closed : (s : State) (t : Tables) → s ≡ noState → noLine 1 0 ≡ shownBy (record { state = s; tables = t })
-shown-closed s t e = sym (ap (λ (x : State). shownBy (record { state = x; tables = t })) e)
+pub shown-closed : (s : State) (t : Tables) → s ≡ no_state → no_line 1 0 ≡ shown_by (record { state = s; tables = t })
+shown-closed s t e = sym (ap (λ (x : State). shown_by (record { state = x; tables = t })) e)
 
 pub usable-some : {s : State} {t : Tables} → Usable s t → 1 ≤ s.sizes.m
-usable-some {s} u = (sizes-facts s.sizes (ap isAccepted u.sizes)).m-low
+usable-some {s} u = (sizes-facts s.sizes (ap is_accepted u.sizes)).m-low
 
-pub usable-shown : {s : State} {t : Tables} → Usable s t → shownTo (registerOf s t) s.sizes.m ≡ shownBy (record { state = s; tables = t })
+pub usable-shown : {s : State} {t : Tables} → Usable s t → shown_to (register_of s t) s.sizes.m ≡ shown_by (record { state = s; tables = t })
 usable-shown {s} {t} u = rw u.sizes refl
 
 -- m is 0: no factor is open; otherwise the tables are usable
-pub shows-none : {s : State} {t : Tables} {n k : ℕ} → CanShowAll s t n k → s.sizes.m ≡ 0 → s ≡ noState
+pub shows-none : {s : State} {t : Tables} {n k : ℕ} → CanShowAll s t n k → s.sizes.m ≡ 0 → s ≡ no_state
 shows-none c e = elim c.usable [ inl q ↦ q | inr u ↦ absurd (omega (arith, usable-some u)) ]
 
 pub shows-some : {s : State} {t : Tables} {n k : ℕ} → CanShowAll s t n k → (s.sizes.m ≡ 0 → ⊥) → Usable s t

@@ -4,39 +4,39 @@
 use Rattle.std.specs.Prelude.{◌≡◌, ◌⊎◌, List, [], ◌++◌, ℕ, zero, suc, ◌+◌, ◌*◌, ◌≤◌, eqb, take}
 use Rattle.lists.specs.Lists.{pick}
 use Rattle.symbolic.specs.Columns.{Register}
-use Rattle.symbolic.specs.Factor.{factorFor, parent_of}
-use Rattle.symbolic.specs.Grades.{limitsOf}
-use Rattle.tables.specs.Tables.{Tables, State, registerOf, sizesOf}
-use Rattle.calls.specs.Refusals.{isAccepted, bounds, sizesRefusal}
-use Rattle.calls.specs.Questions.{columnList}
-use Rattle.calls.specs.Steps.{Answer, refusedBy, World}
+use Rattle.symbolic.specs.Factor.{factor_for, parent_of}
+use Rattle.symbolic.specs.Grades.{limits_of}
+use Rattle.tables.specs.Tables.{Tables, State, register_of, sizes_of}
+use Rattle.calls.specs.Refusals.{is_accepted, bounds, sizes_refusal}
+use Rattle.calls.specs.Questions.{column_list}
+use Rattle.calls.specs.Steps.{Answer, refused_by, World}
 use Rattle.admission.specs.Admission.{Usable}
-use Rattle.listing_text.specs.Text.{okLine, noLine, showPairs, showLine, Written}
+use Rattle.listing_text.specs.Text.{ok_line, no_line, show_pairs, show_line, Written}
 
 -- ---- what it prints
 
 -- "It prints `ok touched entries grade` (zeros for open), or `no number position`"
-abbrev pub answerLine : Answer → List ℕ
-answerLine a = pick (eqb a.number 0) (okLine a.touched a.entries a.grade) (noLine a.number a.position)
+abbrev pub answer_line : Answer → List ℕ
+answer_line a = pick (eqb a.number 0) (ok_line a.touched a.entries a.grade) (no_line a.number a.position)
 
 -- "show prints a line for each j: j, parent, then row:multiplicity pairs"
-abbrev pub shownLine : Register → (j : ℕ) → List ℕ
-shownLine r j = showLine j (parent_of (factorFor r) j) (columnList r j)
+abbrev pub shown_line : Register → (j : ℕ) → List ℕ
+shown_line r j = show_line j (parent_of (factor_for r) j) (column_list r j)
 
 -- columns 1 to k
-unfoldable pub shownTo : Register → (k : ℕ) → List ℕ
-shownTo r zero = []
-shownTo r (suc k) = shownTo r k ++ shownLine r (suc k)
+unfoldable pub shown_to : Register → (k : ℕ) → List ℕ
+shown_to r zero = []
+shown_to r (suc k) = shown_to r k ++ shown_line r (suc k)
 
 -- all columns; sizes of 0 are refused, "`show` too"
-abbrev pub shownBy : World → List ℕ
-shownBy u =
-    pick (isAccepted (sizesRefusal bounds u.state.sizes)) (shownTo (registerOf u.state u.tables) u.state.sizes.m)
-    (answerLine (refusedBy (sizesRefusal bounds u.state.sizes)))
+abbrev pub shown_by : World → List ℕ
+shown_by u =
+    pick (is_accepted (sizes_refusal bounds u.state.sizes)) (shown_to (register_of u.state u.tables) u.state.sizes.m)
+    (answer_line (refused_by (sizes_refusal bounds u.state.sizes)))
 
 -- "Before an accepted open the sizes are 0", as all other numbers of the record
-abbrev pub noState : State
-noState = record { sizes = sizesOf 0 0 0 0; limits = limitsOf 0 0 0; free = 0; bookFree = 0; clock = 0 }
+abbrev pub no_state : State
+no_state = record { sizes = sizes_of 0 0 0 0; limits = limits_of 0 0 0; free = 0; book_free = 0; clock = 0 }
 
 -- ---- what the functions ask and promise
 
@@ -47,7 +47,7 @@ pub record PairsRoom (room places at count : ℕ) : Type 0 where
 
 -- the pairs of the entries, of at most 22 bytes each
 pub record PairsWritten (out₀ entries : List ℕ) (at count : ℕ) (out : List ℕ) (next : ℕ) : Type 0 where
-  pub pairs : Written out₀ at (showPairs (take (2 * count) entries)) out next
+  pub pairs : Written out₀ at (show_pairs (take (2 * count) entries)) out next
   pub short : next ≤ at + 22 * count
 
 -- a column of usable tables, places for its entries, and room for its line
@@ -61,12 +61,12 @@ pub record CanShow (s : State) (t : Tables) (places room : ℕ) (j at : ℕ) : T
 
 -- the line of a column, of at most 1,430 bytes
 pub record LineWritten (s : State) (t : Tables) (out₀ : List ℕ) (j at : ℕ) (out : List ℕ) (next : ℕ) : Type 0 where
-  pub line : Written out₀ at (shownLine (registerOf s t) j) out next
+  pub line : Written out₀ at (shown_line (register_of s t) j) out next
   pub short : next ≤ at + 1430
 
 -- no factor is open, or one with usable tables; room for all lines
 pub record CanShowAll (s : State) (t : Tables) (places room : ℕ) : Type 0 where
-  pub usable : (s ≡ noState) ⊎ Usable s t
+  pub usable : (s ≡ no_state) ⊎ Usable s t
   pub few : s.sizes.m ≤ 64
   pub entries : 128 ≤ places
   pub fits : 91520 ≤ room

@@ -3,8 +3,8 @@
 ghost use Rattle.std.specs.Prelude.{length};
 ghost use Rattle.tables.specs.Tables.{tables_of};
 ghost use Rattle.listing_text.specs.Text.{Written};
-ghost use Rattle.factor.specs.Entries.{state_of, worldOf};
-ghost use Rattle.listing_show.specs.Showing.{shownBy, PairsRoom, PairsWritten, CanShow, CanShowAll, LineWritten};
+ghost use Rattle.factor.specs.Entries.{state_of, world_of};
+ghost use Rattle.listing_show.specs.Showing.{shown_by, PairsRoom, PairsWritten, CanShow, CanShowAll, LineWritten};
 
 use book::Row;
 use factor::Factor;
@@ -91,7 +91,7 @@ pub fn show(
     out: &mut [u8],
 ) -> usize
     requires { CanShowAll (state_of factor) (tables_of heads.now parents.now rows.now counts.now next.now book_heads.now book_rows.now book_next.now windows.now) (length list.old) (length out.old) }
-    ensures { Written out.old 0 (shownBy (worldOf factor (tables_of heads.now parents.now rows.now counts.now next.now book_heads.now book_rows.now book_next.now windows.now))) out.new result }
+    ensures { Written out.old 0 (shown_by (world_of factor (tables_of heads.now parents.now rows.now counts.now next.now book_heads.now book_rows.now book_next.now windows.now))) out.new result }
 {
     if factor.m == 0 {
         return text::no_line(out, 0, 1, 0);

@@ -11,7 +11,7 @@ use lib.ListN.{length, length-append}
 use borrow.Author.Tests.{lt-ltb, le-ltb}
 use Rattle.lists.specs.Lists.{all}
 use Rattle.lists.proofs.Tests.{lt-or-le, and_both, both-and, range-in}
-use Rattle.listing_text.specs.Command.{isDigit, valueAfter, value_of, is_number}
+use Rattle.listing_text.specs.Command.{is_digit, value_after, value_of, is_number}
 use Rattle.listing_text.specs.Text.{digits, decimal}
 
 -- ---- by the last digit
@@ -70,19 +70,19 @@ decimal-room n h = decimal-length 9 n (omega arith)
 
 -- ---- read again
 
-value-last : (v d : ℕ) (ds : List ℕ) → valueAfter v (ds ++ (d ∷ [])) ≡ 10 * valueAfter v ds + (d - 48)
-unfolding valueAfter
+value-last : (v d : ℕ) (ds : List ℕ) → value_after v (ds ++ (d ∷ [])) ≡ 10 * value_after v ds + (d - 48)
+unfolding value_after
 value-last v d [] = refl
 value-last v d (e ∷ ds) = value-last (10 * v + (e - 48)) d ds
 
-all-last : (d : ℕ) (ds : List ℕ) → all isDigit ds ≡ true → isDigit d ≡ true → all isDigit (ds ++ (d ∷ [])) ≡ true
+all-last : (d : ℕ) (ds : List ℕ) → all is_digit ds ≡ true → is_digit d ≡ true → all is_digit (ds ++ (d ∷ [])) ≡ true
 unfolding all
 all-last d [] p q = rw q refl
-all-last d (e ∷ ds) p q = let t = and_both (isDigit e) (all isDigit ds) p in both-and t.0 (all-last d ds t.1 q)
+all-last d (e ∷ ds) p q = let t = and_both (is_digit e) (all is_digit ds) p in both-and t.0 (all-last d ds t.1 q)
 
 -- the value and the digits of a number's decimal, for numbers below a bound
-reads : (k n : ℕ) → n < k → (value_of (decimal n) ≡ n) × (all isDigit (decimal n) ≡ true)
-unfolding valueAfter all
+reads : (k n : ℕ) → n < k → (value_of (decimal n) ≡ n) × (all is_digit (decimal n) ≡ true)
+unfolding value_after all
 reads zero n h = absurd (omega arith)
 reads (suc k) n h =
     elim (lt-or-le n 10) [

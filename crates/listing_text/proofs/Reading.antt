@@ -10,24 +10,24 @@ use lib.ListN.{length, drop, set, length-append, length-map}
 use Rattle.lists.specs.Lists.{pick, all, over}
 use Rattle.lists.proofs.Tests.{cases, and_both, lt-or-le}
 use Rattle.lists.proofs.Place.{over-push, over-length}
-use Rattle.listing_text.specs.Command.{first_word, laterWords, value_of, is_number, numbersOf, EndsWord, Numbers}
+use Rattle.listing_text.specs.Command.{first_word, later_words, value_of, is_number, numbers_of, EndsWord, Numbers}
 use Rattle.listing_text.proofs.Words.{between, Next, word_next, later-end}
 
 -- ---- the numbers of some bytes
 
-pub numbers-are : (bs : List ℕ) → all is_number (laterWords bs) ≡ true → numbersOf bs ≡ map value_of (laterWords bs)
-unfolding numbersOf
+pub numbers-are : (bs : List ℕ) → all is_number (later_words bs) ≡ true → numbers_of bs ≡ map value_of (later_words bs)
+unfolding numbers_of
 numbers-are bs g = rw g refl
 
-numbers-none : (bs : List ℕ) → all is_number (laterWords bs) ≡ false → numbersOf bs ≡ []
-unfolding numbersOf
+numbers-none : (bs : List ℕ) → all is_number (later_words bs) ≡ false → numbers_of bs ≡ []
+unfolding numbers_of
 numbers-none bs g = rw g refl
 
-pub numbers-good : (bs : List ℕ) → 0 < length (numbersOf bs) → all is_number (laterWords bs) ≡ true
-numbers-good bs h = elim (cases (all is_number (laterWords bs))) [ inl g ↦ g | inr g ↦ absurd (omega (arith, ap length (numbers-none bs g))) ]
+pub numbers-good : (bs : List ℕ) → 0 < length (numbers_of bs) → all is_number (later_words bs) ≡ true
+numbers-good bs h = elim (cases (all is_number (later_words bs))) [ inl g ↦ g | inr g ↦ absurd (omega (arith, ap length (numbers-none bs g))) ]
 
-pub numbers-length : (bs : List ℕ) → all is_number (laterWords bs) ≡ true → length (numbersOf bs) ≡ length (laterWords bs)
-numbers-length bs g = ap length (numbers-are bs g) ∙ length-map (laterWords bs) value_of
+pub numbers-length : (bs : List ℕ) → all is_number (later_words bs) ≡ true → length (numbers_of bs) ≡ length (later_words bs)
+numbers-length bs g = ap length (numbers-are bs g) ∙ length-map (later_words bs) value_of
 
 all_first : (w : List ℕ) (ws : List (List ℕ)) → all is_number (w ∷ ws) ≡ true → (is_number w ≡ true) × (all is_number ws ≡ true)
 unfolding all
@@ -51,9 +51,9 @@ counted-bad : (k : ℕ) (w : List ℕ) (ws : List (List ℕ)) → is_number w �
 unfolding all
 counted-bad k w ws g = rw g refl
 
-counted-all : (bs : List ℕ) → counted 0 (laterWords bs) ≡ length (numbersOf bs)
+counted-all : (bs : List ℕ) → counted 0 (later_words bs) ≡ length (numbers_of bs)
 counted-all bs =
-    elim (cases (all is_number (laterWords bs))) [
+    elim (cases (all is_number (later_words bs))) [
       | inl g ↦ rw g (omega (arith, numbers-length bs g))
       | inr g ↦ rw g (omega (arith, ap length (numbers-none bs g)))
     ]
@@ -61,13 +61,13 @@ counted-all bs =
 pub record Counting (line : List ℕ) (at end count : ℕ) : Type 0 where
   pub ends : EndsWord line end
   pub most : count ≤ end
-  pub rest : counted count (laterWords (drop end line)) ≡ length (numbersOf (drop at line))
+  pub rest : counted count (later_words (drop end line)) ≡ length (numbers_of (drop at line))
 
 pub counting-start : (line : List ℕ) (at : ℕ) → EndsWord line at → Counting line at at 0
 counting-start line at w = record { ends = w; most = omega arith; rest = counted-all (drop at line) }
 
 module _ {line : List ℕ} {at end count : ℕ} (s : Counting line at end count) where
-  pub counting-end : length line ≤ end → count ≡ length (numbersOf (drop at line))
+  pub counting-end : length line ≤ end → count ≡ length (numbers_of (drop at line))
   counting-end h = sym (counted_none count) ∙ ap (counted count) (sym (later-end line end h)) ∙ s.rest
 
   module _ {next : ℕ} (n : Next line end next) where
@@ -76,23 +76,23 @@ module _ {line : List ℕ} {at end count : ℕ} (s : Counting line at end count)
         record {
           ends = n.ends;
           most = omega (arith, s.most, n.start);
-          rest = sym (counted-good count _ (laterWords (drop next line)) g) ∙ ap (counted count) (sym n.later) ∙ s.rest;
+          rest = sym (counted-good count _ (later_words (drop next line)) g) ∙ ap (counted count) (sym n.later) ∙ s.rest;
         }
 
-    pub counting-bad : is_number (between line end next) ≡ false → 0 ≡ length (numbersOf (drop at line))
-    counting-bad g = sym (counted-bad count _ (laterWords (drop next line)) g) ∙ ap (counted count) (sym n.later) ∙ s.rest
+    pub counting-bad : is_number (between line end next) ≡ false → 0 ≡ length (numbers_of (drop at line))
+    counting-bad g = sym (counted-bad count _ (later_words (drop next line)) g) ∙ ap (counted count) (sym n.later) ∙ s.rest
 
 -- ---- writing
 
 pub record Writing (line values₀ : List ℕ) (at : ℕ) (values : List ℕ) (end count : ℕ) : Type 0 where
   pub done : List ℕ
   pub ends : EndsWord line end
-  pub good : all is_number (laterWords (drop end line)) ≡ true
-  pub whole : done ++ map value_of (laterWords (drop end line)) ≡ numbersOf (drop at line)
+  pub good : all is_number (later_words (drop end line)) ≡ true
+  pub whole : done ++ map value_of (later_words (drop end line)) ≡ numbers_of (drop at line)
   pub count-is : length done ≡ count
   pub values-are : values ≡ over done values₀
 
-numbers-room : {line : List ℕ} {at room : ℕ} → Numbers line at room → length (numbersOf (drop at line)) ≤ room
+numbers-room : {line : List ℕ} {at room : ℕ} → Numbers line at room → length (numbers_of (drop at line)) ≤ room
 numbers-room {line} {at} p = omega (arith, numbers-length (drop at line) p.good, p.fits)
 
 module _ {line values₀ : List ℕ} {at : ℕ} (p : Numbers line at (length values₀)) where
@@ -104,23 +104,23 @@ module _ {line values₀ : List ℕ} {at : ℕ} (p : Numbers line at (length val
     pub writing-length : length values ≡ length values₀
     writing-length =
         rw s.values-are (over-length s.done values₀
-        (omega (arith, numbers-room p, ap length s.whole, length-append s.done (map value_of (laterWords (drop end line))))))
+        (omega (arith, numbers-room p, ap length s.whole, length-append s.done (map value_of (later_words (drop end line))))))
 
-    pub writing-end : length line ≤ end → values ≡ over (numbersOf (drop at line)) values₀
+    pub writing-end : length line ≤ end → values ≡ over (numbers_of (drop at line)) values₀
     writing-end h =
-        let e : s.done ≡ numbersOf (drop at line) = sym (append-nil s.done) ∙ ap (λ (ws : List (List ℕ)). s.done ++ map value_of ws) (sym (later-end line end h)) ∙ s.whole in
+        let e : s.done ≡ numbers_of (drop at line) = sym (append-nil s.done) ∙ ap (λ (ws : List (List ℕ)). s.done ++ map value_of ws) (sym (later-end line end h)) ∙ s.whole in
         s.values-are ∙ ap (λ (l : List ℕ). over l values₀) e
 
     module _ {next : ℕ} (n : Next line end next) where
-      writing-both : (is_number (between line end next) ≡ true) × (all is_number (laterWords (drop next line)) ≡ true)
-      writing-both = all_first (between line end next) (laterWords (drop next line)) (rw n.later at s.good)
+      writing-both : (is_number (between line end next) ≡ true) × (all is_number (later_words (drop next line)) ≡ true)
+      writing-both = all_first (between line end next) (later_words (drop next line)) (rw n.later at s.good)
 
       pub writing-number : is_number (between line end next) ≡ true
       writing-number = writing-both.0
 
-      whole-next : s.done ++ (value_of (between line end next) ∷ []) ++ map value_of (laterWords (drop next line)) ≡ numbersOf (drop at line)
+      whole-next : s.done ++ (value_of (between line end next) ∷ []) ++ map value_of (later_words (drop next line)) ≡ numbers_of (drop at line)
       whole-next =
-          append_assoc s.done (value_of (between line end next) ∷ []) (map value_of (laterWords (drop next line)))
+          append_assoc s.done (value_of (between line end next) ∷ []) (map value_of (later_words (drop next line)))
           ∙ ap (λ (ws : List (List ℕ)). s.done ++ map value_of ws) (sym n.later) ∙ s.whole
 
       pub writing-below : count < length values₀
@@ -130,7 +130,7 @@ module _ {line values₀ : List ℕ} {at : ℕ} (p : Numbers line at (length val
             numbers-room p,
             s.count-is,
             ap length whole-next,
-            length-append (s.done ++ (value_of (between line end next) ∷ [])) (map value_of (laterWords (drop next line))),
+            length-append (s.done ++ (value_of (between line end next) ∷ [])) (map value_of (later_words (drop next line))),
             length-append s.done (value_of (between line end next) ∷ []),
           )
 
@@ -150,23 +150,23 @@ module _ {line values₀ : List ℕ} {at : ℕ} (p : Numbers line at (length val
 pub record First (line : List ℕ) (at end : ℕ) : Type 0 where
   pub next : Next line at end
   pub number : is_number (between line at end) ≡ true
-  pub good : all is_number (laterWords (drop end line)) ≡ true
-  pub numbers : numbersOf (drop at line) ≡ value_of (between line at end) ∷ numbersOf (drop end line)
+  pub good : all is_number (later_words (drop end line)) ≡ true
+  pub numbers : numbers_of (drop at line) ≡ value_of (between line at end) ∷ numbers_of (drop end line)
 
 -- where there is a number, the line goes on
-pub first_below : (line : List ℕ) (at : ℕ) → 0 < length (numbersOf (drop at line)) → at < length line
+pub first_below : (line : List ℕ) (at : ℕ) → 0 < length (numbers_of (drop at line)) → at < length line
 first_below line at h =
     elim (lt-or-le at (length line)) [
       | inl b ↦ b
       | inr b ↦ absurd (omega (arith, ap length (later-end line at b), numbers-length (drop at line) (numbers-good (drop at line) h)))
     ]
 
-pub first-number : (line : List ℕ) (at end : ℕ) → EndsWord line at → 0 < length (numbersOf (drop at line))
+pub first-number : (line : List ℕ) (at end : ℕ) → EndsWord line at → 0 < length (numbers_of (drop at line))
     → end ≡ at + 1 + length (first_word (drop (at + 1) line)) → First line at end
 first-number line at end w h e =
     let n = word_next line at end w (first_below line at h) e in
     let g = numbers-good (drop at line) h in
-    let b = all_first (between line at end) (laterWords (drop end line)) (rw n.later at g) in
+    let b = all_first (between line at end) (later_words (drop end line)) (rw n.later at g) in
     record {
       next = n;
       number = b.0;

@@ -13,7 +13,7 @@ use lib.Seq.{drop-cons, drop-drop, get_or-drop}
 use borrow.Author.Tests.{eq-eqb, ne_eqb, ltb-true}
 use Rattle.lists.specs.Lists.{all}
 use Rattle.lists.proofs.Tests.{eq-or-ne, and_both}
-use Rattle.listing_text.specs.Command.{first_word, laterWords, is_number, EndsWord}
+use Rattle.listing_text.specs.Command.{first_word, later_words, is_number, EndsWord}
 
 -- ---- the first word, by the first byte
 
@@ -25,12 +25,12 @@ word-other : (b : ℕ) (bs : List ℕ) → b ≢ 32 → first_word (b ∷ bs) �
 unfolding first_word
 word-other b bs n = rw (ne_eqb b 32 n) refl
 
-later-space : (b : ℕ) (bs : List ℕ) → b ≡ 32 → laterWords (b ∷ bs) ≡ first_word bs ∷ laterWords bs
-unfolding laterWords
+later-space : (b : ℕ) (bs : List ℕ) → b ≡ 32 → later_words (b ∷ bs) ≡ first_word bs ∷ later_words bs
+unfolding later_words
 later-space b bs e = rw (eq-eqb b 32 e) refl
 
-later-other : (b : ℕ) (bs : List ℕ) → b ≢ 32 → laterWords (b ∷ bs) ≡ laterWords bs
-unfolding laterWords
+later-other : (b : ℕ) (bs : List ℕ) → b ≢ 32 → later_words (b ∷ bs) ≡ later_words bs
+unfolding later_words
 later-other b bs n = rw (ne_eqb b 32 n) refl
 
 -- ---- the first word of what follows a place
@@ -76,8 +76,8 @@ word-stops (b ∷ bs) h =
       | inr n ↦ rw (ne_eqb b 32 n) (word-stops bs (omega (arith, ap length (word-other b bs n))))
     ]
 
-later-skip : (bs : List ℕ) → laterWords (drop (length (first_word bs)) bs) ≡ laterWords bs
-unfolding first_word laterWords
+later-skip : (bs : List ℕ) → later_words (drop (length (first_word bs)) bs) ≡ later_words bs
+unfolding first_word later_words
 later-skip [] = refl
 later-skip (b ∷ bs) =
     elim (eq-or-ne b 32) [
@@ -104,29 +104,29 @@ between line at end = take (end - (at + 1)) (drop (at + 1) line)
 pub record Next (line : List ℕ) (at end : ℕ) : Type 0 where
   pub start : at + 1 ≤ end
   pub ends : EndsWord line end
-  pub later : laterWords (drop at line) ≡ between line at end ∷ laterWords (drop end line)
+  pub later : later_words (drop at line) ≡ between line at end ∷ later_words (drop end line)
 
 pub word_next : (line : List ℕ) (at end : ℕ) → EndsWord line at → at < length line → end ≡ at + 1 + length (first_word (drop (at + 1) line)) → Next line at end
 word_next line at end w h e =
     let rest : List ℕ = drop (at + 1) line in
     let size : end - (at + 1) ≡ length (first_word rest) = omega arith in
-    let skip : laterWords (drop end line) ≡ laterWords rest = ap (λ (n : ℕ). laterWords (drop n line)) e ∙ ap laterWords (sym (drop-drop (length (first_word rest)) (at + 1) line)) ∙ later-skip rest in
+    let skip : later_words (drop end line) ≡ later_words rest = ap (λ (n : ℕ). later_words (drop n line)) e ∙ ap later_words (sym (drop-drop (length (first_word rest)) (at + 1) line)) ∙ later-skip rest in
     let cons : drop at line ≡ get_or line at 0 ∷ rest = drop-cons line at 0 h ∙ ap (λ (n : ℕ). get_or line at 0 ∷ drop n line) (sym (add-one at)) in
     record {
       start = omega arith;
       ends = word-ends line (at + 1) end (omega arith) e;
-      later = ap laterWords cons ∙ later-space (get_or line at 0) rest (w.space h) ∙ rw (skip, size, word-part rest) refl;
+      later = ap later_words cons ∙ later-space (get_or line at 0) rest (w.space h) ∙ rw (skip, size, word-part rest) refl;
     }
 
-pub later-end : (line : List ℕ) (at : ℕ) → length line ≤ at → laterWords (drop at line) ≡ []
-unfolding laterWords
+pub later-end : (line : List ℕ) (at : ℕ) → length line ≤ at → later_words (drop at line) ≡ []
+unfolding later_words
 later-end line at h = rw (drop_of_length-le line h) refl
 
 -- the first word of a line: its end, its bytes, and the words after it
 pub record Front (line : List ℕ) (end : ℕ) : Type 0 where
   pub ends : EndsWord line end
   pub part : take end line ≡ first_word line
-  pub later : laterWords (drop end line) ≡ laterWords line
+  pub later : later_words (drop end line) ≡ later_words line
 
 pub word-front : (line : List ℕ) (end : ℕ) → end ≡ 0 + length (first_word line) → Front line end
 word-front line end e =
@@ -140,20 +140,20 @@ unfolding is_number
 number-long w h = ltb-true 0 (length w) (and_both (ltb 0 (length w)) _ h).0
 
 -- each number takes a space and a digit
-later-room : (bs : List ℕ) → all is_number (laterWords bs) ≡ true → length (first_word bs) + 2 * length (laterWords bs) ≤ length bs
-unfolding first_word laterWords all
+later-room : (bs : List ℕ) → all is_number (later_words bs) ≡ true → length (first_word bs) + 2 * length (later_words bs) ≤ length bs
+unfolding first_word later_words all
 later-room [] g = omega arith
 later-room (b ∷ bs) g =
     elim (eq-or-ne b 32) [
       | inl e ↦
-          let g' : all is_number (first_word bs ∷ laterWords bs) ≡ true = rw (later-space b bs e) at g in
-          let t = and_both (is_number (first_word bs)) (all is_number (laterWords bs)) g' in
+          let g' : all is_number (first_word bs ∷ later_words bs) ≡ true = rw (later-space b bs e) at g in
+          let t = and_both (is_number (first_word bs)) (all is_number (later_words bs)) g' in
           omega (arith, ap length (word-space b bs e), ap length (later-space b bs e), number-long (first_word bs) t.0, later-room bs t.1)
       | inr n ↦
-          let g' : all is_number (laterWords bs) ≡ true = rw (later-other b bs n) at g in
+          let g' : all is_number (later_words bs) ≡ true = rw (later-other b bs n) at g in
           omega (arith, ap length (word-other b bs n), ap length (later-other b bs n), later-room bs g')
     ]
 
 -- after a place of a line
-pub later-most : (line : List ℕ) (at : ℕ) → all is_number (laterWords (drop at line)) ≡ true → 2 * length (laterWords (drop at line)) ≤ length line
+pub later-most : (line : List ℕ) (at : ℕ) → all is_number (later_words (drop at line)) ≡ true → 2 * length (later_words (drop at line)) ≤ length line
 later-most line at g = omega (arith, later-room (drop at line) g, length-drop at line)

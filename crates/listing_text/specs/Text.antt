@@ -2,7 +2,7 @@
 -- (10); then what the printer's functions ask and promise. Laws: proofs/Decimal.antt, proofs/Printing.antt. Assumes nothing: these are
 -- definitions.
 use Rattle.std.specs.Prelude.{◌≡◌, List, [], ◌∷◌, ◌++◌, ℕ, zero, suc, ◌+◌, ◌/◌, ◌%◌, ◌≤◌, ltb, length}
-use Rattle.lists.specs.Lists.{pick, writtenAt}
+use Rattle.lists.specs.Lists.{pick, written_at}
 
 -- ---- numbers
 
@@ -22,34 +22,34 @@ abbrev pub newline : List ℕ
 newline = 10 ∷ []
 
 -- a byte, then a number
-abbrev pub markedNumber : (mark n : ℕ) → List ℕ
-markedNumber b n = b ∷ decimal n
+abbrev pub marked_number : (mark n : ℕ) → List ℕ
+marked_number b n = b ∷ decimal n
 
 -- ok touched entries grade
-unfoldable pub okLine : (touched entries grade : ℕ) → List ℕ
-okLine t e g = (111 ∷ 107 ∷ []) ++ markedNumber 32 t ++ markedNumber 32 e ++ markedNumber 32 g ++ newline
+unfoldable pub ok_line : (touched entries grade : ℕ) → List ℕ
+ok_line t e g = (111 ∷ 107 ∷ []) ++ marked_number 32 t ++ marked_number 32 e ++ marked_number 32 g ++ newline
 
 -- no number position
-unfoldable pub noLine : (refusal position : ℕ) → List ℕ
-noLine n p = (110 ∷ 111 ∷ []) ++ markedNumber 32 n ++ markedNumber 32 p ++ newline
+unfoldable pub no_line : (refusal position : ℕ) → List ℕ
+no_line n p = (110 ∷ 111 ∷ []) ++ marked_number 32 n ++ marked_number 32 p ++ newline
 
 -- column parent
-unfoldable pub showHead : (column parent : ℕ) → List ℕ
-showHead j p = decimal j ++ markedNumber 32 p
+unfoldable pub show_head : (column parent : ℕ) → List ℕ
+show_head j p = decimal j ++ marked_number 32 p
 
 -- a space, then row:multiplicity
-unfoldable pub showPair : (row multiplicity : ℕ) → List ℕ
-showPair i n = markedNumber 32 i ++ markedNumber 58 n
+unfoldable pub show_pair : (row multiplicity : ℕ) → List ℕ
+show_pair i n = marked_number 32 i ++ marked_number 58 n
 
 -- the pairs of a list of row, multiplicity, row, multiplicity and so on
-unfoldable pub showPairs : (entries : List ℕ) → List ℕ
-showPairs [] = []
-showPairs (i ∷ []) = []
-showPairs (i ∷ n ∷ es) = showPair i n ++ showPairs es
+unfoldable pub show_pairs : (entries : List ℕ) → List ℕ
+show_pairs [] = []
+show_pairs (i ∷ []) = []
+show_pairs (i ∷ n ∷ es) = show_pair i n ++ show_pairs es
 
 -- column parent, then the pairs
-unfoldable pub showLine : (column parent : ℕ) → (entries : List ℕ) → List ℕ
-showLine j p es = showHead j p ++ showPairs es ++ newline
+unfoldable pub show_line : (column parent : ℕ) → (entries : List ℕ) → List ℕ
+show_line j p es = show_head j p ++ show_pairs es ++ newline
 
 -- ---- what the printer's functions ask and promise
 
@@ -59,5 +59,5 @@ pub record Room (out : List ℕ) (at : ℕ) (bytes : List ℕ) : Type 0 where
 
 -- the bytes are written, and the result is the place after them
 pub record Written (out₀ : List ℕ) (at : ℕ) (bytes out : List ℕ) (next : ℕ) : Type 0 where
-  pub out-is : out ≡ writtenAt at bytes out₀
+  pub out-is : out ≡ written_at at bytes out₀
   pub next-is : next ≡ at + length bytes

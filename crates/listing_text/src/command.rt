@@ -3,7 +3,7 @@
 // between spaces; a word's end is a space or the line's end.
 ghost use Rattle.std.specs.Prelude.{◌≡◌, true, ◌+◌, ◌≤◌, length, drop};
 ghost use Rattle.lists.specs.Lists.{same, over};
-ghost use Rattle.listing_text.specs.Command.{first_word, is_number, value_of, numbersOf, openOf, dropOf, EndsWord, Numbers, AddRoom, Added, Parsed};
+ghost use Rattle.listing_text.specs.Command.{first_word, is_number, value_of, numbers_of, open_of, drop_of, EndsWord, Numbers, AddRoom, Added, Parsed};
 
 // A command: for Add the rows stand in the lent list, count of them from its front on.
 #[derive(Drop)]
@@ -93,7 +93,7 @@ fn number_value(word: &[u8]) -> u32
 // How many numbers follow a word's end, if every word that follows is a number; otherwise 0.
 fn numbers_count(line: &[u8], at: usize) -> usize
     requires { EndsWord line.now at }
-    ensures { result ≡ length (numbersOf (drop at line.now)) }
+    ensures { result ≡ length (numbers_of (drop at line.now)) }
 {
     let mut end = at;
     let mut count = 0;
@@ -112,7 +112,7 @@ fn numbers_count(line: &[u8], at: usize) -> usize
 // Writes the values of the words that follow a word's end, numbers all, over the front of a list.
 fn numbers_write(line: &[u8], values: &mut [u32], at: usize)
     requires { Numbers line.now at (length values.old) }
-    ensures { values.new ≡ over (numbersOf (drop at line.now)) values.old }
+    ensures { values.new ≡ over (numbers_of (drop at line.now)) values.old }
 {
     let mut end = at;
     let mut count = 0;
@@ -127,7 +127,7 @@ fn numbers_write(line: &[u8], values: &mut [u32], at: usize)
 // The rest of an open line: four numbers.
 fn open_rest(line: &[u8], at: usize) -> Command
     requires { EndsWord line.now at }
-    ensures { result ≡ openOf (numbersOf (drop at line.now)) }
+    ensures { result ≡ open_of (numbers_of (drop at line.now)) }
 {
     if numbers_count(line, at) != 4 {
         return Command::Unknown;
@@ -145,7 +145,7 @@ fn open_rest(line: &[u8], at: usize) -> Command
 // The rest of an add line: an id, then a row or more, which go to the front of the list.
 fn add_rest(line: &[u8], rows: &mut [u32], at: usize) -> Command
     requires { AddRoom line.now at (length rows.old) }
-    ensures { Added (numbersOf (drop at line.now)) rows.old rows.new result }
+    ensures { Added (numbers_of (drop at line.now)) rows.old rows.new result }
 {
     let count = numbers_count(line, at);
     if count < 2 {
@@ -162,7 +162,7 @@ fn add_rest(line: &[u8], rows: &mut [u32], at: usize) -> Command
 // The rest of a drop line: one number.
 fn drop_rest(line: &[u8], at: usize) -> Command
     requires { EndsWord line.now at }
-    ensures { result ≡ dropOf (numbersOf (drop at line.now)) }
+    ensures { result ≡ drop_of (numbers_of (drop at line.now)) }
 {
     if numbers_count(line, at) != 1 {
         return Command::Unknown;

@@ -1,7 +1,7 @@
 // The lines that the listing program prints. Each function writes its bytes to a lent list from a given place on, leaves the rest of the
 // list as it was, and gives the place after them; the list must have room for them. A number below 2^32 has at most 10 bytes.
 ghost use Rattle.std.specs.Prelude.{[], ◌∷◌};
-ghost use Rattle.listing_text.specs.Text.{decimal, markedNumber, okLine, noLine, showHead, showPair, newline, Room, Written};
+ghost use Rattle.listing_text.specs.Text.{decimal, marked_number, ok_line, no_line, show_head, show_pair, newline, Room, Written};
 
 // The digits of a number, without leading zeros.
 pub fn number(out: &mut [u8], at: usize, n: u32) -> usize
@@ -19,8 +19,8 @@ pub fn number(out: &mut [u8], at: usize, n: u32) -> usize
 
 // A byte, then a number's digits.
 pub fn marked(out: &mut [u8], at: usize, mark: u8, n: u32) -> usize
-    requires { Room out.old at (markedNumber mark n) }
-    ensures { Written out.old at (markedNumber mark n) out.new result }
+    requires { Room out.old at (marked_number mark n) }
+    ensures { Written out.old at (marked_number mark n) out.new result }
 {
     out[at] = mark;
     number(out, at + 1, n)
@@ -47,8 +47,8 @@ pub fn line_end(out: &mut [u8], at: usize) -> usize
 
 // The answer to an accepted command: the touched columns' number, the entries and the grade.
 pub fn ok_line(out: &mut [u8], at: usize, touched: u32, entries: u32, grade: u32) -> usize
-    requires { Room out.old at (okLine touched entries grade) }
-    ensures { Written out.old at (okLine touched entries grade) out.new result }
+    requires { Room out.old at (ok_line touched entries grade) }
+    ensures { Written out.old at (ok_line touched entries grade) out.new result }
 {
     let a = letters(out, at, b'o', b'k');
     let b = marked(out, a, b' ', touched);
@@ -59,8 +59,8 @@ pub fn ok_line(out: &mut [u8], at: usize, touched: u32, entries: u32, grade: u32
 
 // The answer to a refused command: the refusal's number and position.
 pub fn no_line(out: &mut [u8], at: usize, refusal: u32, position: u32) -> usize
-    requires { Room out.old at (noLine refusal position) }
-    ensures { Written out.old at (noLine refusal position) out.new result }
+    requires { Room out.old at (no_line refusal position) }
+    ensures { Written out.old at (no_line refusal position) out.new result }
 {
     let a = letters(out, at, b'n', b'o');
     let b = marked(out, a, b' ', refusal);
@@ -70,8 +70,8 @@ pub fn no_line(out: &mut [u8], at: usize, refusal: u32, position: u32) -> usize
 
 // The head of a shown column: its number and its parent.
 pub fn show_head(out: &mut [u8], at: usize, column: u32, parent: u32) -> usize
-    requires { Room out.old at (showHead column parent) }
-    ensures { Written out.old at (showHead column parent) out.new result }
+    requires { Room out.old at (show_head column parent) }
+    ensures { Written out.old at (show_head column parent) out.new result }
 {
     let a = number(out, at, column);
     marked(out, a, b' ', parent)
@@ -79,8 +79,8 @@ pub fn show_head(out: &mut [u8], at: usize, column: u32, parent: u32) -> usize
 
 // One entry of a shown column: its row and its multiplicity.
 pub fn show_pair(out: &mut [u8], at: usize, row: u32, multiplicity: u32) -> usize
-    requires { Room out.old at (showPair row multiplicity) }
-    ensures { Written out.old at (showPair row multiplicity) out.new result }
+    requires { Room out.old at (show_pair row multiplicity) }
+    ensures { Written out.old at (show_pair row multiplicity) out.new result }
 {
     let a = marked(out, at, b' ', row);
     marked(out, a, b':', multiplicity)

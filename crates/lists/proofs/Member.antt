@@ -1,4 +1,4 @@
--- Members of a list, of any type, the places where they stand, and the tests all, any, among, noRepeats and same that speak of them. Assumes nothing.
+-- Members of a list, of any type, the places where they stand, and the tests all, any, among, no_repeats and same that speak of them. Assumes nothing.
 use mathlib.Core.Path.{◌≡◌, refl, ap, subst}
 use mathlib.Core.Logic.{◌⊎◌, inl, inr}
 use mathlib.Core.Bool.{Bool, true, false≢true}
@@ -8,7 +8,7 @@ use native.Mathlib.Omega.{arith}
 use lib.Dec.{eqb}
 use lib.ListN.{length, get_or}
 use borrow.Author.Tests.{eqb-true, eq-eqb}
-use Rattle.lists.specs.Lists.{Mem, first, later, all, any, among, same, allZero}
+use Rattle.lists.specs.Lists.{Mem, first, later, all, any, among, same, all_zero}
 use Rattle.lists.proofs.Tests.{and_both, both-and, or-either, or_left, or_right}
 
 module _ {A : Type 0} where
@@ -102,7 +102,7 @@ same_self (x ∷ xs) = both-and (eq-eqb x x refl) (same_self xs)
 pub eq-same : {xs ys : List ℕ} → xs ≡ ys → same xs ys ≡ true
 eq-same {xs} {ys} e = rw e (same_self ys)
 
-pub zero-at : {x : ℕ} {xs : List ℕ} → Mem x xs → allZero xs ≡ true → x ≡ 0
-unfolding allZero
-zero-at {x} (first {xs}) h = eqb-true x 0 (and_both (eqb x 0) (allZero xs) h).0
-zero-at (later {x = y} {xs = xs} m) h = zero-at m (and_both (eqb y 0) (allZero xs) h).1
+pub zero-at : {x : ℕ} {xs : List ℕ} → Mem x xs → all_zero xs ≡ true → x ≡ 0
+unfolding all_zero
+zero-at {x} (first {xs}) h = eqb-true x 0 (and_both (eqb x 0) (all_zero xs) h).0
+zero-at (later {x = y} {xs = xs} m) h = zero-at m (and_both (eqb y 0) (all_zero xs) h).1

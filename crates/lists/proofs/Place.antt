@@ -10,7 +10,7 @@ use native.Mathlib.Numerals.{add-one}
 use lib.ListN.{length, get_or, drop, set, length-append, length-drop, length-set, replicate, length-replicate, get_or-replicate}
 use lib.Seq.{get_or-set_same, get_or-set_other, set-get_or, drop-cons, set_at, get_or-append-add}
 use borrow.Author.Tests.{eq-eqb}
-use Rattle.lists.specs.Lists.{Mem, first, later, allZero, times, at, put, valuesAt, over}
+use Rattle.lists.specs.Lists.{Mem, first, later, all_zero, times, at, put, values_at, over}
 use Rattle.lists.proofs.Tests.{both-and}
 use Rattle.lists.proofs.Times.{times-self, times-cons, differs}
 
@@ -30,51 +30,51 @@ put_same xs k = set-get_or xs (k - 1) 0
 
 -- ---- the values at a list of numbers
 
-pub values-append : (xs rs ss : List ℕ) → valuesAt xs (rs ++ ss) ≡ valuesAt xs rs ++ valuesAt xs ss
-unfolding valuesAt
+pub values-append : (xs rs ss : List ℕ) → values_at xs (rs ++ ss) ≡ values_at xs rs ++ values_at xs ss
+unfolding values_at
 values-append xs [] ss = refl
 values-append xs (r ∷ rs) ss = ap (λ (l : List ℕ). at xs r ∷ l) (values-append xs rs ss)
 
-pub values_one : (xs : List ℕ) (r : ℕ) → valuesAt xs (r ∷ []) ≡ at xs r ∷ []
-unfolding valuesAt
+pub values_one : (xs : List ℕ) (r : ℕ) → values_at xs (r ∷ []) ≡ at xs r ∷ []
+unfolding values_at
 values_one xs r = refl
 
-pub values_length : (xs rs : List ℕ) → length (valuesAt xs rs) ≡ length rs
-unfolding valuesAt
+pub values_length : (xs rs : List ℕ) → length (values_at xs rs) ≡ length rs
+unfolding values_at
 values_length xs [] = refl
 values_length xs (r ∷ rs) = ap suc (values_length xs rs)
 
-pub values-place : (xs rs : List ℕ) (k : ℕ) → k < length rs → get_or (valuesAt xs rs) k 0 ≡ at xs (get_or rs k 0)
-unfolding valuesAt
+pub values-place : (xs rs : List ℕ) (k : ℕ) → k < length rs → get_or (values_at xs rs) k 0 ≡ at xs (get_or rs k 0)
+unfolding values_at
 values-place xs [] k h = absurd (omega arith)
 values-place xs (r ∷ rs) zero h = refl
 values-place xs (r ∷ rs) (suc k) h = values-place xs rs k (omega arith)
 
 -- what a list has for one of some numbers is among what it has for them, and each of that it has for one of them
-pub values-mem : (xs : List ℕ) {x : ℕ} {rs : List ℕ} → Mem x rs → Mem (at xs x) (valuesAt xs rs)
-unfolding valuesAt
+pub values-mem : (xs : List ℕ) {x : ℕ} {rs : List ℕ} → Mem x rs → Mem (at xs x) (values_at xs rs)
+unfolding values_at
 values-mem xs first = first
 values-mem xs (later m) = later (values-mem xs m)
 
-pub mem-values : (xs rs : List ℕ) {i : ℕ} → Mem i (valuesAt xs rs) → (x : ℕ) × Mem x rs × (at xs x ≡ i)
-unfolding valuesAt
+pub mem-values : (xs rs : List ℕ) {i : ℕ} → Mem i (values_at xs rs) → (x : ℕ) × Mem x rs × (at xs x ≡ i)
+unfolding values_at
 mem-values xs [] h = elim h [ ]
 mem-values xs (r ∷ rs) first = (r, first, refl)
 mem-values xs (r ∷ rs) {i} (later h) = let t : (x : ℕ) × Mem x rs × (at xs x ≡ i) = mem-values xs rs h in (t.0, later t.1, t.2)
 
-pub values-zero : (xs rs : List ℕ) → ((x : ℕ) → 1 ≤ times x rs → at xs x ≡ 0) → allZero (valuesAt xs rs) ≡ true
-unfolding valuesAt allZero
+pub values-zero : (xs rs : List ℕ) → ((x : ℕ) → 1 ≤ times x rs → at xs x ≡ 0) → all_zero (values_at xs rs) ≡ true
+unfolding values_at all_zero
 values-zero xs [] h = refl
 values-zero xs (r ∷ rs) h = both-and (eq-eqb (at xs r) 0 (h r (omega (arith, times-self r rs)))) (values-zero xs rs (λ x n. h x (omega (arith, times-cons x r rs))))
 
-pub values-frame : (xs ys rs : List ℕ) → ((r : ℕ) → 1 ≤ times r rs → at ys r ≡ at xs r) → valuesAt ys rs ≡ valuesAt xs rs
-unfolding valuesAt
+pub values-frame : (xs ys rs : List ℕ) → ((r : ℕ) → 1 ≤ times r rs → at ys r ≡ at xs r) → values_at ys rs ≡ values_at xs rs
+unfolding values_at
 values-frame xs ys [] same = refl
 values-frame xs ys (r ∷ rs) same =
     rw (same r (omega (arith, times-self r rs)), values-frame xs ys rs (λ x q. same x (omega (arith, times-cons x r rs)))) refl
 
 -- values that a replaced one is not among
-pub values-put : (xs rs : List ℕ) (q v : ℕ) → 1 ≤ q → ((x : ℕ) → 1 ≤ times x rs → 1 ≤ x) → times q rs ≡ 0 → valuesAt (put xs q v) rs ≡ valuesAt xs rs
+pub values-put : (xs rs : List ℕ) (q v : ℕ) → 1 ≤ q → ((x : ℕ) → 1 ≤ times x rs → 1 ≤ x) → times q rs ≡ 0 → values_at (put xs q v) rs ≡ values_at xs rs
 values-put xs rs q v p low n = values-frame xs (put xs q v) rs (λ x h. at-put-other xs q x v p (low x h) (differs x q rs h n))
 
 -- ---- a list written over the front of another

@@ -6,7 +6,7 @@ use Prim.Native.Nat.{ℕ, ◌≤◌, ◌<◌}
 use native.Mathlib.Omega.{arith}
 use lib.Dec.{ltb, leb, eqb}
 use borrow.Author.Tests.{ltb-true, ltb-false, leb-true, eqb-true, eqb-false, le-leb}
-use Rattle.lists.specs.Lists.{one, isIn, Decides}
+use Rattle.lists.specs.Lists.{one, is_in, Decides}
 
 -- ---- case splits that keep the fact
 
@@ -88,10 +88,10 @@ refute false f = refl
 pub decides-no : {fact : Type 0} → (fact → ⊥) → Decides fact false
 decides-no f = record { yes = λ e. absurd (false≢true e); no = λ x. absurd (f x) }
 
-pub in-range : (a b x : ℕ) → isIn a b x ≡ true → (a ≤ x) × (x ≤ b)
+pub in-range : (a b x : ℕ) → is_in a b x ≡ true → (a ≤ x) × (x ≤ b)
 in-range a b x h = let t : (leb a x ≡ true) × (leb x b ≡ true) = and_both (leb a x) (leb x b) h in (leb-true a x t.0, leb-true x b t.1)
 
-pub range-in : (a b x : ℕ) → a ≤ x → x ≤ b → isIn a b x ≡ true
+pub range-in : (a b x : ℕ) → a ≤ x → x ≤ b → is_in a b x ≡ true
 range-in a b x p q = both-and (le-leb a x p) (le-leb x b q)
 
 -- ---- one

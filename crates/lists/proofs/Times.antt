@@ -8,7 +8,7 @@ use native.Mathlib.Omega.{arith}
 use borrow.Author.Tests.{eq-eqb, ne_eqb, not-true}
 use lib.Dec.{eqb}
 use lib.ListN.{length}
-use Rattle.lists.specs.Lists.{one, Mem, first, later, among, noRepeats, count, times}
+use Rattle.lists.specs.Lists.{one, Mem, first, later, among, no_repeats, count, times}
 use Rattle.lists.proofs.Tests.{cases, eq-or-ne, zero-or-pos, and_both, one-le}
 use Rattle.lists.proofs.Member.{among-mem, mem-among}
 use Rattle.lists.proofs.Count.{count_cut, count-le, count_at}
@@ -72,18 +72,18 @@ among-some x ys h = mem-among (times-mem x ys h)
 pub none-among : (x : ℕ) (ys : List ℕ) → among x ys ≡ false → times x ys ≡ 0
 none-among x ys h = elim (zero-or-pos (times x ys)) [ inl z ↦ z | inr p ↦ absurd (true≢false (sym (among-some x ys p) ∙ h)) ]
 
-pub once-of : (rs : List ℕ) → noRepeats rs ≡ true → (x : ℕ) → times x rs ≤ 1
-unfolding noRepeats
+pub once-of : (rs : List ℕ) → no_repeats rs ≡ true → (x : ℕ) → times x rs ≤ 1
+unfolding no_repeats
 once-of [] e x = omega (arith, times-nil x)
 once-of (r ∷ rs) e x =
-    let b : (not (among r rs) ≡ true) × (noRepeats rs ≡ true) = and_both (not (among r rs)) (noRepeats rs) e in
+    let b : (not (among r rs) ≡ true) × (no_repeats rs ≡ true) = and_both (not (among r rs)) (no_repeats rs) e in
     elim (eq-or-ne x r) [
       | inl q ↦ rw q (omega (arith, times-self r rs, none-among r rs (not-true (among r rs) b.0)))
       | inr q ↦ omega (arith, times-other x r rs q, once-of rs b.1 x)
     ]
 
-pub of-once : (rs : List ℕ) → ((x : ℕ) → times x rs ≤ 1) → noRepeats rs ≡ true
-unfolding noRepeats
+pub of-once : (rs : List ℕ) → ((x : ℕ) → times x rs ≤ 1) → no_repeats rs ≡ true
+unfolding no_repeats
 of-once [] h = refl
 of-once (r ∷ rs) h =
     let n : among r rs ≡ false = among_none r rs (omega (arith, h r, times-self r rs)) in

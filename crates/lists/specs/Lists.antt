@@ -14,8 +14,8 @@ abbrev pub one : Bool → ℕ
 one z = pick z 1 0
 
 -- a number lies within two bounds, both included
-abbrev pub isIn : (low high x : ℕ) → Bool
-isIn a b x = leb a x && leb x b
+abbrev pub is_in : (low high x : ℕ) → Bool
+is_in a b x = leb a x && leb x b
 
 -- an answer says whether a fact holds
 pub record Decides (fact : Type 0) (answer : Bool) : Type 0 where
@@ -45,14 +45,14 @@ among x [] = false
 among x (y ∷ ys) = eqb x y || among x ys
 
 -- no number stands in a list twice
-unfoldable pub noRepeats : List ℕ → Bool
-noRepeats [] = true
-noRepeats (x ∷ xs) = not (among x xs) && noRepeats xs
+unfoldable pub no_repeats : List ℕ → Bool
+no_repeats [] = true
+no_repeats (x ∷ xs) = not (among x xs) && no_repeats xs
 
 -- every number in a list is 0
-unfoldable pub allZero : List ℕ → Bool
-allZero [] = true
-allZero (x ∷ xs) = eqb x 0 && allZero xs
+unfoldable pub all_zero : List ℕ → Bool
+all_zero [] = true
+all_zero (x ∷ xs) = eqb x 0 && all_zero xs
 
 -- the same list, as a test
 unfoldable pub same : List ℕ → List ℕ → Bool
@@ -89,23 +89,23 @@ abbrev pub put : List ℕ → (number value : ℕ) → List ℕ
 put xs k v = set xs (k - 1) v
 
 -- what a list has for each of some numbers, in their order
-unfoldable pub valuesAt : List ℕ → (numbers : List ℕ) → List ℕ
-valuesAt xs [] = []
-valuesAt xs (r ∷ rs) = at xs r ∷ valuesAt xs rs
+unfoldable pub values_at : List ℕ → (numbers : List ℕ) → List ℕ
+values_at xs [] = []
+values_at xs (r ∷ rs) = at xs r ∷ values_at xs rs
 
 -- a list written over the front of another
 abbrev pub over : {A : Type 0} → (new old : List A) → List A
 over xs old = xs ++ drop (length xs) old
 
 -- a list written over another from a place on
-abbrev pub writtenAt : (place : ℕ) → (new old : List ℕ) → List ℕ
-writtenAt p xs old = take p old ++ (xs ++ drop (p + length xs) old)
+abbrev pub written_at : (place : ℕ) → (new old : List ℕ) → List ℕ
+written_at p xs old = take p old ++ (xs ++ drop (p + length xs) old)
 
 -- two lists that keep step, in turns
-unfoldable pub pairsOf : (firsts seconds : List ℕ) → List ℕ
-pairsOf [] ys = []
-pairsOf (x ∷ xs) [] = []
-pairsOf (x ∷ xs) (y ∷ ys) = x ∷ y ∷ pairsOf xs ys
+unfoldable pub pairs_of : (firsts seconds : List ℕ) → List ℕ
+pairs_of [] ys = []
+pairs_of (x ∷ xs) [] = []
+pairs_of (x ∷ xs) (y ∷ ys) = x ∷ y ∷ pairs_of xs ys
 
 -- ---- rising lists
 

@@ -6,7 +6,7 @@ use mathlib.Core.List.{List, [], ◌∷◌}
 use Prim.Native.Nat.{ℕ, zero, suc, ◌+◌, ◌*◌, ◌<◌, ◌≤◌}
 use native.Mathlib.Omega.{arith}
 use lib.ListN.{length, get_or, set}
-use Rattle.multiplicity.specs.Places.{pairs, multiplicities, countEnd}
+use Rattle.multiplicity.specs.Places.{pairs, multiplicities, count_end}
 
 -- ---- how many
 
@@ -61,20 +61,20 @@ pairs_set (x ∷ (y ∷ zs)) (suc i) (suc (suc a)) (suc (suc b)) v w e f = ap (�
 
 pub is_wide : (z : Bool) → z ≡ true → (xs : List ℕ) → multiplicities z xs ≡ pairs xs
 is_wide true e xs = refl
-is_wide false e xs = absurd (omega (arith, ap countEnd e))
+is_wide false e xs = absurd (omega (arith, ap count_end e))
 
 pub is-narrow : (z : Bool) → z ≡ false → (xs : List ℕ) → multiplicities z xs ≡ xs
 is-narrow false e xs = refl
-is-narrow true e xs = absurd (omega (arith, ap countEnd e))
+is-narrow true e xs = absurd (omega (arith, ap count_end e))
 
-pub end-narrow : (z : Bool) → z ≡ false → countEnd z ≡ 65536
+pub end-narrow : (z : Bool) → z ≡ false → count_end z ≡ 65536
 end-narrow false e = refl
-end-narrow true e = absurd (omega (arith, ap countEnd e))
+end-narrow true e = absurd (omega (arith, ap count_end e))
 
-pub end-least : (z : Bool) → 65536 ≤ countEnd z
+pub end-least : (z : Bool) → 65536 ≤ count_end z
 end-least false = omega arith
 end-least true = omega arith
 
-pub end-most : (z : Bool) → countEnd z ≤ 262144
+pub end-most : (z : Bool) → count_end z ≤ 262144
 end-most false = omega arith
 end-most true = omega arith

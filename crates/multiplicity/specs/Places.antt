@@ -15,6 +15,6 @@ multiplicities false xs = xs
 multiplicities true xs = pairs xs
 
 -- one more than the largest multiplicity that is stored: 16 bits, and in wide tables 18, which plans and snapshots have for it; "none can pass 204,096"
-abbrev pub countEnd : (wide : Bool) → ℕ
-countEnd false = 65536
-countEnd true = 262144
+abbrev pub count_end : (wide : Bool) → ℕ
+count_end false = 65536
+count_end true = 262144

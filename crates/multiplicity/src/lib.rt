@@ -1,6 +1,6 @@
 // Multiplicities in 16-bit places, one or two for each record: how one is read and how it is written.
 ghost use Rattle.std.specs.Prelude.{◌≡◌, ◌<◌, length, get_or, set};
-ghost use Rattle.multiplicity.specs.Places.{multiplicities, countEnd};
+ghost use Rattle.multiplicity.specs.Places.{multiplicities, count_end};
 
 // The multiplicity at place i of the numbers.
 pub fn load(counts: &[u16], i: usize, wide: bool) -> u32
@@ -15,7 +15,7 @@ pub fn load(counts: &[u16], i: usize, wide: bool) -> u32
 
 // Stores a multiplicity at place i of the numbers.
 pub fn store(counts: &mut [u16], i: usize, v: u32, wide: bool)
-    requires { (i < length (multiplicities wide counts.old)) × (v < countEnd wide) }
+    requires { (i < length (multiplicities wide counts.old)) × (v < count_end wide) }
     ensures { multiplicities wide counts.new ≡ set (multiplicities wide counts.old) i v }
 {
     if wide {

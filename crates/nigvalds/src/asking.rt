@@ -1,11 +1,11 @@
 // Check and questions for hosts. Row numbers cross as plain numbers.
-ghost use Rattle.tables.specs.Lent.{tablesIn};
-ghost use Rattle.questions.specs.Asked.{replyOf, foundOf};
+ghost use Rattle.tables.specs.Lent.{tables_in};
+ghost use Rattle.questions.specs.Asked.{reply_of, found_of};
 ghost use Rattle.calls.specs.Calls.{call_of};
 ghost use Rattle.calls.specs.Calls.Entry.{checking, asking};
-ghost use Rattle.calls.specs.Calls.Question.{askNextRow, askParent, askPath, askColumn, askMeets, askCommon};
-ghost use Rattle.calls.specs.Lent.{workIn, workOut, listIn, listOut};
-ghost use Rattle.factor.specs.Entries.{worldOf, ReadStep};
+ghost use Rattle.calls.specs.Calls.Question.{ask_next_row, ask_parent, ask_path, ask_column, ask_meets, ask_common};
+ghost use Rattle.calls.specs.Lent.{work_in, work_out, list_in, list_out};
+ghost use Rattle.factor.specs.Entries.{world_of, ReadStep};
 
 use book::Row;
 use factor::Factor;
@@ -26,7 +26,7 @@ pub extern "C" fn nigvalds_check_0_7(
     windows: &[u32],
     work: &mut [u32],
 ) -> Reply
-    ensures { ReadStep (worldOf factor (tablesIn heads parents rows counts next book_heads book_rows book_next windows)) (call_of checking (workIn work)) (replyOf result) (workOut work) }
+    ensures { ReadStep (world_of factor (tables_in heads parents rows counts next book_heads book_rows book_next windows)) (call_of checking (work_in work)) (reply_of result) (work_out work) }
 {
     factor.check(
         heads, parents, rows, counts, next, book_heads, book_rows, book_next, windows, work,
@@ -50,7 +50,7 @@ pub extern "C" fn nigvalds_next_row_0_7(
     i: u32,
     j: u32,
 ) -> Found
-    ensures { ReadStep (worldOf factor (tablesIn heads parents rows counts next book_heads book_rows book_next windows)) (call_of (asking (askNextRow i j) 0) (workIn work)) (foundOf result) (workOut work) }
+    ensures { ReadStep (world_of factor (tables_in heads parents rows counts next book_heads book_rows book_next windows)) (call_of (asking (ask_next_row i j) 0) (work_in work)) (found_of result) (work_out work) }
 {
     factor.next_row(
         heads,
@@ -84,7 +84,7 @@ pub extern "C" fn nigvalds_parent_0_7(
     work: &mut [u32],
     j: u32,
 ) -> Reply
-    ensures { ReadStep (worldOf factor (tablesIn heads parents rows counts next book_heads book_rows book_next windows)) (call_of (asking (askParent j) 0) (workIn work)) (replyOf result) (workOut work) }
+    ensures { ReadStep (world_of factor (tables_in heads parents rows counts next book_heads book_rows book_next windows)) (call_of (asking (ask_parent j) 0) (work_in work)) (reply_of result) (work_out work) }
 {
     factor.parent(
         heads,
@@ -119,7 +119,7 @@ pub extern "C" fn nigvalds_path_0_7(
     j: u32,
     place: usize,
 ) -> Reply
-    ensures { ReadStep (worldOf factor (tablesIn heads parents rows counts next book_heads book_rows book_next windows)) (call_of (asking (askPath j) place) (listIn work list)) (replyOf result) (listOut work list) }
+    ensures { ReadStep (world_of factor (tables_in heads parents rows counts next book_heads book_rows book_next windows)) (call_of (asking (ask_path j) place) (list_in work list)) (reply_of result) (list_out work list) }
 {
     factor.path(
         heads,
@@ -156,7 +156,7 @@ pub extern "C" fn nigvalds_column_0_7(
     j: u32,
     place: usize,
 ) -> Reply
-    ensures { ReadStep (worldOf factor (tablesIn heads parents rows counts next book_heads book_rows book_next windows)) (call_of (asking (askColumn j) place) (listIn work list)) (replyOf result) (listOut work list) }
+    ensures { ReadStep (world_of factor (tables_in heads parents rows counts next book_heads book_rows book_next windows)) (call_of (asking (ask_column j) place) (list_in work list)) (reply_of result) (list_out work list) }
 {
     factor.column(
         heads,
@@ -193,7 +193,7 @@ pub extern "C" fn nigvalds_meets_0_7(
     i: u32,
     place: usize,
 ) -> Reply
-    ensures { ReadStep (worldOf factor (tablesIn heads parents rows counts next book_heads book_rows book_next windows)) (call_of (asking (askMeets i) place) (listIn work list)) (replyOf result) (listOut work list) }
+    ensures { ReadStep (world_of factor (tables_in heads parents rows counts next book_heads book_rows book_next windows)) (call_of (asking (ask_meets i) place) (list_in work list)) (reply_of result) (list_out work list) }
 {
     factor.meets(
         heads,
@@ -228,7 +228,7 @@ pub extern "C" fn nigvalds_common_0_7(
     work: &mut [u32],
     row_list: &[u32],
 ) -> Reply
-    ensures { ReadStep (worldOf factor (tablesIn heads parents rows counts next book_heads book_rows book_next windows)) (call_of (asking (askCommon row_list.now) 0) (workIn work)) (replyOf result) (workOut work) }
+    ensures { ReadStep (world_of factor (tables_in heads parents rows counts next book_heads book_rows book_next windows)) (call_of (asking (ask_common row_list.now) 0) (work_in work)) (reply_of result) (work_out work) }
 {
     factor.common(
         heads, parents, rows, counts, next, book_heads, book_rows, book_next, windows, work,

@@ -1,7 +1,7 @@
 // Batches and the clock for hosts.
-ghost use Rattle.tables.specs.Lent.{tablesIn, tablesOut};
+ghost use Rattle.tables.specs.Lent.{tables_in, tables_out};
 ghost use Rattle.calls.specs.Calls.Change.{setting};
-ghost use Rattle.calls.specs.Lent.{reportIn, reportOut, addingOf, removingOf};
+ghost use Rattle.calls.specs.Lent.{report_in, report_out, adding_of, removing_of};
 ghost use Rattle.answers.specs.Answers.{ChangeTransition};
 
 use answers::Changed;
@@ -29,7 +29,7 @@ pub extern "C" fn nigvalds_add_0_7(
     firsts: &[u32],
     seconds: &[u32],
 ) -> Changed
-    ensures { ChangeTransition factor (tablesIn heads parents rows counts next book_heads book_rows book_next windows) (addingOf ids row_counts row_list firsts seconds) (reportIn work touched labels) result (reportOut work touched labels) (tablesOut heads parents rows counts next book_heads book_rows book_next windows) }
+    ensures { ChangeTransition factor (tables_in heads parents rows counts next book_heads book_rows book_next windows) (adding_of ids row_counts row_list firsts seconds) (report_in work touched labels) result (report_out work touched labels) (tables_out heads parents rows counts next book_heads book_rows book_next windows) }
 {
     changes::add(
         factor, heads, parents, rows, counts, next, book_heads, book_rows, book_next, windows,
@@ -55,7 +55,7 @@ pub extern "C" fn nigvalds_remove_0_7(
     labels: &mut [u16],
     ids: &[u32],
 ) -> Changed
-    ensures { ChangeTransition factor (tablesIn heads parents rows counts next book_heads book_rows book_next windows) (removingOf ids) (reportIn work touched labels) result (reportOut work touched labels) (tablesOut heads parents rows counts next book_heads book_rows book_next windows) }
+    ensures { ChangeTransition factor (tables_in heads parents rows counts next book_heads book_rows book_next windows) (removing_of ids) (report_in work touched labels) result (report_out work touched labels) (tables_out heads parents rows counts next book_heads book_rows book_next windows) }
 {
     changes::remove(
         factor, heads, parents, rows, counts, next, book_heads, book_rows, book_next, windows,
@@ -81,7 +81,7 @@ pub extern "C" fn nigvalds_set_clock_0_7(
     labels: &mut [u16],
     minute: u32,
 ) -> Changed
-    ensures { ChangeTransition factor (tablesIn heads parents rows counts next book_heads book_rows book_next windows) (setting minute) (reportIn work touched labels) result (reportOut work touched labels) (tablesOut heads parents rows counts next book_heads book_rows book_next windows) }
+    ensures { ChangeTransition factor (tables_in heads parents rows counts next book_heads book_rows book_next windows) (setting minute) (report_in work touched labels) result (report_out work touched labels) (tables_out heads parents rows counts next book_heads book_rows book_next windows) }
 {
     clock::set_clock(
         factor, heads, parents, rows, counts, next, book_heads, book_rows, book_next, windows,

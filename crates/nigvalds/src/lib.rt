@@ -2,10 +2,10 @@
 // the entry. Its name ends in the interface's version, so that hosts of another one do not link. An answer that is an enum crosses as a struct of numbers (`crossing`).
 ghost use Rattle.std.specs.Prelude.{◌≡◌};
 ghost use Rattle.reader.specs.Reading.{entry_at};
-ghost use Rattle.symbolic.specs.Grades.{limitsOf};
-ghost use Rattle.tables.specs.Tables.{sizesOf};
-ghost use Rattle.tables.specs.Lent.{tablesIn, tablesOut};
-ghost use Rattle.crossing.specs.Crossing.{OpenedStep, readFrom};
+ghost use Rattle.symbolic.specs.Grades.{limits_of};
+ghost use Rattle.tables.specs.Tables.{sizes_of};
+ghost use Rattle.tables.specs.Lent.{tables_in, tables_out};
+ghost use Rattle.crossing.specs.Crossing.{OpenedStep, read_from};
 
 mod asking;
 mod batches;
@@ -36,7 +36,7 @@ pub extern "C" fn nigvalds_open_0_7(
     windows: &mut [u32],
     work: &mut [u32],
 ) -> Opened
-    ensures { OpenedStep (sizesOf m n f c) (limitsOf grade2 grade3 grade4) (tablesIn heads parents rows counts next book_heads book_rows book_next windows) work.old result (tablesOut heads parents rows counts next book_heads book_rows book_next windows) work.new }
+    ensures { OpenedStep (sizes_of m n f c) (limits_of grade2 grade3 grade4) (tables_in heads parents rows counts next book_heads book_rows book_next windows) work.old result (tables_out heads parents rows counts next book_heads book_rows book_next windows) work.new }
 {
     let x = Factor::open(
         m, n, f, c, grade2, grade3, grade4, heads, parents, rows, counts, next, book_heads,
@@ -48,7 +48,7 @@ pub extern "C" fn nigvalds_open_0_7(
 // The entry of a record, of any tables and any number.
 #[unsafe(no_mangle)]
 pub extern "C" fn nigvalds_read_0_7(rows: &[u16], counts: &[u16], next: &[u32], record: u32) -> Read
-    ensures { result ≡ readFrom (entry_at rows.now counts.now next.now «record») }
+    ensures { result ≡ read_from (entry_at rows.now counts.now next.now «record») }
 {
     let x = reader::entry_at(rows, counts, next, Rec(record));
     crossing::read_from(x)

@@ -10,15 +10,15 @@ use Rattle.lists.specs.Lists.{over, up_from}
 use Rattle.lists.proofs.Rising.{up-length}
 use Rattle.workspace.specs.Regions.{cleared}
 use Rattle.workspace.proofs.Regions.{first-cleared}
-use Rattle.pool.specs.Opening.{openedNexts}
+use Rattle.pool.specs.Opening.{opened_nexts}
 use Rattle.pool.proofs.Opening.{opened-length}
-use Rattle.book.specs.Book.{Book, bookOf}
+use Rattle.book.specs.Book.{Book, book_of}
 use Rattle.book.specs.Entries.{opened}
 use Rattle.tables.specs.Tables.{Tables, Sizes, tables_of}
 use Rattle.tables.proofs.Tables.{Long, long-facts}
-use Rattle.columns.specs.Opened.{openedRows, openedCounts, CanOpen, Opened}
+use Rattle.columns.specs.Opened.{opened_rows, opened_counts, CanOpen, Opened}
 use Rattle.columns.proofs.Opened.{rows-length, counts-length}
-use Rattle.calls.specs.Refusals.{workFor}
+use Rattle.calls.specs.Refusals.{work_for}
 use Rattle.calls.proofs.Refusals.{InRange}
 use Rattle.admission.specs.Admission.{HasPlaces}
 use Rattle.opening.specs.Written.{HoldColumns, ColumnsWritten, HoldBook, BookWritten, OpeningWritten}
@@ -56,9 +56,9 @@ module _ {m f : ℕ} {hs ps rs cs ns : List ℕ} (h : HoldColumns m f hs ps rs c
       record {
         heads-are = prefix-over (up_from 1 m) hs m (up-length 1 m) (o.heads-are ∙ ap (λ (k : ℕ). up_from 1 k) a);
         parents-are = prefix-over (replicate m 0) ps m (length-replicate {A = ℕ} m 0) (o.parents-are ∙ ap (λ (k : ℕ). replicate k 0) a);
-        rows_are = prefix-over (openedRows m f) rs f (rows-length m f h.enough) (o.rows_are ∙ rw (a, b) refl);
-        counts-are = prefix-over (openedCounts m f) cs f (counts-length m f h.enough) (o.counts-are ∙ rw (a, b) refl);
-        next-is = prefix-over (openedNexts m f) ns f (opened-length m f h.enough) (o.next-is ∙ rw (a, b) refl);
+        rows_are = prefix-over (opened_rows m f) rs f (rows-length m f h.enough) (o.rows_are ∙ rw (a, b) refl);
+        counts-are = prefix-over (opened_counts m f) cs f (counts-length m f h.enough) (o.counts-are ∙ rw (a, b) refl);
+        next-is = prefix-over (opened_nexts m f) ns f (opened-length m f h.enough) (o.next-is ∙ rw (a, b) refl);
         free-is = o.free-is ∙ rw (a, b) refl;
       }
 
@@ -71,15 +71,15 @@ module _ {n c : ℕ} {hs rs ns : List ℕ} (h : HoldBook n c hs rs ns) where
   pub book-opens : (length (take c rs) ≡ length (take c ns)) × (length (take c ns) < 4294967295)
   book-opens = (length-take-le c rs h.rows_long ∙ sym book-cut, omega (arith, book-cut, h.records-narrow))
 
-  pub book-written : {hs' rs' ns' : List ℕ} {free : ℕ} → bookOf hs' rs' ns' free ≡ opened (length (take n hs)) (length (take c ns)) →
+  pub book-written : {hs' rs' ns' : List ℕ} {free : ℕ} → book_of hs' rs' ns' free ≡ opened (length (take n hs)) (length (take c ns)) →
       BookWritten n c hs rs ns (hs' ++ drop n hs) (rs' ++ drop c rs) (ns' ++ drop c ns) free
   book-written {hs'} {rs'} {ns'} {free} e =
       let a : length (take n hs) ≡ n = length-take-le n hs h.heads-long in
-      let o : bookOf hs' rs' ns' free ≡ opened n c = e ∙ rw (a, book-cut) refl in
+      let o : book_of hs' rs' ns' free ≡ opened n c = e ∙ rw (a, book-cut) refl in
       record {
         heads-are = prefix-over (replicate n 0) hs n (length-replicate {A = ℕ} n 0) (ap (λ (b : Book). b.heads) o);
         rows_are = prefix-over (replicate c 0) rs c (length-replicate {A = ℕ} c 0) (ap (λ (b : Book). b.rows) o);
-        next-is = prefix-over (openedNexts 0 c) ns c (opened-length 0 c (omega arith)) (ap (λ (b : Book). b.next) o);
+        next-is = prefix-over (opened_nexts 0 c) ns c (opened-length 0 c (omega arith)) (ap (λ (b : Book). b.next) o);
         free-is = ap (λ (b : Book). b.free) o;
       }
 
@@ -105,12 +105,12 @@ module _ {l : Sizes} {t : Tables} {w : List ℕ} (a : HasPlaces l t w) where
         records-narrow = omega (arith, range.f-high);
       }
 
-  pub hold-book : HoldBook l.n l.c t.bookHeads t.bookRows t.bookNext
+  pub hold-book : HoldBook l.n l.c t.book_heads t.book_rows t.book_next
   hold-book =
       record {
-        heads-long = places.bookHeads;
-        rows_long = places.bookRows;
-        next-long = places.bookNext;
+        heads-long = places.book_heads;
+        rows_long = places.book_rows;
+        next-long = places.book_next;
         records-narrow = omega (arith, range.c-high);
       }
 
@@ -118,10 +118,10 @@ module _ {l : Sizes} {t : Tables} {w : List ℕ} (a : HasPlaces l t w) where
   pub hold-windows : 0 + 2 * l.n ≤ length t.windows
   hold-windows = omega (arith, places.windows)
 
-  pub all-written : {hs ps rs cs ns bh br bn ws x : List ℕ} {free bookFree k : ℕ} →
+  pub all-written : {hs ps rs cs ns bh br bn ws x : List ℕ} {free book_free k : ℕ} →
       ColumnsWritten l.m l.f t.heads t.parents t.rows t.counts t.next hs ps rs cs ns free →
-      BookWritten l.n l.c t.bookHeads t.bookRows t.bookNext bh br bn bookFree → ws ≡ cleared t.windows 0 (2 * l.n) →
-      x ≡ cleared w 0 k → k ≡ workFor l → OpeningWritten l t w (tables_of hs ps rs cs ns bh br bn ws) x free bookFree
+      BookWritten l.n l.c t.book_heads t.book_rows t.book_next bh br bn book_free → ws ≡ cleared t.windows 0 (2 * l.n) →
+      x ≡ cleared w 0 k → k ≡ work_for l → OpeningWritten l t w (tables_of hs ps rs cs ns bh br bn ws) x free book_free
   all-written p q v e z =
       record {
         tables = λ i. record {
@@ -130,12 +130,12 @@ module _ {l : Sizes} {t : Tables} {w : List ℕ} (a : HasPlaces l t w) where
           rows = p.rows_are i;
           counts = p.counts-are i;
           next = p.next-is i;
-          bookHeads = q.heads-are i;
-          bookRows = q.rows_are i;
-          bookNext = q.next-is i;
+          book_heads = q.heads-are i;
+          book_rows = q.rows_are i;
+          book_next = q.next-is i;
           windows = (v ∙ sym (first-cleared (2 * l.n) t.windows places.windows)) i;
         };
-        left = e ∙ ap (λ (n : ℕ). cleared w 0 n) z ∙ sym (first-cleared (workFor l) w a.room);
+        left = e ∙ ap (λ (n : ℕ). cleared w 0 n) z ∙ sym (first-cleared (work_for l) w a.room);
         free-is = p.free-is;
         book-free-is = q.free-is;
       }

@@ -13,7 +13,7 @@ use Rattle.lists.proofs.Member.{split-mem}
 use Rattle.lists.proofs.Times.{times-nil, times-self, times-append, times-mem}
 use Rattle.pool.specs.Chains.{chain, last_of, Linked}
 use Rattle.pool.specs.Whole.{chains, AllLinked}
-use Rattle.pool.specs.Ends.{lastFrom, lasts, NoneTwice}
+use Rattle.pool.specs.Ends.{last_from, lasts, NoneTwice}
 use Rattle.pool.proofs.Chains.{last-split, last-append, linked-in, After, linked-after, linked-unique, linked-once}
 use Rattle.pool.proofs.Whole.{chains-nil, chains-times, place-two, place-linked, all-parts}
 
@@ -65,7 +65,7 @@ pub lasts-nil : (ns : List ℕ) → lasts ns [] ≡ []
 unfolding lasts
 lasts-nil ns = refl
 
-pub lasts-cons : (ns : List ℕ) (h : ℕ) (hs : List ℕ) → lasts ns (h ∷ hs) ≡ lastFrom ns h ∷ lasts ns hs
+pub lasts-cons : (ns : List ℕ) (h : ℕ) (hs : List ℕ) → lasts ns (h ∷ hs) ≡ last_from ns h ∷ lasts ns hs
 unfolding lasts
 lasts-cons ns h hs = refl
 
@@ -77,9 +77,9 @@ lasts-length ns (h ∷ hs) = ap suc (lasts-length ns hs)
 pub lasts-append : (ns xs ys : List ℕ) → lasts ns (xs ++ ys) ≡ lasts ns xs ++ lasts ns ys
 unfolding lasts
 lasts-append ns [] ys = refl
-lasts-append ns (h ∷ hs) ys = ap (λ (l : List ℕ). lastFrom ns h ∷ l) (lasts-append ns hs ys)
+lasts-append ns (h ∷ hs) ys = ap (λ (l : List ℕ). last_from ns h ∷ l) (lasts-append ns hs ys)
 
-pub lasts-at : (ns hs : List ℕ) (i : ℕ) → i < length hs → get_or (lasts ns hs) i 0 ≡ lastFrom ns (get_or hs i 0)
+pub lasts-at : (ns hs : List ℕ) (i : ℕ) → i < length hs → get_or (lasts ns hs) i 0 ≡ last_from ns (get_or hs i 0)
 unfolding lasts
 lasts-at ns [] i h = absurd (omega arith)
 lasts-at ns (g ∷ hs) zero h = refl
@@ -106,7 +106,7 @@ unfolding lasts
 ends-apart ns [] l t x = omega (arith, ap (times x) (chains-nil ns), times-nil x)
 ends-apart ns (h ∷ hs) l t x =
     let a : Linked ns h (chain ns h) × AllLinked ns hs = all-parts ns h hs l in
-    let rest : times x (chains ns hs) ≤ 1 = ends-apart ns hs a.1 (none_rest (lastFrom ns h) (lasts ns hs) t) x in
+    let rest : times x (chains ns hs) ≤ 1 = ends-apart ns hs a.1 (none_rest (last_from ns h) (lasts ns hs) t) x in
     let here : times x (chain ns h) ≤ 1 = linked-once ns h (chain ns h) a.0 x in
     elim (both-or (times x (chain ns h)) (times x (chains ns hs)) here rest) [
       | inl e ↦ omega (arith, chains-times ns h hs x)
@@ -114,7 +114,7 @@ ends-apart ns (h ∷ hs) l t x =
           let f : (j : ℕ) × (j < length hs) × (1 ≤ times x (chain ns (get_or hs j 0))) = chains-find ns hs x b.1 in
           let g : ℕ = get_or hs f.0 0 in
           let k : Linked ns g (chain ns g) = place-linked ns hs f.0 f.1 a.1 in
-          let e : lastFrom ns h ≡ get_or (lasts ns hs) f.0 0 = shared_last ns h g (chain ns h) (chain ns g) x a.0 k b.0 f.2 ∙ sym (lasts-at ns hs f.0 f.1) in
+          let e : last_from ns h ≡ get_or (lasts ns hs) f.0 0 = shared_last ns h g (chain ns h) (chain ns g) x a.0 k b.0 f.2 ∙ sym (lasts-at ns hs f.0 f.1) in
           let z : 0 ≡ suc f.0 = t 0 (suc f.0) (omega arith) (omega (arith, f.1, lasts-length ns hs)) (last_some ns h (chain ns h) x a.0 b.0) e in
           absurd (omega arith)
     ]
@@ -129,8 +129,8 @@ apart-ends ns hs l once i k p q s e =
     let u : i < length hs = omega (arith, lasts-length ns hs) in
     let v : k < length hs = omega (arith, lasts-length ns hs) in
     let x : ℕ = get_or (lasts ns hs) i 0 in
-    let a : x ≡ lastFrom ns (get_or hs i 0) = lasts-at ns hs i u in
-    let b : x ≡ lastFrom ns (get_or hs k 0) = e ∙ lasts-at ns hs k v in
+    let a : x ≡ last_from ns (get_or hs i 0) = lasts-at ns hs i u in
+    let b : x ≡ last_from ns (get_or hs k 0) = e ∙ lasts-at ns hs k v in
     elim (eq-or-ne i k) [
       | inl z ↦ z
       | inr d ↦

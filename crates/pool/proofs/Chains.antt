@@ -1,4 +1,4 @@
--- Laws of chains, in this order: the list `chainFrom` at its first record and its end; what a linked list of records has (range, end,
+-- Laws of chains, in this order: the list `chain_from` at its first record and its end; what a linked list of records has (range, end,
 -- the part after a record) and how it stays or changes where the `next` table changes; a head has one linked list only, it
 -- repeats nothing and has no more records than the pool (so Linked gives `chain ns h ≡ rs` with no bound to show); the test `ends` is Linked.
 -- Assumes nothing.
@@ -10,24 +10,24 @@ use Prim.Native.Nat.{ℕ, zero, suc, ◌≤◌}
 use native.Mathlib.Omega.{arith}
 use lib.ListN.{length, length-append}
 use borrow.Author.Tests.{le-leb, eq-eqb, eqb-true}
-use Rattle.lists.specs.Lists.{isIn, at, times}
+use Rattle.lists.specs.Lists.{is_in, at, times}
 use Rattle.lists.proofs.Tests.{cases, eq-or-ne, zero-or-pos, in-range}
 use Rattle.lists.proofs.Member.{split-mem}
 use Rattle.lists.proofs.Times.{times-nil, times-self, times-other, times-cons, times-mem, UpTo, once-length}
-use Rattle.pool.specs.Chains.{chainFrom, chain, last_of, endsAfter, ends, Linked}
+use Rattle.pool.specs.Chains.{chain_from, chain, last_of, ends_after, ends, Linked}
 
 -- ---- the list from a head: at a record, at 0, out of the pool
 
-pub chain-in : (n : ℕ) (ns : List ℕ) (r : ℕ) → 1 ≤ r → r ≤ length ns → chainFrom (suc n) ns r ≡ r ∷ chainFrom n ns (at ns r)
-unfolding chainFrom
+pub chain-in : (n : ℕ) (ns : List ℕ) (r : ℕ) → 1 ≤ r → r ≤ length ns → chain_from (suc n) ns r ≡ r ∷ chain_from n ns (at ns r)
+unfolding chain_from
 chain-in n ns r p q = rw (le-leb 1 r p, le-leb r (length ns) q) refl
 
-pub chain-nil : (n : ℕ) (ns : List ℕ) → chainFrom n ns 0 ≡ []
-unfolding chainFrom
+pub chain-nil : (n : ℕ) (ns : List ℕ) → chain_from n ns 0 ≡ []
+unfolding chain_from
 chain-nil zero ns = refl
 chain-nil (suc n) ns = refl
 
-pub ends_next : (ns : List ℕ) (r : ℕ) (rs : List ℕ) → endsAfter ns r (r ∷ rs) ≡ endsAfter ns (at ns r) rs
+pub ends_next : (ns : List ℕ) (r : ℕ) (rs : List ℕ) → ends_after ns r (r ∷ rs) ≡ ends_after ns (at ns r) rs
 unfolding last_of
 ends_next ns r [] = refl
 ends_next ns r (x ∷ xs) = refl
@@ -162,7 +162,7 @@ linked-once ns h (r ∷ rs) l x =
 pub linked-short : (ns : List ℕ) (h : ℕ) (rs : List ℕ) → Linked ns h rs → length rs ≤ length ns
 linked-short ns h rs l = once-length (length ns) rs (linked-once ns h rs l) (linked-in ns h rs l)
 
-pub linked-from : (n : ℕ) (ns : List ℕ) (h : ℕ) (rs : List ℕ) → Linked ns h rs → length rs ≤ n → chainFrom n ns h ≡ rs
+pub linked-from : (n : ℕ) (ns : List ℕ) (h : ℕ) (rs : List ℕ) → Linked ns h rs → length rs ≤ n → chain_from n ns h ≡ rs
 unfolding Linked
 linked-from n ns h [] l e = rw l (chain-nil n ns)
 linked-from zero ns h (r ∷ rs) l e = absurd (omega arith)
@@ -186,22 +186,22 @@ one-stays ns₀ ns h e same l =
 
 -- ---- the test that a chain ends
 
-from-linked : (n : ℕ) (ns : List ℕ) (h : ℕ) → endsAfter ns h (chainFrom n ns h) ≡ true → Linked ns h (chainFrom n ns h)
-unfolding chainFrom Linked
+from-linked : (n : ℕ) (ns : List ℕ) (h : ℕ) → ends_after ns h (chain_from n ns h) ≡ true → Linked ns h (chain_from n ns h)
+unfolding chain_from Linked
 from-linked zero ns h e = eqb-true h 0 e
 from-linked (suc n) ns h e =
-    elim (cases (isIn 1 (length ns) h)) [
+    elim (cases (is_in 1 (length ns) h)) [
       | inl t ↦
           let q : (1 ≤ h) × (h ≤ length ns) = in-range 1 (length ns) h t in
-          let d : endsAfter ns h (h ∷ chainFrom n ns (at ns h)) ≡ true = rw t at e in
-          rw t (refl, q.0, q.1, from-linked n ns (at ns h) (sym (ends_next ns h (chainFrom n ns (at ns h))) ∙ d))
+          let d : ends_after ns h (h ∷ chain_from n ns (at ns h)) ≡ true = rw t at e in
+          rw t (refl, q.0, q.1, from-linked n ns (at ns h) (sym (ends_next ns h (chain_from n ns (at ns h))) ∙ d))
       | inr t ↦ rw t (eqb-true h 0 (rw t at e))
     ]
 
 pub chain-linked : (ns : List ℕ) (h : ℕ) → ends ns h ≡ true → Linked ns h (chain ns h)
 chain-linked ns h e = from-linked (length ns) ns h e
 
-linked-after-ends : (ns : List ℕ) (h : ℕ) (rs : List ℕ) → Linked ns h rs → endsAfter ns h rs ≡ true
+linked-after-ends : (ns : List ℕ) (h : ℕ) (rs : List ℕ) → Linked ns h rs → ends_after ns h rs ≡ true
 unfolding Linked
 linked-after-ends ns h [] l = eq-eqb h 0 l
 linked-after-ends ns h (r ∷ rs) l = ends_next ns r rs ∙ linked-after-ends ns (at ns r) rs l.3

@@ -15,7 +15,7 @@ use Rattle.lists.proofs.Times.{times-nil, times-self, times-cons, times-append, 
 use Rattle.lists.proofs.Place.{put-length, put_same, at-put-same, at-put-other}
 use Rattle.pool.specs.Chains.{chain, Linked}
 use Rattle.pool.specs.Whole.{AllLinked, Pool}
-use Rattle.pool.specs.Changes.{insertAfter, unlinkAfter, Beside, Changed}
+use Rattle.pool.specs.Changes.{insert_after, unlink_after, Beside, Changed}
 use Rattle.pool.proofs.Chains.{linked-nil, linked-cons, After, linked-after, linked-frame, linked-tail, linked-once, linked-chain, linked-self, one-stays}
 use Rattle.pool.proofs.Whole.{chains-mid, chains-mid-length, all_cons, all-parts, all_split, all_join, Stays, all_stay, pool-linked, pool-once, pool-other}
 
@@ -84,17 +84,17 @@ changed-join {ns} {h} {f} ds p fs b =
 -- ---- insert: the first free record q taken in after p
 
 module _ (ns : List ℕ) (p q : ℕ) (lowp : 1 ≤ p) (lowq : 1 ≤ q) where
-  pub insert-length : length (insertAfter ns p q) ≡ length ns
+  pub insert-length : length (insert_after ns p q) ≡ length ns
   insert-length = put-length (put ns q (at ns p)) p q ∙ put-length ns q (at ns p)
 
-  pub insert-other : (x : ℕ) → 1 ≤ x → x ≢ p → x ≢ q → at (insertAfter ns p q) x ≡ at ns x
+  pub insert-other : (x : ℕ) → 1 ≤ x → x ≢ p → x ≢ q → at (insert_after ns p q) x ≡ at ns x
   insert-other x l np nq = at-put-other (put ns q (at ns p)) p x q lowp l np ∙ at-put-other ns q x (at ns p) lowq l nq
 
-  insert-beside : (h : ℕ) (rs : List ℕ) → times p rs ≡ 0 → times q rs ≡ 0 → Linked ns h rs → Linked (insertAfter ns p q) h rs
+  insert-beside : (h : ℕ) (rs : List ℕ) → times p rs ≡ 0 → times q rs ≡ 0 → Linked ns h rs → Linked (insert_after ns p q) h rs
   insert-beside h rs np nq l =
-      linked-frame ns (insertAfter ns p q) h rs insert-length (λ x a b. insert-other x a (differs x p rs b np) (differs x q rs b nq)) l
+      linked-frame ns (insert_after ns p q) h rs insert-length (λ x a b. insert-other x a (differs x p rs b np) (differs x q rs b nq)) l
 
-pub changed-insert : {ns : List ℕ} {h f : ℕ} (ds : List ℕ) (p : ℕ) (bs : List ℕ) (q : ℕ) (fs : List ℕ) → Beside ns h f (ds ++ (p ∷ bs)) (q ∷ fs) → Changed ns (insertAfter ns p q) h f h (at ns q) (ds ++ (p ∷ (q ∷ bs))) fs
+pub changed-insert : {ns : List ℕ} {h f : ℕ} (ds : List ℕ) (p : ℕ) (bs : List ℕ) (q : ℕ) (fs : List ℕ) → Beside ns h f (ds ++ (p ∷ bs)) (q ∷ fs) → Changed ns (insert_after ns p q) h f h (at ns q) (ds ++ (p ∷ (q ∷ bs))) fs
 changed-insert {ns} {h} {f} ds p bs q fs b =
     let w : After ns p bs = linked-after ns h ds p bs b.linked in
     let v : After ns q fs = linked-after ns f [] q fs b.unused in
@@ -104,14 +104,14 @@ changed-insert {ns} {h} {f} ds p bs q fs b =
     let qp : q ≢ p = elsewhere q p ds bs c.free in
     let mine : chain ns h ≡ ds ++ (p ∷ bs) = linked-chain ns h (ds ++ (p ∷ bs)) b.linked in
     let free : chain ns f ≡ q ∷ fs = linked-chain ns f (q ∷ fs) b.unused in
-    let long : length (insertAfter ns p q) ≡ length ns = insert-length ns p q w.low v.low in
-    let at_p : at (insertAfter ns p q) p ≡ q = at-put-same (put ns q (at ns p)) p q w.low (omega (arith, w.high, put-length ns q (at ns p))) in
-    let at-q : at (insertAfter ns p q) q ≡ at ns p = at-put-other (put ns q (at ns p)) p q q w.low v.low qp ∙ at-put-same ns q (at ns p) v.low v.high in
-    let tail : Linked (insertAfter ns p q) (at ns p) bs = insert-beside ns p q w.low v.low (at ns p) bs a.back (omega (arith, c.free)) w.tail in
-    let with-q : Linked (insertAfter ns p q) q (q ∷ bs) = linked-cons (insertAfter ns p q) q bs v.low (omega (arith, v.high)) (rw at-q tail) in
+    let long : length (insert_after ns p q) ≡ length ns = insert-length ns p q w.low v.low in
+    let at_p : at (insert_after ns p q) p ≡ q = at-put-same (put ns q (at ns p)) p q w.low (omega (arith, w.high, put-length ns q (at ns p))) in
+    let at-q : at (insert_after ns p q) q ≡ at ns p = at-put-other (put ns q (at ns p)) p q q w.low v.low qp ∙ at-put-same ns q (at ns p) v.low v.high in
+    let tail : Linked (insert_after ns p q) (at ns p) bs = insert-beside ns p q w.low v.low (at ns p) bs a.back (omega (arith, c.free)) w.tail in
+    let with-q : Linked (insert_after ns p q) q (q ∷ bs) = linked-cons (insert_after ns p q) q bs v.low (omega (arith, v.high)) (rw at-q tail) in
     record {
       same_length = long;
-      linked = linked-tail ns (insertAfter ns p q) h ds p bs (q ∷ bs) long
+      linked = linked-tail ns (insert_after ns p q) h ds p bs (q ∷ bs) long
           (λ x low n. insert-other ns p q w.low v.low x low (differs x p ds n a.front) (differs x q ds n (omega (arith, c.free)))) (rw at_p with-q) b.linked;
       unused = insert-beside ns p q w.low v.low (at ns q) fs (omega (arith, a.free, times-cons p q fs)) c.back v.tail;
       once = λ x. omega (arith, ap (times x) mine, ap (times x) free, times-mid x ds p bs, times-mid x ds p (q ∷ bs), times-cons x q bs, times-cons x q fs);
@@ -122,17 +122,17 @@ changed-insert {ns} {h} {f} ds p bs q fs b =
 -- ---- unlink: the record q after p given back, as the first free record
 
 module _ (ns : List ℕ) (p q f : ℕ) (lowp : 1 ≤ p) (lowq : 1 ≤ q) where
-  pub unlink-length : length (unlinkAfter ns p q f) ≡ length ns
+  pub unlink-length : length (unlink_after ns p q f) ≡ length ns
   unlink-length = put-length (put ns p (at ns q)) q f ∙ put-length ns p (at ns q)
 
-  pub unlink-other : (x : ℕ) → 1 ≤ x → x ≢ p → x ≢ q → at (unlinkAfter ns p q f) x ≡ at ns x
+  pub unlink-other : (x : ℕ) → 1 ≤ x → x ≢ p → x ≢ q → at (unlink_after ns p q f) x ≡ at ns x
   unlink-other x l np nq = at-put-other (put ns p (at ns q)) q x f lowq l nq ∙ at-put-other ns p x (at ns q) lowp l np
 
-  unlink-beside : (h : ℕ) (rs : List ℕ) → times p rs ≡ 0 → times q rs ≡ 0 → Linked ns h rs → Linked (unlinkAfter ns p q f) h rs
+  unlink-beside : (h : ℕ) (rs : List ℕ) → times p rs ≡ 0 → times q rs ≡ 0 → Linked ns h rs → Linked (unlink_after ns p q f) h rs
   unlink-beside h rs np nq l =
-      linked-frame ns (unlinkAfter ns p q f) h rs unlink-length (λ x a b. unlink-other x a (differs x p rs b np) (differs x q rs b nq)) l
+      linked-frame ns (unlink_after ns p q f) h rs unlink-length (λ x a b. unlink-other x a (differs x p rs b np) (differs x q rs b nq)) l
 
-pub changed-unlink : {ns : List ℕ} {h f : ℕ} (ds : List ℕ) (p q : ℕ) (bs fs : List ℕ) → Beside ns h f (ds ++ (p ∷ (q ∷ bs))) fs → Changed ns (unlinkAfter ns p q f) h f h q (ds ++ (p ∷ bs)) (q ∷ fs)
+pub changed-unlink : {ns : List ℕ} {h f : ℕ} (ds : List ℕ) (p q : ℕ) (bs fs : List ℕ) → Beside ns h f (ds ++ (p ∷ (q ∷ bs))) fs → Changed ns (unlink_after ns p q f) h f h q (ds ++ (p ∷ bs)) (q ∷ fs)
 changed-unlink {ns} {h} {f} ds p q bs fs b =
     let w : After ns p (q ∷ bs) = linked-after ns h ds p (q ∷ bs) b.linked in
     let v : After ns q bs = linked-after ns (at ns p) [] q bs w.tail in
@@ -146,16 +146,16 @@ changed-unlink {ns} {h} {f} ds p q bs fs b =
     let pq : p ≢ q = apart p q bs a.back in
     let mine : chain ns h ≡ ds ++ (p ∷ (q ∷ bs)) = linked-chain ns h (ds ++ (p ∷ (q ∷ bs))) b.linked in
     let free : chain ns f ≡ fs = linked-chain ns f fs b.unused in
-    let long : length (unlinkAfter ns p q f) ≡ length ns = unlink-length ns p q f w.low v.low in
-    let at_p : at (unlinkAfter ns p q f) p ≡ at ns q = at-put-other (put ns p (at ns q)) q p f v.low w.low pq ∙ at-put-same ns p (at ns q) w.low w.high in
-    let at-q : at (unlinkAfter ns p q f) q ≡ f = at-put-same (put ns p (at ns q)) q f v.low (omega (arith, v.high, put-length ns p (at ns q))) in
-    let tail : Linked (unlinkAfter ns p q f) (at ns q) bs = unlink-beside ns p q f w.low v.low (at ns q) bs (omega (arith, a.back, times-cons p q bs)) qb v.tail in
-    let rest : Linked (unlinkAfter ns p q f) f fs = unlink-beside ns p q f w.low v.low f fs a.free qf b.unused in
+    let long : length (unlink_after ns p q f) ≡ length ns = unlink-length ns p q f w.low v.low in
+    let at_p : at (unlink_after ns p q f) p ≡ at ns q = at-put-other (put ns p (at ns q)) q p f v.low w.low pq ∙ at-put-same ns p (at ns q) w.low w.high in
+    let at-q : at (unlink_after ns p q f) q ≡ f = at-put-same (put ns p (at ns q)) q f v.low (omega (arith, v.high, put-length ns p (at ns q))) in
+    let tail : Linked (unlink_after ns p q f) (at ns q) bs = unlink-beside ns p q f w.low v.low (at ns q) bs (omega (arith, a.back, times-cons p q bs)) qb v.tail in
+    let rest : Linked (unlink_after ns p q f) f fs = unlink-beside ns p q f w.low v.low f fs a.free qf b.unused in
     record {
       same_length = long;
-      linked = linked-tail ns (unlinkAfter ns p q f) h ds p (q ∷ bs) bs long
+      linked = linked-tail ns (unlink_after ns p q f) h ds p (q ∷ bs) bs long
           (λ x low n. unlink-other ns p q f w.low v.low x low (differs x p ds n a.front) (differs x q ds n qd)) (rw at_p tail) b.linked;
-      unused = linked-cons (unlinkAfter ns p q f) q fs v.low (omega (arith, v.high)) (rw at-q rest);
+      unused = linked-cons (unlink_after ns p q f) q fs v.low (omega (arith, v.high)) (rw at-q rest);
       once = λ x. omega (arith, ap (times x) mine, ap (times x) free, times-mid x ds p bs, times-mid x ds p (q ∷ bs), times-cons x q bs, times-cons x q fs);
       size = omega (arith, ap length mine, ap length free, length-append ds (p ∷ bs), length-append ds (p ∷ (q ∷ bs)));
       frame = λ x low n.

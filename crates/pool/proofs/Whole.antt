@@ -11,7 +11,7 @@ use native.Mathlib.Omega.{arith}
 use lib.Dec.{eqb}
 use lib.ListN.{length, get_or, length-append}
 use borrow.Author.Tests.{eq-eqb, eqb-true}
-use Rattle.lists.specs.Lists.{at, times, all, noRepeats}
+use Rattle.lists.specs.Lists.{at, times, all, no_repeats}
 use Rattle.lists.proofs.Tests.{and_both, both-and}
 use Rattle.lists.proofs.Times.{times-nil, times-append, once-of, of-once, UpTo}
 use Rattle.pool.specs.Chains.{chain, ends, Linked}
@@ -163,7 +163,7 @@ pub whole-pool : (ns hs : List ℕ) (f : ℕ) → is_whole ns hs f ≡ true → 
 whole-pool ns hs f e =
     let a : Bool = all (ends ns) (f ∷ hs) in
     let b : Bool = eqb (length (chains ns (f ∷ hs))) (length ns) in
-    let t : ((a && b) ≡ true) × (noRepeats (chains ns (f ∷ hs)) ≡ true) = and_both (a && b) (noRepeats (chains ns (f ∷ hs))) e in
+    let t : ((a && b) ≡ true) × (no_repeats (chains ns (f ∷ hs)) ≡ true) = and_both (a && b) (no_repeats (chains ns (f ∷ hs))) e in
     let u : (a ≡ true) × (b ≡ true) = and_both a b t.0 in
     let l : Linked ns f (chain ns f) × AllLinked ns hs = all-parts ns f hs (all-ends ns (f ∷ hs) u.0) in
     record {

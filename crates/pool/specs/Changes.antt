@@ -9,12 +9,12 @@ pub record Has (next : List ℕ) (k : ℕ) : Type 0 where
   pub high : k ≤ length next
 
 -- the free record q taken in after p
-abbrev pub insertAfter : (next : List ℕ) → (p q : ℕ) → List ℕ
-insertAfter ns p q = put (put ns q (at ns p)) p q
+abbrev pub insert_after : (next : List ℕ) → (p q : ℕ) → List ℕ
+insert_after ns p q = put (put ns q (at ns p)) p q
 
 -- the record q after p given back to the free chain
-abbrev pub unlinkAfter : (next : List ℕ) → (p q free : ℕ) → List ℕ
-unlinkAfter ns p q z = put (put ns p (at ns q)) q z
+abbrev pub unlink_after : (next : List ℕ) → (p q free : ℕ) → List ℕ
+unlink_after ns p q z = put (put ns p (at ns q)) q z
 
 -- a chain and the free chain, which share no record
 pub record Beside (next : List ℕ) (head free : ℕ) (records rest : List ℕ) : Type 0 where

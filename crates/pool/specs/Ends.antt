@@ -6,19 +6,19 @@ use Rattle.pool.specs.declared.Chain.{Chain}
 use Rattle.pool.specs.declared.Chain.TheVariants.{Ended, Cut}
 
 -- the last record of the chain from a head, 0 where there is none
-abbrev pub lastFrom : (next : List ℕ) → (head : ℕ) → ℕ
-lastFrom ns h = last_of 0 (chain ns h)
+abbrev pub last_from : (next : List ℕ) → (head : ℕ) → ℕ
+last_from ns h = last_of 0 (chain ns h)
 
 -- the last records of the chains from some heads, in their order
 unfoldable pub lasts : (next heads : List ℕ) → List ℕ
 lasts ns [] = []
-lasts ns (h ∷ hs) = lastFrom ns h ∷ lasts ns hs
+lasts ns (h ∷ hs) = last_from ns h ∷ lasts ns hs
 
 -- no record stands at two places of a list in which 0 is none
 abbrev pub NoneTwice : List ℕ → Type 0
 NoneTwice es = (i k : ℕ) → i < length es → k < length es → get_or es i 0 ≢ 0 → get_or es i 0 ≡ get_or es k 0 → i ≡ k
 
 -- the answer of the walk of one chain after some records: how many were met by its end, and its last one; or that it was cut short
-abbrev pub chainAnswer : Bool → (met : ℕ) → (next : List ℕ) → (head : ℕ) → Chain
-chainAnswer true n ns h = Ended (n + length (chain ns h)) (record { 0 = lastFrom ns h })
-chainAnswer false n ns h = Cut
+abbrev pub chain_answer : Bool → (met : ℕ) → (next : List ℕ) → (head : ℕ) → Chain
+chain_answer true n ns h = Ended (n + length (chain ns h)) (record { 0 = last_from ns h })
+chain_answer false n ns h = Cut

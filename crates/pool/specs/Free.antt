@@ -4,13 +4,13 @@ use Rattle.std.specs.Prelude.{◌≡◌, ◌&&◌, List, [], ◌∷◌, ℕ, ◌
 use Rattle.lists.specs.Lists.{one, at, times}
 use Rattle.pool.specs.Chains.{chain, Linked}
 use Rattle.pool.specs.Whole.{chains}
-use Rattle.pool.specs.Ends.{lastFrom, lasts, NoneTwice}
+use Rattle.pool.specs.Ends.{last_from, lasts, NoneTwice}
 
 -- the free chain ends after k records, and the last of them has row 0
 pub record FreeHas (rows next : List ℕ) (free k : ℕ) : Type 0 where
   pub linked : Linked next free (chain next free)
   pub size : length (chain next free) ≡ k
-  pub zero : 1 ≤ k → at rows (lastFrom next free) ≡ 0
+  pub zero : 1 ≤ k → at rows (last_from next free) ≡ 0
 
 -- the columns' last records are apart, as many records have row 0 as the columns do not have, and the free chain has so many
 pub record Closed (rows next heads : List ℕ) (free : ℕ) : Type 0 where
@@ -19,7 +19,7 @@ pub record Closed (rows next heads : List ℕ) (free : ℕ) : Type 0 where
   pub free-has : FreeHas rows next free (times 0 rows)
 
 -- how many places have 0 in both of two lists
-unfoldable pub zeroPairs : List ℕ → List ℕ → ℕ
-zeroPairs [] vs = 0
-zeroPairs (r ∷ rs) [] = 0
-zeroPairs (r ∷ rs) (v ∷ vs) = one (eqb r 0 && eqb v 0) + zeroPairs rs vs
+unfoldable pub zero_pairs : List ℕ → List ℕ → ℕ
+zero_pairs [] vs = 0
+zero_pairs (r ∷ rs) [] = 0
+zero_pairs (r ∷ rs) (v ∷ vs) = one (eqb r 0 && eqb v 0) + zero_pairs rs vs

@@ -3,13 +3,13 @@ use Rattle.std.specs.Prelude.{List, [], ◌∷◌, ◌++◌, ℕ, suc, ◌+◌, 
 use Rattle.lists.specs.Lists.{pick, up_from}
 
 -- the nexts of the free records of a pool of k, the first of which is number used + 1: each has the one after it, the last 0
-abbrev pub freeNexts : (used k : ℕ) → List ℕ
-freeNexts a k = pick (ltb a k) (up_from (a + 2) (k - a - 1) ++ (0 ∷ [])) []
+abbrev pub free_nexts : (used k : ℕ) → List ℕ
+free_nexts a k = pick (ltb a k) (up_from (a + 2) (k - a - 1) ++ (0 ∷ [])) []
 
 -- the head of the free chain: the first record past the used ones, or 0 if all are used
-abbrev pub freeHead : (used k : ℕ) → ℕ
-freeHead a k = pick (ltb a k) (suc a) 0
+abbrev pub free_head : (used k : ℕ) → ℕ
+free_head a k = pick (ltb a k) (suc a) 0
 
 -- all nexts: used records each end a chain
-abbrev pub openedNexts : (used k : ℕ) → List ℕ
-openedNexts a k = replicate a 0 ++ freeNexts a k
+abbrev pub opened_nexts : (used k : ℕ) → List ℕ
+opened_nexts a k = replicate a 0 ++ free_nexts a k

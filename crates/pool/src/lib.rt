@@ -3,8 +3,8 @@
 ghost use Rattle.std.specs.Prelude.{◌≡◌, ◌≤◌, ◌<◌, min, length};
 ghost use Rattle.lists.specs.Lists.{at, put};
 ghost use Rattle.pool.specs.Chains.{chain, Linked};
-ghost use Rattle.pool.specs.Changes.{Has, insertAfter, unlinkAfter};
-ghost use Rattle.pool.specs.Opening.{freeHead, openedNexts};
+ghost use Rattle.pool.specs.Changes.{Has, insert_after, unlink_after};
+ghost use Rattle.pool.specs.Opening.{free_head, opened_nexts};
 
 // A record number, from 1; 0 is none.
 #[derive(Drop)]
@@ -67,7 +67,7 @@ pub fn join_after(next: &mut [u32], p: Rec, head: Rec)
 pub fn insert_after(next: &mut [u32], p: Rec, q: Rec) -> Rec
     requires { (Has next.old p.0) × (Has next.old q.0) }
     ensures free { result.0 ≡ at next.old q.0 }
-    ensures next { next.new ≡ insertAfter next.old p.0 q.0 }
+    ensures next { next.new ≡ insert_after next.old p.0 q.0 }
 {
     let a = p.0;
     let b = q.0;
@@ -82,7 +82,7 @@ pub fn insert_after(next: &mut [u32], p: Rec, q: Rec) -> Rec
 // Gives the record q after p back to the free chain.
 pub fn unlink_after(next: &mut [u32], p: Rec, q: Rec, free: Rec)
     requires { (Has next.old p.0) × (Has next.old q.0) }
-    ensures { next.new ≡ unlinkAfter next.old p.0 q.0 free.0 }
+    ensures { next.new ≡ unlink_after next.old p.0 q.0 free.0 }
 {
     let a = p.0;
     let b = q.0;
@@ -95,8 +95,8 @@ pub fn unlink_after(next: &mut [u32], p: Rec, q: Rec, free: Rec)
 // Writes the nexts of an opened pool: the first `used` records end a chain each, the rest are free. Gives the free head.
 pub fn link_free(next: &mut [u32], used: u32) -> Rec
     requires { (used ≤ length next.old) × (length next.old < 4294967295) }
-    ensures free { result.0 ≡ freeHead used (length next.old) }
-    ensures next { next.new ≡ openedNexts used (length next.old) }
+    ensures free { result.0 ≡ free_head used (length next.old) }
+    ensures next { next.new ≡ opened_nexts used (length next.old) }
 {
     let k = next.len();
     let a = used as usize;

@@ -1,11 +1,11 @@
 // The numbers that a question is refused by: 7 and 17 for the rows it names, 18 for its list.
 ghost use Rattle.std.specs.Prelude.{◌≡◌, not};
-ghost use Rattle.calls.specs.Refusals.{isAccepted, rowRefusal, namedRefusal};
+ghost use Rattle.calls.specs.Refusals.{is_accepted, row_refusal, named_refusal};
 ghost use Rattle.question_refusals.specs.Room.{NoRoom};
 
 // Whether a row or column is outside 1 to m.
 pub fn row_outside(m: u32, row: u32) -> bool
-    ensures { result ≡ not (isAccepted (rowRefusal m row)) }
+    ensures { result ≡ not (is_accepted (row_refusal m row)) }
 {
     early_refusals::outside(1, m, row)
 }
@@ -22,7 +22,7 @@ pub fn room_outside(len: usize, place: usize, places: usize) -> bool
 
 // 7 for no row or more than 64, 17 for one outside 1 to m, else 0.
 pub fn named(m: u32, row_list: &[u32]) -> u32
-    ensures { result ≡ (namedRefusal m row_list.now).number }
+    ensures { result ≡ (named_refusal m row_list.now).number }
 {
     if early_refusals::shape_outside(row_list.len()) {
         return 7;

@@ -7,11 +7,11 @@ use Prim.Native.Nat.{ℕ, ◌≤◌}
 use native.Mathlib.Omega.{arith}
 use lib.ListN.{length}
 use borrow.Author.Tests.{le-leb, lt-leb}
-use Rattle.lists.specs.Lists.{at, valuesAt}
+use Rattle.lists.specs.Lists.{at, values_at}
 use Rattle.lists.proofs.Tests.{lt-or-le}
 use Rattle.symbolic.specs.Columns.{Register}
-use Rattle.symbolic.specs.Factor.{factorFor, columnAt, patternOf}
-use Rattle.symbolic.specs.NextRow.{firstFrom, nextRow}
+use Rattle.symbolic.specs.Factor.{factor_for, column_at, pattern_of}
+use Rattle.symbolic.specs.NextRow.{first_from, next_row}
 use Rattle.pool.specs.Chains.{chain, Linked}
 use Rattle.columns.specs.Search.{first_at}
 use Rattle.questions.specs.Asked.{ColumnsFor, CanAsk}
@@ -19,8 +19,8 @@ use Rattle.questions.specs.Asked.{ColumnsFor, CanAsk}
 -- ---- records of a chain, by what stands at them
 
 module _ (xs cs ns : List ℕ) (i : ℕ) where
-  none_found : (h : ℕ) (rs : List ℕ) → Linked ns h rs → first_at xs rs i ≡ 0 → firstFrom i (valuesAt xs rs) (valuesAt cs rs) ≡ record { row = 0; count = 0 }
-  unfolding first_at firstFrom valuesAt Linked
+  none_found : (h : ℕ) (rs : List ℕ) → Linked ns h rs → first_at xs rs i ≡ 0 → first_from i (values_at xs rs) (values_at cs rs) ≡ record { row = 0; count = 0 }
+  unfolding first_at first_from values_at Linked
   none_found h [] l z = refl
   none_found h (r ∷ rs) l z =
       elim (lt-or-le (at xs r) i) [
@@ -29,8 +29,8 @@ module _ (xs cs ns : List ℕ) (i : ℕ) where
       ]
 
   row-found : (h : ℕ) (rs : List ℕ) → Linked ns h rs → first_at xs rs i ≢ 0 →
-      firstFrom i (valuesAt xs rs) (valuesAt cs rs) ≡ record { row = at xs (first_at xs rs i); count = at cs (first_at xs rs i) }
-  unfolding first_at firstFrom valuesAt Linked
+      first_from i (values_at xs rs) (values_at cs rs) ≡ record { row = at xs (first_at xs rs i); count = at cs (first_at xs rs i) }
+  unfolding first_at first_from values_at Linked
   row-found h [] l n = absurd (n refl)
   row-found h (r ∷ rs) l n =
       elim (lt-or-le (at xs r) i) [
@@ -44,14 +44,14 @@ module _ {hs rs cs ns : List ℕ} (c : CanAsk hs rs cs ns) (i j : ℕ) (a : 1 �
   abbrev records : List ℕ
   records = chain ns (at hs j)
 
-  held_next : (r : Register) → ColumnsFor hs rs cs ns r → firstFrom i (valuesAt rs records) (valuesAt cs records) ≡ nextRow (factorFor r) i j
+  held_next : (r : Register) → ColumnsFor hs rs cs ns r → first_from i (values_at rs records) (values_at cs records) ≡ next_row (factor_for r) i j
   held_next r t =
-      ap (λ (xs : List ℕ). firstFrom i xs (valuesAt cs records)) (t.column j a b).rows ∙
-      ap (λ (xs : List ℕ). firstFrom i (patternOf (columnAt (factorFor r) j)) xs) (t.column j a b).counts
+      ap (λ (xs : List ℕ). first_from i xs (values_at cs records)) (t.column j a b).rows ∙
+      ap (λ (xs : List ℕ). first_from i (pattern_of (column_at (factor_for r) j)) xs) (t.column j a b).counts
 
-  pub ends-before : f ≡ 0 → (r : Register) → ColumnsFor hs rs cs ns r → record { row = 0; count = 0 } ≡ nextRow (factorFor r) i j
+  pub ends-before : f ≡ 0 → (r : Register) → ColumnsFor hs rs cs ns r → record { row = 0; count = 0 } ≡ next_row (factor_for r) i j
   ends-before z r t = sym (none_found rs cs ns i (at hs j) records (c.linked j a b) (sym e ∙ z)) ∙ held_next r t
 
-  pub goes_on : f ≢ 0 → (r : Register) → ColumnsFor hs rs cs ns r → record { row = at rs f; count = at cs f } ≡ nextRow (factorFor r) i j
+  pub goes_on : f ≢ 0 → (r : Register) → ColumnsFor hs rs cs ns r → record { row = at rs f; count = at cs f } ≡ next_row (factor_for r) i j
   goes_on n r t =
       ap (λ (k : ℕ). record { row = at rs k; count = at cs k }) e ∙ sym (row-found rs cs ns i (at hs j) records (c.linked j a b) (λ z. n (e ∙ z))) ∙ held_next r t

@@ -10,45 +10,45 @@ use Rattle.lists.specs.Lists.{at, over}
 use Rattle.lists.proofs.Tests.{zero-or-pos}
 use Rattle.lists.proofs.Place.{over-push, over-length}
 use Rattle.symbolic.specs.Columns.{Register, live}
-use Rattle.symbolic.specs.Factor.{factorFor, parent_of}
+use Rattle.symbolic.specs.Factor.{factor_for, parent_of}
 use Rattle.symbolic.proofs.Build.{laws}
 use Rattle.symbolic.proofs.Paths.{path-root, path-step, path-length}
-use Rattle.calls.specs.Questions.{pathList}
+use Rattle.calls.specs.Questions.{path_list}
 use Rattle.questions.specs.Asked.{ParentsFor}
 
 -- ---- one step up
 
 pub record Up (parents : List ℕ) (r : Register) (q : ℕ) : Type 0 where
-  pub parts : pathList r q ≡ q ∷ pathList r (at parents q)
+  pub parts : path_list r q ≡ q ∷ path_list r (at parents q)
   pub high : at parents q ≤ length parents
-  pub shorter : length (pathList r (at parents q)) < length (pathList r q)
+  pub shorter : length (path_list r (at parents q)) < length (path_list r q)
 
 module _ {ps : List ℕ} {r : Register} (f : ParentsFor ps r) where
   pub step-up : (q : ℕ) → 1 ≤ q → q ≤ length ps → Up ps r q
   step-up q a b =
-      let e : at ps q ≡ parent_of (factorFor r) q = f.parent q a b in
-      let p : pathList r q ≡ q ∷ pathList r (at ps q) =
-      path-step r.m (live r) q a (omega (arith, f.size)) ∙ ap (λ (x : ℕ). q ∷ pathList r x) (sym e) in
+      let e : at ps q ≡ parent_of (factor_for r) q = f.parent q a b in
+      let p : path_list r q ≡ q ∷ path_list r (at ps q) =
+      path-step r.m (live r) q a (omega (arith, f.size)) ∙ ap (λ (x : ℕ). q ∷ path_list r x) (sym e) in
       record {
         parts = p;
-        high = elim (zero-or-pos (parent_of (factorFor r) q)) [
+        high = elim (zero-or-pos (parent_of (factor_for r) q)) [
           | inl z ↦ omega arith
           | inr z ↦ omega (arith, ((laws r.m (live r)).parent_in q a (omega (arith, f.size)) z).1, f.size)
         ];
         shorter = omega (arith, ap length p);
       }
 
-  pub path-none : pathList r 0 ≡ []
-  path-none = path-root (length (factorFor r)) (factorFor r)
+  pub path-none : path_list r 0 ≡ []
+  path-none = path-root (length (factor_for r)) (factor_for r)
 
-  pub path-short : (j : ℕ) → 1 ≤ j → j ≤ length ps → length (pathList r j) ≤ length ps
+  pub path-short : (j : ℕ) → 1 ≤ j → j ≤ length ps → length (path_list r j) ≤ length ps
   path-short j a b = omega (arith, path-length r.m (live r) j a (omega (arith, f.size)), f.size)
 
 -- ---- the invariant: n rows are done, the path of q is left
 
 pub record Following (parents : List ℕ) (r : Register) (j q n : ℕ) : Type 0 where
   pub done : List ℕ
-  pub parts : pathList r j ≡ done ++ pathList r q
+  pub parts : path_list r j ≡ done ++ path_list r q
   pub number : length done ≡ n
   pub high : q ≤ length parents
 
@@ -57,24 +57,24 @@ module _ {ps : List ℕ} {r : Register} (f : ParentsFor ps r) (j : ℕ) (b : j �
   following-start = record { done = []; parts = refl; number = refl; high = b }
 
   module _ {q n : ℕ} (i : Following ps r j q n) where
-    pub following-within : n + length (pathList r q) ≡ length (pathList r j)
-    following-within = omega (arith, i.number, ap length i.parts, length-append i.done (pathList r q))
+    pub following-within : n + length (path_list r q) ≡ length (path_list r j)
+    following-within = omega (arith, i.number, ap length i.parts, length-append i.done (path_list r q))
 
     pub following-turn : q ≢ 0 → Following ps r j (at ps q) (n + 1)
     following-turn z =
         let u : Up ps r q = step-up f q (omega arith) i.high in
         record {
           done = i.done ++ (q ∷ []);
-          parts = i.parts ∙ ap (λ (l : List ℕ). i.done ++ l) u.parts ∙ sym (append_assoc i.done (q ∷ []) (pathList r (at ps q)));
+          parts = i.parts ∙ ap (λ (l : List ℕ). i.done ++ l) u.parts ∙ sym (append_assoc i.done (q ∷ []) (path_list r (at ps q)));
           number = omega (arith, length-append i.done (q ∷ []), i.number);
           high = u.high;
         }
 
-    pub following-all : q ≡ 0 → pathList r j ≡ i.done
+    pub following-all : q ≡ 0 → path_list r j ≡ i.done
     following-all z =
-        i.parts ∙ ap (λ (x : ℕ). i.done ++ pathList r x) z ∙ ap (λ (l : List ℕ). i.done ++ l) (path-none f) ∙ append-nil i.done
+        i.parts ∙ ap (λ (x : ℕ). i.done ++ path_list r x) z ∙ ap (λ (l : List ℕ). i.done ++ l) (path-none f) ∙ append-nil i.done
 
-    pub following-end : q ≡ 0 → n ≡ length (pathList r j)
+    pub following-end : q ≡ 0 → n ≡ length (path_list r j)
     following-end z = omega (arith, i.number, ap length (following-all z))
 
 -- ---- with the rows done at the front of a list
@@ -88,7 +88,7 @@ module _ {ps list₀ : List ℕ} {r : Register} (f : ParentsFor ps r) (j : ℕ) 
   unfolding following-start
   climbing-start = record { following = following-start f j b; written = refl }
 
-  module _ (fits : length (pathList r j) ≤ length list₀) {list : List ℕ} {q n : ℕ} (i : Climbing ps list₀ r j list q n) where
+  module _ (fits : length (path_list r j) ≤ length list₀) {list : List ℕ} {q n : ℕ} (i : Climbing ps list₀ r j list q n) where
     pub climbing-long : length list ≡ length list₀
     climbing-long =
         ap length i.written ∙ over-length i.following.done list₀ (omega (arith, fits, following-within f j b i.following, i.following.number))
@@ -104,5 +104,5 @@ module _ {ps list₀ : List ℕ} {r : Register} (f : ParentsFor ps r) (j : ℕ) 
               over-push i.following.done list₀ n q i.following.number (omega (arith, fits, following-within f j b i.following, u.shorter));
         }
 
-    pub climbing-end : q ≡ 0 → list ≡ over (pathList r j) list₀
+    pub climbing-end : q ≡ 0 → list ≡ over (path_list r j) list₀
     climbing-end z = i.written ∙ ap (λ (l : List ℕ). over l list₀) (sym (following-all f j b i.following z))

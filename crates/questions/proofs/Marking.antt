@@ -13,7 +13,7 @@ use Rattle.lists.specs.Lists.{one, at, over, put}
 use Rattle.lists.proofs.Tests.{eq-or-ne}
 use Rattle.lists.proofs.Place.{at-put-same, at-put-other, over-push, over-length}
 use Rattle.symbolic.specs.Columns.{Register, live}
-use Rattle.symbolic.specs.Factor.{factorFor, multiplicity, parent_of, inPattern}
+use Rattle.symbolic.specs.Factor.{factor_for, multiplicity, parent_of, in_pattern}
 use Rattle.symbolic.specs.Batch.{passing}
 use Rattle.symbolic.proofs.Build.{laws}
 use Rattle.symbolic.proofs.Passing.{passing-within, passing-short}
@@ -22,8 +22,8 @@ use Rattle.workspace.specs.Regions.{IsZero, OnlyIn, cleared}
 use Rattle.workspace.proofs.Regions.{zero-at, zero-part, only-refl, only-sym, only-trans, only_store, cleared-unique}
 use Rattle.pool.specs.Chains.{chain}
 use Rattle.columns.specs.Search.{count_of}
-use Rattle.calls.specs.Questions.{meetsList}
-use Rattle.questions.specs.Meeting.{TreeFor, CanClimb, MarkedAbove, markedTo}
+use Rattle.calls.specs.Questions.{meets_list}
+use Rattle.questions.specs.Meeting.{TreeFor, CanClimb, MarkedAbove, marked_to}
 use Rattle.questions.proofs.Reading.{read-multiplicity}
 
 -- the place of a column is not 0
@@ -43,33 +43,33 @@ module _ {hs ps rs cs ns : List ℕ} {r : Register} (t : TreeFor hs ps rs cs ns 
   size : m ≡ length hs
   size = t.columns-are.size
 
-  parent-at : at ps j ≡ parent_of (factorFor r) j
+  parent-at : at ps j ≡ parent_of (factor_for r) j
   parent-at = t.parents-are.parent j a (omega (arith, size, t.parents-are.size))
 
   high : i ≤ m
   high = omega (arith, size)
 
-  pub row-parent : at ps j ≡ i → true ≡ inPattern (factorFor r) i j
+  pub row-parent : at ps j ≡ i → true ≡ in_pattern (factor_for r) i j
   row-parent e = sym (holds-parent m (live r) i j a b high (sym parent-at ∙ e))
 
-  pub row-root : at ps j ≡ 0 → false ≡ inPattern (factorFor r) i j
+  pub row-root : at ps j ≡ 0 → false ≡ in_pattern (factor_for r) i j
   row-root e = sym (holds-root m (live r) i j a b high (sym parent-at ∙ e))
 
-  pub row-above : i < at ps j → false ≡ inPattern (factorFor r) i j
+  pub row-above : i < at ps j → false ≡ in_pattern (factor_for r) i j
   row-above e = sym (holds-above m (live r) i j a b high (subst (λ (p : ℕ). i < p) parent-at e))
 
-  pub row-unmarked : (w : List ℕ) → MarkedAbove r w i j → at ps j ≢ 0 → at ps j ≤ i → at w (at ps j) ≡ 0 → false ≡ inPattern (factorFor r) i j
+  pub row-unmarked : (w : List ℕ) → MarkedAbove r w i j → at ps j ≢ 0 → at ps j ≤ i → at w (at ps j) ≡ 0 → false ≡ in_pattern (factor_for r) i j
   row-unmarked w k p q z =
-      let v : (j < parent_of (factorFor r) j) × (parent_of (factorFor r) j ≤ m) × (0 < multiplicity (factorFor r) (parent_of (factorFor r) j) j) =
+      let v : (j < parent_of (factor_for r) j) × (parent_of (factor_for r) j ≤ m) × (0 < multiplicity (factor_for r) (parent_of (factor_for r) j) j) =
       (laws m (live r)).parent_in j a (omega (arith, high)) (omega (arith, parent-at)) in
-      let h : one (inPattern (factorFor r) i (at ps j)) ≡ 0 = sym (k.done (at ps j) (omega (arith, v.0, parent-at)) q) ∙ z in
-      sym (holds-below m (live r) i j a b high (subst (λ (x : ℕ). inPattern (factorFor r) i x ≡ false) parent-at (one_none (inPattern (factorFor r) i (at ps j)) h)))
+      let h : one (in_pattern (factor_for r) i (at ps j)) ≡ 0 = sym (k.done (at ps j) (omega (arith, v.0, parent-at)) q) ∙ z in
+      sym (holds-below m (live r) i j a b high (subst (λ (x : ℕ). in_pattern (factor_for r) i x ≡ false) parent-at (one_none (in_pattern (factor_for r) i (at ps j)) h)))
     where
       one_none : (c : Bool) → one c ≡ 0 → c ≡ false
       one_none true e = absurd (omega arith)
       one_none false e = refl
 
-  pub row-counted : (n : ℕ) → n ≡ count_of rs cs (chain ns (at hs j)) i → not (eqb n 0) ≡ inPattern (factorFor r) i j
+  pub row-counted : (n : ℕ) → n ≡ count_of rs cs (chain ns (at hs j)) i → not (eqb n 0) ≡ in_pattern (factor_for r) i j
   row-counted n e =
       ap (λ (x : ℕ). not (eqb x 0)) (e ∙ read-multiplicity t.columns-are j a (omega arith) i (omega arith))
 
@@ -117,7 +117,7 @@ module _ {hs ps rs cs ns : List ℕ} (i : ℕ) (low : 1 ≤ i) (high : i ≤ len
         marks = λ r t. record {
           done = λ k a b.
               let e : i ≡ k = omega arith in
-              subst (λ (x : ℕ). at w x ≡ one (inPattern (factorFor r) i x)) e
+              subst (λ (x : ℕ). at w x ≡ one (in_pattern (factor_for r) i x)) e
               (own ∙ sym (ap one (own-holds r.m (live r) i low (omega (arith, t.columns-are.size)))));
           left = others;
         };
@@ -134,7 +134,7 @@ module _ {hs ps rs cs ns work₀ : List ℕ} (i : ℕ) (low : 1 ≤ i) (high : i
 
     module _ (a : 1 ≤ j) where
       -- column j holds row i
-      pub marking-take : ((r : Register) → TreeFor hs ps rs cs ns r → MarkedAbove r work i j → inPattern (factorFor r) i j ≡ true) →
+      pub marking-take : ((r : Register) → TreeFor hs ps rs cs ns r → MarkedAbove r work i j → in_pattern (factor_for r) i j ≡ true) →
           Marking hs ps rs cs ns work₀ i (put work j 1) (n + 1) (j - 1)
       unfolding passing
       marking-take h =
@@ -161,7 +161,7 @@ module _ {hs ps rs cs ns work₀ : List ℕ} (i : ℕ) (low : 1 ≤ i) (high : i
           }
 
       -- column j does not
-      pub marking-pass : ((r : Register) → TreeFor hs ps rs cs ns r → MarkedAbove r work i j → inPattern (factorFor r) i j ≡ false) →
+      pub marking-pass : ((r : Register) → TreeFor hs ps rs cs ns r → MarkedAbove r work i j → in_pattern (factor_for r) i j ≡ false) →
           Marking hs ps rs cs ns work₀ i work n (j - 1)
       unfolding passing
       marking-pass h =
@@ -182,7 +182,7 @@ module _ {hs ps rs cs ns work₀ : List ℕ} (i : ℕ) (low : 1 ≤ i) (high : i
           }
 
     module _ (z : j ≡ 0) where
-      pub marking-number : n ≡ length (markedTo work i)
+      pub marking-number : n ≡ length (marked_to work i)
       marking-number =
           let q : i - 0 ≡ i = omega arith in
           c.counted ∙ ap length (ap (λ (x : ℕ). passing (marked work) (suc x) (i - x)) z ∙ ap (passing (marked work) 1) q)
@@ -192,10 +192,10 @@ module _ {hs ps rs cs ns work₀ : List ℕ} (i : ℕ) (low : 1 ≤ i) (high : i
 
 -- when all are marked, the marked columns are those that hold row i
 pub marked-meets : {hs ps rs cs ns : List ℕ} {r : Register} (i : ℕ) → TreeFor hs ps rs cs ns r → 1 ≤ i → i ≤ length hs → {work : List ℕ} → MarkedAbove r work i 0 →
-    markedTo work i ≡ meetsList r i
+    marked_to work i ≡ meets_list r i
 marked-meets {r = r} i t a b {work} c =
-    passing-within (marked work) (λ (k : ℕ). inPattern (factorFor r) i k) 1 i
-    (λ k x y. mark-is work k (c.done k (omega arith) (omega arith)) ∙ one-is (inPattern (factorFor r) i k)) ∙
+    passing-within (marked work) (λ (k : ℕ). in_pattern (factor_for r) i k) 1 i
+    (λ k x y. mark-is work k (c.done k (omega arith) (omega arith)) ∙ one-is (in_pattern (factor_for r) i k)) ∙
     sym (meeting-cut r.m (live r) i a (omega (arith, t.columns-are.size)))
   where
     one-is : (x : Bool) → not (eqb (one x) 0) ≡ x
@@ -207,12 +207,12 @@ pub marking-only : {hs ps rs cs ns work₀ work : List ℕ} (i : ℕ) {n j : ℕ
 marking-only i {n} {j} a c = only-trans (only-put i i 1 only-refl a (omega arith)) c.only
 
 -- there are no more of them than columns
-marked-few : (work : List ℕ) (i : ℕ) → length (markedTo work i) ≤ i
+marked-few : (work : List ℕ) (i : ℕ) → length (marked_to work i) ≤ i
 marked-few work i = passing-short (marked work) 1 i
 
-pub meets-few : {hs ps rs cs ns : List ℕ} {r : Register} (i : ℕ) → TreeFor hs ps rs cs ns r → 1 ≤ i → i ≤ length hs → length (meetsList r i) ≤ i
+pub meets-few : {hs ps rs cs ns : List ℕ} {r : Register} (i : ℕ) → TreeFor hs ps rs cs ns r → 1 ≤ i → i ≤ length hs → length (meets_list r i) ≤ i
 meets-few {r = r} i t a b =
-    let f : ℕ → Bool = λ (j : ℕ). inPattern (factorFor r) i j in
+    let f : ℕ → Bool = λ (j : ℕ). in_pattern (factor_for r) i j in
     omega (arith, ap length (meeting-cut r.m (live r) i a (omega (arith, t.columns-are.size))), passing-short f 1 i)
 
 -- ---- copying the marked columns out
@@ -220,19 +220,19 @@ meets-few {r = r} i t a b =
 -- the columns up to j are done: the marked ones stand at the front of the list
 pub record Collecting (work list₀ : List ℕ) (i : ℕ) (list : List ℕ) (j k : ℕ) : Type 0 where
   pub done : List ℕ
-  pub parts : markedTo work i ≡ done ++ passing (marked work) (suc j) (i - j)
+  pub parts : marked_to work i ≡ done ++ passing (marked work) (suc j) (i - j)
   pub number : length done ≡ k
   pub written : list ≡ over done list₀
   pub high : j ≤ i
 
-module _ {work list₀ : List ℕ} {i : ℕ} (fits : length (markedTo work i) ≤ length list₀) where
+module _ {work list₀ : List ℕ} {i : ℕ} (fits : length (marked_to work i) ≤ length list₀) where
   pub collecting-start : Collecting work list₀ i list₀ 0 0
   collecting-start =
       let q : i ≡ i - 0 = omega arith in
       record { done = []; parts = ap (passing (marked work) 1) q; number = refl; written = refl; high = omega arith }
 
   module _ {list : List ℕ} {j k : ℕ} (c : Collecting work list₀ i list j k) where
-    collecting-within : k + length (passing (marked work) (suc j) (i - j)) ≡ length (markedTo work i)
+    collecting-within : k + length (passing (marked work) (suc j) (i - j)) ≡ length (marked_to work i)
     collecting-within = omega (arith, c.number, ap length c.parts, length-append c.done (passing (marked work) (suc j) (i - j)))
 
     pub collecting-long : length list ≡ length list₀
@@ -286,7 +286,7 @@ module _ {work list₀ : List ℕ} {i : ℕ} (fits : length (markedTo work i) �
             high = b;
           })
 
-    pub collecting-end : i ≤ j → list ≡ over (markedTo work i) list₀
+    pub collecting-end : i ≤ j → list ≡ over (marked_to work i) list₀
     unfolding passing
     collecting-end h =
         let q : i - j ≡ 0 = omega arith in

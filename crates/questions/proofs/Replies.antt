@@ -11,34 +11,34 @@ use lib.Seq.{drop-drop, drop-length}
 use borrow.Author.Tests.{leb-true}
 use borrow.Author.Rules.{part_to_end}
 use borrow.Rule.Slice.PartMut.{put_mid}
-use Rattle.lists.specs.Lists.{isIn, all, over, writtenAt}
+use Rattle.lists.specs.Lists.{is_in, all, over, written_at}
 use Rattle.lists.proofs.Tests.{in-range}
 use Rattle.symbolic.specs.Columns.{Register}
-use Rattle.calls.specs.Refusals.{refusal, accepted, isAccepted, or_else, unless, rowRefusal, namedRefusal, room_for}
+use Rattle.calls.specs.Refusals.{refusal, accepted, is_accepted, or_else, unless, row_refusal, named_refusal, room_for}
 use Rattle.calls.specs.Calls.{Question}
 use Rattle.calls.specs.Questions.{response}
-use Rattle.calls.specs.Numbers.{askRefusal}
+use Rattle.calls.specs.Numbers.{ask_refusal}
 use Rattle.question_refusals.specs.Room.{NoRoom}
-use Rattle.questions.specs.Asked.{replyOf, answeredBy, repliedTo, listLeft}
+use Rattle.questions.specs.Asked.{reply_of, answered_by, replied_to, list_left}
 
 -- ---- one test
 
-test-out : (z : Bool) (n : ℕ) {x : Bool} → eqb n 0 ≡ false → x ≡ not (isAccepted (unless z n 0)) → x ≡ true → unless z n 0 ≡ refusal n 0
+test-out : (z : Bool) (n : ℕ) {x : Bool} → eqb n 0 ≡ false → x ≡ not (is_accepted (unless z n 0)) → x ≡ true → unless z n 0 ≡ refusal n 0
 test-out true n q e h = absurd (false≢true (sym e ∙ h))
 test-out false n q e h = refl
 
-test_in : (z : Bool) (n : ℕ) {x : Bool} → eqb n 0 ≡ false → x ≡ not (isAccepted (unless z n 0)) → x ≡ false → z ≡ true
+test_in : (z : Bool) (n : ℕ) {x : Bool} → eqb n 0 ≡ false → x ≡ not (is_accepted (unless z n 0)) → x ≡ false → z ≡ true
 test_in true n q e h = refl
 test_in false n q e h = sym h ∙ e ∙ ap not q
 
 -- ---- 17
 
-module _ (m i : ℕ) {x : Bool} (e : x ≡ not (isAccepted (rowRefusal m i))) where
-  pub row_out : x ≡ true → rowRefusal m i ≡ refusal 17 0
-  row_out h = test-out (isIn 1 m i) 17 refl e h
+module _ (m i : ℕ) {x : Bool} (e : x ≡ not (is_accepted (row_refusal m i))) where
+  pub row_out : x ≡ true → row_refusal m i ≡ refusal 17 0
+  row_out h = test-out (is_in 1 m i) 17 refl e h
 
-  pub row_in : x ≡ false → (rowRefusal m i ≡ accepted) × (1 ≤ i) × (i ≤ m)
-  row_in h = let z : isIn 1 m i ≡ true = test_in (isIn 1 m i) 17 refl e h in (ap (λ (b : Bool). unless b 17 0) z, (in-range 1 m i z).0, (in-range 1 m i z).1)
+  pub row_in : x ≡ false → (row_refusal m i ≡ accepted) × (1 ≤ i) × (i ≤ m)
+  row_in h = let z : is_in 1 m i ≡ true = test_in (is_in 1 m i) 17 refl e h in (ap (λ (b : Bool). unless b 17 0) z, (in-range 1 m i z).0, (in-range 1 m i z).1)
 
 -- ---- 7 and 17, of rows that are named
 
@@ -53,14 +53,14 @@ named-both true true h = (refl, refl)
 named-both true false h = absurd (omega arith)
 named-both false y h = absurd (omega arith)
 
-module _ (m : ℕ) (rs : List ℕ) {n : ℕ} (e : n ≡ (namedRefusal m rs).number) where
-  pub named-refusal : namedRefusal m rs ≡ refusal n 0
-  named-refusal = named_none (isIn 1 64 (length rs)) (all (isIn 1 m) rs) ∙ ap (λ (k : ℕ). refusal k 0) (sym e)
+module _ (m : ℕ) (rs : List ℕ) {n : ℕ} (e : n ≡ (named_refusal m rs).number) where
+  pub named-refusal : named_refusal m rs ≡ refusal n 0
+  named-refusal = named_none (is_in 1 64 (length rs)) (all (is_in 1 m) rs) ∙ ap (λ (k : ℕ). refusal k 0) (sym e)
 
   -- rows that are not refused: at least one, all in range
-  pub named_in : n ≡ 0 → (1 ≤ length rs) × (all (isIn 1 m) rs ≡ true)
+  pub named_in : n ≡ 0 → (1 ≤ length rs) × (all (is_in 1 m) rs ≡ true)
   named_in t =
-      let w : (isIn 1 64 (length rs) ≡ true) × (all (isIn 1 m) rs ≡ true) = named-both (isIn 1 64 (length rs)) (all (isIn 1 m) rs) (sym e ∙ t) in
+      let w : (is_in 1 64 (length rs) ≡ true) × (all (is_in 1 m) rs ≡ true) = named-both (is_in 1 64 (length rs)) (all (is_in 1 m) rs) (sym e ∙ t) in
       ((in-range 1 64 (length rs) w.0).0, w.1)
 
 -- ---- 18
@@ -77,24 +77,24 @@ module _ (xs : List ℕ) (p n : ℕ) {x : Bool} (e : NoRoom (length xs) p n x) w
 -- ---- the reply and the list
 
 module _ (r : Register) (k : Question) (p : ℕ) (xs : List ℕ) where
-  module _ (n : ℕ) (q : eqb n 0 ≡ false) (e : askRefusal r k p xs ≡ refusal n 0) where
-    pub refused-reply : replyOf (record { number = n; value = 0 }) ≡ repliedTo r k p xs
+  module _ (n : ℕ) (q : eqb n 0 ≡ false) (e : ask_refusal r k p xs ≡ refusal n 0) where
+    pub refused-reply : reply_of (record { number = n; value = 0 }) ≡ replied_to r k p xs
     refused-reply = rw (e, q) refl
 
-    pub refused-list : xs ≡ listLeft r k p xs
+    pub refused-list : xs ≡ list_left r k p xs
     refused-list = rw (e, q) refl
 
-  module _ (e : askRefusal r k p xs ≡ accepted) where
-    pub accepted-answer : answeredBy (response r k) ≡ repliedTo r k p xs
+  module _ (e : ask_refusal r k p xs ≡ accepted) where
+    pub accepted-answer : answered_by (response r k) ≡ replied_to r k p xs
     accepted-answer = rw e refl
 
-    pub accepted-list : {ys : List ℕ} → ys ≡ writtenAt p (response r k).list xs → ys ≡ listLeft r k p xs
+    pub accepted-list : {ys : List ℕ} → ys ≡ written_at p (response r k).list xs → ys ≡ list_left r k p xs
     accepted-list a = rw e a
 
 -- ---- a part of the list, from place p on, written from its front
 
 pub part-written : (xs ys new : List ℕ) (p : ℕ) → p + length new ≤ length xs → ys ≡ over new (take (length xs - p) (drop p xs)) →
-    put_mid p (length xs - p) xs ys ≡ writtenAt p new xs
+    put_mid p (length xs - p) xs ys ≡ written_at p new xs
 part-written xs ys new p h e =
     let rest : drop (length xs - p) (drop p xs) ≡ [] =
     drop-drop (length xs - p) p xs ∙ ap (λ (n : ℕ). drop n xs) (whole (length xs) (omega arith)) ∙ drop-length xs in

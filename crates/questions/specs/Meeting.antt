@@ -3,10 +3,10 @@
 use Rattle.std.specs.Prelude.{◌≡◌, ◌&&◌, not, List, ℕ, ◌≤◌, ◌<◌, eqb, length}
 use Rattle.lists.specs.Lists.{one, among, at}
 use Rattle.symbolic.specs.Columns.{Register}
-use Rattle.symbolic.specs.Factor.{factorFor, inPattern}
+use Rattle.symbolic.specs.Factor.{factor_for, in_pattern}
 use Rattle.symbolic.specs.Batch.{passing}
 use Rattle.workspace.specs.Regions.{IsZero}
-use Rattle.calls.specs.Questions.{pathList}
+use Rattle.calls.specs.Questions.{path_list}
 use Rattle.questions.specs.Asked.{ColumnsFor, ParentsFor, CanAsk}
 
 -- ---- the tables are those of a register
@@ -31,16 +31,16 @@ pub record CanMeet (heads parents rows counts next work : List ℕ) : Type 0 whe
 
 -- columns above j, up to i, are marked: 1 for one that holds row i, 0 for another; those from j down are not yet
 pub record MarkedAbove (r : Register) (work : List ℕ) (i j : ℕ) : Type 0 where
-  pub done : (k : ℕ) → j < k → k ≤ i → at work k ≡ one (inPattern (factorFor r) i k)
+  pub done : (k : ℕ) → j < k → k ≤ i → at work k ≡ one (in_pattern (factor_for r) i k)
   pub left : (k : ℕ) → 1 ≤ k → k ≤ j → at work k ≡ 0
 
 -- the columns of 1 to n whose place is not 0, ascending
-abbrev pub markedTo : (work : List ℕ) → (n : ℕ) → List ℕ
-markedTo w n = passing (λ (k : ℕ). not (eqb (at w k) 0)) 1 n
+abbrev pub marked_to : (work : List ℕ) → (n : ℕ) → List ℕ
+marked_to w n = passing (λ (k : ℕ). not (eqb (at w k) 0)) 1 n
 
 -- ---- two paths
 
 -- what lies on the paths of a and b is the path of x, a row of 1 to m, or 0 where they do not join
 pub record PathsJoin (r : Register) (a b x : ℕ) : Type 0 where
-  pub shared : (k : ℕ) → (among k (pathList r a) && among k (pathList r b)) ≡ among k (pathList r x)
+  pub shared : (k : ℕ) → (among k (path_list r a) && among k (path_list r b)) ≡ among k (path_list r x)
   pub high : x ≤ r.m

@@ -1,11 +1,11 @@
 // The common row of some rows: the smallest that lies on all their paths. Of two rows the smaller is walked up its path until they meet, row after row; parents
 // alone are read.
 ghost use Rattle.std.specs.Prelude.{◌≡◌, true, ◌≤◌, length};
-ghost use Rattle.lists.specs.Lists.{isIn, all};
+ghost use Rattle.lists.specs.Lists.{is_in, all};
 ghost use Rattle.symbolic.specs.Columns.{Register};
-ghost use Rattle.symbolic.specs.Factor.{factorFor};
-ghost use Rattle.symbolic.specs.Meeting.{commonOf};
-ghost use Rattle.calls.specs.Calls.Question.{askCommon};
+ghost use Rattle.symbolic.specs.Factor.{factor_for};
+ghost use Rattle.symbolic.specs.Meeting.{common_of};
+ghost use Rattle.calls.specs.Calls.Question.{ask_common};
 ghost use Rattle.questions.specs.Asked.{ParentsFor, CanFollow, Replies};
 ghost use Rattle.questions.specs.Meeting.{PathsJoin};
 
@@ -37,8 +37,8 @@ fn join(parents: &[u16], a: Row, b: Row) -> Row
 
 // The smallest row on the paths of all of the rows, at least one of 1 to m each; 0 where there is none.
 fn common_row(parents: &[u16], row_list: &[u32]) -> Row
-    requires { CanFollow parents.now × (1 ≤ length row_list.now) × (all (isIn 1 (length parents.now)) row_list.now ≡ true) }
-    ensures { (r : Register) → ParentsFor parents.now r → result.0 ≡ commonOf (factorFor r) row_list.now }
+    requires { CanFollow parents.now × (1 ≤ length row_list.now) × (all (is_in 1 (length parents.now)) row_list.now ≡ true) }
+    ensures { (r : Register) → ParentsFor parents.now r → result.0 ≡ common_of (factor_for r) row_list.now }
 {
     let mut x = row_list[0];
     let mut k: usize = 1;
@@ -56,7 +56,7 @@ fn common_row(parents: &[u16], row_list: &[u32]) -> Row
 // The smallest row on the paths of all of the rows, 0 where there is none; 7 for no row or more than 64, 17 for one outside 1 to m.
 pub fn common(parents: &[u16], row_list: &[u32]) -> Reply
     requires { CanFollow parents.now }
-    ensures { Replies (ParentsFor parents.now) (askCommon row_list.now) result }
+    ensures { Replies (ParentsFor parents.now) (ask_common row_list.now) result }
 {
     let m = parents.len() as u32;
     let number = question_refusals::named(m, row_list);

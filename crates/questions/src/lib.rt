@@ -3,8 +3,8 @@
 ghost use Rattle.std.specs.Prelude.{◌≡◌, ◌≤◌, length};
 ghost use Rattle.lists.specs.Lists.{over};
 ghost use Rattle.symbolic.specs.Columns.{Register};
-ghost use Rattle.calls.specs.Questions.{pathList};
-ghost use Rattle.calls.specs.Calls.Question.{askNextRow, askParent, askPath, askColumn};
+ghost use Rattle.calls.specs.Questions.{path_list};
+ghost use Rattle.calls.specs.Calls.Question.{ask_next_row, ask_parent, ask_path, ask_column};
 ghost use Rattle.questions.specs.Asked.{ColumnsFor, ParentsFor, CanAsk, CanFollow, RepliesAt, Replies, Finds, Leaves};
 
 pub mod ancestors;
@@ -34,7 +34,7 @@ pub struct Found {
 // The first row at or above i in column j and its multiplicity, both 0 if the column ends before; 17 for a row or column outside 1 to m.
 pub fn next_row(heads: &[u32], rows: &[u16], counts: &[u16], next: &[u32], i: Row, j: Row) -> Found
     requires { CanAsk heads.now rows.now counts.now next.now }
-    ensures { Finds (ColumnsFor heads.now rows.now counts.now next.now) (askNextRow i.0 j.0) result }
+    ensures { Finds (ColumnsFor heads.now rows.now counts.now next.now) (ask_next_row i.0 j.0) result }
 {
     let m = heads.len() as u32;
     if question_refusals::row_outside(m, i.0) {
@@ -75,7 +75,7 @@ pub fn next_row(heads: &[u32], rows: &[u16], counts: &[u16], next: &[u32], i: Ro
 // The parent of j, 0 for a root; 17 outside 1 to m.
 pub fn parent(parents: &[u16], j: Row) -> Reply
     requires { CanFollow parents.now }
-    ensures { Replies (ParentsFor parents.now) (askParent j.0) result }
+    ensures { Replies (ParentsFor parents.now) (ask_parent j.0) result }
 {
     let m = parents.len() as u32;
     let k = j.0;
@@ -95,7 +95,7 @@ pub fn parent(parents: &[u16], j: Row) -> Reply
 // The number of rows on the path of j.
 fn path_length(parents: &[u16], j: Row) -> usize
     requires { CanFollow parents.now × (1 ≤ j.0) × (j.0 ≤ length parents.now) }
-    ensures { (r : Register) → ParentsFor parents.now r → result ≡ length (pathList r j.0) }
+    ensures { (r : Register) → ParentsFor parents.now r → result ≡ length (path_list r j.0) }
 {
     let mut q = j.0;
     let mut n: usize = 0;
@@ -108,8 +108,8 @@ fn path_length(parents: &[u16], j: Row) -> usize
 
 // Writes the path of j, which fits, to the front of list.
 fn copy_path(parents: &[u16], list: &mut [u32], j: Row)
-    requires { CanFollow parents.now × (1 ≤ j.0) × (j.0 ≤ length parents.now) × ((r : Register) → ParentsFor parents.now r → length (pathList r j.0) ≤ length list.old) }
-    ensures { (r : Register) → ParentsFor parents.now r → list.new ≡ over (pathList r j.0) list.old }
+    requires { CanFollow parents.now × (1 ≤ j.0) × (j.0 ≤ length parents.now) × ((r : Register) → ParentsFor parents.now r → length (path_list r j.0) ≤ length list.old) }
+    ensures { (r : Register) → ParentsFor parents.now r → list.new ≡ over (path_list r j.0) list.old }
 {
     let mut q = j.0;
     let mut k: usize = 0;
@@ -123,8 +123,8 @@ fn copy_path(parents: &[u16], list: &mut [u32], j: Row)
 // The path of j, written from a place of the list on; 17 outside 1 to m, 18 where the list ends before the path does.
 pub fn path(parents: &[u16], list: &mut [u32], j: Row, place: usize) -> Reply
     requires { CanFollow parents.now }
-    ensures reply { RepliesAt (ParentsFor parents.now) (askPath j.0) place list.old result }
-    ensures written { Leaves (ParentsFor parents.now) (askPath j.0) place list.old list.new }
+    ensures reply { RepliesAt (ParentsFor parents.now) (ask_path j.0) place list.old result }
+    ensures written { Leaves (ParentsFor parents.now) (ask_path j.0) place list.old list.new }
 {
     let m = parents.len() as u32;
     if question_refusals::row_outside(m, j.0) {
@@ -159,8 +159,8 @@ pub fn column(
     place: usize,
 ) -> Reply
     requires { CanAsk heads.now rows.now counts.now next.now }
-    ensures reply { RepliesAt (ColumnsFor heads.now rows.now counts.now next.now) (askColumn j.0) place list.old result }
-    ensures written { Leaves (ColumnsFor heads.now rows.now counts.now next.now) (askColumn j.0) place list.old list.new }
+    ensures reply { RepliesAt (ColumnsFor heads.now rows.now counts.now next.now) (ask_column j.0) place list.old result }
+    ensures written { Leaves (ColumnsFor heads.now rows.now counts.now next.now) (ask_column j.0) place list.old list.new }
 {
     let m = heads.len() as u32;
     let k = j.0;

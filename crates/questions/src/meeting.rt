@@ -3,11 +3,11 @@
 ghost use Rattle.std.specs.Prelude.{◌≡◌, ◌≤◌, ◌<◌, length};
 ghost use Rattle.lists.specs.Lists.{over};
 ghost use Rattle.symbolic.specs.Columns.{Register};
-ghost use Rattle.symbolic.specs.Factor.{factorFor, inPattern};
+ghost use Rattle.symbolic.specs.Factor.{factor_for, in_pattern};
 ghost use Rattle.workspace.specs.Regions.{OnlyIn};
-ghost use Rattle.calls.specs.Calls.Question.{askMeets};
+ghost use Rattle.calls.specs.Calls.Question.{ask_meets};
 ghost use Rattle.questions.specs.Asked.{RepliesAt, Leaves};
-ghost use Rattle.questions.specs.Meeting.{TreeFor, CanClimb, CanMeet, MarkedAbove, markedTo};
+ghost use Rattle.questions.specs.Meeting.{TreeFor, CanClimb, CanMeet, MarkedAbove, marked_to};
 
 use crate::Reply;
 use book::Row;
@@ -25,7 +25,7 @@ fn holds_row(
     i: Row,
 ) -> bool
     requires { CanClimb heads.now parents.now rows.now counts.now next.now × (1 ≤ j.0) × (j.0 < i.0) × (i.0 ≤ length heads.now) × (length heads.now ≤ length work.now) }
-    ensures { (r : Register) → TreeFor heads.now parents.now rows.now counts.now next.now r → MarkedAbove r work.now i.0 j.0 → result ≡ inPattern (factorFor r) i.0 j.0 }
+    ensures { (r : Register) → TreeFor heads.now parents.now rows.now counts.now next.now r → MarkedAbove r work.now i.0 j.0 → result ≡ in_pattern (factor_for r) i.0 j.0 }
 {
     let row = i.0;
     let k = (j.0 - 1) as usize;
@@ -57,7 +57,7 @@ fn mark(
     i: Row,
 ) -> usize
     requires { CanMeet heads.now parents.now rows.now counts.now next.now work.old × (1 ≤ i.0) × (i.0 ≤ length heads.now) }
-    ensures number { result ≡ length (markedTo work.new i.0) }
+    ensures number { result ≡ length (marked_to work.new i.0) }
     ensures marked { (r : Register) → TreeFor heads.now parents.now rows.now counts.now next.now r → MarkedAbove r work.new i.0 0 }
     ensures only { OnlyIn 0 i.0 work.old work.new }
 {
@@ -79,8 +79,8 @@ fn mark(
 
 // Writes the marked columns of 1 to i, which fit, to the front of list.
 fn copy_marked(work: &[u32], list: &mut [u32], i: Row)
-    requires { (i.0 ≤ length work.now) × (i.0 ≤ 4096) × (length (markedTo work.now i.0) ≤ length list.old) }
-    ensures { list.new ≡ over (markedTo work.now i.0) list.old }
+    requires { (i.0 ≤ length work.now) × (i.0 ≤ 4096) × (length (marked_to work.now i.0) ≤ length list.old) }
+    ensures { list.new ≡ over (marked_to work.now i.0) list.old }
 {
     let top = i.0;
     let mut j: u32 = 0;
@@ -110,8 +110,8 @@ pub fn meets(
     place: usize,
 ) -> Reply
     requires { CanMeet heads.now parents.now rows.now counts.now next.now work.old }
-    ensures reply { RepliesAt (TreeFor heads.now parents.now rows.now counts.now next.now) (askMeets i.0) place list.old result }
-    ensures written { Leaves (TreeFor heads.now parents.now rows.now counts.now next.now) (askMeets i.0) place list.old list.new }
+    ensures reply { RepliesAt (TreeFor heads.now parents.now rows.now counts.now next.now) (ask_meets i.0) place list.old result }
+    ensures written { Leaves (TreeFor heads.now parents.now rows.now counts.now next.now) (ask_meets i.0) place list.old list.new }
     ensures kept { work.new ≡ work.old }
 {
     let m = heads.len() as u32;

@@ -9,22 +9,22 @@ use Prim.Native.Nat.{ℕ, zero, suc, ◌+◌, ◌-◌, ◌≤◌}
 use native.Mathlib.Omega.{arith}
 use lib.ListN.{length, take, replicate}
 use lib.Seq.{length-take-le, get_or-take}
-use Rattle.lists.specs.Lists.{Mem, first, later, at, valuesAt}
+use Rattle.lists.specs.Lists.{Mem, first, later, at, values_at}
 use Rattle.lists.proofs.Member.{zero-at}
 use Rattle.lists.proofs.Times.{mem-times}
 use Rattle.lists.proofs.Place.{values_length, values-mem}
 use Rattle.symbolic.specs.Columns.{Column, live}
-use Rattle.symbolic.specs.Factor.{FactorColumn, factorOf, factorFor, columnAt, size_of}
-use Rattle.symbolic.specs.NextRow.{columnEntries}
+use Rattle.symbolic.specs.Factor.{FactorColumn, factor_of, factor_for, column_at, size_of}
+use Rattle.symbolic.specs.NextRow.{column_entries}
 use Rattle.symbolic.proofs.Patterns.{pattern-find}
 use Rattle.pool.specs.Chains.{chain, Linked}
 use Rattle.pool.proofs.Chains.{linked-in}
 use Rattle.pool.proofs.Whole.{pool-linked}
-use Rattle.tables.specs.Stored.{Stored, Sized, recordsOf}
-use Rattle.tables.specs.Tables.{Tables, State, storedIn, registerOf}
+use Rattle.tables.specs.Stored.{Stored, Sized, records_of}
+use Rattle.tables.specs.Tables.{Tables, State, stored_in, register_of}
 use Rattle.tables.proofs.Stored.{Holds, SoundFor, sound-facts, stored-column}
 use Rattle.tables.proofs.Tables.{Long, long-facts, sound-stored, sound-factor, stored-rows}
-use Rattle.reader.specs.Reading.{entry_at, readings, allGiven, asRead, entriesIn, end}
+use Rattle.reader.specs.Reading.{entry_at, readings, all_given, as_read, entries_in, end}
 use Rattle.reader.specs.Statements.{ReadsColumn, ReadsTables, NoEntry, none, past-rows, past-counts, past_next, unused, ReadsEnd, ReadsTablesEnd}
 use Rattle.reader.specs.declared.Entry.TheVariants.{End}
 use Rattle.reader.proofs.Reading.{InUse, entry-end, readings-end, readings-of}
@@ -52,7 +52,7 @@ begin-self : (s : Stored) → Begin s s.rows s.counts s.next
 begin-self s = record { rows = longer-self s.rows; counts = longer-self s.counts; next = longer-self s.next }
 
 module _ (s : State) (t : Tables) (l : Long s.sizes t) where
-  begin-tables : Begin (storedIn s t) t.rows t.counts t.next
+  begin-tables : Begin (stored_in s t) t.rows t.counts t.next
   begin-tables =
       record {
         rows = longer-take s.sizes.f t.rows l.rows;
@@ -60,7 +60,7 @@ module _ (s : State) (t : Tables) (l : Long s.sizes t) where
         next = longer-take s.sizes.f t.next l.next;
       }
 
-  sized-tables : Sized (storedIn s t)
+  sized-tables : Sized (stored_in s t)
   sized-tables =
       let next : length (take s.sizes.f t.next) ≡ s.sizes.f = length-take-le s.sizes.f t.next l.next in
       record {
@@ -71,16 +71,16 @@ module _ (s : State) (t : Tables) (l : Long s.sizes t) where
 
 -- ---- what is read of them
 
-given-end : (k : ℕ) → allGiven (replicate k End) ≡ replicate k end
-unfolding allGiven
+given-end : (k : ℕ) → all_given (replicate k End) ≡ replicate k end
+unfolding all_given
 given-end zero = refl
 given-end (suc k) = ap (λ es. end ∷ es) (given-end k)
 
 module _ (s : Stored) (z : Sized s) (xs cs ns : List ℕ) (b : Begin s xs cs ns) where
   -- a chain whose records have rows
   chain-read : (h : ℕ) (rs : List ℕ) → Linked s.next h rs → ((x : ℕ) → Mem x rs → at s.rows x ≢ 0) → (k : ℕ) →
-      allGiven (readings (length rs + k) xs cs ns h) ≡ asRead (columnEntries (valuesAt s.rows rs) (valuesAt s.counts rs)) ++ replicate k end
-  unfolding Linked valuesAt columnEntries asRead allGiven
+      all_given (readings (length rs + k) xs cs ns h) ≡ as_read (column_entries (values_at s.rows rs) (values_at s.counts rs)) ++ replicate k end
+  unfolding Linked values_at column_entries as_read all_given
   chain-read h [] l some k =
       let e : entry_at xs cs ns h ≡ End = entry-end xs cs ns h (λ u. omega (arith, l, u.low)) in
       let q : 0 + k ≡ k = omega arith in
@@ -101,13 +101,13 @@ module _ (s : Stored) (z : Sized s) (xs cs ns : List ℕ) (b : Begin s xs cs ns)
       rw (l.0, q, readings-of xs cs ns r (length rs + k) u, ex, ec, en, chain-read (at s.next r) rs l.3 (λ x m. some x (later m)) k) refl
 
   -- a column that the chain of head j holds
-  column-read : (j : ℕ) (f : FactorColumn) → Linked s.next (at s.heads j) (recordsOf s j) → Holds s j f → (k : ℕ) →
-      allGiven (readings (size_of f + k) xs cs ns (at s.heads j)) ≡ entriesIn f ++ replicate k end
+  column-read : (j : ℕ) (f : FactorColumn) → Linked s.next (at s.heads j) (records_of s j) → Holds s j f → (k : ℕ) →
+      all_given (readings (size_of f + k) xs cs ns (at s.heads j)) ≡ entries_in f ++ replicate k end
   column-read j f l c k =
-      let some : (x : ℕ) → Mem x (recordsOf s j) → at s.rows x ≢ 0 =
+      let some : (x : ℕ) → Mem x (records_of s j) → at s.rows x ≢ 0 =
       λ x m e. let p = pattern-find {x = at s.rows x} 1 f.counts (rw c.rows at (values-mem s.rows m)) in omega arith in
-      let n : size_of f ≡ length (recordsOf s j) = sym (ap length c.rows) ∙ values_length s.rows (recordsOf s j) in
-      rw (n, chain-read (at s.heads j) (recordsOf s j) l some k, c.rows, c.counts) refl
+      let n : size_of f ≡ length (records_of s j) = sym (ap length c.rows) ∙ values_length s.rows (records_of s j) in
+      rw (n, chain-read (at s.heads j) (records_of s j) l some k, c.rows, c.counts) refl
 
   -- a record without an entry
   end_read : {ds : List Column} → SoundFor ds s → (r : ℕ) → NoEntry xs cs ns (chain s.next s.free) r → (k : ℕ) → readings k xs cs ns r ≡ replicate k End
@@ -128,7 +128,7 @@ module _ (s : Stored) (z : Sized s) (xs cs ns : List ℕ) (b : Begin s xs cs ns)
 pub reads-column : ReadsColumn
 reads-column cs s z h j low high k =
     let t : SoundFor cs s = sound-facts cs s h in
-    column-read s z s.rows s.counts s.next (begin-self s) j (columnAt (factorOf (length s.heads) cs) j) (pool-linked t.pool j low high) (t.column j low high) k
+    column-read s z s.rows s.counts s.next (begin-self s) j (column_at (factor_of (length s.heads) cs) j) (pool-linked t.pool j low high) (t.column j low high) k
 
 pub reads_end : ReadsEnd
 reads_end cs s z h = end_read s z s.rows s.counts s.next (begin-self s) (sound-facts cs s h)
@@ -136,14 +136,14 @@ reads_end cs s z h = end_read s z s.rows s.counts s.next (begin-self s) (sound-f
 pub reads-tables : ReadsTables
 reads-tables s t z h j low high k =
     let l : Long s.sizes t = long-facts s.sizes t z in
-    let p : SoundFor (live (registerOf s t)) (storedIn s t) = sound-facts (live (registerOf s t)) (storedIn s t) (sound-stored s t h) in
-    let m : length (storedIn s t).heads ≡ s.sizes.m = stored-rows s t z in
-    let e : at t.heads j ≡ at (storedIn s t).heads j = (longer-take s.sizes.m t.heads l.heads).same j low (omega arith) in
+    let p : SoundFor (live (register_of s t)) (stored_in s t) = sound-facts (live (register_of s t)) (stored_in s t) (sound-stored s t h) in
+    let m : length (stored_in s t).heads ≡ s.sizes.m = stored-rows s t z in
+    let e : at t.heads j ≡ at (stored_in s t).heads j = (longer-take s.sizes.m t.heads l.heads).same j low (omega arith) in
     rw e
-    (column-read (storedIn s t) (sized-tables s t l) t.rows t.counts t.next (begin-tables s t l) j (columnAt (factorFor (registerOf s t)) j)
-    (pool-linked p.pool j low (omega arith)) (stored-column s.sizes.m (live (registerOf s t)) (storedIn s t) (sound-factor s t z h) j low high) k)
+    (column-read (stored_in s t) (sized-tables s t l) t.rows t.counts t.next (begin-tables s t l) j (column_at (factor_for (register_of s t)) j)
+    (pool-linked p.pool j low (omega arith)) (stored-column s.sizes.m (live (register_of s t)) (stored_in s t) (sound-factor s t z h) j low high) k)
 
 pub reads-tables-end : ReadsTablesEnd
 reads-tables-end s t z h =
     let l : Long s.sizes t = long-facts s.sizes t z in
-    end_read (storedIn s t) (sized-tables s t l) t.rows t.counts t.next (begin-tables s t l) (sound-facts (live (registerOf s t)) (storedIn s t) (sound-stored s t h))
+    end_read (stored_in s t) (sized-tables s t l) t.rows t.counts t.next (begin-tables s t l) (sound-facts (live (register_of s t)) (stored_in s t) (sound-stored s t h))

@@ -10,9 +10,9 @@ use native.Mathlib.Omega.{arith}
 use lib.Dec.{leb, eqb}
 use lib.ListN.{length, replicate}
 use borrow.Author.Tests.{leb-true, le-leb, eqb-false, ne_eqb, not-true}
-use Rattle.lists.specs.Lists.{isIn, at}
+use Rattle.lists.specs.Lists.{is_in, at}
 use Rattle.lists.proofs.Tests.{and_both, both-and, refute, in-range, range-in}
-use Rattle.reader.specs.Reading.{isRead, entry_at, after, readings}
+use Rattle.reader.specs.Reading.{is_read, entry_at, after, readings}
 use Rattle.reader.specs.Reader.{calls, moved}
 use Rattle.reader.specs.Statements.{ReadsInTurn, CallsRead}
 use Rattle.reader.specs.declared.Entry.TheVariants.{Of, End}
@@ -28,9 +28,9 @@ pub record InUse (xs cs ns : List ℕ) (r : ℕ) : Type 0 where
   pub some : at xs r ≢ 0
 
 module _ (xs cs ns : List ℕ) (r : ℕ) where
-  pub read-use : isRead xs cs ns r ≡ true → InUse xs cs ns r
+  pub read-use : is_read xs cs ns r ≡ true → InUse xs cs ns r
   read-use e =
-      let a : Bool = isIn 1 (length xs) r in
+      let a : Bool = is_in 1 (length xs) r in
       let b : Bool = leb r (length cs) in
       let c : Bool = leb r (length ns) in
       let t : (((a && b) && c) ≡ true) × (not (eqb (at xs r) 0) ≡ true) = and_both ((a && b) && c) (not (eqb (at xs r) 0)) e in
@@ -47,12 +47,12 @@ module _ (xs cs ns : List ℕ) (r : ℕ) where
 
   pub entry-end : (InUse xs cs ns r → ⊥) → entry_at xs cs ns r ≡ End
   unfolding entry_at
-  entry-end h = let e : isRead xs cs ns r ≡ false = refute (isRead xs cs ns r) (λ e. h (read-use e)) in rw e refl
+  entry-end h = let e : is_read xs cs ns r ≡ false = refute (is_read xs cs ns r) (λ e. h (read-use e)) in rw e refl
 
   pub entry_of : InUse xs cs ns r → entry_at xs cs ns r ≡ Of (at xs r) (at cs r) (record { 0 = at ns r })
   unfolding entry_at
   entry_of u =
-      let e : isRead xs cs ns r ≡ true =
+      let e : is_read xs cs ns r ≡ true =
       both-and (both-and (both-and (range-in 1 (length xs) r u.low u.rows) (le-leb r (length cs) u.counts)) (le-leb r (length ns) u.next)) (ap not (ne_eqb (at xs r) 0 u.some)) in
       rw e refl
 

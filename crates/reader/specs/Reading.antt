@@ -2,9 +2,9 @@
 -- row and multiplicity, beside what a factor column has.
 -- Assumes nothing: these are definitions.
 use Rattle.std.specs.Prelude.{Bool, ◌&&◌, not, List, [], ◌∷◌, ℕ, zero, suc, leb, eqb, length}
-use Rattle.lists.specs.Lists.{pick, isIn, at}
-use Rattle.symbolic.specs.Factor.{FactorColumn, patternOf, multiplicitiesOf}
-use Rattle.symbolic.specs.NextRow.{ColumnEntry, columnEntries}
+use Rattle.lists.specs.Lists.{pick, is_in, at}
+use Rattle.symbolic.specs.Factor.{FactorColumn, pattern_of, multiplicities_of}
+use Rattle.symbolic.specs.NextRow.{ColumnEntry, column_entries}
 use Rattle.pool.specs.declared.Rec.{Rec}
 use Rattle.reader.specs.declared.Entry.{Entry}
 use Rattle.reader.specs.declared.Entry.TheVariants.{Of, End}
@@ -12,12 +12,12 @@ use Rattle.reader.specs.declared.Entry.TheVariants.{Of, End}
 -- ---- one reading
 
 -- a record of all three tables, which are the slices that a reader holds, and not a free one: "Unused records .. hold row and multiplicity 0"
-abbrev pub isRead : (rows counts next : List ℕ) → (r : ℕ) → Bool
-isRead xs cs ns r = isIn 1 (length xs) r && leb r (length cs) && leb r (length ns) && not (eqb (at xs r) 0)
+abbrev pub is_read : (rows counts next : List ℕ) → (r : ℕ) → Bool
+is_read xs cs ns r = is_in 1 (length xs) r && leb r (length cs) && leb r (length ns) && not (eqb (at xs r) 0)
 
 -- "a reader whose record number is 0, past its tables or a free record's gives the end"
 unfoldable pub entry_at : (rows counts next : List ℕ) → (r : ℕ) → Entry
-entry_at xs cs ns r = pick (isRead xs cs ns r) (Of (at xs r) (at cs r) (record { 0 = at ns r })) End
+entry_at xs cs ns r = pick (is_read xs cs ns r) (Of (at xs r) (at cs r) (record { 0 = at ns r })) End
 
 -- where to read on
 abbrev pub after : Entry → Rec
@@ -44,15 +44,15 @@ given (Of row count r) = entry row count
 given End = end
 
 -- what each of some readings gives
-unfoldable pub allGiven : List Entry → List Given
-allGiven [] = []
-allGiven (e ∷ es) = given e ∷ allGiven es
+unfoldable pub all_given : List Entry → List Given
+all_given [] = []
+all_given (e ∷ es) = given e ∷ all_given es
 
 -- entries of a column as readings give them
-unfoldable pub asRead : List ColumnEntry → List Given
-asRead [] = []
-asRead (x ∷ xs) = entry x.row x.count ∷ asRead xs
+unfoldable pub as_read : List ColumnEntry → List Given
+as_read [] = []
+as_read (x ∷ xs) = entry x.row x.count ∷ as_read xs
 
 -- the entries of a factor column, "row then multiplicity", rising
-abbrev pub entriesIn : FactorColumn → List Given
-entriesIn f = asRead (columnEntries (patternOf f) (multiplicitiesOf f))
+abbrev pub entries_in : FactorColumn → List Given
+entries_in f = as_read (column_entries (pattern_of f) (multiplicities_of f))

@@ -4,11 +4,11 @@
 use Rattle.std.specs.Prelude.{◌≡◌, true, List, ◌++◌, ℕ, ◌+◌, ◌≤◌, ◌<◌, length, take, replicate}
 use Rattle.lists.specs.Lists.{Mem, at}
 use Rattle.symbolic.specs.Columns.{Column}
-use Rattle.symbolic.specs.Factor.{factorOf, factorFor, columnAt, size_of}
+use Rattle.symbolic.specs.Factor.{factor_of, factor_for, column_at, size_of}
 use Rattle.pool.specs.Chains.{chain}
-use Rattle.tables.specs.Stored.{Stored, Sized, isSoundFor}
-use Rattle.tables.specs.Tables.{Tables, State, longEnough, registerOf, isSound}
-use Rattle.reader.specs.Reading.{readings, allGiven, entriesIn, end}
+use Rattle.tables.specs.Stored.{Stored, Sized, is_sound_for}
+use Rattle.tables.specs.Tables.{Tables, State, long_enough, register_of, is_sound}
+use Rattle.reader.specs.Reading.{readings, all_given, entries_in, end}
 use Rattle.reader.specs.Reader.{calls}
 use Rattle.reader.specs.declared.Entry.TheVariants.{End}
 use Rattle.reader.specs.declared.Reader.{Reader}
@@ -18,16 +18,16 @@ use Rattle.reader.specs.declared.Reader.{Reader}
 -- readings from the head of a sound stored column j give the entries of the factor's column j, then k times the end
 abbrev pub ReadsColumn : Type 0
 ReadsColumn =
-    (cs : List Column) (s : Stored) → Sized s → isSoundFor cs s ≡ true → (j : ℕ) → 1 ≤ j → j ≤ length s.heads → (k : ℕ) →
-    allGiven (readings (size_of (columnAt (factorOf (length s.heads) cs) j) + k) s.rows s.counts s.next (at s.heads j)) ≡
-    entriesIn (columnAt (factorOf (length s.heads) cs) j) ++ replicate k end
+    (cs : List Column) (s : Stored) → Sized s → is_sound_for cs s ≡ true → (j : ℕ) → 1 ≤ j → j ≤ length s.heads → (k : ℕ) →
+    all_given (readings (size_of (column_at (factor_of (length s.heads) cs) j) + k) s.rows s.counts s.next (at s.heads j)) ≡
+    entries_in (column_at (factor_of (length s.heads) cs) j) ++ replicate k end
 
 -- the same of sound tables, which may be longer than the sizes, and of the register that their book holds
 abbrev pub ReadsTables : Type 0
 ReadsTables =
-    (s : State) (t : Tables) → longEnough s.sizes t ≡ true → isSound s t ≡ true → (j : ℕ) → 1 ≤ j → j ≤ s.sizes.m → (k : ℕ) →
-    allGiven (readings (size_of (columnAt (factorFor (registerOf s t)) j) + k) t.rows t.counts t.next (at t.heads j)) ≡
-    entriesIn (columnAt (factorFor (registerOf s t)) j) ++ replicate k end
+    (s : State) (t : Tables) → long_enough s.sizes t ≡ true → is_sound s t ≡ true → (j : ℕ) → 1 ≤ j → j ≤ s.sizes.m → (k : ℕ) →
+    all_given (readings (size_of (column_at (factor_for (register_of s t)) j) + k) t.rows t.counts t.next (at t.heads j)) ≡
+    entries_in (column_at (factor_for (register_of s t)) j) ++ replicate k end
 
 -- the first k readings do not depend on how many follow
 abbrev pub ReadsInTurn : Type 0
@@ -46,13 +46,13 @@ pub data NoEntry (rows counts next free : List ℕ) (r : ℕ) : Type 0 where
 -- of sound stored columns, every reading from such a number on gives the end
 abbrev pub ReadsEnd : Type 0
 ReadsEnd =
-    (cs : List Column) (s : Stored) → Sized s → isSoundFor cs s ≡ true → (r : ℕ) → NoEntry s.rows s.counts s.next (chain s.next s.free) r → (k : ℕ) →
+    (cs : List Column) (s : Stored) → Sized s → is_sound_for cs s ≡ true → (r : ℕ) → NoEntry s.rows s.counts s.next (chain s.next s.free) r → (k : ℕ) →
     readings k s.rows s.counts s.next r ≡ replicate k End
 
 -- the same of sound tables, which may be longer than the sizes
 abbrev pub ReadsTablesEnd : Type 0
 ReadsTablesEnd =
-    (s : State) (t : Tables) → longEnough s.sizes t ≡ true → isSound s t ≡ true → (r : ℕ) →
+    (s : State) (t : Tables) → long_enough s.sizes t ≡ true → is_sound s t ≡ true → (r : ℕ) →
     NoEntry t.rows t.counts t.next (chain (take s.sizes.f t.next) s.free) r → (k : ℕ) →
     readings k t.rows t.counts t.next r ≡ replicate k End
 

@@ -10,28 +10,28 @@ use native.Mathlib.Omega.{arith}
 use lib.Dec.{leb, eqb}
 use lib.ListN.{length}
 use borrow.Author.Tests.{eq-eqb, ne_eqb}
-use Rattle.lists.specs.Lists.{isIn, all, sum_of}
+use Rattle.lists.specs.Lists.{is_in, all, sum_of}
 use Rattle.lists.proofs.Tests.{and_both}
 use Rattle.lists.proofs.Sum.{sum-append}
 use Rattle.symbolic.specs.Columns.{Column, Register}
 use Rattle.symbolic.specs.Change.{ids_of}
 use Rattle.pool.specs.Chains.{chain}
-use Rattle.book.specs.Book.{Book, columnsIn, columnFits, isSound}
+use Rattle.book.specs.Book.{Book, columns_in, column_fits, is_sound}
 use Rattle.book.proofs.Sound.{Fitting, fitting, rows-room}
-use Rattle.calls.specs.Refusals.{refusal, accepted, isAccepted, or_else, unless, columnsRefusal, idsRefusal, rowSum, keepStep, batchOf}
+use Rattle.calls.specs.Refusals.{refusal, accepted, is_accepted, or_else, unless, columns_refusal, ids_refusal, row_sum, keep_step, batch_of}
 use Rattle.calls.specs.Refusals as calls
 use Rattle.calls.proofs.Choices.{or-first, or-second, unless-true, unless-false}
 use Rattle.calls.proofs.Refusals.{ColumnsFit, columns-facts}
 use Rattle.refusals.specs.declared.Refusal.{Refusal}
-use Rattle.refusals.specs.Found.{found, bareIn, addFound, removeFound}
+use Rattle.refusals.specs.Found.{found, bare_in, add_found, remove_found}
 use Rattle.early_refusals.proofs.Tests.{is-out, is-in, unless-accepted}
 
 -- ---- a refusal that is found, or not
 
-pub found-accepted : (x : Refusal) → x.number ≡ 0 → isAccepted (found x) ≡ true
+pub found-accepted : (x : Refusal) → x.number ≡ 0 → is_accepted (found x) ≡ true
 found-accepted x e = eq-eqb x.number 0 e
 
-pub found-refused : (x : Refusal) → x.number ≢ 0 → isAccepted (found x) ≡ false
+pub found-refused : (x : Refusal) → x.number ≢ 0 → is_accepted (found x) ≡ false
 found-refused x e = ne_eqb x.number 0 e
 
 -- ---- the rows of accepted columns
@@ -41,92 +41,92 @@ unfolding ids_of
 ids-length [] = refl
 ids-length (c ∷ cs) = ap suc (ids-length cs)
 
-fit-few : (m : ℕ) (cs : List Column) → all (columnFits m) cs ≡ true → rowSum cs ≤ 256 * length cs
+fit-few : (m : ℕ) (cs : List Column) → all (column_fits m) cs ≡ true → row_sum cs ≤ 256 * length cs
 unfolding all sum_of
 fit-few m [] h = omega arith
 fit-few m (c ∷ cs) h =
-    let t : (columnFits m c ≡ true) × (all (columnFits m) cs ≡ true) = and_both (columnFits m c) (all (columnFits m) cs) h in
+    let t : (column_fits m c ≡ true) × (all (column_fits m) cs ≡ true) = and_both (column_fits m c) (all (column_fits m) cs) h in
     let f : Fitting m c.rows = fitting m c t.0 in
     omega (arith, f.few, fit-few m cs t.1)
 
-pub rows_few : (r : Register) (n : ℕ) (is ns rs ps qs : List ℕ) → isAccepted (columnsRefusal r n 1 [] is ns rs ps qs) ≡ true → length rs ≤ 256 * length is
+pub rows_few : (r : Register) (n : ℕ) (is ns rs ps qs : List ℕ) → is_accepted (columns_refusal r n 1 [] is ns rs ps qs) ≡ true → length rs ≤ 256 * length is
 rows_few r n is ns rs ps qs h =
     let f : ColumnsFit r n [] is ns rs ps qs = columns-facts r n 1 [] is ns rs ps qs h in
-    omega (arith, f.used, fit-few r.m (batchOf is ns rs) f.fits, ids-length (batchOf is ns rs), ap length f.ids)
+    omega (arith, f.used, fit-few r.m (batch_of is ns rs) f.fits, ids-length (batch_of is ns rs), ap length f.ids)
 
 -- ---- lists in step, test by test
 
-module _ (is ns ps qs : List ℕ) {x : Bool} (a : x ≡ not (isIn 1 64 (length is))) where
-  pub step-shape : x ≡ true → true ≡ not (keepStep is ns ps qs)
-  step-shape t = rw (is-out (isIn 1 64 (length is)) a t) refl
+module _ (is ns ps qs : List ℕ) {x : Bool} (a : x ≡ not (is_in 1 64 (length is))) where
+  pub step-shape : x ≡ true → true ≡ not (keep_step is ns ps qs)
+  step-shape t = rw (is-out (is_in 1 64 (length is)) a t) refl
 
   module _ (t : x ≡ false) where
-    pub step_counts : length ns ≢ length is → true ≡ not (keepStep is ns ps qs)
-    step_counts e = rw (is-in (isIn 1 64 (length is)) a t, ne_eqb (length ns) (length is) e) refl
+    pub step_counts : length ns ≢ length is → true ≡ not (keep_step is ns ps qs)
+    step_counts e = rw (is-in (is_in 1 64 (length is)) a t, ne_eqb (length ns) (length is) e) refl
 
     module _ (e : length ns ≡ length is) where
-      pub step-firsts : length ps ≢ length is → true ≡ not (keepStep is ns ps qs)
-      step-firsts f = rw (is-in (isIn 1 64 (length is)) a t, eq-eqb (length ns) (length is) e, ne_eqb (length ps) (length is) f) refl
+      pub step-firsts : length ps ≢ length is → true ≡ not (keep_step is ns ps qs)
+      step-firsts f = rw (is-in (is_in 1 64 (length is)) a t, eq-eqb (length ns) (length is) e, ne_eqb (length ps) (length is) f) refl
 
-      pub step-seconds : length ps ≡ length is → not (eqb (length qs) (length is)) ≡ not (keepStep is ns ps qs)
-      step-seconds f = rw (is-in (isIn 1 64 (length is)) a t, eq-eqb (length ns) (length is) e, eq-eqb (length ps) (length is) f) refl
+      pub step-seconds : length ps ≡ length is → not (eqb (length qs) (length is)) ≡ not (keep_step is ns ps qs)
+      step-seconds f = rw (is-in (is_in 1 64 (length is)) a t, eq-eqb (length ns) (length is) e, eq-eqb (length ps) (length is) f) refl
 
 -- ---- an addition
 
-module _ (m : ℕ) (b : Book) (is ns rs ps qs : List ℕ) {x : Bool} (a : x ≡ not (keepStep is ns ps qs)) where
+module _ (m : ℕ) (b : Book) (is ns rs ps qs : List ℕ) {x : Bool} (a : x ≡ not (keep_step is ns ps qs)) where
   abbrev step : Bool
-  step = keepStep is ns ps qs
+  step = keep_step is ns ps qs
 
-  abbrev byPosition : calls.Refusal
-  byPosition = columnsRefusal (bareIn m b) (length b.heads) 1 [] is ns rs ps qs
+  abbrev by_position : calls.Refusal
+  by_position = columns_refusal (bare_in m b) (length b.heads) 1 [] is ns rs ps qs
 
   abbrev room : Bool
-  room = leb (rowSum (columnsIn b ++ batchOf is ns rs)) (length b.next)
+  room = leb (row_sum (columns_in b ++ batch_of is ns rs)) (length b.next)
 
-  pub add_step : x ≡ true → refusal 7 0 ≡ addFound m b is ns rs ps qs
+  pub add_step : x ≡ true → refusal 7 0 ≡ add_found m b is ns rs ps qs
   add_step t =
       let e : step ≡ false = is-out step a t in
-      sym (or-first (unless step 7 0) (or_else byPosition (unless room 15 0)) (unless-accepted step 7 0 refl ∙ e) ∙ unless-false step 7 0 e)
+      sym (or-first (unless step 7 0) (or_else by_position (unless room 15 0)) (unless-accepted step 7 0 refl ∙ e) ∙ unless-false step 7 0 e)
 
-  module _ (t : x ≡ false) {first : Refusal} (c : found first ≡ byPosition) where
-    passed : addFound m b is ns rs ps qs ≡ or_else byPosition (unless room 15 0)
-    passed = or-second (unless step 7 0) (or_else byPosition (unless room 15 0)) (unless-accepted step 7 0 refl ∙ is-in step a t)
+  module _ (t : x ≡ false) {first : Refusal} (c : found first ≡ by_position) where
+    passed : add_found m b is ns rs ps qs ≡ or_else by_position (unless room 15 0)
+    passed = or-second (unless step 7 0) (or_else by_position (unless room 15 0)) (unless-accepted step 7 0 refl ∙ is-in step a t)
 
-    pub add-positions : first.number ≢ 0 → found first ≡ addFound m b is ns rs ps qs
+    pub add-positions : first.number ≢ 0 → found first ≡ add_found m b is ns rs ps qs
     add-positions n =
-        sym (passed ∙ or-first byPosition (unless room 15 0) (ap isAccepted (sym c) ∙ found-refused first n) ∙ sym c)
+        sym (passed ∙ or-first by_position (unless room 15 0) (ap is_accepted (sym c) ∙ found-refused first n) ∙ sym c)
 
     module _ (n : first.number ≡ 0) where
-      taken : isAccepted byPosition ≡ true
-      taken = ap isAccepted (sym c) ∙ found-accepted first n
+      taken : is_accepted by_position ≡ true
+      taken = ap is_accepted (sym c) ∙ found-accepted first n
 
-      module _ (s : isSound m b ≡ true) {y : Bool} (f : y ≡ leb (length rs) (length (chain b.next b.free))) where
+      module _ (s : is_sound m b ≡ true) {y : Bool} (f : y ≡ leb (length rs) (length (chain b.next b.free))) where
         room-same : y ≡ room
         room-same =
-            let g : ColumnsFit (bareIn m b) (length b.heads) [] is ns rs ps qs = columns-facts (bareIn m b) (length b.heads) 1 [] is ns rs ps qs taken in
-            let k : rowSum (columnsIn b) + length rs ≡ rowSum (columnsIn b ++ batchOf is ns rs) = omega (arith, g.used, sum-append (λ (c : Column). length c.rows) (columnsIn b) (batchOf is ns rs)) in
+            let g : ColumnsFit (bare_in m b) (length b.heads) [] is ns rs ps qs = columns-facts (bare_in m b) (length b.heads) 1 [] is ns rs ps qs taken in
+            let k : row_sum (columns_in b) + length rs ≡ row_sum (columns_in b ++ batch_of is ns rs) = omega (arith, g.used, sum-append (λ (c : Column). length c.rows) (columns_in b) (batch_of is ns rs)) in
             f ∙ rows-room m b (length rs) s ∙ ap (λ (z : ℕ). leb z (length b.next)) k
 
-        last : addFound m b is ns rs ps qs ≡ unless room 15 0
-        last = passed ∙ or-second byPosition (unless room 15 0) taken
+        last : add_found m b is ns rs ps qs ≡ unless room 15 0
+        last = passed ∙ or-second by_position (unless room 15 0) taken
 
-        pub add-fits : y ≡ true → accepted ≡ addFound m b is ns rs ps qs
+        pub add-fits : y ≡ true → accepted ≡ add_found m b is ns rs ps qs
         add-fits h = sym (last ∙ unless-true room 15 0 (sym room-same ∙ h))
 
-        pub add-full : y ≡ false → refusal 15 0 ≡ addFound m b is ns rs ps qs
+        pub add-full : y ≡ false → refusal 15 0 ≡ add_found m b is ns rs ps qs
         add-full h = sym (last ∙ unless-false room 15 0 (sym room-same ∙ h))
 
 -- ---- a removal
 
-module _ (m : ℕ) (b : Book) (is : List ℕ) {x : Bool} (a : x ≡ not (isIn 1 64 (length is))) where
-  pub remove-shape : x ≡ true → refusal 7 0 ≡ removeFound m b is
+module _ (m : ℕ) (b : Book) (is : List ℕ) {x : Bool} (a : x ≡ not (is_in 1 64 (length is))) where
+  pub remove-shape : x ≡ true → refusal 7 0 ≡ remove_found m b is
   remove-shape t =
-      let e : isIn 1 64 (length is) ≡ false = is-out (isIn 1 64 (length is)) a t in
+      let e : is_in 1 64 (length is) ≡ false = is-out (is_in 1 64 (length is)) a t in
       sym
-      (or-first (unless (isIn 1 64 (length is)) 7 0) (idsRefusal (bareIn m b) (length b.heads) 1 [] is) (unless-accepted (isIn 1 64 (length is)) 7 0 refl ∙ e) ∙
-      unless-false (isIn 1 64 (length is)) 7 0 e)
+      (or-first (unless (is_in 1 64 (length is)) 7 0) (ids_refusal (bare_in m b) (length b.heads) 1 [] is) (unless-accepted (is_in 1 64 (length is)) 7 0 refl ∙ e) ∙
+      unless-false (is_in 1 64 (length is)) 7 0 e)
 
-  pub remove-positions : x ≡ false → {first : Refusal} → found first ≡ idsRefusal (bareIn m b) (length b.heads) 1 [] is → found first ≡ removeFound m b is
+  pub remove-positions : x ≡ false → {first : Refusal} → found first ≡ ids_refusal (bare_in m b) (length b.heads) 1 [] is → found first ≡ remove_found m b is
   remove-positions t c =
       c ∙
-      sym (or-second (unless (isIn 1 64 (length is)) 7 0) (idsRefusal (bareIn m b) (length b.heads) 1 [] is) (unless-accepted (isIn 1 64 (length is)) 7 0 refl ∙ is-in (isIn 1 64 (length is)) a t))
+      sym (or-second (unless (is_in 1 64 (length is)) 7 0) (ids_refusal (bare_in m b) (length b.heads) 1 [] is) (unless-accepted (is_in 1 64 (length is)) 7 0 refl ∙ is-in (is_in 1 64 (length is)) a t))

@@ -1,4 +1,4 @@
--- Where the rows of each column of a batch stand: the offsets place by place, and the columns of `batchOf` by place. That the rows lie within the list
+-- Where the rows of each column of a batch stand: the offsets place by place, and the columns of `batch_of` by place. That the rows lie within the list
 -- is a matter of accepted batches: Accepted.antt.
 -- Assumes nothing.
 use mathlib.Core.Path.{◌≡◌, refl, ap, ◌∙◌}
@@ -7,9 +7,9 @@ use Prim.Native.Nat.{ℕ, zero, suc, ◌+◌, ◌<◌}
 use native.Mathlib.Omega.{arith}
 use lib.ListN.{length, get_or, take, drop}
 use lib.Seq.{drop-drop}
-use Rattle.symbolic.specs.Columns.{Column, columnWith}
-use Rattle.calls.specs.Refusals.{batchOf}
-use Rattle.refusals.specs.Offsets.{offset_of, columnLent}
+use Rattle.symbolic.specs.Columns.{Column, column_with}
+use Rattle.calls.specs.Refusals.{batch_of}
+use Rattle.refusals.specs.Offsets.{offset_of, column_lent}
 
 -- ---- offsets
 
@@ -26,17 +26,17 @@ offset-next (n ∷ ns) (suc k) h = omega (arith, offset-next ns k (omega arith))
 
 -- ---- the columns of a batch, by place
 
-pub batch-length : (is ns rs : List ℕ) → length ns ≡ length is → length (batchOf is ns rs) ≡ length is
-unfolding batchOf
+pub batch-length : (is ns rs : List ℕ) → length ns ≡ length is → length (batch_of is ns rs) ≡ length is
+unfolding batch_of
 batch-length [] ns rs e = refl
 batch-length (i ∷ is) [] rs e = absurd (omega arith)
 batch-length (i ∷ is) (n ∷ ns) rs e = ap suc (batch-length is ns (drop n rs) (omega arith))
 
-pub batch-at : (is ns rs : List ℕ) (k : ℕ) (d : Column) → length ns ≡ length is → k < length is → get_or (batchOf is ns rs) k d ≡ columnLent is ns rs k
-unfolding batchOf offset_of
+pub batch-at : (is ns rs : List ℕ) (k : ℕ) (d : Column) → length ns ≡ length is → k < length is → get_or (batch_of is ns rs) k d ≡ column_lent is ns rs k
+unfolding batch_of offset_of
 batch-at [] ns rs k d e h = absurd (omega arith)
 batch-at (i ∷ is) [] rs k d e h = absurd (omega arith)
 batch-at (i ∷ is) (n ∷ ns) rs zero d e h = refl
 batch-at (i ∷ is) (n ∷ ns) rs (suc k) d e h =
     batch-at is ns (drop n rs) k d (omega arith) (omega arith) ∙
-    ap (λ (xs : List ℕ). columnWith (get_or is k 0) (take (get_or ns k 0) xs)) (drop-drop (offset_of ns k) n rs)
+    ap (λ (xs : List ℕ). column_with (get_or is k 0) (take (get_or ns k 0) xs)) (drop-drop (offset_of ns k) n rs)

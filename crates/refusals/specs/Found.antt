@@ -3,11 +3,11 @@
 -- asks and promises: it reads heads and nexts alone, so a promise holds whatever the rows are.
 -- Assumes nothing: these are definitions.
 use Rattle.std.specs.Prelude.{◌≡◌, true, List, [], ◌++◌, ℕ, leb, length}
-use Rattle.lists.specs.Lists.{isIn}
+use Rattle.lists.specs.Lists.{is_in}
 use Rattle.symbolic.specs.Columns.{Register}
-use Rattle.book.specs.Book.{Book, bookOf, columnsIn, isSound}
+use Rattle.book.specs.Book.{Book, book_of, columns_in, is_sound}
 use Rattle.calls.specs.Refusals as calls
-use Rattle.calls.specs.Refusals.{or_else, unless, columnsRefusal, idsRefusal, rowSum, keepStep, batchOf}
+use Rattle.calls.specs.Refusals.{or_else, unless, columns_refusal, ids_refusal, row_sum, keep_step, batch_of}
 use Rattle.refusals.specs.declared.Refusal.{Refusal}
 
 -- a found refusal, as the definitions have it
@@ -15,43 +15,43 @@ abbrev pub found : Refusal → calls.Refusal
 found x = record { number = x.number; position = x.position }
 
 -- the booked columns, with no window, at minute 0
-abbrev pub bareIn : (m : ℕ) → Book → Register
-bareIn m b = record { m = m; clock = 0; columns = columnsIn b }
+abbrev pub bare_in : (m : ℕ) → Book → Register
+bare_in m b = record { m = m; clock = 0; columns = columns_in b }
 
 -- 7 to 15 and 21 of an addition: all but the room in the factor
-abbrev pub addFound : (m : ℕ) → Book → (ids counts rows firsts seconds : List ℕ) → calls.Refusal
-addFound m b is ns rs ps qs =
-    or_else (unless (keepStep is ns ps qs) 7 0)
-    (or_else (columnsRefusal (bareIn m b) (length b.heads) 1 [] is ns rs ps qs)
-    (unless (leb (rowSum (columnsIn b ++ batchOf is ns rs)) (length b.next)) 15 0))
+abbrev pub add_found : (m : ℕ) → Book → (ids counts rows firsts seconds : List ℕ) → calls.Refusal
+add_found m b is ns rs ps qs =
+    or_else (unless (keep_step is ns ps qs) 7 0)
+    (or_else (columns_refusal (bare_in m b) (length b.heads) 1 [] is ns rs ps qs)
+    (unless (leb (row_sum (columns_in b ++ batch_of is ns rs)) (length b.next)) 15 0))
 
 -- 7 to 9 and 11 of a removal
-abbrev pub removeFound : (m : ℕ) → Book → (ids : List ℕ) → calls.Refusal
-removeFound m b is = or_else (unless (isIn 1 64 (length is)) 7 0) (idsRefusal (bareIn m b) (length b.heads) 1 [] is)
+abbrev pub remove_found : (m : ℕ) → Book → (ids : List ℕ) → calls.Refusal
+remove_found m b is = or_else (unless (is_in 1 64 (length is)) 7 0) (ids_refusal (bare_in m b) (length b.heads) 1 [] is)
 
 -- ---- what a search asks and promises
 
 -- with some rows, the tables are a sound book
 pub record HasBook (m : ℕ) (heads next : List ℕ) (free : ℕ) : Type 0 where
   pub rows : List ℕ
-  pub sound : isSound m (bookOf heads rows next free) ≡ true
+  pub sound : is_sound m (book_of heads rows next free) ≡ true
 
 -- 8 to 14 and 21, then 12 for rows left over, of every book with these heads
 abbrev pub ColumnsFound : (m : ℕ) → (heads ids counts list firsts seconds : List ℕ) → Refusal → Type 0
 ColumnsFound m hs is ns rs ps qs x =
-    (rows next : List ℕ) (free : ℕ) → found x ≡ columnsRefusal (bareIn m (bookOf hs rows next free)) (length hs) 1 [] is ns rs ps qs
+    (rows next : List ℕ) (free : ℕ) → found x ≡ columns_refusal (bare_in m (book_of hs rows next free)) (length hs) 1 [] is ns rs ps qs
 
 -- 7 to 15 and 21, of every sound book with these heads and nexts
 abbrev pub AddFound : (m : ℕ) → (heads next : List ℕ) → (free : ℕ) → (ids counts list firsts seconds : List ℕ) → Refusal → Type 0
 AddFound m hs ns f is cs rs ps qs x =
-    (rows : List ℕ) → isSound m (bookOf hs rows ns f) ≡ true → found x ≡ addFound m (bookOf hs rows ns f) is cs rs ps qs
+    (rows : List ℕ) → is_sound m (book_of hs rows ns f) ≡ true → found x ≡ add_found m (book_of hs rows ns f) is cs rs ps qs
 
 -- 8, 9 and 11, of every book with these heads
 abbrev pub IdsFound : (heads ids : List ℕ) → Refusal → Type 0
 IdsFound hs is x =
-    (m : ℕ) (rows next : List ℕ) (free : ℕ) → found x ≡ idsRefusal (bareIn m (bookOf hs rows next free)) (length hs) 1 [] is
+    (m : ℕ) (rows next : List ℕ) (free : ℕ) → found x ≡ ids_refusal (bare_in m (book_of hs rows next free)) (length hs) 1 [] is
 
 -- 7 to 9 and 11, of every book with these heads
 abbrev pub RemoveFound : (heads ids : List ℕ) → Refusal → Type 0
 RemoveFound hs is x =
-    (m : ℕ) (rows next : List ℕ) (free : ℕ) → found x ≡ removeFound m (bookOf hs rows next free) is
+    (m : ℕ) (rows next : List ℕ) (free : ℕ) → found x ≡ remove_found m (book_of hs rows next free) is

@@ -2,9 +2,9 @@
 -- id of a removal. A part gives a number alone, since its position is the loop's. That the parts in order are the refusal: proofs/Positions.antt.
 -- Assumes nothing: these are definitions.
 use Rattle.std.specs.Prelude.{◌≡◌, Bool, ◌&&◌, not, List, [], ◌∷◌, ℕ, zero, suc, ◌≤◌, ◌<◌, leb, eqb, length, get_or, take}
-use Rattle.lists.specs.Lists.{pick, isIn, among}
-use Rattle.symbolic.specs.Columns.{isWindow}
-use Rattle.calls.specs.Refusals.{Refusal, refusal, accepted, or_else, unless, rowsRefusal}
+use Rattle.lists.specs.Lists.{pick, is_in, among}
+use Rattle.symbolic.specs.Columns.{is_window}
+use Rattle.calls.specs.Refusals.{Refusal, refusal, accepted, or_else, unless, rows_refusal}
 
 -- a number at a position; 0 is accepted, at none
 abbrev pub placed : (number position : ℕ) → Refusal
@@ -20,30 +20,30 @@ before zero is = []
 before (suc k) is = get_or is k 0 ∷ before k is
 
 -- 8 or 9: the id at place k
-abbrev pub idRefusal : (n : ℕ) → (ids : List ℕ) → (k position : ℕ) → Refusal
-idRefusal n is k p = or_else (unless (isIn 1 n (get_or is k 0)) 8 p) (unless (not (among (get_or is k 0) (before k is))) 9 p)
+abbrev pub id_refusal : (n : ℕ) → (ids : List ℕ) → (k position : ℕ) → Refusal
+id_refusal n is k p = or_else (unless (is_in 1 n (get_or is k 0)) 8 p) (unless (not (among (get_or is k 0) (before k is))) 9 p)
 
 -- 13 or 14: the rows of one column
-abbrev pub rowsPart : (m : ℕ) → (rows : List ℕ) → (position : ℕ) → Refusal
-rowsPart m rs p = rowsRefusal m p 0 rs
+abbrev pub rows_part : (m : ℕ) → (rows : List ℕ) → (position : ℕ) → Refusal
+rows_part m rs p = rows_refusal m p 0 rs
 
 -- 12, 13 or 14: a column of so many of the rows that remain
-abbrev pub countRefusal : (m count : ℕ) → (rows : List ℕ) → (position : ℕ) → Refusal
-countRefusal m k rs p = or_else (unless (isIn 1 256 k && leb k (length rs)) 12 p) (rowsPart m (take k rs) p)
+abbrev pub count_refusal : (m count : ℕ) → (rows : List ℕ) → (position : ℕ) → Refusal
+count_refusal m k rs p = or_else (unless (is_in 1 256 k && leb k (length rs)) 12 p) (rows_part m (take k rs) p)
 
 -- 21: the window of one column
-abbrev pub windowRefusal : (first second position : ℕ) → Refusal
-windowRefusal a b p = unless (isWindow a b) 21 p
+abbrev pub window_refusal : (first second position : ℕ) → Refusal
+window_refusal a b p = unless (is_window a b) 21 p
 
 -- 8, 9, 10, 12, 13, 14 or 21: the column at place k of an addition, where its id is booked or not
-abbrev pub columnRefusal : (m n : ℕ) → (is_taken : Bool) → (ids counts rows firsts seconds : List ℕ) → (k position : ℕ) → Refusal
-columnRefusal m n z is ns rs ps qs k p =
-    or_else (idRefusal n is k p)
-    (or_else (unless (not z) 10 p) (or_else (countRefusal m (get_or ns k 0) rs p) (windowRefusal (get_or ps k 0) (get_or qs k 0) p)))
+abbrev pub column_refusal : (m n : ℕ) → (is_taken : Bool) → (ids counts rows firsts seconds : List ℕ) → (k position : ℕ) → Refusal
+column_refusal m n z is ns rs ps qs k p =
+    or_else (id_refusal n is k p)
+    (or_else (unless (not z) 10 p) (or_else (count_refusal m (get_or ns k 0) rs p) (window_refusal (get_or ps k 0) (get_or qs k 0) p)))
 
 -- 8, 9 or 11: the id at place k of a removal
-abbrev pub leavingRefusal : (n : ℕ) → (is_taken : Bool) → (ids : List ℕ) → (k position : ℕ) → Refusal
-leavingRefusal n z is k p = or_else (idRefusal n is k p) (unless z 11 p)
+abbrev pub leaving_refusal : (n : ℕ) → (is_taken : Bool) → (ids : List ℕ) → (k position : ℕ) → Refusal
+leaving_refusal n z is k p = or_else (id_refusal n is k p) (unless z 11 p)
 
 -- a count and two minutes for each id, and no more ids than a batch can have
 pub record InStep (ids counts firsts seconds : List ℕ) : Type 0 where

@@ -1,7 +1,7 @@
 // The numbers that a batch is refused by before a plan is made, with their positions, found in their order: of an addition 7 to 15 and 21, of a removal 7 to 9
 // and 11. The book is shared, never written. position.rt has what is asked at one position.
 ghost use Rattle.std.specs.Prelude.{◌≡◌, not, ◌+◌, ◌≤◌, ◌<◌, length};
-ghost use Rattle.calls.specs.Refusals.{refusal, keepStep};
+ghost use Rattle.calls.specs.Refusals.{refusal, keep_step};
 ghost use Rattle.refusals.specs.Parts.{InStep};
 ghost use Rattle.refusals.specs.Found.{found, HasBook, ColumnsFound, AddFound, IdsFound, RemoveFound};
 
@@ -71,7 +71,7 @@ fn columns_refusal(
 
 // Whether a batch has too few or too many columns, or a list that is to keep step with the ids does not.
 fn out_of_step(ids: &[u32], row_counts: &[u32], firsts: &[u32], seconds: &[u32]) -> bool
-    ensures { result ≡ not (keepStep ids.now row_counts.now firsts.now seconds.now) }
+    ensures { result ≡ not (keep_step ids.now row_counts.now firsts.now seconds.now) }
 {
     if early_refusals::shape_outside(ids.len()) {
         return true;

@@ -2,8 +2,8 @@
 // The position itself is that of the loops of lib.rt.
 ghost use Rattle.std.specs.Prelude.{◌≡◌, ◌≤◌, ◌<◌, length, get_or, drop};
 ghost use Rattle.lists.specs.Lists.{among};
-ghost use Rattle.book.specs.Book.{isBooked};
-ghost use Rattle.refusals.specs.Parts.{IsNumber, before, idRefusal, rowsPart, countRefusal, columnRefusal, leavingRefusal, HasPlace};
+ghost use Rattle.book.specs.Book.{is_booked};
+ghost use Rattle.refusals.specs.Parts.{IsNumber, before, id_refusal, rows_part, count_refusal, column_refusal, leaving_refusal, HasPlace};
 
 use book::Id;
 
@@ -26,7 +26,7 @@ fn is_earlier(ids: &[u32], k: usize) -> bool
 // The number 8 or 9 that the id at place k is refused by, or 0.
 fn id_refusal(book_heads: &[u32], ids: &[u32], k: usize) -> u32
     requires { k < length ids.now }
-    ensures { IsNumber result (idRefusal (length book_heads.now) ids.now k) }
+    ensures { IsNumber result (id_refusal (length book_heads.now) ids.now k) }
 {
     let id = ids[k];
     if id < 1 {
@@ -43,7 +43,7 @@ fn id_refusal(book_heads: &[u32], ids: &[u32], k: usize) -> u32
 
 // The number 13 or 14 that the rows of a column are refused by, or 0.
 fn rows_refusal(rows: &[u32], m: u32) -> u32
-    ensures { IsNumber result (rowsPart m rows.now) }
+    ensures { IsNumber result (rows_part m rows.now) }
 {
     let mut above: u32 = 0;
     let mut i: usize = 0;
@@ -64,7 +64,7 @@ fn rows_refusal(rows: &[u32], m: u32) -> u32
 // The number 12, 13 or 14 that a column of count rows, which start at from, is refused by, or 0.
 fn count_refusal(row_list: &[u32], from: usize, count: u32, m: u32) -> u32
     requires { from ≤ length row_list.now }
-    ensures { IsNumber result (countRefusal m count (drop from row_list.now)) }
+    ensures { IsNumber result (count_refusal m count (drop from row_list.now)) }
 {
     if early_refusals::outside(1, crate::MOST_COUNT, count) {
         return 12;
@@ -89,7 +89,7 @@ pub fn column_refusal(
     m: u32,
 ) -> u32
     requires { HasPlace ids.now row_counts.now row_list.now firsts.now seconds.now k from }
-    ensures { IsNumber result (columnRefusal m (length book_heads.now) (isBooked book_heads.now (get_or ids.now k 0)) ids.now row_counts.now (drop from row_list.now) firsts.now seconds.now k) }
+    ensures { IsNumber result (column_refusal m (length book_heads.now) (is_booked book_heads.now (get_or ids.now k 0)) ids.now row_counts.now (drop from row_list.now) firsts.now seconds.now k) }
 {
     let first = id_refusal(book_heads, ids, k);
     if first != 0 {
@@ -113,7 +113,7 @@ pub fn column_refusal(
 // The number 8, 9 or 11 that the id at place k of a removal is refused by, or 0.
 pub fn leaving_refusal(book_heads: &[u32], ids: &[u32], k: usize) -> u32
     requires { k < length ids.now }
-    ensures { IsNumber result (leavingRefusal (length book_heads.now) (isBooked book_heads.now (get_or ids.now k 0)) ids.now k) }
+    ensures { IsNumber result (leaving_refusal (length book_heads.now) (is_booked book_heads.now (get_or ids.now k 0)) ids.now k) }
 {
     let number = id_refusal(book_heads, ids, k);
     if number != 0 {

@@ -8,9 +8,9 @@ use native.Mathlib.Numerals.{add-one}
 use lib.ListN.{length, get_or, take, set, length-set}
 use lib.Seq.{take-suc, take_all, get_or-take}
 use Rattle.workspace.specs.Regions.{cell, region, OnlyIn}
-use Rattle.workspace.specs.Parts.{upperWeight}
+use Rattle.workspace.specs.Parts.{upper_weight}
 use Rattle.workspace.proofs.Regions.{store-push, store-only, store-leaves-region, region-cell, only-refl, only_store, only-trans, only_wider}
-use Rattle.snapshot.specs.Snapshot.{paired, allPaired, countBound, CanSaveRecords, RecordsSaved, CanSaveParents, ParentsSaved}
+use Rattle.snapshot.specs.Snapshot.{paired, all_paired, count_bound, CanSaveRecords, RecordsSaved, CanSaveParents, ParentsSaved}
 use Rattle.snapshot.proofs.Kept.{all-paired-length, all-paired-at}
 
 -- ---- a list copied into the region from a on
@@ -65,7 +65,7 @@ module _ {parents before : List ℕ} {a : ℕ} {work : List ℕ} {k : ℕ} (s : 
 pub record RecordsSaving (rows counts next before : List ℕ) (a : ℕ) (work : List ℕ) (k : ℕ) : Type 0 where
   pub can : CanSaveRecords rows counts next before a
   pub within : k ≤ length next
-  pub pairs : region work a k ≡ take k (allPaired rows counts)
+  pub pairs : region work a k ≡ take k (all_paired rows counts)
   pub nexts : region work (a + length next) k ≡ take k next
   pub only : OnlyIn a (2 * length next) before work
 
@@ -80,8 +80,8 @@ module _ {rows counts next before : List ℕ} {a : ℕ} {work : List ℕ} {k : �
     pub link : k < length next
     pub pair : a + k < length work
     pub further : a + length next + k < length work
-    pub row_small : get_or rows k 0 < upperWeight
-    pub count_small : get_or counts k 0 < countBound
+    pub row_small : get_or rows k 0 < upper_weight
+    pub count_small : get_or counts k 0 < count_bound
 
   pub records-saving-turn : k < length next → SavingTurn
   records-saving-turn h =
@@ -112,7 +112,7 @@ module _ {rows counts next before : List ℕ} {a : ℕ} {work : List ℕ} {k : �
         within = omega arith;
         pairs =
             store-leaves-region work₁ (a + f + k) y a (k + 1) (inr (omega arith)) ∙
-            copy-next (allPaired rows counts) work a k x s.pairs (omega arith) (omega (arith, all-paired-length rows counts same, t.rows_long))
+            copy-next (all_paired rows counts) work a k x s.pairs (omega arith) (omega (arith, all-paired-length rows counts same, t.rows_long))
             (sym (all-paired-at rows counts k (omega (arith, t.rows_long)) (omega (arith, t.counts-long))));
         nexts =
             copy-next next work₁ (a + f) k y (store-leaves-region work (a + k) x (a + f) k (inl (omega arith)) ∙ s.nexts)
@@ -131,7 +131,7 @@ module _ {rows counts next before : List ℕ} {a : ℕ} {work : List ℕ} {k : �
               inside = omega (arith, s.only.same_length, s.can.inside);
               pairs =
                   ap (λ (n : ℕ). region work a n) (sym e) ∙ s.pairs ∙
-                  take_all k (allPaired rows counts) (omega (arith, all-paired-length rows counts same, t.rows_long));
+                  take_all k (all_paired rows counts) (omega (arith, all-paired-length rows counts same, t.rows_long));
               nexts = ap (λ (n : ℕ). region work (a + length next) n) (sym e) ∙ s.nexts ∙ take_all k next h;
             };
         only = s.only;

@@ -3,31 +3,31 @@
 -- Assumes nothing: these are definitions.
 use Rattle.std.specs.Prelude.{◌≡◌, List, [], ◌∷◌, map, ℕ, ◌+◌, ◌*◌, ◌≤◌, ◌<◌, length, get_or}
 use Rattle.workspace.specs.Regions.{cell, region, OnlyIn}
-use Rattle.workspace.specs.Parts.{upperWeight, lowerPart, upperPart}
+use Rattle.workspace.specs.Parts.{upper_weight, lower_part, upper_part}
 
 -- ---- row and multiplicity in one place
 
 -- the row is the lower part, the multiplicity the upper part
 abbrev pub paired : (row multiplicity : ℕ) → ℕ
-paired i n = i + upperWeight * n
+paired i n = i + upper_weight * n
 
 -- the row in such a place
-abbrev pub pairedRow : (place : ℕ) → ℕ
-pairedRow x = lowerPart x
+abbrev pub paired_row : (place : ℕ) → ℕ
+paired_row x = lower_part x
 
 -- the multiplicity in such a place
-abbrev pub pairedCount : (place : ℕ) → ℕ
-pairedCount x = upperPart x
+abbrev pub paired_count : (place : ℕ) → ℕ
+paired_count x = upper_part x
 
 -- rows with their multiplicities, in their order
-unfoldable pub allPaired : (rows counts : List ℕ) → List ℕ
-allPaired [] ns = []
-allPaired (i ∷ is) [] = []
-allPaired (i ∷ is) (n ∷ ns) = paired i n ∷ allPaired is ns
+unfoldable pub all_paired : (rows counts : List ℕ) → List ℕ
+all_paired [] ns = []
+all_paired (i ∷ is) [] = []
+all_paired (i ∷ is) (n ∷ ns) = paired i n ∷ all_paired is ns
 
 -- the tables' multiplicities, of 16 bits, are below this bound; an upper part has room for 19 bits
-abbrev pub countBound : ℕ
-countBound = 65536
+abbrev pub count_bound : ℕ
+count_bound = 65536
 
 -- ---- what can be kept
 
@@ -35,12 +35,12 @@ countBound = 65536
 pub record CanPair (rows counts next : List ℕ) : Type 0 where
   pub rows_long : length rows ≡ length next
   pub counts-long : length counts ≡ length next
-  pub rows-small : (k : ℕ) → get_or rows k 0 < upperWeight
-  pub counts-small : (k : ℕ) → get_or counts k 0 < countBound
+  pub rows-small : (k : ℕ) → get_or rows k 0 < upper_weight
+  pub counts-small : (k : ℕ) → get_or counts k 0 < count_bound
 
 -- parents, which are rows too, and m places for them from a on
 pub record CanSaveParents (parents work : List ℕ) (a : ℕ) : Type 0 where
-  pub small : (k : ℕ) → get_or parents k 0 < upperWeight
+  pub small : (k : ℕ) → get_or parents k 0 < upper_weight
   pub inside : a + length parents ≤ length work
 
 -- records that can be kept, and 2F places for them from a on
@@ -53,13 +53,13 @@ pub record CanSaveRecords (rows counts next work : List ℕ) (a : ℕ) : Type 0 
 -- the 2F places from a on hold all records
 pub record RecordsKept (work : List ℕ) (a : ℕ) (rows counts next : List ℕ) : Type 0 where
   pub inside : a + 2 * length next ≤ length work
-  pub pairs : region work a (length next) ≡ allPaired rows counts
+  pub pairs : region work a (length next) ≡ all_paired rows counts
   pub nexts : region work (a + length next) (length next) ≡ next
 
 -- the m places from a on hold all parents in their lower parts
 pub record ParentsKept (work : List ℕ) (a : ℕ) (parents : List ℕ) : Type 0 where
   pub inside : a + length parents ≤ length work
-  pub parents-are : (k : ℕ) → k < length parents → pairedRow (cell work a k) ≡ get_or parents k 0
+  pub parents-are : (k : ℕ) → k < length parents → paired_row (cell work a k) ≡ get_or parents k 0
 
 -- ---- saved
 
@@ -71,7 +71,7 @@ pub record RecordsSaved (rows counts next before after : List ℕ) (a : ℕ) : T
 -- after the call the parents are kept, with nothing in the upper parts of their places, and nothing else in the work table changed
 pub record ParentsSaved (parents before after : List ℕ) (a : ℕ) : Type 0 where
   pub kept : ParentsKept after a parents
-  pub low : (k : ℕ) → k < length parents → cell after a k < upperWeight
+  pub low : (k : ℕ) → k < length parents → cell after a k < upper_weight
   pub only : OnlyIn a (length parents) before after
 
 -- ---- brought back
@@ -81,17 +81,17 @@ pub record CanUnpair (rows counts next work : List ℕ) (a : ℕ) : Type 0 where
   pub inside : a + 2 * length next ≤ length work
   pub rows_long : length rows ≡ length next
   pub counts-long : length counts ≡ length next
-  pub counts-small : (k : ℕ) → k < length next → pairedCount (cell work a k) < countBound
+  pub counts-small : (k : ℕ) → k < length next → paired_count (cell work a k) < count_bound
 
 -- the three tables are what the places from a on say
 pub record Unpaired (rows counts next work : List ℕ) (a : ℕ) : Type 0 where
-  pub rows_are : rows ≡ map pairedRow (region work a (length next))
-  pub counts-are : counts ≡ map pairedCount (region work a (length next))
+  pub rows_are : rows ≡ map paired_row (region work a (length next))
+  pub counts-are : counts ≡ map paired_count (region work a (length next))
   pub next-are : next ≡ region work (a + length next) (length next)
 
 -- the parents are what the lower parts of the places from a on say
 abbrev pub Taken : (parents work : List ℕ) (a : ℕ) → Type 0
-Taken ps w a = ps ≡ map pairedRow (region w a (length ps))
+Taken ps w a = ps ≡ map paired_row (region w a (length ps))
 
 -- three tables as long as those marked ₀, which are kept
 pub record CanRestore (rows counts next work : List ℕ) (a : ℕ) (rows₀ counts₀ next₀ : List ℕ) : Type 0 where

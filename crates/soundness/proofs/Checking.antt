@@ -12,10 +12,10 @@ use lib.Dec.{leb}
 use lib.ListN.{length, get_or, take, set, length-set, length-append}
 use lib.Seq.{get_or-take, get_or-set_other, take-set-lt}
 use borrow.Author.Tests.{le-leb, leb-true}
-use Rattle.lists.specs.Lists.{at, put, valuesAt}
+use Rattle.lists.specs.Lists.{at, put, values_at}
 use Rattle.lists.proofs.Tests.{and_both, both-and, both_ways, refute}
 use Rattle.lists.proofs.Place.{values-append, values_one}
-use Rattle.workspace.specs.Layout.{rowStash}
+use Rattle.workspace.specs.Layout.{row_stash}
 use Rattle.workspace.specs.Regions.{cell, region}
 use Rattle.workspace.proofs.Regions.{region-ext, store-push, store-leaves-region}
 use Rattle.pool.specs.declared.Chain.TheVariants.{Ended, Cut}
@@ -25,8 +25,8 @@ use Rattle.pool.proofs.Runs.{Runs, runs-start, runs-more, runs-split, runs-end, 
 use Rattle.book.specs.Tally.{filled}
 use Rattle.counting.specs.Counting.{OnlyTwo}
 use Rattle.counting.proofs.Linking.{two-refl}
-use Rattle.soundness.specs.Fitting.{entryFits, passes, struck, fits}
-use Rattle.soundness.specs.Checking.{CanCheckEntry, EntryChecked, CanCheck, chainFits, Checked}
+use Rattle.soundness.specs.Fitting.{entry_fits, passes, struck, fits}
+use Rattle.soundness.specs.Checking.{CanCheckEntry, EntryChecked, CanCheck, chain_fits, Checked}
 use Rattle.soundness.proofs.Fitting.{struck-more, passes-next, passes-not, Entry, entry_of, of_entry, passes-filled, fits-filled, filled-fits}
 
 -- ---- a chain that fits, and the ways in which one does not
@@ -38,7 +38,7 @@ pub record FitParts (rows counts next w : List ℕ) (m met head : ℕ) : Type 0 
   pub size : length (chain next head) ≡ filled (region w 0 m)
 
 module _ (rows counts next w : List ℕ) (m met head : ℕ) where
-  pub fit_parts : chainFits rows counts next w m met head ≡ true → FitParts rows counts next w m met head
+  pub fit_parts : chain_fits rows counts next w m met head ≡ true → FitParts rows counts next w m met head
   fit_parts e =
       let a : Bool = ends next head in
       let b : Bool = fits rows counts m (region w 0 m) (chain next head) in
@@ -52,28 +52,28 @@ module _ (rows counts next w : List ℕ) (m met head : ℕ) where
         size = fits-filled rows counts m (region w 0 m) (chain next head) u.1;
       }
 
-  pub fit-make : Linked next head (chain next head) → fits rows counts m (region w 0 m) (chain next head) ≡ true → met + length (chain next head) ≤ length next → chainFits rows counts next w m met head ≡ true
+  pub fit-make : Linked next head (chain next head) → fits rows counts m (region w 0 m) (chain next head) ≡ true → met + length (chain next head) ≤ length next → chain_fits rows counts next w m met head ≡ true
   fit-make l f r = both-and (both-and (linked-ends next head (chain next head) l) f) (le-leb (met + length (chain next head)) (length next) r)
 
   -- not so many records as counters
-  fit-size : (met + length (chain next head) ≤ length next → length (chain next head) ≢ filled (region w 0 m)) → chainFits rows counts next w m met head ≡ false
+  fit-size : (met + length (chain next head) ≤ length next → length (chain next head) ≢ filled (region w 0 m)) → chain_fits rows counts next w m met head ≡ false
   fit-size d =
-      refute (chainFits rows counts next w m met head) (λ e. (let p : FitParts rows counts next w m met head = fit_parts e in d p.room p.size))
+      refute (chain_fits rows counts next w m met head) (λ e. (let p : FitParts rows counts next w m met head = fit_parts e in d p.room p.size))
 
   module _ (ds : List ℕ) (r : ℕ) (runs : Runs next head ds r) where
     -- the chain goes on from r, so it has more records than were met
-    fit_on : r ≢ 0 → filled (region w 0 m) ≤ length ds → chainFits rows counts next w m met head ≡ false
+    fit_on : r ≢ 0 → filled (region w 0 m) ≤ length ds → chain_fits rows counts next w m met head ≡ false
     fit_on p h =
-        refute (chainFits rows counts next w m met head) (λ e.
+        refute (chain_fits rows counts next w m met head) (λ e.
         (let q : FitParts rows counts next w m met head = fit_parts e in
         let t : (ts : List ℕ) × (chain next head ≡ ds ++ ts) × Linked next r ts = runs-split next head ds r (chain next head) runs q.linked in
         let s : Step next r t.0 = linked-step next r t.0 p t.2 in
         omega (arith, q.size, ap length t.1, length-append ds t.0, ap length s.parts)))
 
     -- an entry that does not fit
-    fit-entry : r ≢ 0 → ((rest : List ℕ) → passes rows counts m (region w 0 m) 0 (ds ++ (r ∷ rest)) ≡ false) → chainFits rows counts next w m met head ≡ false
+    fit-entry : r ≢ 0 → ((rest : List ℕ) → passes rows counts m (region w 0 m) 0 (ds ++ (r ∷ rest)) ≡ false) → chain_fits rows counts next w m met head ≡ false
     fit-entry p f =
-        refute (chainFits rows counts next w m met head) (λ e.
+        refute (chain_fits rows counts next w m met head) (λ e.
         (let q : FitParts rows counts next w m met head = fit_parts e in
         let t : (ts : List ℕ) × (chain next head ≡ ds ++ ts) × Linked next r ts = runs-split next head ds r (chain next head) runs q.linked in
         let s : Step next r t.0 = linked-step next r t.0 p t.2 in
@@ -81,7 +81,7 @@ module _ (rows counts next w : List ℕ) (m met head : ℕ) where
         let y : passes rows counts m (region w 0 m) 0 (chain next head) ≡ true = (and_both (passes rows counts m (region w 0 m) 0 (chain next head)) _ q.fitting).0 in
         true≢false (sym y ∙ ap (passes rows counts m (region w 0 m) 0) c ∙ f s.rest)))
 
-    fit-out : length next < r → chainFits rows counts next w m met head ≡ false
+    fit-out : length next < r → chain_fits rows counts next w m met head ≡ false
     fit-out h = rw (runs-out next head ds r runs h) refl
 
 -- ---- the invariant
@@ -93,10 +93,10 @@ pub record Checking (rows counts next w₀ : List ℕ) (m met head : ℕ) (w : L
   pub counted : k ≡ length records
   pub last-is : last ≡ last_of 0 records
   pub same : (rest : List ℕ) → passes rows counts m (region w₀ 0 m) 0 (records ++ rest) ≡ passes rows counts m (region w 0 m) before rest
-  pub only : OnlyTwo 0 m (rowStash m (length next)) (length next) w₀ w
-  pub counters : region w 0 m ≡ struck (region w₀ 0 m) (valuesAt rows records)
-  pub stash : region w (rowStash m (length next) + met) (length records) ≡ valuesAt rows records
-  pub stash-before : (i : ℕ) → i < met → cell w (rowStash m (length next)) i ≡ cell w₀ (rowStash m (length next)) i
+  pub only : OnlyTwo 0 m (row_stash m (length next)) (length next) w₀ w
+  pub counters : region w 0 m ≡ struck (region w₀ 0 m) (values_at rows records)
+  pub stash : region w (row_stash m (length next) + met) (length records) ≡ values_at rows records
+  pub stash-before : (i : ℕ) → i < met → cell w (row_stash m (length next)) i ≡ cell w₀ (row_stash m (length next)) i
 
 -- what a turn asks
 pub record TurnFacts (rows counts next w : List ℕ) (m met size r k : ℕ) : Type 0 where
@@ -121,7 +121,7 @@ entry-front m w z x v e =
 
 module _ {rows counts next w₀ : List ℕ} {m met size head : ℕ} (pre : CanCheck rows counts next w₀ m met size) where
   -- a chain that does not fit
-  not-fitting : {w : List ℕ} → OnlyTwo 0 m (rowStash m (length next)) (length next) w₀ w → chainFits rows counts next w₀ m met head ≡ false → Checked rows counts next w₀ w m met head Cut
+  not-fitting : {w : List ℕ} → OnlyTwo 0 m (row_stash m (length next)) (length next) w₀ w → chain_fits rows counts next w₀ m met head ≡ false → Checked rows counts next w₀ w m met head Cut
   not-fitting o e = record { only = o; answer = rw e refl; read = λ t. absurd (true≢false (sym t ∙ e)) }
 
   -- more counters than records are left
@@ -129,7 +129,7 @@ module _ {rows counts next w₀ : List ℕ} {m met size head : ℕ} (pre : CanCh
   checking-many h = not-fitting two-refl (fit-size rows counts next w₀ m met head (λ r e. omega (arith, pre.size_is)))
 
   pub checking-start : head < 4294967296 → Checking rows counts next w₀ m met head w₀ head 0 0 0
-  unfolding struck valuesAt last_of
+  unfolding struck values_at last_of
   checking-start small =
       record {
         records = [];
@@ -196,22 +196,22 @@ module _ {rows counts next w₀ : List ℕ} {m met size head : ℕ} (pre : CanCh
 
         module _ {x : List ℕ} {b : Bool} (checked : EntryChecked w x m (8 * m + length next + met + k) before (at rows r) (at counts r) b) where
           -- the entry fits the table's front exactly if it fits the counters
-          same-fits : entryFits m w before (at rows r) (at counts r) ≡ entryFits m (region w 0 m) before (at rows r) (at counts r)
+          same-fits : entry_fits m w before (at rows r) (at counts r) ≡ entry_fits m (region w 0 m) before (at rows r) (at counts r)
           same-fits =
-              both_ways (entryFits m w before (at rows r) (at counts r)) (entryFits m (region w 0 m) before (at rows r) (at counts r))
+              both_ways (entry_fits m w before (at rows r) (at counts r)) (entry_fits m (region w 0 m) before (at rows r) (at counts r))
               (λ h. of_entry m (region w 0 m) before (at rows r) (at counts r) (front-entry m w before (at rows r) (at counts r) (entry_of m w before (at rows r) (at counts r) h)))
               (λ h. of_entry m w before (at rows r) (at counts r) (entry-front m w before (at rows r) (at counts r) (entry_of m (region w 0 m) before (at rows r) (at counts r) h)))
 
           pub checking-failed : b ≡ false → Checked rows counts next w₀ x m met head Cut
           checking-failed f =
-              let z : entryFits m w before (at rows r) (at counts r) ≡ false = sym checked.answer ∙ f in
+              let z : entry_fits m w before (at rows r) (at counts r) ≡ false = sym checked.answer ∙ f in
               let x-is : x ≡ w = checked.changed ∙ rw z refl in
               not-fitting (rw x-is i.only)
               (fit-entry rows counts next w₀ m met head i.records r i.runs p
               (λ rest. i.same (r ∷ rest) ∙ passes-not rows counts m (region w 0 m) before r rest (sym same-fits ∙ z)))
 
           module _ (t : b ≡ true) where
-            fits-here : entryFits m w before (at rows r) (at counts r) ≡ true
+            fits-here : entry_fits m w before (at rows r) (at counts r) ≡ true
             fits-here = sym checked.answer ∙ t
 
             x-is : x ≡ set (set w (at rows r - 1) 0) place (at rows r)
@@ -228,8 +228,8 @@ module _ {rows counts next w₀ : List ℕ} {m met size head : ℕ} (pre : CanCh
                 ap (take m) x-is ∙ store-leaves-region (set w (at rows r - 1) 0) place (at rows r) 0 m (inr (omega (arith, row_in))) ∙
                 take-set-lt m w (at rows r - 1) 0 (omega (arith, row_in))
 
-            values-more : valuesAt rows (i.records ++ (r ∷ [])) ≡ valuesAt rows i.records ++ (at rows r ∷ [])
-            values-more = values-append rows i.records (r ∷ []) ∙ ap (λ (l : List ℕ). valuesAt rows i.records ++ l) (values_one rows r)
+            values-more : values_at rows (i.records ++ (r ∷ [])) ≡ values_at rows i.records ++ (at rows r ∷ [])
+            values-more = values-append rows i.records (r ∷ []) ∙ ap (λ (l : List ℕ). values_at rows i.records ++ l) (values_one rows r)
 
             -- places from m on, but the one written
             x-place : (a : ℕ) → m ≤ a → a ≢ place → get_or x a 0 ≡ get_or w a 0
@@ -240,10 +240,10 @@ module _ {rows counts next w₀ : List ℕ} {m met size head : ℕ} (pre : CanCh
             x-long : length x ≡ length w
             x-long = ap length x-is ∙ length-set (set w (at rows r - 1) 0) place (at rows r) ∙ length-set w (at rows r - 1) 0
 
-            x-stash : region x (rowStash m (length next) + met) (length i.records + 1) ≡ valuesAt rows i.records ++ (at rows r ∷ [])
+            x-stash : region x (row_stash m (length next) + met) (length i.records + 1) ≡ values_at rows i.records ++ (at rows r ∷ [])
             x-stash =
                 let y : List ℕ = set w (at rows r - 1) 0 in
-                let st : ℕ = rowStash m (length next) + met in
+                let st : ℕ = row_stash m (length next) + met in
                 let n : ℕ = length i.records in
                 let l : length y ≡ length w = length-set w (at rows r - 1) 0 in
                 let e : place ≡ st + n = omega (arith, i.counted) in
@@ -273,10 +273,10 @@ module _ {rows counts next w₀ : List ℕ} {m met size head : ℕ} (pre : CanCh
                         (elim z [ inl h ↦ λ d. omega arith | inr h ↦ λ d. omega (arith, checking-facts.room, more) ]) ∙ i.only.outside a y z;
                   };
                   counters =
-                      x-front ∙ ap (λ (l : List ℕ). put l (at rows r) 0) i.counters ∙ sym (struck-more (region w₀ 0 m) (valuesAt rows i.records) (at rows r)) ∙
+                      x-front ∙ ap (λ (l : List ℕ). put l (at rows r) 0) i.counters ∙ sym (struck-more (region w₀ 0 m) (values_at rows i.records) (at rows r)) ∙
                       ap (struck (region w₀ 0 m)) (sym values-more);
-                  stash = ap (region x (rowStash m (length next) + met)) one_more ∙ x-stash ∙ sym values-more;
-                  stash-before = λ a h. x-place (rowStash m (length next) + a) (omega arith) (λ d. omega arith) ∙ i.stash-before a h;
+                  stash = ap (region x (row_stash m (length next) + met)) one_more ∙ x-stash ∙ sym values-more;
+                  stash-before = λ a h. x-place (row_stash m (length next) + a) (omega arith) (λ d. omega arith) ∙ i.stash-before a h;
                 }
 
       pub checking-end : size ≤ k → r ≡ 0 → Checked rows counts next w₀ w m met head (Ended (met + size) (record { 0 = last }))
@@ -284,9 +284,9 @@ module _ {rows counts next w₀ : List ℕ} {m met size head : ℕ} (pre : CanCh
           let runs : Runs next head i.records 0 = subst (Runs next head i.records) z i.runs in
           let c : chain next head ≡ i.records = runs-chain next head i.records runs in
           let size_is : size ≡ length i.records = omega (arith, checking-within, i.counted) in
-          let all : ((x : ℕ) → get_or (struck (region w₀ 0 m) (valuesAt rows i.records)) x 0 ≡ 0) × (fits rows counts m (region w₀ 0 m) i.records ≡ true) =
+          let all : ((x : ℕ) → get_or (struck (region w₀ 0 m) (values_at rows i.records)) x 0 ≡ 0) × (fits rows counts m (region w₀ 0 m) i.records ≡ true) =
           filled-fits rows counts m (region w₀ 0 m) i.records met-pass (omega (arith, pre.size_is)) in
-          let e : chainFits rows counts next w₀ m met head ≡ true =
+          let e : chain_fits rows counts next w₀ m met head ≡ true =
           fit-make rows counts next w₀ m met head (subst (Linked next head) (sym c) (runs-end next head i.records runs)) (ap (fits rows counts m (region w₀ 0 m)) c ∙ all.1) (omega (arith, ap length c, pre.within)) in
           let n : met + size ≡ met + length (chain next head) = omega (arith, ap length c) in
           record {
@@ -294,7 +294,7 @@ module _ {rows counts next w₀ : List ℕ} {m met size head : ℕ} (pre : CanCh
             answer = rw (e, n, i.last-is, c) refl;
             read = λ _. record {
               zero = λ x h. ap (λ (y : ℕ). get_or w y 0) (zero-add x) ∙ sym (get_or-take m w x 0 h) ∙ ap (λ (l : List ℕ). get_or l x 0) i.counters ∙ all.0 x;
-              stash = ap (λ (l : List ℕ). region w (rowStash m (length next) + met) (length l)) c ∙ i.stash ∙ ap (valuesAt rows) (sym c);
+              stash = ap (λ (l : List ℕ). region w (row_stash m (length next) + met) (length l)) c ∙ i.stash ∙ ap (values_at rows) (sym c);
               stash-before = i.stash-before;
             };
           }

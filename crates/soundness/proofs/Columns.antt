@@ -6,7 +6,7 @@ use Prim.Native.Nat.{ℕ, ◌+◌, ◌≤◌, ◌<◌}
 use native.Mathlib.Omega.{arith}
 use lib.ListN.{length}
 use Rattle.lists.specs.Lists.{at}
-use Rattle.workspace.specs.Layout.{childHead, childNext, lastsAt, names_at}
+use Rattle.workspace.specs.Layout.{child_head, child_next, lasts_at, names_at}
 use Rattle.workspace.proofs.Regions.{only-refl, only-trans}
 use Rattle.pool.specs.declared.Walk.{Walk}
 use Rattle.pool.specs.declared.Walk.TheVariants.{Ended, Cut}
@@ -77,10 +77,10 @@ first-state {s} {b} {windows} {clock} {w} pre =
         counted = sym (ap length (chains-nil s.next));
         within = omega arith;
         lasts_are = sym (lasts-nil s.next);
-        named = named_start w (lastsAt (length s.heads)) (names_at (length s.heads)) (length s.next);
+        named = named_start w (lasts_at (length s.heads)) (names_at (length s.heads)) (length s.next);
       };
       zero = pre.zero;
-      children = listed_start w (childHead (length s.heads)) (length s.heads) (childNext (length s.heads)) (length s.heads) (at s.parents) (omega (arith, pre.sizes.long)) pre.heads-zero;
+      children = listed_start w (child_head (length s.heads)) (length s.heads) (child_next (length s.heads)) (length s.heads) (at s.parents) (omega (arith, pre.sizes.long)) pre.heads-zero;
       columns = pre.columns;
       stash = record {
         here = pre.start-zero;

@@ -10,17 +10,17 @@ use native.Mathlib.Omega.{arith}
 use lib.ListN.{length}
 use borrow.Rule.Slice.PartMut.{put_mid}
 use Rattle.lists.proofs.Tests.{and_both}
-use Rattle.workspace.specs.Layout.{childHead, bookNames, columnNext}
+use Rattle.workspace.specs.Layout.{child_head, book_names, column_next}
 use Rattle.workspace.specs.Regions.{region, IsZero}
 use Rattle.workspace.proofs.Regions.{region-length, zero-part, only-trans, only_wider, only_zero}
 use Rattle.book.specs.Book as book
 use Rattle.book.specs.Walks.{CanReadThrough as CanReadBook}
 use Rattle.book.proofs.Sound.{Sound, sound-of}
-use Rattle.windows.specs.Windowed.{areSound as windowsSound}
-use Rattle.tables.specs.Stored.{Stored, isSoundFor}
+use Rattle.windows.specs.Windowed.{are_sound as windows_sound}
+use Rattle.tables.specs.Stored.{Stored, is_sound_for}
 use Rattle.counting.specs.Counting.{CanList, Listed}
 use Rattle.soundness.specs.State.{live_in, WithinWork, Prepared, SomePrepared, FactorRead}
-use Rattle.soundness.specs.ReadThrough.{CanReadBooked, bookedSound, WithinBooked, CanReadThrough, areSound}
+use Rattle.soundness.specs.ReadThrough.{CanReadBooked, booked_sound, WithinBooked, CanReadThrough, are_sound}
 use Rattle.counting.proofs.Parts.{part-only}
 use Rattle.soundness.proofs.Local.{head_in, start-in}
 
@@ -28,7 +28,7 @@ use Rattle.soundness.proofs.Local.{head_in, start-in}
 
 module _ {b : book.Book} {windows w : List ℕ} {m f : ℕ} (pre : CanReadBooked b windows w m f) where
   -- the book's region: C places for names, then n for last records
-  module _ (a e : ℕ) (a-is : a ≡ bookNames m f) (e-is : e ≡ a + length b.next + length b.heads) where
+  module _ (a e : ℕ) (a-is : a ≡ book_names m f) (e-is : e ≡ a + length b.next + length b.heads) where
     pub booking-can : CanReadBook b.heads b.rows b.next (region w a (e - a))
     booking-can =
         record {
@@ -40,14 +40,14 @@ module _ {b : book.Book} {windows w : List ℕ} {m f : ℕ} (pre : CanReadBooked
 
     pub booking-only : (ms : List ℕ) → length ms ≡ length (region w a (e - a)) → WithinBooked m f b w (put_mid a (e - a) w ms)
     booking-only ms kept =
-        only_wider (bookNames m f) (length b.next + length b.heads) (omega arith) (omega arith)
+        only_wider (book_names m f) (length b.next + length b.heads) (omega arith) (omega arith)
         (part-only w ms a e (omega arith) (omega (arith, pre.long)) (kept ∙ region-length w a (e - a) (omega (arith, pre.long))))
 
-  pub booking-unsound : {r : Bool} → r ≡ book.isSound m b → r ≡ false → false ≡ bookedSound m b windows
-  booking-unsound p q = sym (ap (λ (t : Bool). t && windowsSound b.heads windows) (sym p ∙ q))
+  pub booking-unsound : {r : Bool} → r ≡ book.is_sound m b → r ≡ false → false ≡ booked_sound m b windows
+  booking-unsound p q = sym (ap (λ (t : Bool). t && windows_sound b.heads windows) (sym p ∙ q))
 
-  pub booking-answer : {r : Bool} → r ≡ book.isSound m b → r ≡ true → {z : Bool} → z ≡ windowsSound b.heads windows → z ≡ bookedSound m b windows
-  booking-answer p q h = h ∙ sym (ap (λ (t : Bool). t && windowsSound b.heads windows) (sym p ∙ q))
+  pub booking-answer : {r : Bool} → r ≡ book.is_sound m b → r ≡ true → {z : Bool} → z ≡ windows_sound b.heads windows → z ≡ booked_sound m b windows
+  booking-answer p q h = h ∙ sym (ap (λ (t : Bool). t && windows_sound b.heads windows) (sym p ∙ q))
 
 -- ---- all tables
 
@@ -60,7 +60,7 @@ module _ {s : Stored} {b : book.Book} {windows w : List ℕ} (pre : CanReadThrou
 
   -- where the next ids of lists stand
   abbrev c : ℕ
-  c = columnNext (length s.heads) (length s.next) (length b.next)
+  c = column_next (length s.heads) (length s.next) (length b.next)
 
   pub preparing-booked : CanReadBooked b windows w m f
   preparing-booked =
@@ -74,8 +74,8 @@ module _ {s : Stored} {b : book.Book} {windows w : List ℕ} (pre : CanReadThrou
         long = pre.long;
       }
 
-  pub preparing-unsound : (clock : ℕ) {r : Bool} → r ≡ bookedSound m b windows → r ≡ false → false ≡ areSound s b windows clock
-  preparing-unsound clock p q = sym (ap (λ (t : Bool). t && isSoundFor (live_in s b windows clock) s) (sym p ∙ q))
+  pub preparing-unsound : (clock : ℕ) {r : Bool} → r ≡ booked_sound m b windows → r ≡ false → false ≡ are_sound s b windows clock
+  preparing-unsound clock p q = sym (ap (λ (t : Bool). t && is_sound_for (live_in s b windows clock) s) (sym p ∙ q))
 
   module _ {w₁ : List ℕ} (read_only_lem : WithinBooked (length s.heads) (length s.next) b w w₁) where
     pub preparing-only : WithinWork s b w w₁
@@ -86,9 +86,9 @@ module _ {s : Stored} {b : book.Book} {windows w : List ℕ} (pre : CanReadThrou
     zero-before x l h =
         only_zero read_only_lem x l (inr (omega arith)) (zero-part w 0 (4 * m + 1) x l pre.front-zero (omega arith) (omega arith))
 
-    module _ (sound : bookedSound (length s.heads) b windows ≡ true) (clock : ℕ) where
-      book-is-sound : book.isSound m b ≡ true
-      book-is-sound = (and_both (book.isSound m b) (windowsSound b.heads windows) sound).0
+    module _ (sound : booked_sound (length s.heads) b windows ≡ true) (clock : ℕ) where
+      book-is-sound : book.is_sound m b ≡ true
+      book-is-sound = (and_both (book.is_sound m b) (windows_sound b.heads windows) sound).0
 
       book-sound : Sound m b
       book-sound = sound-of m b book-is-sound
@@ -129,7 +129,7 @@ module _ {s : Stored} {b : book.Book} {windows w : List ℕ} (pre : CanReadThrou
               };
               sound = book-is-sound;
               zero = x-zero 0 m (omega arith);
-              heads-zero = x-zero (childHead m) m (omega arith);
+              heads-zero = x-zero (child_head m) m (omega arith);
               start-zero =
                   listed.only.outside (4 * m + 0) (inr (omega arith)) (inl (omega arith)) ∙ zero-before (4 * m) 1 (omega arith) 0 (omega arith);
               columns = listed.lists b.next pre.booked;
@@ -147,8 +147,8 @@ module _ {s : Stored} {b : book.Book} {windows w : List ℕ} (pre : CanReadThrou
             }
 
         module _ {y : List ℕ} {r : Bool} (read : FactorRead s b x y r) where
-          pub preparing-answer : r ≡ areSound s b windows clock
-          preparing-answer = read.answer windows clock done ∙ sym (ap (λ (t : Bool). t && isSoundFor (live_in s b windows clock) s) sound)
+          pub preparing-answer : r ≡ are_sound s b windows clock
+          preparing-answer = read.answer windows clock done ∙ sym (ap (λ (t : Bool). t && is_sound_for (live_in s b windows clock) s) sound)
 
           pub preparing-end : WithinWork s b w y
           preparing-end = only-trans x-only read.only

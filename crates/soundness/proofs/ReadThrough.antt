@@ -10,20 +10,20 @@ use native.Mathlib.Omega.{arith}
 use lib.ListN.{length, get_or, take}
 use lib.Seq.{take_all}
 use borrow.Rule.Slice.PartMut.{put_mid}
-use Rattle.lists.specs.Lists.{Mem, at, times, valuesAt, allZero, Decides}
+use Rattle.lists.specs.Lists.{Mem, at, times, values_at, all_zero, Decides}
 use Rattle.lists.proofs.Tests.{and_both, both-and, both_ways, refute, decides-no}
 use Rattle.lists.proofs.Times.{times-mem}
 use Rattle.lists.proofs.Place.{values-mem}
 use Rattle.lists.proofs.Rising.{rises-in}
-use Rattle.workspace.specs.Layout.{lastsAt, names_at, piecesAt}
+use Rattle.workspace.specs.Layout.{lasts_at, names_at, pieces_at}
 use Rattle.workspace.specs.Regions.{region, OnlyIn}
 use Rattle.workspace.proofs.Regions.{region-length, only_wider, only-trans}
-use Rattle.symbolic.specs.Factor.{FactorColumn, factorOf, columnAt}
+use Rattle.symbolic.specs.Factor.{FactorColumn, factor_of, column_at}
 use Rattle.symbolic.proofs.Patterns.{pattern-within-rows}
 use Rattle.pool.specs.Chains.{chain}
 use Rattle.pool.specs.Whole.{chains, is_whole, AllLinked, Pool}
 use Rattle.pool.specs.Ends.{lasts, NoneTwice}
-use Rattle.pool.specs.Free.{FreeHas, Closed, zeroPairs}
+use Rattle.pool.specs.Free.{FreeHas, Closed, zero_pairs}
 use Rattle.pool.specs.declared.Walk.{Walk}
 use Rattle.pool.specs.declared.Walk.TheVariants.{Ended}
 use Rattle.pool.proofs.Whole.{whole-pool}
@@ -32,7 +32,7 @@ use Rattle.pool.proofs.Closed.{Rowed, closed-whole, whole-closed, zero-pairs, ze
 use Rattle.ends.specs.Naming.{Named, CanCompare}
 use Rattle.free_chain.specs.Pieces.{OnePool}
 use Rattle.book.specs.Book as book
-use Rattle.tables.specs.Stored.{Stored, recordsOf, holdsFrom, isSoundFor}
+use Rattle.tables.specs.Stored.{Stored, records_of, holds_from, is_sound_for}
 use Rattle.counting.proofs.Parts.{part-only}
 use Rattle.soundness.specs.Checking.{CanReadFree, FreeRead}
 use Rattle.soundness.specs.State.{live_in, walked, State, SomeState, ColumnsRead, Prepared, SomePrepared, FactorRead}
@@ -46,10 +46,10 @@ module _ {rows counts next : List ℕ} {free k : ℕ} where
   pub free-rows : {z : ℕ} → z ≡ times 0 rows → z ≢ k → Decides (FreeRead rows counts next free k) false
   free-rows e d = decides-no (λ r. d (e ∙ r.rows-zero))
 
-  pub free-pairs : {z : ℕ} → z ≡ zeroPairs rows counts → z ≢ k → Decides (FreeRead rows counts next free k) false
+  pub free-pairs : {z : ℕ} → z ≡ zero_pairs rows counts → z ≢ k → Decides (FreeRead rows counts next free k) false
   free-pairs e d = decides-no (λ r. d (e ∙ r.both_zero))
 
-  pub free_all : {y z : ℕ} {a : Bool} → y ≡ times 0 rows → y ≡ k → z ≡ zeroPairs rows counts → z ≡ k → Decides (FreeHas rows next free k) a → Decides (FreeRead rows counts next free k) a
+  pub free_all : {y z : ℕ} {a : Bool} → y ≡ times 0 rows → y ≡ k → z ≡ zero_pairs rows counts → z ≡ k → Decides (FreeHas rows next free k) a → Decides (FreeRead rows counts next free k) a
   free_all e p f q d =
       record {
         yes = λ t. record { rows-zero = sym e ∙ p; both_zero = sym f ∙ q; has = d.yes t };
@@ -61,9 +61,9 @@ module _ {rows counts next w : List ℕ} {m : ℕ} (pre : CanReadFree rows count
   free-can = record { same_size = pre.rows_long; small = omega (arith, pre.f-bound) }
 
   pub free-only : (a e : ℕ) → a ≡ 8 * m + 2 * length next → e ≡ a + 2 * length next → (ms : List ℕ) → length ms ≡ length (region w a (e - a)) →
-      OnlyIn (piecesAt m (length next)) (2 * length next) w (put_mid a (e - a) w ms)
+      OnlyIn (pieces_at m (length next)) (2 * length next) w (put_mid a (e - a) w ms)
   free-only a e p q ms kept =
-      only_wider (piecesAt m (length next)) (2 * length next) (omega arith) (omega arith)
+      only_wider (pieces_at m (length next)) (2 * length next) (omega arith) (omega arith)
       (part-only w ms a e (omega arith) (omega (arith, pre.long)) (kept ∙ region-length w a (e - a) (omega (arith, pre.long))))
 
 -- ---- after the last column
@@ -76,7 +76,7 @@ module _ {s : Stored} {b : book.Book} {windows : List ℕ} {clock : ℕ} {w : Li
   f = length s.next
 
   abbrev L : List FactorColumn
-  L = factorOf (length s.heads) (live_in s b windows clock)
+  L = factor_of (length s.heads) (live_in s b windows clock)
 
   last-number : length s.heads + 1 - 1 ≡ length s.heads
   last-number = omega arith
@@ -90,10 +90,10 @@ module _ {s : Stored} {b : book.Book} {windows : List ℕ} {clock : ℕ} {w : Li
   counted : n ≡ length (chains s.next s.heads)
   counted = st.chains-walked.counted ∙ ap (λ (l : List ℕ). length (chains s.next l)) heads-are
 
-  lasts_are : region w (lastsAt m) m ≡ lasts s.next s.heads
-  lasts_are = sym (ap (region w (lastsAt m)) last-number) ∙ st.chains-walked.lasts_are ∙ ap (lasts s.next) heads-are
+  lasts_are : region w (lasts_at m) m ≡ lasts s.next s.heads
+  lasts_are = sym (ap (region w (lasts_at m)) last-number) ∙ st.chains-walked.lasts_are ∙ ap (lasts s.next) heads-are
 
-  holds-all : holdsFrom s L 1 m ≡ true
+  holds-all : holds_from s L 1 m ≡ true
   holds-all = holds-make s L 1 m (λ j p h. st.holds j p (omega arith))
 
   -- a record of a column has one of the definition's rows
@@ -102,27 +102,27 @@ module _ {s : Stored} {b : book.Book} {windows : List ℕ} {clock : ℕ} {w : Li
       let t : (i : ℕ) × (i < m) × (1 ≤ times x (chain s.next (get_or s.heads i 0))) = chains-find s.next s.heads x p in
       let c : ℕ = suc t.0 in
       let e : c - 1 ≡ t.0 = omega arith in
-      let h : HeldColumn s (columnAt L c) c = held s (columnAt L c) c (st.holds c (omega arith) (omega (arith, t.1))) in
-      let here : Mem x (recordsOf s c) =
-      times-mem x (recordsOf s c) (subst (λ (i : ℕ). 1 ≤ times x (chain s.next (get_or s.heads i 0))) (sym e) t.2) in
+      let h : HeldColumn s (column_at L c) c = held s (column_at L c) c (st.holds c (omega arith) (omega (arith, t.1))) in
+      let here : Mem x (records_of s c) =
+      times-mem x (records_of s c) (subst (λ (i : ℕ). 1 ≤ times x (chain s.next (get_or s.heads i 0))) (sym e) t.2) in
       (rises-in 1 m (subst (λ (l : List ℕ). Mem (at s.rows x) l) h.rows_are (values-mem s.rows here)) (pattern-within-rows m (live_in s b windows clock) c (omega arith) (omega (arith, t.1)))).0
 
   -- ---- sound, and closed with zero multiplicities
 
-  sound-closed : isSoundFor (live_in s b windows clock) s ≡ true → Closed s.rows s.next s.heads s.free × (zeroPairs s.rows s.counts ≡ times 0 s.rows)
+  sound-closed : is_sound_for (live_in s b windows clock) s ≡ true → Closed s.rows s.next s.heads s.free × (zero_pairs s.rows s.counts ≡ times 0 s.rows)
   sound-closed e =
       let p : SoundParts (live_in s b windows clock) s = sound-parts (live_in s b windows clock) s e in
-      let x : Bool = allZero (valuesAt s.rows (chain s.next s.free)) in
-      let y : Bool = allZero (valuesAt s.counts (chain s.next s.free)) in
+      let x : Bool = all_zero (values_at s.rows (chain s.next s.free)) in
+      let y : Bool = all_zero (values_at s.counts (chain s.next s.free)) in
       let z : (x ≡ true) × (y ≡ true) = and_both x y p.free-zero in
       let pool : Pool s.next s.heads s.free = whole-pool s.next s.heads s.free p.whole in
       (whole-closed st.sizes.stored.rows_long all-linked rowed p.whole z.0, zero-pairs-back s.rows s.counts st.sizes.stored.rows_long st.sizes.stored.counts-long pool rowed z.0 z.1)
 
-  closed-sound : Closed s.rows s.next s.heads s.free → zeroPairs s.rows s.counts ≡ times 0 s.rows → isSoundFor (live_in s b windows clock) s ≡ true
+  closed-sound : Closed s.rows s.next s.heads s.free → zero_pairs s.rows s.counts ≡ times 0 s.rows → is_sound_for (live_in s b windows clock) s ≡ true
   closed-sound c e =
-      let t : (is_whole s.next s.heads s.free ≡ true) × (allZero (valuesAt s.rows (chain s.next s.free)) ≡ true) = closed-whole st.sizes.stored.rows_long all-linked rowed c in
+      let t : (is_whole s.next s.heads s.free ≡ true) × (all_zero (values_at s.rows (chain s.next s.free)) ≡ true) = closed-whole st.sizes.stored.rows_long all-linked rowed c in
       let pool : Pool s.next s.heads s.free = whole-pool s.next s.heads s.free t.0 in
-      let z : allZero (valuesAt s.counts (chain s.next s.free)) ≡ true =
+      let z : all_zero (values_at s.counts (chain s.next s.free)) ≡ true =
       zero-pairs s.rows s.counts st.sizes.stored.rows_long st.sizes.stored.counts-long pool rowed t.1 e in
       both-and (both-and t.0 (both-and t.1 z)) holds-all
 
@@ -132,7 +132,7 @@ module _ {s : Stored} {b : book.Book} {windows : List ℕ} {clock : ℕ} {w : Li
   last-compare =
       record {
         f = f;
-        named = subst (λ (k : ℕ). Named w (lastsAt m) k (names_at m) f) last-number st.chains-walked.named;
+        named = subst (λ (k : ℕ). Named w (lasts_at m) k (names_at m) f) last-number st.chains-walked.named;
         lasts-in = omega (arith, st.sizes.long);
         names_in = omega (arith, st.sizes.long);
         few = omega (arith, st.sizes.m-bound);
@@ -153,15 +153,15 @@ module _ {s : Stored} {b : book.Book} {windows : List ℕ} {clock : ℕ} {w : Li
 
   module _ {a : Bool} (apart : Decides (NoneTwice (region w (6 * length s.heads) (length s.heads))) a) where
     -- two columns share a record
-    unsound-shared : a ≡ false → false ≡ isSoundFor (live_in s b windows clock) s
+    unsound-shared : a ≡ false → false ≡ is_sound_for (live_in s b windows clock) s
     unsound-shared e =
-        sym (refute (isSoundFor (live_in s b windows clock) s) (λ t.
+        sym (refute (is_sound_for (live_in s b windows clock) s) (λ t.
         false≢true (sym e ∙ apart.no (subst NoneTwice (sym lasts_are) (sound-closed t).0.apart))))
 
-    sound-free : {c : Bool} → a ≡ true → Decides (FreeRead s.rows s.counts s.next s.free (length s.next - n)) c → c ≡ isSoundFor (live_in s b windows clock) s
-    sound-free {c} e d = both_ways c (isSoundFor (live_in s b windows clock) s) sound found
+    sound-free : {c : Bool} → a ≡ true → Decides (FreeRead s.rows s.counts s.next s.free (length s.next - n)) c → c ≡ is_sound_for (live_in s b windows clock) s
+    sound-free {c} e d = both_ways c (is_sound_for (live_in s b windows clock) s) sound found
       where
-        sound : c ≡ true → isSoundFor (live_in s b windows clock) s ≡ true
+        sound : c ≡ true → is_sound_for (live_in s b windows clock) s ≡ true
         sound t =
             let r : FreeRead s.rows s.counts s.next s.free (length s.next - n) = d.yes t in
             closed-sound
@@ -172,9 +172,9 @@ module _ {s : Stored} {b : book.Book} {windows : List ℕ} {clock : ℕ} {w : Li
             })
             (r.both_zero ∙ sym r.rows-zero)
 
-        found : isSoundFor (live_in s b windows clock) s ≡ true → c ≡ true
+        found : is_sound_for (live_in s b windows clock) s ≡ true → c ≡ true
         found t =
-            let p : Closed s.rows s.next s.heads s.free × (zeroPairs s.rows s.counts ≡ times 0 s.rows) = sound-closed t in
+            let p : Closed s.rows s.next s.heads s.free × (zero_pairs s.rows s.counts ≡ times 0 s.rows) = sound-closed t in
             let q : times 0 s.rows ≡ length s.next - n = omega (arith, p.0.size, counted) in
             d.no (record { rows-zero = q; both_zero = p.1 ∙ q; has = subst (FreeHas s.rows s.next s.free) q p.0.free-has })
 
@@ -192,7 +192,7 @@ module _ {s : Stored} {b : book.Book} {w₀ w : List ℕ} {n : ℕ} {z : Walk} (
     last-shared e = record { only = r.only; answer = λ windows clock p. unsound-shared (after windows clock p) apart e }
 
     pub last-answer : {y : List ℕ} {c : Bool} → a ≡ true → Decides (FreeRead s.rows s.counts s.next s.free (length s.next - n)) c →
-        OnlyIn (piecesAt (length s.heads) (length s.next)) (2 * length s.next) w y → FactorRead s b w₀ y c
+        OnlyIn (pieces_at (length s.heads) (length s.next)) (2 * length s.next) w y → FactorRead s b w₀ y c
     last-answer e d o =
         record {
           only = only-trans r.only (only_wider 0 _ (omega arith) (omega arith) o);

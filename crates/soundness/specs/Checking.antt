@@ -1,16 +1,16 @@
 -- What the walk of a column's chain asks and answers: it must hold the counters, so its length is known before. Then what is asked of the records that the
 -- columns do not have. Counters, stash and pieces are in the work table. Assumes nothing: these are definitions.
 use Rattle.std.specs.Prelude.{◌≡◌, Bool, true, ◌&&◌, List, ℕ, ◌+◌, ◌*◌, ◌-◌, ◌≤◌, ◌<◌, leb, length, set}
-use Rattle.lists.specs.Lists.{pick, valuesAt, times}
-use Rattle.workspace.specs.Layout.{rowStash}
+use Rattle.lists.specs.Lists.{pick, values_at, times}
+use Rattle.workspace.specs.Layout.{row_stash}
 use Rattle.workspace.specs.Regions.{cell, region, IsZero}
 use Rattle.pool.specs.Chains.{chain, ends}
-use Rattle.pool.specs.Ends.{chainAnswer}
-use Rattle.pool.specs.Free.{FreeHas, zeroPairs}
+use Rattle.pool.specs.Ends.{chain_answer}
+use Rattle.pool.specs.Free.{FreeHas, zero_pairs}
 use Rattle.pool.specs.declared.Chain.{Chain}
 use Rattle.book.specs.Tally.{filled}
 use Rattle.counting.specs.Counting.{OnlyTwo}
-use Rattle.soundness.specs.Fitting.{entryFits, fits}
+use Rattle.soundness.specs.Fitting.{entry_fits, fits}
 
 -- ---- one entry, against the counters that are the first m places
 
@@ -21,8 +21,8 @@ pub record CanCheckEntry (work : List ℕ) (m p : ℕ) : Type 0 where
 
 -- one that fits loses its counter, and its row stands at place p
 pub record EntryChecked (work₀ work : List ℕ) (m p before row count : ℕ) (a : Bool) : Type 0 where
-  pub answer : a ≡ entryFits m work₀ before row count
-  pub changed : work ≡ pick (entryFits m work₀ before row count) (set (set work₀ (row - 1) 0) p row) work₀
+  pub answer : a ≡ entry_fits m work₀ before row count
+  pub changed : work ≡ pick (entry_fits m work₀ before row count) (set (set work₀ (row - 1) 0) p row) work₀
 
 -- ---- a column's chain
 
@@ -37,20 +37,20 @@ pub record CanCheck (rows counts next work : List ℕ) (m met size : ℕ) : Type
   pub size_is : size ≡ filled (region work 0 m)
 
 -- the chain ends, holds the counters, and with those met before has no more records than there are
-abbrev pub chainFits : (rows counts next work : List ℕ) → (m met head : ℕ) → Bool
-chainFits rs vs ns w m n h = ends ns h && fits rs vs m (region w 0 m) (chain ns h) && leb (n + length (chain ns h)) (length ns)
+abbrev pub chain_fits : (rows counts next work : List ℕ) → (m met head : ℕ) → Bool
+chain_fits rs vs ns w m n h = ends ns h && fits rs vs m (region w 0 m) (chain ns h) && leb (n + length (chain ns h)) (length ns)
 
 -- what a chain that fits leaves: no counter, its rows in the stash after those before
 pub record ChainRead (rows next work₀ work : List ℕ) (m met head : ℕ) : Type 0 where
   pub zero : IsZero work 0 m
-  pub stash : region work (rowStash m (length next) + met) (length (chain next head)) ≡ valuesAt rows (chain next head)
-  pub stash-before : (k : ℕ) → k < met → cell work (rowStash m (length next)) k ≡ cell work₀ (rowStash m (length next)) k
+  pub stash : region work (row_stash m (length next) + met) (length (chain next head)) ≡ values_at rows (chain next head)
+  pub stash-before : (k : ℕ) → k < met → cell work (row_stash m (length next)) k ≡ cell work₀ (row_stash m (length next)) k
 
 -- after the walk of a column's chain: whether it fits, with the records met and its last one, and what it leaves if so; only counters and stash changed
 pub record Checked (rows counts next work₀ work : List ℕ) (m met head : ℕ) (a : Chain) : Type 0 where
-  pub only : OnlyTwo 0 m (rowStash m (length next)) (length next) work₀ work
-  pub answer : a ≡ chainAnswer (chainFits rows counts next work₀ m met head) met next head
-  pub read : chainFits rows counts next work₀ m met head ≡ true → ChainRead rows next work₀ work m met head
+  pub only : OnlyTwo 0 m (row_stash m (length next)) (length next) work₀ work
+  pub answer : a ≡ chain_answer (chain_fits rows counts next work₀ m met head) met next head
+  pub read : chain_fits rows counts next work₀ m met head ≡ true → ChainRead rows next work₀ work m met head
 
 -- ---- the records that the columns do not have
 
@@ -65,5 +65,5 @@ pub record CanReadFree (rows counts next work : List ℕ) (m : ℕ) : Type 0 whe
 -- k records have row 0, all of them multiplicity 0, and the free chain has so many
 pub record FreeRead (rows counts next : List ℕ) (free k : ℕ) : Type 0 where
   pub rows-zero : times 0 rows ≡ k
-  pub both_zero : zeroPairs rows counts ≡ k
+  pub both_zero : zero_pairs rows counts ≡ k
   pub has : FreeHas rows next free k

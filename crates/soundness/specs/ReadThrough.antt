@@ -1,10 +1,10 @@
 -- What the read-through of all tables asks and answers, and that of book and windows, which comes first. Assumes nothing: these are definitions.
 use Rattle.std.specs.Prelude.{Bool, ◌&&◌, List, ℕ, ◌+◌, ◌*◌, ◌≤◌, length}
-use Rattle.workspace.specs.Layout.{workNeed, bookNames}
+use Rattle.workspace.specs.Layout.{work_need, book_names}
 use Rattle.workspace.specs.Regions.{IsZero, OnlyIn, cleared}
 use Rattle.book.specs.Book as book
-use Rattle.windows.specs.Windowed.{areSound as windowsSound}
-use Rattle.tables.specs.Stored.{Stored, Sized, isSoundFor}
+use Rattle.windows.specs.Windowed.{are_sound as windows_sound}
+use Rattle.tables.specs.Stored.{Stored, Sized, is_sound_for}
 use Rattle.soundness.specs.State.{live_in}
 
 -- ---- book and windows
@@ -19,15 +19,15 @@ pub record CanReadBooked (b : book.Book) (windows work : List ℕ) (m f : ℕ) :
   pub f-bound : f ≤ 1048576
   -- of book records: a loose bound above document 01's 262,144, likewise
   pub c-bound : length b.next ≤ 4194304
-  pub long : workNeed m (length b.heads) f (length b.next) ≤ length work
+  pub long : work_need m (length b.heads) f (length b.next) ≤ length work
 
 -- book and windows are sound
-abbrev pub bookedSound : (m : ℕ) → book.Book → (windows : List ℕ) → Bool
-bookedSound m b w = book.isSound m b && windowsSound b.heads w
+abbrev pub booked_sound : (m : ℕ) → book.Book → (windows : List ℕ) → Bool
+booked_sound m b w = book.is_sound m b && windows_sound b.heads w
 
 -- the work table is the same but for the C + n places of the book
 abbrev pub WithinBooked : (m f : ℕ) → book.Book → (before after : List ℕ) → Type 0
-WithinBooked m f b w₀ w = OnlyIn (bookNames m f) (length b.next + length b.heads) w₀ w
+WithinBooked m f b w₀ w = OnlyIn (book_names m f) (length b.next + length b.heads) w₀ w
 
 -- ---- all tables
 
@@ -43,14 +43,14 @@ pub record CanReadThrough (s : Stored) (b : book.Book) (windows work : List ℕ)
   pub f-bound : length s.next ≤ 1048576
   -- of book records: a loose bound above document 01's 262,144, likewise
   pub c-bound : length b.next ≤ 4194304
-  pub long : workNeed (length s.heads) (length b.heads) (length s.next) (length b.next) ≤ length work
+  pub long : work_need (length s.heads) (length b.heads) (length s.next) (length b.next) ≤ length work
   -- counters, heads of lists, and where the rows of column 1 begin
   pub front-zero : IsZero work 0 (4 * length s.heads + 1)
 
 -- a work table made ready, for m columns
-abbrev pub madeReady : (work : List ℕ) → (m : ℕ) → List ℕ
-madeReady w m = cleared w 0 (4 * m + 1)
+abbrev pub made_ready : (work : List ℕ) → (m : ℕ) → List ℕ
+made_ready w m = cleared w 0 (4 * m + 1)
 
 -- what the tables hold is sound: book and windows are, and the stored columns are the definition's for the columns that count
-abbrev pub areSound : Stored → book.Book → (windows : List ℕ) → (clock : ℕ) → Bool
-areSound s b w t = bookedSound (length s.heads) b w && isSoundFor (live_in s b w t) s
+abbrev pub are_sound : Stored → book.Book → (windows : List ℕ) → (clock : ℕ) → Bool
+are_sound s b w t = booked_sound (length s.heads) b w && is_sound_for (live_in s b w t) s

@@ -3,19 +3,19 @@
 // booked columns inside their windows and from its children, which were read before. Records are not marked: chains that end are apart if their last records are, and the free chain if its last record has row 0.
 ghost use Rattle.std.specs.Prelude.{◌≡◌, ◌+◌, ◌*◌, ◌-◌, ◌≤◌, length, get_or};
 ghost use Rattle.lists.specs.Lists.{Decides};
-ghost use Rattle.tables.specs.Stored.{storedOf};
-ghost use Rattle.workspace.specs.Layout.{piecesAt};
+ghost use Rattle.tables.specs.Stored.{stored_of};
+ghost use Rattle.workspace.specs.Layout.{pieces_at};
 ghost use Rattle.workspace.specs.Regions.{region, OnlyIn};
-ghost use Rattle.book.specs.Book.{bookOf};
+ghost use Rattle.book.specs.Book.{book_of};
 ghost use Rattle.soundness.specs.Checking.{CanCheckEntry, EntryChecked, CanCheck, Checked, CanReadFree, FreeRead};
 ghost use Rattle.soundness.specs.State.{SomeState, CanReadColumn, ColumnsRead, SomePrepared, FactorRead, WithinWork};
 ghost use Rattle.soundness.specs.ReadThrough.{
   CanReadBooked,
-  bookedSound,
+  booked_sound,
   WithinBooked,
   CanReadThrough,
-  madeReady,
-  areSound,
+  made_ready,
+  are_sound,
 };
 
 use book::Row;
@@ -122,8 +122,8 @@ fn read_column(
     j: Row,
     met: usize,
 ) -> Walk
-    requires { CanReadColumn (storedOf heads.now parents.now rows.now counts.now next.now free.0) (bookOf book_heads.now book_rows.now book_next.now book_free.0) work.old j.0 met }
-    ensures { ColumnsRead (storedOf heads.now parents.now rows.now counts.now next.now free.0) (bookOf book_heads.now book_rows.now book_next.now book_free.0) work.old j.0 met work.new (j.0 + 1) result }
+    requires { CanReadColumn (stored_of heads.now parents.now rows.now counts.now next.now free.0) (book_of book_heads.now book_rows.now book_next.now book_free.0) work.old j.0 met }
+    ensures { ColumnsRead (stored_of heads.now parents.now rows.now counts.now next.now free.0) (book_of book_heads.now book_rows.now book_next.now book_free.0) work.old j.0 met work.new (j.0 + 1) result }
 {
     let m = heads.len();
     let f = next.len();
@@ -164,8 +164,8 @@ fn read_columns(
     free: Rec,
     book_free: Rec,
 ) -> Walk
-    requires { SomeState (storedOf heads.now parents.now rows.now counts.now next.now free.0) (bookOf book_heads.now book_rows.now book_next.now book_free.0) work.old 1 0 }
-    ensures { ColumnsRead (storedOf heads.now parents.now rows.now counts.now next.now free.0) (bookOf book_heads.now book_rows.now book_next.now book_free.0) work.old 1 0 work.new (length heads.now + 1) result }
+    requires { SomeState (stored_of heads.now parents.now rows.now counts.now next.now free.0) (book_of book_heads.now book_rows.now book_next.now book_free.0) work.old 1 0 }
+    ensures { ColumnsRead (stored_of heads.now parents.now rows.now counts.now next.now free.0) (book_of book_heads.now book_rows.now book_next.now book_free.0) work.old 1 0 work.new (length heads.now + 1) result }
 {
     let mut n: usize = 0;
     let mut i: usize = 0;
@@ -210,7 +210,7 @@ fn read_free(
 ) -> bool
     requires { CanReadFree rows.now counts.now next.now work.old m }
     ensures answer { Decides (FreeRead rows.now counts.now next.now free.0 k) result }
-    ensures work { OnlyIn (piecesAt m (length next.now)) (2 * length next.now) work.old work.new }
+    ensures work { OnlyIn (pieces_at m (length next.now)) (2 * length next.now) work.old work.new }
 {
     if free_chain::zeros(rows) != k {
         return false;
@@ -237,8 +237,8 @@ fn read_factor(
     free: Rec,
     book_free: Rec,
 ) -> bool
-    requires { SomePrepared (storedOf heads.now parents.now rows.now counts.now next.now free.0) (bookOf book_heads.now book_rows.now book_next.now book_free.0) work.old }
-    ensures { FactorRead (storedOf heads.now parents.now rows.now counts.now next.now free.0) (bookOf book_heads.now book_rows.now book_next.now book_free.0) work.old work.new result }
+    requires { SomePrepared (stored_of heads.now parents.now rows.now counts.now next.now free.0) (book_of book_heads.now book_rows.now book_next.now book_free.0) work.old }
+    ensures { FactorRead (stored_of heads.now parents.now rows.now counts.now next.now free.0) (book_of book_heads.now book_rows.now book_next.now book_free.0) work.old work.new result }
 {
     let m = heads.len();
     match read_columns(
@@ -268,9 +268,9 @@ fn read_booked(
     m: usize,
     f: usize,
 ) -> bool
-    requires { CanReadBooked (bookOf book_heads.now book_rows.now book_next.now book_free.0) windows.now work.old m f }
-    ensures answer { result ≡ bookedSound m (bookOf book_heads.now book_rows.now book_next.now book_free.0) windows.now }
-    ensures work { WithinBooked m f (bookOf book_heads.now book_rows.now book_next.now book_free.0) work.old work.new }
+    requires { CanReadBooked (book_of book_heads.now book_rows.now book_next.now book_free.0) windows.now work.old m f }
+    ensures answer { result ≡ booked_sound m (book_of book_heads.now book_rows.now book_next.now book_free.0) windows.now }
+    ensures work { WithinBooked m f (book_of book_heads.now book_rows.now book_next.now book_free.0) work.old work.new }
 {
     let a = 8 * m + 4 * f + 1024;
     let e = a + book_next.len() + book_heads.len();
@@ -290,7 +290,7 @@ fn read_booked(
 // Makes a work table of any content ready to be read through with, for m columns: what the pass counts and lists in is zero.
 pub fn make_ready(work: &mut [u32], m: usize)
     requires { 4 * m + 1 ≤ length work.old }
-    ensures { work.new ≡ madeReady work.old m }
+    ensures { work.new ≡ made_ready work.old m }
 {
     workspace::clear(work, 0, 4 * m + 1);
 }
@@ -311,9 +311,9 @@ pub fn read_through(
     book_free: Rec,
     clock: u32,
 ) -> bool
-    requires { CanReadThrough (storedOf heads.now parents.now rows.now counts.now next.now free.0) (bookOf book_heads.now book_rows.now book_next.now book_free.0) windows.now work.old }
-    ensures answer { result ≡ areSound (storedOf heads.now parents.now rows.now counts.now next.now free.0) (bookOf book_heads.now book_rows.now book_next.now book_free.0) windows.now clock }
-    ensures work { WithinWork (storedOf heads.now parents.now rows.now counts.now next.now free.0) (bookOf book_heads.now book_rows.now book_next.now book_free.0) work.old work.new }
+    requires { CanReadThrough (stored_of heads.now parents.now rows.now counts.now next.now free.0) (book_of book_heads.now book_rows.now book_next.now book_free.0) windows.now work.old }
+    ensures answer { result ≡ are_sound (stored_of heads.now parents.now rows.now counts.now next.now free.0) (book_of book_heads.now book_rows.now book_next.now book_free.0) windows.now clock }
+    ensures work { WithinWork (stored_of heads.now parents.now rows.now counts.now next.now free.0) (book_of book_heads.now book_rows.now book_next.now book_free.0) work.old work.new }
 {
     let m = heads.len();
     let f = next.len();

@@ -9,59 +9,59 @@ use native.Mathlib.Omega.{arith}
 use lib.ListN.{length, take, drop, take-append-drop, length-append, length-drop}
 use lib.Seq.{length-take-le, take_all, take_at, drop_at}
 use Rattle.symbolic.specs.Columns.{live}
-use Rattle.symbolic.specs.Grades.{Limits, areLimits}
+use Rattle.symbolic.specs.Grades.{Limits, are_limits}
 use Rattle.workspace.specs.Regions.{IsZero}
 use Rattle.book.specs.Book as book
-use Rattle.windows.specs.Windowed.{registerIn, areSound}
-use Rattle.tables.specs.Stored.{isSoundFor}
+use Rattle.windows.specs.Windowed.{register_in, are_sound}
+use Rattle.tables.specs.Stored.{is_sound_for}
 use Rattle.tables.specs.Stays.{Beyond, TailsStay}
-use Rattle.tables.specs.Tables.{Tables, Sizes, storedIn, bookIn, windowsIn, registerOf, isSound}
+use Rattle.tables.specs.Tables.{Tables, Sizes, stored_in, book_in, windows_in, register_of, is_sound}
 use Rattle.tables.proofs.Tables.{Long}
-use Rattle.calls.specs.Refusals.{accepted, bounds, sizesRefusal, workFor}
+use Rattle.calls.specs.Refusals.{accepted, bounds, sizes_refusal, work_for}
 use Rattle.calls.specs.Steps.{World}
-use Rattle.steps.specs.Outcome.{cutSizes, cutWorld, storedWhole, bookWhole, CanStep}
+use Rattle.steps.specs.Outcome.{cut_sizes, cut_world, stored_whole, book_whole, CanStep}
 use Rattle.steps.proofs.Cut.{stored-whole, book-whole}
 
 -- ---- tables cut to sizes, and put back
 
-abbrev pub cutTables : Sizes → Tables → Tables
-cutTables l t =
+abbrev pub cut_tables : Sizes → Tables → Tables
+cut_tables l t =
     record {
       heads = take l.m t.heads;
       parents = take l.m t.parents;
       rows = take l.f t.rows;
       counts = take l.f t.counts;
       next = take l.f t.next;
-      bookHeads = take l.n t.bookHeads;
-      bookRows = take l.c t.bookRows;
-      bookNext = take l.c t.bookNext;
+      book_heads = take l.n t.book_heads;
+      book_rows = take l.c t.book_rows;
+      book_next = take l.c t.book_next;
       windows = take (2 * l.n) t.windows;
     }
 
 -- prefixes before the tails of the whole tables
-abbrev pub joinTables : Sizes → (cut whole : Tables) → Tables
-joinTables l y t =
+abbrev pub join_tables : Sizes → (cut whole : Tables) → Tables
+join_tables l y t =
     record {
       heads = y.heads ++ drop l.m t.heads;
       parents = y.parents ++ drop l.m t.parents;
       rows = y.rows ++ drop l.f t.rows;
       counts = y.counts ++ drop l.f t.counts;
       next = y.next ++ drop l.f t.next;
-      bookHeads = y.bookHeads ++ drop l.n t.bookHeads;
-      bookRows = y.bookRows ++ drop l.c t.bookRows;
-      bookNext = y.bookNext ++ drop l.c t.bookNext;
+      book_heads = y.book_heads ++ drop l.n t.book_heads;
+      book_rows = y.book_rows ++ drop l.c t.book_rows;
+      book_next = y.book_next ++ drop l.c t.book_next;
       windows = y.windows ++ drop (2 * l.n) t.windows;
     }
 
-abbrev pub worldFor : Sizes → Limits → (clock free bookFree : ℕ) → Tables → World
-worldFor l lim o f g t = record { state = record { sizes = l; limits = lim; free = f; bookFree = g; clock = o }; tables = t }
+abbrev pub world_for : Sizes → Limits → (clock free book_free : ℕ) → Tables → World
+world_for l lim o f g t = record { state = record { sizes = l; limits = lim; free = f; book_free = g; clock = o }; tables = t }
 
 -- a prefix that stays, before its tail
 pub put_back : (n : ℕ) (xs : List ℕ) {ys : List ℕ} → ys ≡ take n xs → ys ++ drop n xs ≡ xs
 put_back n xs e = ap (λ (zs : List ℕ). zs ++ drop n xs) e ∙ take-append-drop n xs
 
 -- what was cut and put back is as it was
-pub join-cut : (l : Sizes) (t : Tables) → joinTables l (cutTables l t) t ≡ t
+pub join-cut : (l : Sizes) (t : Tables) → join_tables l (cut_tables l t) t ≡ t
 join-cut l t = λ i.
     record {
       heads = take-append-drop l.m t.heads i;
@@ -69,9 +69,9 @@ join-cut l t = λ i.
       rows = take-append-drop l.f t.rows i;
       counts = take-append-drop l.f t.counts i;
       next = take-append-drop l.f t.next i;
-      bookHeads = take-append-drop l.n t.bookHeads i;
-      bookRows = take-append-drop l.c t.bookRows i;
-      bookNext = take-append-drop l.c t.bookNext i;
+      book_heads = take-append-drop l.n t.book_heads i;
+      book_rows = take-append-drop l.c t.book_rows i;
+      book_next = take-append-drop l.c t.book_next i;
       windows = take-append-drop (2 * l.n) t.windows i;
     }
 
@@ -82,12 +82,12 @@ pub record Fits (l : Sizes) (y : Tables) : Type 0 where
   pub rows : length y.rows ≡ l.f
   pub counts : length y.counts ≡ l.f
   pub next : length y.next ≡ l.f
-  pub book-heads : length y.bookHeads ≡ l.n
-  pub book-rows : length y.bookRows ≡ l.c
-  pub book-next : length y.bookNext ≡ l.c
+  pub book-heads : length y.book_heads ≡ l.n
+  pub book-rows : length y.book_rows ≡ l.c
+  pub book-next : length y.book_next ≡ l.c
   pub windows : length y.windows ≡ 2 * l.n
 
-pub cut_fits : (l : Sizes) (t : Tables) → Long l t → Fits l (cutTables l t)
+pub cut_fits : (l : Sizes) (t : Tables) → Long l t → Fits l (cut_tables l t)
 cut_fits l t h =
     record {
       heads = length-take-le l.m t.heads h.heads;
@@ -95,9 +95,9 @@ cut_fits l t h =
       rows = length-take-le l.f t.rows h.rows;
       counts = length-take-le l.f t.counts h.counts;
       next = length-take-le l.f t.next h.next;
-      book-heads = length-take-le l.n t.bookHeads h.bookHeads;
-      book-rows = length-take-le l.c t.bookRows h.bookRows;
-      book-next = length-take-le l.c t.bookNext h.bookNext;
+      book-heads = length-take-le l.n t.book_heads h.book_heads;
+      book-rows = length-take-le l.c t.book_rows h.book_rows;
+      book-next = length-take-le l.c t.book_next h.book_next;
       windows = length-take-le (2 * l.n) t.windows h.windows;
     }
 
@@ -108,21 +108,21 @@ beyond n xs ys p q =
 -- ---- tables that fit are read whole, alone or before any tails
 
 module _ {l : Sizes} {y : Tables} (z : Fits l y) (lim : Limits) (o f g : ℕ) where
-  pub cut-sizes-are : cutSizes y ≡ l
+  pub cut-sizes-are : cut_sizes y ≡ l
   cut-sizes-are = λ i. record { m = z.heads i; n = z.book-heads i; f = z.next i; c = z.book-next i }
 
-  pub stored-fits : storedIn (cutWorld y lim o f g).state y ≡ storedWhole y f
+  pub stored-fits : stored_in (cut_world y lim o f g).state y ≡ stored_whole y f
   stored-fits =
       stored-whole y lim o f g (record { parents-long = z.parents ∙ sym z.heads; rows_long = z.rows ∙ sym z.next; counts-long = z.counts ∙ sym z.next })
 
-  pub book-fits : bookIn (cutWorld y lim o f g).state y ≡ bookWhole y g
+  pub book-fits : book_in (cut_world y lim o f g).state y ≡ book_whole y g
   book-fits = book-whole y lim o f g (z.book-rows ∙ sym z.book-next)
 
-  pub windows-fits : windowsIn (cutWorld y lim o f g).state y ≡ y.windows
-  windows-fits = take_all (2 * length y.bookHeads) y.windows (omega (arith, z.windows, z.book-heads))
+  pub windows-fits : windows_in (cut_world y lim o f g).state y ≡ y.windows
+  windows-fits = take_all (2 * length y.book_heads) y.windows (omega (arith, z.windows, z.book-heads))
 
   module _ (t : Tables) where
-    pub stored-joins : storedIn (worldFor l lim o f g (joinTables l y t)).state (joinTables l y t) ≡ storedWhole y f
+    pub stored-joins : stored_in (world_for l lim o f g (join_tables l y t)).state (join_tables l y t) ≡ stored_whole y f
     stored-joins = λ i.
         record {
           heads = take_at y.heads (drop l.m t.heads) l.m z.heads i;
@@ -133,20 +133,20 @@ module _ {l : Sizes} {y : Tables} (z : Fits l y) (lim : Limits) (o f g : ℕ) wh
           free = f;
         }
 
-    pub book-joins : bookIn (worldFor l lim o f g (joinTables l y t)).state (joinTables l y t) ≡ bookWhole y g
+    pub book-joins : book_in (world_for l lim o f g (join_tables l y t)).state (join_tables l y t) ≡ book_whole y g
     book-joins = λ i.
         record {
-          heads = take_at y.bookHeads (drop l.n t.bookHeads) l.n z.book-heads i;
-          rows = take_at y.bookRows (drop l.c t.bookRows) l.c z.book-rows i;
-          next = take_at y.bookNext (drop l.c t.bookNext) l.c z.book-next i;
+          heads = take_at y.book_heads (drop l.n t.book_heads) l.n z.book-heads i;
+          rows = take_at y.book_rows (drop l.c t.book_rows) l.c z.book-rows i;
+          next = take_at y.book_next (drop l.c t.book_next) l.c z.book-next i;
           free = g;
         }
 
-    pub windows-joins : windowsIn (worldFor l lim o f g (joinTables l y t)).state (joinTables l y t) ≡ y.windows
+    pub windows-joins : windows_in (world_for l lim o f g (join_tables l y t)).state (join_tables l y t) ≡ y.windows
     windows-joins = take_at y.windows (drop (2 * l.n) t.windows) (2 * l.n) z.windows
 
     -- the tails stay
-    pub tails-join : Long l t → TailsStay l t (joinTables l y t)
+    pub tails-join : Long l t → TailsStay l t (join_tables l y t)
     tails-join h =
         record {
           heads = beyond l.m t.heads y.heads h.heads z.heads;
@@ -154,39 +154,39 @@ module _ {l : Sizes} {y : Tables} (z : Fits l y) (lim : Limits) (o f g : ℕ) wh
           rows = beyond l.f t.rows y.rows h.rows z.rows;
           counts = beyond l.f t.counts y.counts h.counts z.counts;
           next = beyond l.f t.next y.next h.next z.next;
-          bookHeads = beyond l.n t.bookHeads y.bookHeads h.bookHeads z.book-heads;
-          bookRows = beyond l.c t.bookRows y.bookRows h.bookRows z.book-rows;
-          bookNext = beyond l.c t.bookNext y.bookNext h.bookNext z.book-next;
+          book_heads = beyond l.n t.book_heads y.book_heads h.book_heads z.book-heads;
+          book_rows = beyond l.c t.book_rows y.book_rows h.book_rows z.book-rows;
+          book_next = beyond l.c t.book_next y.book_next h.book_next z.book-next;
           windows = beyond (2 * l.n) t.windows y.windows h.windows z.windows;
         }
 
 -- ---- the cut tables of a usable factor
 
 module _ {l : Sizes} {t : Tables} (long : Long l t) (lim : Limits) (o f g : ℕ) where
-  pub stored-lifts : storedIn (cutWorld (cutTables l t) lim o f g).state (cutTables l t) ≡ storedIn (worldFor l lim o f g t).state t
+  pub stored-lifts : stored_in (cut_world (cut_tables l t) lim o f g).state (cut_tables l t) ≡ stored_in (world_for l lim o f g t).state t
   stored-lifts = stored-fits (cut_fits l t long) lim o f g
 
-  pub book-lifts : bookIn (cutWorld (cutTables l t) lim o f g).state (cutTables l t) ≡ bookIn (worldFor l lim o f g t).state t
+  pub book-lifts : book_in (cut_world (cut_tables l t) lim o f g).state (cut_tables l t) ≡ book_in (world_for l lim o f g t).state t
   book-lifts = book-fits (cut_fits l t long) lim o f g
 
-  pub windows-lifts : windowsIn (cutWorld (cutTables l t) lim o f g).state (cutTables l t) ≡ windowsIn (worldFor l lim o f g t).state t
+  pub windows-lifts : windows_in (cut_world (cut_tables l t) lim o f g).state (cut_tables l t) ≡ windows_in (world_for l lim o f g t).state t
   windows-lifts = windows-fits (cut_fits l t long) lim o f g
 
-  pub register-lifts : registerOf (cutWorld (cutTables l t) lim o f g).state (cutTables l t) ≡ registerOf (worldFor l lim o f g t).state t
-  register-lifts = λ i. registerIn ((cut_fits l t long).heads i) o (book-lifts i) (windows-lifts i)
+  pub register-lifts : register_of (cut_world (cut_tables l t) lim o f g).state (cut_tables l t) ≡ register_of (world_for l lim o f g t).state t
+  register-lifts = λ i. register_in ((cut_fits l t long).heads i) o (book-lifts i) (windows-lifts i)
 
-  sound-lifts : isSound (cutWorld (cutTables l t) lim o f g).state (cutTables l t) ≡ isSound (worldFor l lim o f g t).state t
+  sound-lifts : is_sound (cut_world (cut_tables l t) lim o f g).state (cut_tables l t) ≡ is_sound (world_for l lim o f g t).state t
   sound-lifts = λ i.
-      areLimits lim && (book.isSound ((cut_fits l t long).heads i) (book-lifts i) && areSound (book-lifts i).heads (windows-lifts i) && isSoundFor (live (register-lifts i)) (stored-lifts i))
+      are_limits lim && (book.is_sound ((cut_fits l t long).heads i) (book-lifts i) && are_sound (book-lifts i).heads (windows-lifts i) && is_sound_for (live (register-lifts i)) (stored-lifts i))
 
-  pub lift-can : {w a b : List ℕ} → sizesRefusal bounds l ≡ accepted → isSound (worldFor l lim o f g t).state t ≡ true → workFor l ≤ length w →
-      IsZero w 0 (workFor l) → l.m ≤ length a → l.m ≤ length b → CanStep (cutWorld (cutTables l t) lim o f g) w a b
+  pub lift-can : {w a b : List ℕ} → sizes_refusal bounds l ≡ accepted → is_sound (world_for l lim o f g t).state t ≡ true → work_for l ≤ length w →
+      IsZero w 0 (work_for l) → l.m ≤ length a → l.m ≤ length b → CanStep (cut_world (cut_tables l t) lim o f g) w a b
   lift-can {w} {a} {b} sizes sound room zero p q =
-      let z : Fits l (cutTables l t) = cut_fits l t long in
-      let e : l ≡ cutSizes (cutTables l t) = sym (cut-sizes-are z lim o f g) in
+      let z : Fits l (cut_tables l t) = cut_fits l t long in
+      let e : l ≡ cut_sizes (cut_tables l t) = sym (cut-sizes-are z lim o f g) in
       record {
         find = record {
-          in-range = subst (λ (x : Sizes). sizesRefusal bounds x ≡ accepted) e sizes;
+          in-range = subst (λ (x : Sizes). sizes_refusal bounds x ≡ accepted) e sizes;
           heads = refl;
           parents = z.parents ∙ sym z.heads;
           rows = z.rows ∙ sym z.next;
@@ -197,8 +197,8 @@ module _ {l : Sizes} {t : Tables} (long : Long l t) (lim : Limits) (o f g : ℕ)
           book-next = refl;
           windows = z.windows ∙ ap (λ (n : ℕ). 2 * n) (sym z.book-heads);
           sound = sound-lifts ∙ sound;
-          long = subst (λ (x : Sizes). workFor x ≤ length w) e room;
-          zero = subst (λ (x : Sizes). IsZero w 0 (workFor x)) e zero;
+          long = subst (λ (x : Sizes). work_for x ≤ length w) e room;
+          zero = subst (λ (x : Sizes). IsZero w 0 (work_for x)) e zero;
         };
         touched-long = subst (λ (x : Sizes). x.m ≤ length a) e p;
         labels-long = subst (λ (x : Sizes). x.m ≤ length b) e q;

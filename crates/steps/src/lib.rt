@@ -2,7 +2,7 @@
 // tables that they are cut from.
 ghost use Rattle.std.specs.Prelude.{◌≡◌, leb};
 ghost use Rattle.lists.specs.Lists.{one};
-ghost use Rattle.symbolic.specs.Grades.{limitsOf, gradeOf};
+ghost use Rattle.symbolic.specs.Grades.{limits_of, grade_of};
 
 // 1 where the entries reach a limit, otherwise 0.
 fn reaches(entries: u32, limit: u32) -> u32
@@ -16,7 +16,7 @@ fn reaches(entries: u32, limit: u32) -> u32
 
 // The grade of some entries, by the numbers of entries from which on it is 2, 3 and 4: one more than these limits that are reached; 0 for no entry.
 pub fn grade_of(entries: u32, grade2: u32, grade3: u32, grade4: u32) -> u32
-    ensures { result ≡ gradeOf (limitsOf grade2 grade3 grade4) entries }
+    ensures { result ≡ grade_of (limits_of grade2 grade3 grade4) entries }
 {
     if entries == 0 {
         return 0;

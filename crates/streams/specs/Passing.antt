@@ -30,8 +30,8 @@ pub record Started (r : Streams) : Type 0 where
   pub unread : r.reads ≡ 0
 
 -- how many reads may still be made
-abbrev pub readsLeft : Streams → ℕ
-readsLeft s = 18446744073709551615 - s.reads
+abbrev pub reads_left : Streams → ℕ
+reads_left s = 18446744073709551615 - s.reads
 
 -- a read's bytes are the input's next; it gives none just where no read does, if its list has a place; after some bytes another read may be made, unless that was the last
 pub record Read (s : Streams) (piece : List ℕ) (r : Reading) : Type 0 where
@@ -39,15 +39,15 @@ pub record Read (s : Streams) (piece : List ℕ) (r : Reading) : Type 0 where
   pub passed : (i o : List ℕ) → Passed s i o → Passed r.streams (i ++ take r.count piece) o
   pub none : 1 ≤ length piece → r.count ≡ 0 → Finished r.streams
   pub later : Finished s → (r.count ≡ 0) × Finished r.streams
-  pub most : readsLeft r.streams ≤ readsLeft s
-  pub less : 1 ≤ r.count → readsLeft r.streams < readsLeft s
+  pub most : reads_left r.streams ≤ reads_left s
+  pub less : 1 ≤ r.count → reads_left r.streams < reads_left s
   pub goes_on : 1 ≤ r.count → (r.streams.ended ≡ false) × ((r.streams.failed ≡ false) × (r.streams.reads ≡ s.reads + 1))
 
 -- a write's bytes are the output's next, and it reads nothing
 pub record Wrote (s : Streams) (bytes : List ℕ) (r : Streams) : Type 0 where
   pub passed : (i o : List ℕ) → Passed s i o → Passed r i (o ++ bytes)
   pub later : Finished s → Finished r
-  pub same : readsLeft r ≡ readsLeft s
+  pub same : reads_left r ≡ reads_left s
 
 -- the output, with the bytes that wait at the front of a list
 pub record Issued (s : Streams) (list : List ℕ) (count : ℕ) (input output : List ℕ) : Type 0 where
@@ -60,4 +60,4 @@ pub record Flushed (s : Streams) (list : List ℕ) (count needed : ℕ) (r : Wai
   pub room : r.count + needed ≤ length list
   pub issued : (i o : List ℕ) → Issued s list count i o → Issued r.streams list r.count i o
   pub later : Finished s → Finished r.streams
-  pub same : readsLeft r.streams ≡ readsLeft s
+  pub same : reads_left r.streams ≡ reads_left s

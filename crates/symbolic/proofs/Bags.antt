@@ -9,20 +9,20 @@ use native.Mathlib.Omega.{arith}
 use lib.Dec.{eqb}
 use lib.ListN.{length}
 use borrow.Author.Tests.{eqb-true, eq-eqb, ne_eqb, not-true}
-use Rattle.lists.specs.Lists.{pick, one, Mem, first, later, all, among, noRepeats, same, times, sum_of}
+use Rattle.lists.specs.Lists.{pick, one, Mem, first, later, all, among, no_repeats, same, times, sum_of}
 use Rattle.lists.proofs.Tests.{cases, eq-or-ne, and_both, both-and}
 use Rattle.lists.proofs.Member.{all-at, all-make, mem-among, same-eq, same_self}
 use Rattle.lists.proofs.Sum.{sum-append, sum-find, sum-has, sum-length, sum-ext, sum-zero, sum-plus}
-use Rattle.symbolic.specs.Columns.{Column, smallest, holds, startingWith}
-use Rattle.symbolic.specs.Change.{ids_of, without, columnOf, columnsOf, Bag}
+use Rattle.symbolic.specs.Columns.{Column, smallest, holds, starting_with}
+use Rattle.symbolic.specs.Change.{ids_of, without, column_of, columns_of, Bag}
 use Rattle.symbolic.proofs.Columns.{starts-sum}
 
 -- ---- the same column, as a test
 
-abbrev pub sameColumn : (c d : Column) → Bool
-sameColumn c d = (eqb c.id d.id && same c.rows d.rows) && (eqb c.first d.first && eqb c.second d.second)
+abbrev pub same_column : (c d : Column) → Bool
+same_column c d = (eqb c.id d.id && same c.rows d.rows) && (eqb c.first d.first && eqb c.second d.second)
 
-pub column-eq : (c d : Column) → sameColumn c d ≡ true → c ≡ d
+pub column-eq : (c d : Column) → same_column c d ≡ true → c ≡ d
 column-eq c d h =
     let A : Bool = eqb c.id d.id in
     let B : Bool = same c.rows d.rows in
@@ -37,13 +37,13 @@ column-eq c d h =
     let y : c.second ≡ d.second = eqb-true c.second d.second b.1 in
     λ i. record { id = p i; rows = q i; first = x i; second = y i }
 
-pub column-self : (c : Column) → sameColumn c c ≡ true
+pub column-self : (c : Column) → same_column c c ≡ true
 column-self c =
     both-and (both-and (eq-eqb c.id c.id refl) (same_self c.rows)) (both-and (eq-eqb c.first c.first refl) (eq-eqb c.second c.second refl))
 
 -- ---- what reads columns up to order
 
-pub bag-starts : (cs ds : List Column) → Bag cs ds → (j i : ℕ) → startingWith j i cs ≡ startingWith j i ds
+pub bag-starts : (cs ds : List Column) → Bag cs ds → (j i : ℕ) → starting_with j i cs ≡ starting_with j i ds
 bag-starts cs ds b j i = starts-sum j i cs ∙ b (λ c. one (eqb (smallest c) j && holds c i)) ∙ sym (starts-sum j i ds)
 
 pub bag-length : (cs ds : List Column) → Bag cs ds → length cs ≡ length ds
@@ -54,8 +54,8 @@ bag-append cs ds es b f = omega (arith, sum-append f cs es, sum-append f ds es, 
 
 pub bag-mem : (cs ds : List Column) → Bag cs ds → {c : Column} → Mem c ds → Mem c cs
 bag-mem cs ds b {c} m =
-    let t : (d : Column) × Mem d cs × (sameColumn d c ≡ true) =
-    sum-find (λ d. sameColumn d c) cs (omega (arith, b (λ d. one (sameColumn d c)), sum-has (λ d. sameColumn d c) m (column-self c))) in
+    let t : (d : Column) × Mem d cs × (same_column d c ≡ true) =
+    sum-find (λ d. same_column d c) cs (omega (arith, b (λ d. one (same_column d c)), sum-has (λ d. same_column d c) m (column-self c))) in
     subst (λ (d : Column). Mem d cs) (column-eq t.0 c t.2) t.1
 
 pub bag-all : (f : Column → Bool) (cs ds : List Column) → Bag cs ds → all f cs ≡ true → all f ds ≡ true
@@ -84,16 +84,16 @@ without-le ids (c ∷ cs) f =
 
 -- ---- ids
 
-abbrev pub hasId : (i : ℕ) → Column → Bool
-hasId i c = eqb i c.id
+abbrev pub has_id : (i : ℕ) → Column → Bool
+has_id i c = eqb i c.id
 
-pub ids-times : (i : ℕ) (cs : List Column) → times i (ids_of cs) ≡ sum_of (λ c. one (hasId i c)) cs
+pub ids-times : (i : ℕ) (cs : List Column) → times i (ids_of cs) ≡ sum_of (λ c. one (has_id i c)) cs
 unfolding times ids_of sum_of
 ids-times i [] = refl
 ids-times i (c ∷ cs) = omega (arith, ids-times i cs)
 
 pub bag-ids : (cs ds : List Column) → Bag cs ds → (i : ℕ) → times i (ids_of cs) ≡ times i (ids_of ds)
-bag-ids cs ds b i = ids-times i cs ∙ b (λ c. one (hasId i c)) ∙ sym (ids-times i ds)
+bag-ids cs ds b i = ids-times i cs ∙ b (λ c. one (has_id i c)) ∙ sym (ids-times i ds)
 
 pub id-mem : {c : Column} {cs : List Column} → Mem c cs → Mem c.id (ids_of cs)
 unfolding ids_of
@@ -102,25 +102,25 @@ id-mem (later m) = later (id-mem m)
 
 -- ---- the columns of some ids
 
-pub column-of : (cs : List Column) {c : Column} → noRepeats (ids_of cs) ≡ true → Mem c cs → columnOf c.id cs ≡ c
-unfolding noRepeats ids_of columnOf
+pub column-of : (cs : List Column) {c : Column} → no_repeats (ids_of cs) ≡ true → Mem c cs → column_of c.id cs ≡ c
+unfolding no_repeats ids_of column_of
 column-of (d ∷ cs) {c} h first = rw (eq-eqb c.id c.id refl)
 column-of (d ∷ cs) {c} h (later m) =
-    let t : (not (among d.id (ids_of cs)) ≡ true) × (noRepeats (ids_of cs) ≡ true) =
-    and_both (not (among d.id (ids_of cs))) (noRepeats (ids_of cs)) h in
+    let t : (not (among d.id (ids_of cs)) ≡ true) × (no_repeats (ids_of cs) ≡ true) =
+    and_both (not (among d.id (ids_of cs))) (no_repeats (ids_of cs)) h in
     elim (eq-or-ne d.id c.id) [
       | inl q ↦ absurd (true≢false (sym (mem-among (rw q (id-mem m))) ∙ not-true (among d.id (ids_of cs)) t.0))
       | inr q ↦ rw (ne_eqb d.id c.id q) (column-of cs t.1 m)
     ]
 
 -- the column of an id that one column has
-id-sum : (i : ℕ) (cs : List Column) → noRepeats (ids_of cs) ≡ true → among i (ids_of cs) ≡ true → (f : Column → ℕ) →
-    sum_of (λ c. pick (eqb c.id i) (f c) 0) cs ≡ f (columnOf i cs)
-unfolding noRepeats ids_of columnOf among sum_of
+id-sum : (i : ℕ) (cs : List Column) → no_repeats (ids_of cs) ≡ true → among i (ids_of cs) ≡ true → (f : Column → ℕ) →
+    sum_of (λ c. pick (eqb c.id i) (f c) 0) cs ≡ f (column_of i cs)
+unfolding no_repeats ids_of column_of among sum_of
 id-sum i [] u h f = absurd (true≢false (sym h))
 id-sum i (c ∷ cs) u h f =
-    let t : (not (among c.id (ids_of cs)) ≡ true) × (noRepeats (ids_of cs) ≡ true) =
-    and_both (not (among c.id (ids_of cs))) (noRepeats (ids_of cs)) u in
+    let t : (not (among c.id (ids_of cs)) ≡ true) × (no_repeats (ids_of cs) ≡ true) =
+    and_both (not (among c.id (ids_of cs))) (no_repeats (ids_of cs)) u in
     elim (eq-or-ne c.id i) [
       | inl q ↦
           let none : among i (ids_of cs) ≡ false = subst (λ (x : ℕ). among x (ids_of cs) ≡ false) q (not-true (among c.id (ids_of cs)) t.0) in
@@ -136,13 +136,13 @@ id-sum i (c ∷ cs) u h f =
           | inr q ↦ rw (ne_eqb c.id i q) (omega (arith, nothing i cs f (rw (ne_eqb i c.id (λ e. q (sym e))) at h)))
         ]
 
-columns-sum : (cs : List Column) → noRepeats (ids_of cs) ≡ true → (ids : List ℕ) → noRepeats ids ≡ true →
+columns-sum : (cs : List Column) → no_repeats (ids_of cs) ≡ true → (ids : List ℕ) → no_repeats ids ≡ true →
     all (λ (i : ℕ). among i (ids_of cs)) ids ≡ true → (f : Column → ℕ) →
-    sum_of f (columnsOf ids cs) ≡ sum_of (λ c. pick (among c.id ids) (f c) 0) cs
-unfolding noRepeats columnsOf all among sum_of
+    sum_of f (columns_of ids cs) ≡ sum_of (λ c. pick (among c.id ids) (f c) 0) cs
+unfolding no_repeats columns_of all among sum_of
 columns-sum cs u [] n l f = sym (sum-zero (λ c. pick (among c.id []) (f c) 0) cs (λ c m. refl))
 columns-sum cs u (i ∷ is) n l f =
-    let t : (not (among i is) ≡ true) × (noRepeats is ≡ true) = and_both (not (among i is)) (noRepeats is) n in
+    let t : (not (among i is) ≡ true) × (no_repeats is ≡ true) = and_both (not (among i is)) (no_repeats is) n in
     let v : (among i (ids_of cs) ≡ true) × (all (λ (k : ℕ). among k (ids_of cs)) is ≡ true) =
     and_both (among i (ids_of cs)) (all (λ (k : ℕ). among k (ids_of cs)) is) l in
     omega (
@@ -163,12 +163,12 @@ columns-sum cs u (i ∷ is) n l f =
         ]
 
 -- what stays and what leaves are, together, what there was
-pub bag-splits : (cs : List Column) (ids : List ℕ) → noRepeats (ids_of cs) ≡ true → noRepeats ids ≡ true →
-    all (λ (i : ℕ). among i (ids_of cs)) ids ≡ true → Bag cs (without ids cs ++ columnsOf ids cs)
+pub bag-splits : (cs : List Column) (ids : List ℕ) → no_repeats (ids_of cs) ≡ true → no_repeats ids ≡ true →
+    all (λ (i : ℕ). among i (ids_of cs)) ids ≡ true → Bag cs (without ids cs ++ columns_of ids cs)
 bag-splits cs ids u n l f =
     omega (
       arith,
-      sum-append f (without ids cs) (columnsOf ids cs),
+      sum-append f (without ids cs) (columns_of ids cs),
       without-sum ids cs f,
       columns-sum cs u ids n l f,
       sum-plus (λ c. pick (among c.id ids) 0 (f c)) (λ c. pick (among c.id ids) (f c) 0) cs,

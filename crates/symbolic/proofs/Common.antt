@@ -8,15 +8,15 @@ use mathlib.Core.List.{List, [], ◌∷◌}
 use Prim.Native.Nat.{ℕ, ◌≤◌, ◌<◌}
 use native.Mathlib.Omega.{arith}
 use lib.ListN.{length, get_or}
-use Rattle.lists.specs.Lists.{Mem, first, all, among, rises, isIn}
+use Rattle.lists.specs.Lists.{Mem, first, all, among, rises, is_in}
 use Rattle.lists.proofs.Tests.{zero-or-pos, in-range}
 use Rattle.lists.proofs.Member.{place-mem, all-at, all-make}
 use Rattle.lists.proofs.Rising.{rises-in, rises-first}
-use Rattle.symbolic.specs.Columns.{Column, startingWith}
-use Rattle.symbolic.specs.Factor.{factorOf, parent_of, pathOf}
+use Rattle.symbolic.specs.Columns.{Column, starting_with}
+use Rattle.symbolic.specs.Factor.{factor_of, parent_of, path_of}
 use Rattle.symbolic.specs.Definition.{IsFactor, OnPath, here, up}
 use Rattle.symbolic.specs.Batch.{passing}
-use Rattle.symbolic.specs.Meeting.{onPaths, commonOf, OnPaths, IsCommon}
+use Rattle.symbolic.specs.Meeting.{on_paths, common_of, OnPaths, IsCommon}
 use Rattle.symbolic.proofs.Laws.{path-within}
 use Rattle.symbolic.proofs.Two.{factor-agrees}
 use Rattle.symbolic.proofs.Build.{laws, factor-length}
@@ -44,34 +44,34 @@ first-least f n k a b h = first-low 1 n (passing f 1 n) (passing-mem f 1 n k a (
 module _ (m : ℕ) (cs : List Column) (is : List ℕ) where
   -- ---- what is on all paths, as a test
 
-  pub common-on : 0 < commonOf (factorOf m cs) is → onPaths (factorOf m cs) is (commonOf (factorOf m cs) is) ≡ true
-  common-on h = first_passes (onPaths (factorOf m cs) is) (length (factorOf m cs)) h
+  pub common-on : 0 < common_of (factor_of m cs) is → on_paths (factor_of m cs) is (common_of (factor_of m cs) is) ≡ true
+  common-on h = first_passes (on_paths (factor_of m cs) is) (length (factor_of m cs)) h
 
-  pub common-low : (k : ℕ) → 1 ≤ k → k ≤ m → onPaths (factorOf m cs) is k ≡ true → (1 ≤ commonOf (factorOf m cs) is) × (commonOf (factorOf m cs) is ≤ k)
-  common-low k a b h = first-least (onPaths (factorOf m cs) is) (length (factorOf m cs)) k a (omega (arith, factor-length m cs)) h
+  pub common-low : (k : ℕ) → 1 ≤ k → k ≤ m → on_paths (factor_of m cs) is k ≡ true → (1 ≤ common_of (factor_of m cs) is) × (common_of (factor_of m cs) is ≤ k)
+  common-low k a b h = first-least (on_paths (factor_of m cs) is) (length (factor_of m cs)) k a (omega (arith, factor-length m cs)) h
 
   -- ---- rows whose paths share just the path of x, which is 0 where they share nothing
 
-  module _ (x : ℕ) (b : x ≤ m) (e : (k : ℕ) → onPaths (factorOf m cs) is k ≡ among k (pathOf (factorOf m cs) x)) where
-    shared-none : x ≡ 0 → 0 < commonOf (factorOf m cs) is → ⊥
+  module _ (x : ℕ) (b : x ≤ m) (e : (k : ℕ) → on_paths (factor_of m cs) is k ≡ among k (path_of (factor_of m cs) x)) where
+    shared-none : x ≡ 0 → 0 < common_of (factor_of m cs) is → ⊥
     unfolding among
     shared-none z h =
-        let c : ℕ = commonOf (factorOf m cs) is in
-        let q : pathOf (factorOf m cs) x ≡ [] =
-        ap (λ (y : ℕ). pathOf (factorOf m cs) y) z ∙ path-root (length (factorOf m cs)) (factorOf m cs) in
+        let c : ℕ = common_of (factor_of m cs) is in
+        let q : path_of (factor_of m cs) x ≡ [] =
+        ap (λ (y : ℕ). path_of (factor_of m cs) y) z ∙ path-root (length (factor_of m cs)) (factor_of m cs) in
         false≢true (sym (e c ∙ ap (among c) q) ∙ common-on h)
 
-    pub common-shared : commonOf (factorOf m cs) is ≡ x
+    pub common-shared : common_of (factor_of m cs) is ≡ x
     common-shared =
         elim (zero-or-pos x) [
-          | inl z ↦ elim (zero-or-pos (commonOf (factorOf m cs) is)) [
+          | inl z ↦ elim (zero-or-pos (common_of (factor_of m cs) is)) [
             | inl y ↦ omega arith
             | inr y ↦ absurd (shared-none z y)
           ]
           | inr p ↦
-              let t : (1 ≤ commonOf (factorOf m cs) is) × (commonOf (factorOf m cs) is ≤ x) = common-low x p b (e x ∙ (path-members m cs x x p b).1 here) in
-              let u : OnPath (parent_of (factorOf m cs)) x (commonOf (factorOf m cs) is) =
-              (path-members m cs x (commonOf (factorOf m cs) is) p b).0 (sym (e (commonOf (factorOf m cs) is)) ∙ common-on t.0) in
+              let t : (1 ≤ common_of (factor_of m cs) is) × (common_of (factor_of m cs) is ≤ x) = common-low x p b (e x ∙ (path-members m cs x x p b).1 here) in
+              let u : OnPath (parent_of (factor_of m cs)) x (common_of (factor_of m cs) is) =
+              (path-members m cs x (common_of (factor_of m cs) is) p b).0 (sym (e (common_of (factor_of m cs) is)) ∙ common-on t.0) in
               omega (arith, path-within (laws m cs) p b u)
         ]
 
@@ -87,23 +87,23 @@ path-moves {M = M} {P = P} {Q = Q} L e a b (up {j = i} {k = k} p u) =
 
 -- ---- the smallest on all paths
 
-module _ (m : ℕ) (cs : List Column) (M : ℕ → ℕ → ℕ) (P : ℕ → ℕ) (L : IsFactor m (λ j i. startingWith j i cs) M P)
-    (is : List ℕ) (some : 1 ≤ length is) (fits : all (isIn 1 m) is ≡ true) where
-  parents-agree : (j : ℕ) → 1 ≤ j → j ≤ m → P j ≡ parent_of (factorOf m cs) j
+module _ (m : ℕ) (cs : List Column) (M : ℕ → ℕ → ℕ) (P : ℕ → ℕ) (L : IsFactor m (λ j i. starting_with j i cs) M P)
+    (is : List ℕ) (some : 1 ≤ length is) (fits : all (is_in 1 m) is ≡ true) where
+  parents-agree : (j : ℕ) → 1 ≤ j → j ≤ m → P j ≡ parent_of (factor_of m cs) j
   parents-agree j a b = (factor-agrees L (laws m cs) (λ k l x y z. refl) j a b).1
 
   named_in : {i : ℕ} → Mem i is → (1 ≤ i) × (i ≤ m)
-  named_in {i} h = in-range 1 m i (all-at (isIn 1 m) h fits)
+  named_in {i} h = in-range 1 m i (all-at (is_in 1 m) h fits)
 
-  paths-test : (k : ℕ) → OnPaths P is k → onPaths (factorOf m cs) is k ≡ true
+  paths-test : (k : ℕ) → OnPaths P is k → on_paths (factor_of m cs) is k ≡ true
   paths-test k h =
-      all-make (λ (i : ℕ). among k (pathOf (factorOf m cs) i)) is
+      all-make (λ (i : ℕ). among k (path_of (factor_of m cs) i)) is
       (λ i s. (path-members m cs i k (named_in s).0 (named_in s).1).1 (path-moves L parents-agree (named_in s).0 (named_in s).1 (h i s)))
 
-  test-paths : (k : ℕ) → onPaths (factorOf m cs) is k ≡ true → OnPaths P is k
+  test-paths : (k : ℕ) → on_paths (factor_of m cs) is k ≡ true → OnPaths P is k
   test-paths k h i s =
       path-moves (laws m cs) (λ j a b. sym (parents-agree j a b)) (named_in s).0 (named_in s).1
-      ((path-members m cs i k (named_in s).0 (named_in s).1).0 (all-at (λ (i : ℕ). among k (pathOf (factorOf m cs) i)) s h))
+      ((path-members m cs i k (named_in s).0 (named_in s).1).0 (all-at (λ (i : ℕ). among k (path_of (factor_of m cs) i)) s h))
 
   -- what is on all paths is a row of 1 to m: there is a path
   paths-within : (k : ℕ) → OnPaths P is k → (1 ≤ k) × (k ≤ m)
@@ -113,18 +113,18 @@ module _ (m : ℕ) (cs : List Column) (M : ℕ → ℕ → ℕ) (P : ℕ → ℕ
       let a : (1 ≤ i) × (i ≤ m) = named_in s in
       omega (arith, path-within L a.0 a.1 (h i s))
 
-  common-above : (k : ℕ) → OnPaths P is k → (1 ≤ commonOf (factorOf m cs) is) × (commonOf (factorOf m cs) is ≤ k)
+  common-above : (k : ℕ) → OnPaths P is k → (1 ≤ common_of (factor_of m cs) is) × (common_of (factor_of m cs) is ≤ k)
   common-above k h = common-low m cs is k (paths-within k h).0 (paths-within k h).1 (paths-test k h)
 
-  pub common-least : IsCommon P is (commonOf (factorOf m cs) is)
+  pub common-least : IsCommon P is (common_of (factor_of m cs) is)
   common-least = record {
-    lies = λ p. test-paths (commonOf (factorOf m cs) is) (common-on m cs is p);
+    lies = λ p. test-paths (common_of (factor_of m cs) is) (common-on m cs is p);
     least = λ k h. (common-above k h).1;
     none = (
       λ z k h. omega (arith, (common-above k h).0),
-      λ n. elim (zero-or-pos (commonOf (factorOf m cs) is)) [
+      λ n. elim (zero-or-pos (common_of (factor_of m cs) is)) [
         | inl z ↦ z
-        | inr p ↦ absurd (n (commonOf (factorOf m cs) is) (test-paths (commonOf (factorOf m cs) is) (common-on m cs is p)))
+        | inr p ↦ absurd (n (common_of (factor_of m cs) is) (test-paths (common_of (factor_of m cs) is) (common-on m cs is p)))
       ],
     );
   }

@@ -9,19 +9,19 @@ use lib.Dec.{ltb, leb, eqb}
 use borrow.Author.Tests.{ltb-true, leb-true, lt-ltb, le-ltb, le-leb, lt-leb, eq-eqb, ne_eqb}
 use Rattle.lists.specs.Lists.{pick}
 use Rattle.lists.proofs.Tests.{and_both, eq-or-ne, lt-or-le}
-use Rattle.symbolic.specs.Grades.{Limits, areLimits, oldLimits, gradeOf}
+use Rattle.symbolic.specs.Grades.{Limits, are_limits, old_limits, grade_of}
 
 -- "The first must be at least 2 and each must exceed the one before"
-pub limits-facts : (g : Limits) → areLimits g ≡ true → (2 ≤ g.grade2) × (g.grade2 < g.grade3) × (g.grade3 < g.grade4)
+pub limits-facts : (g : Limits) → are_limits g ≡ true → (2 ≤ g.grade2) × (g.grade2 < g.grade3) × (g.grade3 < g.grade4)
 limits-facts g h =
     let p : ((leb 2 g.grade2 && ltb g.grade2 g.grade3) ≡ true) × (ltb g.grade3 g.grade4 ≡ true) =
     and_both (leb 2 g.grade2 && ltb g.grade2 g.grade3) (ltb g.grade3 g.grade4) h in
     let q : (leb 2 g.grade2 ≡ true) × (ltb g.grade2 g.grade3 ≡ true) = and_both (leb 2 g.grade2) (ltb g.grade2 g.grade3) p.0 in
     (leb-true 2 g.grade2 q.0, ltb-true g.grade2 g.grade3 q.1, ltb-true g.grade3 g.grade4 p.1)
 
-pub grade-begins : (g : Limits) (n : ℕ) → areLimits g ≡ true →
-    ((1 ≤ gradeOf g n) ↔ (1 ≤ n)) × ((2 ≤ gradeOf g n) ↔ (g.grade2 ≤ n)) × ((3 ≤ gradeOf g n) ↔ (g.grade3 ≤ n)) × ((4 ≤ gradeOf g n) ↔ (g.grade4 ≤ n)) ×
-    (gradeOf g n ≤ 4)
+pub grade-begins : (g : Limits) (n : ℕ) → are_limits g ≡ true →
+    ((1 ≤ grade_of g n) ↔ (1 ≤ n)) × ((2 ≤ grade_of g n) ↔ (g.grade2 ≤ n)) × ((3 ≤ grade_of g n) ↔ (g.grade3 ≤ n)) × ((4 ≤ grade_of g n) ↔ (g.grade4 ≤ n)) ×
+    (grade_of g n ≤ 4)
 grade-begins g n h =
     let a : ℕ = g.grade2 in
     let b : ℕ = g.grade3 in
@@ -41,11 +41,11 @@ grade-begins g n h =
       ])
     ]
 
-pub old-grade : (n : ℕ) → gradeOf oldLimits n ≡ pick (eqb n 0) 0 (pick (ltb n 256) 1 (pick (ltb n 4096) 2 (pick (ltb n 65536) 3 4)))
+pub old-grade : (n : ℕ) → grade_of old_limits n ≡ pick (eqb n 0) 0 (pick (ltb n 256) 1 (pick (ltb n 4096) 2 (pick (ltb n 65536) 3 4)))
 old-grade n =
-    let a : ℕ = oldLimits.grade2 in
-    let b : ℕ = oldLimits.grade3 in
-    let c : ℕ = oldLimits.grade4 in
+    let a : ℕ = old_limits.grade2 in
+    let b : ℕ = old_limits.grade3 in
+    let c : ℕ = old_limits.grade4 in
     elim (eq-or-ne n 0) [
       | inl z ↦ rw (eq-eqb n 0 z) refl
       | inr z ↦ rw (ne_eqb n 0 z) (elim (lt-or-le n 256) [

@@ -1,14 +1,14 @@
 -- Document 01's instances (specs/Cases.antt): each side computes to the other. Only here are whole factors unfolded. Assumes nothing.
 use mathlib.Core.Path.{refl}
 use Rattle.lists.specs.Lists.{any, among, sum_of}
-use Rattle.symbolic.specs.Columns.{startingWith}
-use Rattle.symbolic.specs.Factor.{childrenWith, countsFrom, firstAbove, buildFrom, patternFrom, nonZero, pathFrom, sizeSum}
-use Rattle.symbolic.specs.Batch.{touchedFrom, labelFrom, labelsOf}
-use Rattle.symbolic.specs.Change.{without, columnOf, columnsOf}
+use Rattle.symbolic.specs.Columns.{starting_with}
+use Rattle.symbolic.specs.Factor.{children_with, counts_from, first_above, build_from, pattern_from, non_zero, path_from, size_sum}
+use Rattle.symbolic.specs.Batch.{touched_from, label_from, labels_of}
+use Rattle.symbolic.specs.Change.{without, column_of, columns_of}
 use Rattle.symbolic.specs.Cases.{Cases}
 
 pub instances : Cases
-unfolding any among startingWith childrenWith countsFrom firstAbove buildFrom patternFrom nonZero pathFrom sizeSum touchedFrom labelFrom labelsOf sum_of without columnOf columnsOf
+unfolding any among starting_with children_with counts_from first_above build_from pattern_from non_zero path_from size_sum touched_from label_from labels_of sum_of without column_of columns_of
 instances = record {
   fresh = refl;
   state = refl;

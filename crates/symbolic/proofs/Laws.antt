@@ -12,23 +12,23 @@ use borrow.Author.Tests.{eq-eqb, ne_eqb}
 use Rattle.lists.specs.Lists.{one, count}
 use Rattle.lists.proofs.Tests.{eq-or-ne, lt-or-le, zero-or-pos, refute}
 use Rattle.lists.proofs.Count.{count-find, count-has, count_cut}
-use Rattle.symbolic.specs.Definition.{childWith, IsFactor, OnPath, here, up}
+use Rattle.symbolic.specs.Definition.{child_with, IsFactor, OnPath, here, up}
 
 -- ---- one child
 
 module _ (M : ℕ → ℕ → ℕ) (P : ℕ → ℕ) (j i c : ℕ) where
-  pub child-true : P c ≡ j → 0 < M i c → childWith M P j i c ≡ true
+  pub child-true : P c ≡ j → 0 < M i c → child_with M P j i c ≡ true
   child-true e h = rw (eq-eqb (P c) j e, ne_eqb (M i c) 0 (omega arith))
 
   -- a child counts the rows that it holds
-  pub child-is : P c ≡ j → childWith M P j i c ≡ not (eqb (M i c) 0)
+  pub child-is : P c ≡ j → child_with M P j i c ≡ not (eqb (M i c) 0)
   child-is e = rw (eq-eqb (P c) j e)
 
   -- what is no child counts nothing
-  pub child-other : P c ≢ j → childWith M P j i c ≡ false
+  pub child-other : P c ≢ j → child_with M P j i c ≡ false
   child-other n = rw (ne_eqb (P c) j n)
 
-  pub child-inv : childWith M P j i c ≡ true → (P c ≡ j) × (0 < M i c)
+  pub child-inv : child_with M P j i c ≡ true → (P c ≡ j) × (0 < M i c)
   child-inv h =
       elim (eq-or-ne (P c) j) [
         | inl e ↦ elim (zero-or-pos (M i c)) [
@@ -71,7 +71,7 @@ module _ {m : ℕ} {S M : ℕ → ℕ → ℕ} {P : ℕ → ℕ} (L : IsFactor m
   diagonal-in j a b = omega (arith, L.counted j j a (omega arith) b, ap one (eq-eqb j j refl))
 
   pub child-in : (c i : ℕ) → 1 ≤ c → c ≤ m → 0 < P c → P c ≤ i → i ≤ m → 0 < M i c → 0 < M i (P c)
-  child-in c i a b p q d h = omega (arith, L.counted i (P c) p q d, count-has (childWith M P (P c) i) m c a b (child-true M P (P c) i c refl h))
+  child-in c i a b p q d h = omega (arith, L.counted i (P c) p q d, count-has (child_with M P (P c) i) m c a b (child-true M P (P c) i c refl h))
 
   pub start-in : (j i : ℕ) → 1 ≤ j → j ≤ i → i ≤ m → 0 < S j i → 0 < M i j
   start-in j i a b d h = omega (arith, L.counted i j a b d)
@@ -84,8 +84,8 @@ module _ {m : ℕ} {S M : ℕ → ℕ → ℕ} {P : ℕ → ℕ} (L : IsFactor m
         | inr e ↦ elim (zero-or-pos (S j i)) [
           | inr s ↦ inr (inr s)
           | inl s ↦
-              let z : (c : ℕ) × (1 ≤ c) × (c ≤ m) × (childWith M P j i c ≡ true) =
-              count-find (childWith M P j i) m (omega (arith, L.counted i j a b d, ap one (ne_eqb i j e))) in
+              let z : (c : ℕ) × (1 ≤ c) × (c ≤ m) × (child_with M P j i c ≡ true) =
+              count-find (child_with M P j i) m (omega (arith, L.counted i j a b d, ap one (ne_eqb i j e))) in
               let w : (P z.0 ≡ j) × (0 < M i z.0) = child-inv M P j i z.0 z.3 in
               let v : (z.0 < P z.0) × (P z.0 ≤ m) × (0 < M (P z.0) z.0) = L.parent_in_lem z.0 z.1 z.2 (omega arith) in
               inr (inl (z.0, z.1, omega arith, w.0, w.1))
@@ -157,17 +157,17 @@ module _ {m : ℕ} {S M : ℕ → ℕ → ℕ} {P : ℕ → ℕ} (L : IsFactor m
 
   -- ---- the children that a multiplicity counts
 
-  pub child-below : (j i c : ℕ) → 1 ≤ j → 1 ≤ c → c ≤ m → childWith M P j i c ≡ true → c < j
+  pub child-below : (j i c : ℕ) → 1 ≤ j → 1 ≤ c → c ≤ m → child_with M P j i c ≡ true → c < j
   child-below j i c o a b h =
       let w : (P c ≡ j) × (0 < M i c) = child-inv M P j i c h in
       let v : (c < P c) × (P c ≤ m) × (0 < M (P c) c) = L.parent_in_lem c a b (omega arith) in
       omega arith
 
   -- no column from j on is a child of j
-  pub child-late : (j i c : ℕ) → 1 ≤ j → j ≤ c → c ≤ m → childWith M P j i c ≡ false
-  child-late j i c a b d = refute (childWith M P j i c) (λ e. omega (arith, child-below j i c a (omega arith) d e))
+  pub child-late : (j i c : ℕ) → 1 ≤ j → j ≤ c → c ≤ m → child_with M P j i c ≡ false
+  child-late j i c a b d = refute (child_with M P j i c) (λ e. omega (arith, child-below j i c a (omega arith) d e))
 
   -- children up to any k from j - 1 on are all the children
-  pub counted-at : (k i j : ℕ) → 1 ≤ j → j ≤ i → i ≤ m → j ≤ suc k → k ≤ m → M i j ≡ count (childWith M P j i) k + S j i + one (eqb i j)
+  pub counted-at : (k i j : ℕ) → 1 ≤ j → j ≤ i → i ≤ m → j ≤ suc k → k ≤ m → M i j ≡ count (child_with M P j i) k + S j i + one (eqb i j)
   counted-at k i j a b d x y =
-      omega (arith, L.counted i j a b d, count_cut (childWith M P j i) k m y (λ c p q. child-late j i c a (omega arith) q))
+      omega (arith, L.counted i j a b d, count_cut (child_with M P j i) k m y (λ c p q. child-late j i c a (omega arith) q))

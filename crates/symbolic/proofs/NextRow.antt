@@ -11,10 +11,10 @@ use lib.ListN.{length, get_or}
 use borrow.Author.Tests.{le-leb, lt-leb, leb-true, eq-eqb, ne_eqb}
 use Rattle.lists.specs.Lists.{rises}
 use Rattle.lists.proofs.Tests.{cases, eq-or-ne, lt-or-le, zero-or-pos, and_both}
-use Rattle.symbolic.specs.Columns.{Column, startingWith}
-use Rattle.symbolic.specs.Factor.{factorOf, columnAt, multiplicity, parent_of, patternFrom, nonZero, patternOf, multiplicitiesOf}
+use Rattle.symbolic.specs.Columns.{Column, starting_with}
+use Rattle.symbolic.specs.Factor.{factor_of, column_at, multiplicity, parent_of, pattern_from, non_zero, pattern_of, multiplicities_of}
 use Rattle.symbolic.specs.Definition.{IsFactor}
-use Rattle.symbolic.specs.NextRow.{ColumnEntry, firstFrom, nextRow, IsNext, columnEntries, IsWalk}
+use Rattle.symbolic.specs.NextRow.{ColumnEntry, first_from, next_row, IsNext, column_entries, IsWalk}
 use Rattle.symbolic.proofs.Two.{Agree, factor-agrees}
 use Rattle.symbolic.proofs.Build.{laws, counts-length}
 use Rattle.symbolic.proofs.Patterns.{pattern-within-rows, pattern-parts}
@@ -35,18 +35,18 @@ rising a b x xs h =
     record { low = leb-true a x u.0; high = leb-true x b u.1; rest = t.1 }
 
 -- a row at or above i comes first
-first-here : (i x n : ℕ) (xs ns : List ℕ) → i ≤ x → firstFrom i (x ∷ xs) (n ∷ ns) ≡ record { row = x; count = n }
-unfolding firstFrom
+first-here : (i x n : ℕ) (xs ns : List ℕ) → i ≤ x → first_from i (x ∷ xs) (n ∷ ns) ≡ record { row = x; count = n }
+unfolding first_from
 first-here i x n xs ns h = rw (le-leb i x h) refl
 
 -- a row below i is passed
-first_past : (i x n : ℕ) (xs ns : List ℕ) → x < i → firstFrom i (x ∷ xs) (n ∷ ns) ≡ firstFrom i xs ns
-unfolding firstFrom
+first_past : (i x n : ℕ) (xs ns : List ℕ) → x < i → first_from i (x ∷ xs) (n ∷ ns) ≡ first_from i xs ns
+unfolding first_from
 first_past i x n xs ns h = rw (lt-leb i x h) refl
 
 -- where no row is below i, the first of them
-first_head : (i b : ℕ) (xs ns : List ℕ) → length xs ≡ length ns → rises i b xs ≡ true → (firstFrom i xs ns).row ≡ get_or xs 0 0
-unfolding firstFrom
+first_head : (i b : ℕ) (xs ns : List ℕ) → length xs ≡ length ns → rises i b xs ≡ true → (first_from i xs ns).row ≡ get_or xs 0 0
+unfolding first_from
 first_head i b [] ns e h = refl
 first_head i b (x ∷ xs) [] e h = absurd (omega arith)
 first_head i b (x ∷ xs) (n ∷ ns) e h = ap (λ (y : ColumnEntry). y.row) (first-here i x n xs ns (rising i b x xs h).low)
@@ -61,11 +61,11 @@ rises-none a b (x ∷ xs) l h = let t = rising a b x xs h in absurd (omega (arit
 module _ (m : ℕ) (next : ℕ → ColumnEntry) where
   -- from row i on the answers are those of these lists
   abbrev Answers : (i : ℕ) → (xs ns : List ℕ) → Type 0
-  Answers i xs ns = (k : ℕ) → i ≤ k → next k ≡ firstFrom k xs ns
+  Answers i xs ns = (k : ℕ) → i ≤ k → next k ≡ first_from k xs ns
 
   pub walk-given : (i : ℕ) (xs ns : List ℕ) → 1 ≤ i → length xs ≡ length ns → rises i m xs ≡ true → Answers i xs ns →
-      (ys : List ColumnEntry) → IsWalk m next i ys → ys ≡ columnEntries xs ns
-  unfolding IsWalk columnEntries firstFrom
+      (ys : List ColumnEntry) → IsWalk m next i ys → ys ≡ column_entries xs ns
+  unfolding IsWalk column_entries first_from
   walk-given i [] ns a e h f [] w = refl
   walk-given i [] ns a e h f (y ∷ ys) w = absurd (w.1 (ap (λ (z : ColumnEntry). z.row) (w.0 ∙ f i (omega arith))))
   walk-given i (x ∷ xs) [] a e h f ys w = absurd (omega arith)
@@ -83,13 +83,13 @@ module _ (m : ℕ) (next : ℕ → ColumnEntry) where
             rw (q, u.1, none) refl
         | inr u ↦
             let on : IsWalk m next (suc x) ys = subst (λ (k : ℕ). IsWalk m next (suc k) ys) r u.1 in
-            let ih : ys ≡ columnEntries xs ns =
+            let ih : ys ≡ column_entries xs ns =
             walk-given (suc x) xs ns (omega arith) (omega arith) t.rest (λ k l. f k (omega (arith, t.low)) ∙ first_past k x n xs ns l) ys on in
             rw (q, ih) refl
       ]
 
-  pub walk-there : (i : ℕ) (xs ns : List ℕ) → 1 ≤ i → length xs ≡ length ns → rises i m xs ≡ true → Answers i xs ns → IsWalk m next i (columnEntries xs ns)
-  unfolding IsWalk columnEntries firstFrom
+  pub walk-there : (i : ℕ) (xs ns : List ℕ) → 1 ≤ i → length xs ≡ length ns → rises i m xs ≡ true → Answers i xs ns → IsWalk m next i (column_entries xs ns)
+  unfolding IsWalk column_entries first_from
   walk-there i [] ns a e h f = ap (λ (z : ColumnEntry). z.row) (f i (omega arith))
   walk-there i (x ∷ xs) [] a e h f = absurd (omega arith)
   walk-there i (x ∷ xs) (n ∷ ns) a e h f =
@@ -104,8 +104,8 @@ module _ (m : ℕ) (next : ℕ → ColumnEntry) where
 
 -- ---- rows with a multiplicity, the first multiplicity being that of row a
 
-pub keeps-step : (a : ℕ) (ns : List ℕ) → length (patternFrom a ns) ≡ length (nonZero ns)
-unfolding patternFrom nonZero
+pub keeps-step : (a : ℕ) (ns : List ℕ) → length (pattern_from a ns) ≡ length (non_zero ns)
+unfolding pattern_from non_zero
 keeps-step a [] = refl
 keeps-step a (n ∷ ns) = elim (cases (eqb n 0)) [ inl e ↦ rw e (keeps-step (suc a) ns) | inr e ↦ rw e (ap suc (keeps-step (suc a) ns)) ]
 
@@ -138,8 +138,8 @@ next-further {i} {a} {n} {ns} {x} d t =
     after zero f h = skipped h
     after (suc k) f h = f k (omega arith)
 
-next-from : (i a : ℕ) (ns : List ℕ) → 1 ≤ a → NextFrom i a ns (firstFrom i (patternFrom a ns) (nonZero ns))
-unfolding patternFrom nonZero firstFrom
+next-from : (i a : ℕ) (ns : List ℕ) → 1 ≤ a → NextFrom i a ns (first_from i (pattern_from a ns) (non_zero ns))
+unfolding pattern_from non_zero first_from
 next-from i a [] p = record { stands = λ z. absurd (omega arith); first = λ k h l. refl; none = λ z. (refl, λ k h. refl) }
 next-from i a (n ∷ ns) p =
     elim (zero-or-pos n) [
@@ -163,12 +163,12 @@ next-from i a (n ∷ ns) p =
 
 module _ (m : ℕ) (cs : List Column) where
   abbrev counts : (j : ℕ) → List ℕ
-  counts j = (columnAt (factorOf m cs) j).counts
+  counts j = (column_at (factor_of m cs) j).counts
 
-  pub next-defined : (M : ℕ → ℕ → ℕ) (P : ℕ → ℕ) → IsFactor m (λ j i. startingWith j i cs) M P → (i j : ℕ) → 1 ≤ i → 1 ≤ j → j ≤ m →
-      IsNext m M i j (nextRow (factorOf m cs) i j)
+  pub next-defined : (M : ℕ → ℕ → ℕ) (P : ℕ → ℕ) → IsFactor m (λ j i. starting_with j i cs) M P → (i j : ℕ) → 1 ≤ i → 1 ≤ j → j ≤ m →
+      IsNext m M i j (next_row (factor_of m cs) i j)
   next-defined M P L i j a b d =
-      let x : ColumnEntry = nextRow (factorOf m cs) i j in
+      let x : ColumnEntry = next_row (factor_of m cs) i j in
       let t : NextFrom i 1 (counts j) x = next-from i 1 (counts j) (omega arith) in
       let high : length (counts j) ≡ m = counts-length m cs j b d in
       record {
@@ -180,41 +180,41 @@ module _ (m : ℕ) (cs : List Column) where
         none = λ z. ((t.none z).0, λ k h l. same k (omega arith) l ∙ (t.none z).1 (k - 1) (omega arith));
       }
     where
-      same : (k : ℕ) → 1 ≤ k → k ≤ m → M k j ≡ multiplicity (factorOf m cs) k j
+      same : (k : ℕ) → 1 ≤ k → k ≤ m → M k j ≡ multiplicity (factor_of m cs) k j
       same k x y =
-          let g : Agree m M (multiplicity (factorOf m cs)) P (parent_of (factorOf m cs)) j = factor-agrees L (laws m cs) (λ k l x y z. refl) j b d in
+          let g : Agree m M (multiplicity (factor_of m cs)) P (parent_of (factor_of m cs)) j = factor-agrees L (laws m cs) (λ k l x y z. refl) j b d in
           g.0 k x y
 
   module _ (j : ℕ) (a : 1 ≤ j) (b : j ≤ m) where
     abbrev rows : List ℕ
-    rows = patternOf (columnAt (factorOf m cs) j)
+    rows = pattern_of (column_at (factor_of m cs) j)
 
     abbrev beside : List ℕ
-    beside = multiplicitiesOf (columnAt (factorOf m cs) j)
+    beside = multiplicities_of (column_at (factor_of m cs) j)
 
     -- a column begins with its diagonal
-    from-diagonal : (i : ℕ) (rest xs ns : List ℕ) → xs ≡ j ∷ rest → length xs ≡ length ns → i ≤ j → (firstFrom i xs ns).row ≡ j
+    from-diagonal : (i : ℕ) (rest xs ns : List ℕ) → xs ≡ j ∷ rest → length xs ≡ length ns → i ≤ j → (first_from i xs ns).row ≡ j
     from-diagonal i rest xs [] e l h = absurd (omega (arith, ap length e))
     from-diagonal i rest xs (n ∷ ns) e l h =
-        ap (λ (ys : List ℕ). (firstFrom i ys (n ∷ ns)).row) e ∙ ap (λ (y : ColumnEntry). y.row) (first-here i j n rest ns h)
+        ap (λ (ys : List ℕ). (first_from i ys (n ∷ ns)).row) e ∙ ap (λ (y : ColumnEntry). y.row) (first-here i j n rest ns h)
 
     -- past it come the rows from the parent on
-    past-diagonal : (rest xs ns : List ℕ) → xs ≡ j ∷ rest → length xs ≡ length ns → rises (suc j) m rest ≡ true → (firstFrom (suc j) xs ns).row ≡ get_or rest 0 0
+    past-diagonal : (rest xs ns : List ℕ) → xs ≡ j ∷ rest → length xs ≡ length ns → rises (suc j) m rest ≡ true → (first_from (suc j) xs ns).row ≡ get_or rest 0 0
     past-diagonal rest xs [] e l h = absurd (omega (arith, ap length e))
     past-diagonal rest xs (n ∷ ns) e l h =
-        ap (λ (ys : List ℕ). (firstFrom (suc j) ys (n ∷ ns)).row) e ∙ ap (λ (y : ColumnEntry). y.row) (first_past (suc j) j n rest ns (omega arith)) ∙
+        ap (λ (ys : List ℕ). (first_from (suc j) ys (n ∷ ns)).row) e ∙ ap (λ (y : ColumnEntry). y.row) (first_past (suc j) j n rest ns (omega arith)) ∙
         first_head (suc j) m rest ns (omega (arith, ap length e)) h
 
-    pub next-diagonal : (i : ℕ) → i ≤ j → (nextRow (factorOf m cs) i j).row ≡ j
+    pub next-diagonal : (i : ℕ) → i ≤ j → (next_row (factor_of m cs) i j).row ≡ j
     next-diagonal i h = let t = pattern-parts m cs j a b in from-diagonal i t.0 rows beside t.1 (keeps-step 1 (counts j)) h
 
-    pub next-parent : (nextRow (factorOf m cs) (suc j) j).row ≡ parent_of (factorOf m cs) j
+    pub next-parent : (next_row (factor_of m cs) (suc j) j).row ≡ parent_of (factor_of m cs) j
     next-parent = let t = pattern-parts m cs j a b in past-diagonal t.0 rows beside t.1 (keeps-step 1 (counts j)) t.2 ∙ t.3
 
-    pub walk-column : (xs : List ColumnEntry) → IsWalk m (λ i. nextRow (factorOf m cs) i j) 1 xs ↔ (xs ≡ columnEntries rows beside)
+    pub walk-column : (xs : List ColumnEntry) → IsWalk m (λ i. next_row (factor_of m cs) i j) 1 xs ↔ (xs ≡ column_entries rows beside)
     walk-column xs = (
-      walk-given m (λ i. nextRow (factorOf m cs) i j) 1 rows beside (omega arith) (keeps-step 1 (counts j)) (pattern-within-rows m cs j a b) (λ k l. refl) xs,
+      walk-given m (λ i. next_row (factor_of m cs) i j) 1 rows beside (omega arith) (keeps-step 1 (counts j)) (pattern-within-rows m cs j a b) (λ k l. refl) xs,
       λ e.
-          subst (λ (ys : List ColumnEntry). IsWalk m (λ i. nextRow (factorOf m cs) i j) 1 ys) (sym e)
-          (walk-there m (λ i. nextRow (factorOf m cs) i j) 1 rows beside (omega arith) (keeps-step 1 (counts j)) (pattern-within-rows m cs j a b) (λ k l. refl)),
+          subst (λ (ys : List ColumnEntry). IsWalk m (λ i. next_row (factor_of m cs) i j) 1 ys) (sym e)
+          (walk-there m (λ i. next_row (factor_of m cs) i j) 1 rows beside (omega arith) (keeps-step 1 (counts j)) (pattern-within-rows m cs j a b) (λ k l. refl)),
     )

@@ -10,9 +10,9 @@ use lib.ListN.{length}
 use lib.Seq.{ext_get_or}
 use Rattle.lists.proofs.Tests.{lt-or-le, one-le}
 use Rattle.lists.proofs.Count.{count-le}
-use Rattle.symbolic.specs.Columns.{Column, withRows, startingWith}
-use Rattle.symbolic.specs.Factor.{factorOf, noColumn, multiplicity, parent_of}
-use Rattle.symbolic.specs.Definition.{childWith}
+use Rattle.symbolic.specs.Columns.{Column, with_rows, starting_with}
+use Rattle.symbolic.specs.Factor.{factor_of, no_column, multiplicity, parent_of}
+use Rattle.symbolic.specs.Definition.{child_with}
 use Rattle.symbolic.specs.Change.{Bag}
 use Rattle.symbolic.proofs.Laws.{counted-at}
 use Rattle.symbolic.proofs.Two.{factor-agrees}
@@ -21,29 +21,29 @@ use Rattle.symbolic.proofs.Columns.{starts-le, starts-rows}
 use Rattle.symbolic.proofs.Patterns.{same-column}
 use Rattle.symbolic.proofs.Bags.{bag-starts}
 
-pub factor-same : (m : ℕ) (cs ds : List Column) → ((j i : ℕ) → 1 ≤ j → j ≤ i → i ≤ m → startingWith j i cs ≡ startingWith j i ds) →
-    factorOf m cs ≡ factorOf m ds
+pub factor-same : (m : ℕ) (cs ds : List Column) → ((j i : ℕ) → 1 ≤ j → j ≤ i → i ≤ m → starting_with j i cs ≡ starting_with j i ds) →
+    factor_of m cs ≡ factor_of m ds
 factor-same m cs ds s =
-    ext_get_or noColumn (factorOf m cs) (factorOf m ds) (factor-length m cs ∙ sym (factor-length m ds)) (λ k h.
+    ext_get_or no_column (factor_of m cs) (factor_of m ds) (factor-length m cs ∙ sym (factor-length m ds)) (λ k h.
     let q : suc k - 1 ≡ k = omega arith in
     rw q at
     (same-column m cs ds (suc k) (omega arith) (omega (arith, factor-length m cs))
     (factor-agrees (laws m cs) (laws m ds) s (suc k) (omega arith) (omega (arith, factor-length m cs)))))
 
-pub factor-bag : (m : ℕ) (cs ds : List Column) → Bag cs ds → factorOf m cs ≡ factorOf m ds
+pub factor-bag : (m : ℕ) (cs ds : List Column) → Bag cs ds → factor_of m cs ≡ factor_of m ds
 factor-bag m cs ds b = factor-same m cs ds (λ j i x y z. bag-starts cs ds b j i)
 
-pub factor-rows : (m : ℕ) (cs : List Column) → factorOf m cs ≡ factorOf m (withRows cs)
-factor-rows m cs = factor-same m cs (withRows cs) (λ j i x y z. starts-rows j i cs)
+pub factor-rows : (m : ℕ) (cs : List Column) → factor_of m cs ≡ factor_of m (with_rows cs)
+factor-rows m cs = factor-same m cs (with_rows cs) (λ j i x y z. starts-rows j i cs)
 
-pub count-bound : (m : ℕ) (cs : List Column) (i j : ℕ) → 1 ≤ i → i ≤ m → 1 ≤ j → j ≤ m → multiplicity (factorOf m cs) i j ≤ length cs + j
+pub count-bound : (m : ℕ) (cs : List Column) (i j : ℕ) → 1 ≤ i → i ≤ m → 1 ≤ j → j ≤ m → multiplicity (factor_of m cs) i j ≤ length cs + j
 count-bound m cs i j a b d e =
     elim (lt-or-le i j) [
       | inl q ↦ omega (arith, (laws m cs).below i j a q e)
       | inr q ↦ omega (
         arith,
         counted-at (laws m cs) (j - 1) i j d q b (omega arith) (omega arith),
-        count-le (childWith (multiplicity (factorOf m cs)) (parent_of (factorOf m cs)) j i) (j - 1),
+        count-le (child_with (multiplicity (factor_of m cs)) (parent_of (factor_of m cs)) j i) (j - 1),
         starts-le j i cs,
         one-le (eqb i j),
       )

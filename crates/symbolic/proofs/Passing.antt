@@ -14,7 +14,7 @@ use Rattle.lists.proofs.Tests.{cases, eq-or-ne, both-and}
 use Rattle.lists.proofs.Rising.{rises-weaken}
 use Rattle.symbolic.specs.Columns.{Column}
 use Rattle.symbolic.specs.Factor.{FactorColumn}
-use Rattle.symbolic.specs.Batch.{isTouched, touchedFrom, passing}
+use Rattle.symbolic.specs.Batch.{is_touched, touched_from, passing}
 
 pub passing-mem : (f : ℕ → Bool) (i n j : ℕ) → i ≤ j → j < i + n → f j ≡ true → Mem j (passing f i n)
 unfolding passing
@@ -87,7 +87,7 @@ passing-join f i (suc n) k =
     passing-join f (suc i) n k ∙ ap (λ (x : ℕ). passing f (suc i) n ++ passing f x k) q in
     ap (passing f i) p ∙ elim (cases (f i)) [ inl e ↦ rw (e, ih) refl | inr e ↦ rw (e, ih) refl ]
 
-pub touched-passing : (fs : List FactorColumn) (cs : List Column) (i n : ℕ) → touchedFrom fs cs i n ≡ passing (isTouched fs cs) i n
-unfolding touchedFrom passing
+pub touched-passing : (fs : List FactorColumn) (cs : List Column) (i n : ℕ) → touched_from fs cs i n ≡ passing (is_touched fs cs) i n
+unfolding touched_from passing
 touched-passing fs cs i zero = refl
 touched-passing fs cs i (suc n) = rw (touched-passing fs cs (suc i) n)

@@ -14,9 +14,9 @@ use Rattle.lists.proofs.Member.{all-at}
 use Rattle.lists.proofs.Count.{count-ext}
 use Rattle.lists.proofs.Sum.{sum-ext}
 use Rattle.lists.proofs.Rising.{from_up}
-use Rattle.symbolic.specs.Columns.{Column, smallest, holds, fitsRows}
-use Rattle.symbolic.specs.Factor.{factorOf, multiplicity, parent_of, inPattern, isChild}
-use Rattle.symbolic.specs.Batch.{passes, atPosition, label_of}
+use Rattle.symbolic.specs.Columns.{Column, smallest, holds, fits_rows}
+use Rattle.symbolic.specs.Factor.{factor_of, multiplicity, parent_of, in_pattern, is_child}
+use Rattle.symbolic.specs.Batch.{passes, at_position, label_of}
 use Rattle.symbolic.specs.Statements.{Defined, Unique, DiagonalStands, ParentAbove, ParentHolds, Equation31, Growth, Locality, UpdateSteps, DowndateSteps, OrderFree, RemovalSplits, MultiplicityBound, ChainRule, PatternClosed, PatternLeast, PathIs, TouchedIs, TouchedRises, LabelIs, LabelsFollow, SizesAre, SizesGrow, SizesLocal, AdditionEntries, RemovalEntries, GradeFrom, OldGrades, MeetingIs, MeetingRises, MeetingEnds, CommonIs, NextIs, NextIsDiagonal, NextIsParent, WalkIsColumn, EnterSplits, LeaveSplits, FitsAlong, RowlessFactor, RowlessTouch}
 use Rattle.symbolic.proofs.Laws.{diagonal-in, start-in, pattern-cases, row-above, parent-contains, pattern-fill}
 use Rattle.symbolic.proofs.Walks.{walk_of, edge_in, walk-in, pattern-within}
@@ -44,64 +44,64 @@ defined = laws
 
 pub unique : Unique
 unique m cs M P L i j a b d e =
-    let g : Agree m M (multiplicity (factorOf m cs)) P (parent_of (factorOf m cs)) j = factor-agrees L (laws m cs) (λ k l x y z. refl) j d e in
+    let g : Agree m M (multiplicity (factor_of m cs)) P (parent_of (factor_of m cs)) j = factor-agrees L (laws m cs) (λ k l x y z. refl) j d e in
     (g.0 i a b, g.1)
 
 -- ---- 1. diagonal and parents
 
 pub diagonal-stands : DiagonalStands
-diagonal-stands m cs j a b = in-pattern (factorOf m cs) j j (diagonal-in (laws m cs) j a b)
+diagonal-stands m cs j a b = in-pattern (factor_of m cs) j j (diagonal-in (laws m cs) j a b)
 
 pub parent_above : ParentAbove
 parent_above m cs j a b =
-    elim (zero-or-pos (parent_of (factorOf m cs) j)) [
+    elim (zero-or-pos (parent_of (factor_of m cs) j)) [
       | inl z ↦ inl z
       | inr p ↦ inr (((laws m cs).parent_in j a b p).0, ((laws m cs).parent_in j a b p).1)
     ]
 
 pub parent-holds : ParentHolds
 parent-holds m cs i j a b d h =
-    in-pattern (factorOf m cs) i (parent_of (factorOf m cs) j) (parent-contains (laws m cs) i j a b d (pattern-in (factorOf m cs) i j h)).2
+    in-pattern (factor_of m cs) i (parent_of (factor_of m cs) j) (parent-contains (laws m cs) i j a b d (pattern-in (factor_of m cs) i j h)).2
 
 -- ---- 2. equation 3.1
 
-module _ (m : ℕ) (cs : List Column) (fits : all (fitsRows m) cs ≡ true) (i j : ℕ) (a : 1 ≤ i) (b : i ≤ m) (d : 1 ≤ j) (e : j ≤ m) where
+module _ (m : ℕ) (cs : List Column) (fits : all (fits_rows m) cs ≡ true) (i j : ℕ) (a : 1 ≤ i) (b : i ≤ m) (d : 1 ≤ j) (e : j ≤ m) where
   abbrev Parts : Type 0
   Parts =
       (i ≡ j) ⊎
-      (((c : ℕ) × (1 ≤ c) × (c ≤ m) × (isChild (factorOf m cs) c j ≡ true) × (i ≢ c) × (inPattern (factorOf m cs) i c ≡ true)) ⊎
+      (((c : ℕ) × (1 ≤ c) × (c ≤ m) × (is_child (factor_of m cs) c j ≡ true) × (i ≢ c) × (in_pattern (factor_of m cs) i c ≡ true)) ⊎
       ((c : Column) × Mem c cs × (smallest c ≡ j) × (holds c i ≡ true)))
 
-  pattern-parted : inPattern (factorOf m cs) i j ≡ true → Parts
+  pattern-parted : in_pattern (factor_of m cs) i j ≡ true → Parts
   pattern-parted h =
-      let p : 0 < multiplicity (factorOf m cs) i j = pattern-in (factorOf m cs) i j h in
+      let p : 0 < multiplicity (factor_of m cs) i j = pattern-in (factor_of m cs) i j h in
       let q : j ≤ i = row-above (laws m cs) i j a e p in
       elim (pattern-cases (laws m cs) i j d q b p) [
         | inl x ↦ inl x
         | inr (inl z) ↦
-            inr (inl (z.0, z.1, omega arith, eq-eqb (parent_of (factorOf m cs) z.0) j z.3, omega arith, in-pattern (factorOf m cs) i z.0 z.4))
+            inr (inl (z.0, z.1, omega arith, eq-eqb (parent_of (factor_of m cs) z.0) j z.3, omega arith, in-pattern (factor_of m cs) i z.0 z.4))
         | inr (inr s) ↦ inr (inr (starts-find j i cs s))
       ]
 
-  parts_in : Parts → 0 < multiplicity (factorOf m cs) i j
-  parts_in (inl x) = subst (λ (y : ℕ). 0 < multiplicity (factorOf m cs) y j) (sym x) (diagonal-in (laws m cs) j d e)
+  parts_in : Parts → 0 < multiplicity (factor_of m cs) i j
+  parts_in (inl x) = subst (λ (y : ℕ). 0 < multiplicity (factor_of m cs) y j) (sym x) (diagonal-in (laws m cs) j d e)
   parts_in (inr (inl z)) =
       let c : ℕ = z.0 in
-      let p : parent_of (factorOf m cs) c ≡ j = eqb-true (parent_of (factorOf m cs) c) j z.3 in
-      let h : 0 < multiplicity (factorOf m cs) i c = pattern-in (factorOf m cs) i c z.5 in
+      let p : parent_of (factor_of m cs) c ≡ j = eqb-true (parent_of (factor_of m cs) c) j z.3 in
+      let h : 0 < multiplicity (factor_of m cs) i c = pattern-in (factor_of m cs) i c z.5 in
       let q : c ≤ i = row-above (laws m cs) i c a z.2 h in
-      subst (λ (y : ℕ). 0 < multiplicity (factorOf m cs) i y) p (parent-contains (laws m cs) i c z.1 (omega arith) b h).2
+      subst (λ (y : ℕ). 0 < multiplicity (factor_of m cs) i y) p (parent-contains (laws m cs) i c z.1 (omega arith) b h).2
   parts_in (inr (inr t)) =
-      let u : (1 ≤ smallest t.0) × (smallest t.0 ≤ i) × (i ≤ m) = smallest-least m t.0 i (all-at (fitsRows m) t.1 fits) t.3 in
+      let u : (1 ≤ smallest t.0) × (smallest t.0 ≤ i) × (i ≤ m) = smallest-least m t.0 i (all-at (fits_rows m) t.1 fits) t.3 in
       start-in (laws m cs) j i d (omega arith) b (starts-has j i t.1 t.2 t.3)
 
 pub equation-31 : Equation31
-equation-31 m cs fits i j a b d e = (pattern-parted m cs fits i j a b d e, λ p. in-pattern (factorOf m cs) i j (parts_in m cs fits i j a b d e p))
+equation-31 m cs fits i j a b d e = (pattern-parted m cs fits i j a b d e, λ p. in-pattern (factor_of m cs) i j (parts_in m cs fits i j a b d e p))
 
 -- ---- 3. growth and locality
 
 pub growth : Growth
-growth m R W i j a b d e h = in-pattern (factorOf m (R ++ W)) i j (multiplicity-stays m R W i j a b d e (pattern-in (factorOf m R) i j h))
+growth m R W i j a b d e h = in-pattern (factor_of m (R ++ W)) i j (multiplicity-stays m R W i j a b d e (pattern-in (factor_of m R) i j h))
 
 pub locality : Locality
 locality = untouched-column
@@ -129,22 +129,22 @@ multiplicity-bound = count-bound
 
 pub chain-rule : ChainRule
 chain-rule m cs fits i j a b d = (
-  λ h. (chain-is-walk m cs fits i j).1 (walk_of (laws m cs) (edges m cs fits) i j a b d (pattern-in (factorOf m cs) i j h)),
-  λ l. in-pattern (factorOf m cs) i j (walk-in (laws m cs) (edges m cs fits) j j i a (omega arith) b d ((chain-is-walk m cs fits i j).0 l)),
+  λ h. (chain-is-walk m cs fits i j).1 (walk_of (laws m cs) (edges m cs fits) i j a b d (pattern-in (factor_of m cs) i j h)),
+  λ l. in-pattern (factor_of m cs) i j (walk-in (laws m cs) (edges m cs fits) j j i a (omega arith) b d ((chain-is-walk m cs fits i j).0 l)),
 )
 
 pub pattern-closed : PatternClosed
 pattern-closed m cs fits = record {
-  diagonal = λ j a b. in-pattern (factorOf m cs) j j (diagonal-in (laws m cs) j a b);
-  shared = λ i j a b d h. in-pattern (factorOf m cs) i j (edge_in (laws m cs) (edges m cs fits) j i b h);
-  fill = λ i k j a b d e g h. in-pattern (factorOf m cs) i k
-      (pattern-fill (laws m cs) j i k a (omega arith) (omega arith) e (pattern-in (factorOf m cs) k j h) (pattern-in (factorOf m cs) i j g));
+  diagonal = λ j a b. in-pattern (factor_of m cs) j j (diagonal-in (laws m cs) j a b);
+  shared = λ i j a b d h. in-pattern (factor_of m cs) i j (edge_in (laws m cs) (edges m cs fits) j i b h);
+  fill = λ i k j a b d e g h. in-pattern (factor_of m cs) i k
+      (pattern-fill (laws m cs) j i k a (omega arith) (omega arith) e (pattern-in (factor_of m cs) k j h) (pattern-in (factor_of m cs) i j g));
 }
 
 pub pattern-least : PatternLeast
 pattern-least m cs C K i j a b d h =
     pattern-within (laws m cs) C K.diagonal (λ k l x y z s. K.shared k l x y z (share-start cs l k x s)) K.fill i j a b d
-    (pattern-in (factorOf m cs) i j h)
+    (pattern-in (factor_of m cs) i j h)
 
 -- ---- 7. touched columns and labels
 
@@ -159,13 +159,13 @@ touched-rises = touched-rise
 
 pub label_is : LabelIs
 label_is m cs batch j h =
-    let p : 0 < label_of (factorOf m cs) batch j = touched-label (factorOf m cs) batch j h in
-    let t : (label_of (factorOf m cs) batch j ≤ _) × (passes (factorOf m cs) j (atPosition batch (label_of (factorOf m cs) batch j)) ≡ true) =
-    label-passes (factorOf m cs) batch j p in
-    (p, t.0, t.1, label-largest (factorOf m cs) batch j)
+    let p : 0 < label_of (factor_of m cs) batch j = touched-label (factor_of m cs) batch j h in
+    let t : (label_of (factor_of m cs) batch j ≤ _) × (passes (factor_of m cs) j (at_position batch (label_of (factor_of m cs) batch j)) ≡ true) =
+    label-passes (factor_of m cs) batch j p in
+    (p, t.0, t.1, label-largest (factor_of m cs) batch j)
 
 pub labels-follow : LabelsFollow
-labels-follow m cs batch a b x l y h k e = label-follows m cs batch a b x l y (touched-label (factorOf m cs) batch a h) e
+labels-follow m cs batch a b x l y h k e = label-follows m cs batch a b x l y (touched-label (factor_of m cs) batch a h) e
 
 -- ---- 8. sizes
 

@@ -7,7 +7,7 @@ use Prim.Native.Nat.{ℕ, zero, suc, ◌≤◌, ◌<◌}
 use native.Mathlib.Omega.{arith}
 use Rattle.lists.proofs.Tests.{lt-or-le, zero-or-pos, both_ways}
 use Rattle.lists.proofs.Count.{count-ext}
-use Rattle.symbolic.specs.Definition.{childWith, IsFactor, OnPath, here, up}
+use Rattle.symbolic.specs.Definition.{child_with, IsFactor, OnPath, here, up}
 use Rattle.symbolic.proofs.Laws.{child-inv, diagonal-in, start-in, pattern-cases, pattern-fill, pattern-on-path, parent-reaches, child-below}
 
 -- column j has the same multiplicities and the same parent in both
@@ -43,7 +43,7 @@ module _ {m : ℕ} {S M : ℕ → ℕ → ℕ} {P : ℕ → ℕ} (L : IsFactor m
       ]
 
   column-agrees : (j : ℕ) → 1 ≤ j → j ≤ m → ((i : ℕ) → j ≤ i → i ≤ m → S j i ≡ S' j i) →
-      ((i c : ℕ) → j ≤ i → i ≤ m → 1 ≤ c → c ≤ m → childWith M P j i c ≡ childWith M' P' j i c) → Agree m M M' P P' j
+      ((i c : ℕ) → j ≤ i → i ≤ m → 1 ≤ c → c ≤ m → child_with M P j i c ≡ child_with M' P' j i c) → Agree m M M' P P' j
   column-agrees j a b s k =
       let h : (i : ℕ) → 1 ≤ i → i ≤ m → M i j ≡ M' i j =
       λ i d e. elim (lt-or-le i j) [
@@ -53,13 +53,13 @@ module _ {m : ℕ} {S M : ℕ → ℕ → ℕ} {P : ℕ → ℕ} (L : IsFactor m
           L.counted i j a q e,
           L'.counted i j a q e,
           s i q e,
-          count-ext (childWith M P j i) (childWith M' P' j i) m (λ c x y. k i c q e x y),
+          count-ext (child_with M P j i) (child_with M' P' j i) m (λ c x y. k i c q e x y),
         )
       ] in
       (h, parent-same j a b h)
 
   -- a column that is the same in both counts the same for its parent
-  pub child-same : (j i c : ℕ) → 1 ≤ i → i ≤ m → Agree m M M' P P' c → childWith M P j i c ≡ childWith M' P' j i c
+  pub child-same : (j i c : ℕ) → 1 ≤ i → i ≤ m → Agree m M M' P P' c → child_with M P j i c ≡ child_with M' P' j i c
   child-same j i c a b g = rw (g.0 i a b, g.1)
 
   -- ---- growth
@@ -101,7 +101,7 @@ module _ {m : ℕ} {S M : ℕ → ℕ → ℕ} {P : ℕ → ℕ} (L : IsFactor m
   agrees-by s zero j f a b = absurd (omega arith)
   agrees-by s (suc n) j f a b =
       column-agrees L L' j a b (λ i d e. s j i a d e)
-      (λ i c d e x y. both_ways (childWith M P j i c) (childWith M' P' j i c)
+      (λ i c d e x y. both_ways (child_with M P j i c) (child_with M' P' j i c)
       (λ h. sym (child-same L L' j i c (omega arith) e (agrees-by s n c (omega (arith, child-below L j i c a x y h)) x y)) ∙ h)
       (λ h. child-same L L' j i c (omega arith) e (agrees-by s n c (omega (arith, child-below L' j i c a x y h)) x y) ∙ h))
 
@@ -122,7 +122,7 @@ module _ {m : ℕ} {S M : ℕ → ℕ → ℕ} {P : ℕ → ℕ} (L : IsFactor m
       local_by zero j f a b t = absurd (omega arith)
       local_by (suc n) j f a b t =
           column-agrees L L' j a b (λ i d e. off j i a b t)
-          (λ i c d e x y. both_ways (childWith M P j i c) (childWith M' P' j i c)
+          (λ i c d e x y. both_ways (child_with M P j i c) (child_with M' P' j i c)
           (λ h.
           let z : c < j = child-below L j i c a x y h in
           let k : (P c ≡ j) × (0 < M i c) = child-inv M P j i c h in

@@ -1,7 +1,7 @@
 -- What a register becomes: columns enter, ids leave. Two lists of columns that are the same but for their order. Assumes nothing.
 use Rattle.std.specs.Prelude.{◌≡◌, List, [], ◌∷◌, ◌++◌, ℕ, eqb}
 use Rattle.lists.specs.Lists.{pick, among, sum_of}
-use Rattle.symbolic.specs.Columns.{Column, columnWith, Register}
+use Rattle.symbolic.specs.Columns.{Column, column_with, Register}
 
 -- the ids of some columns, in the columns' order
 unfoldable pub ids_of : List Column → List ℕ
@@ -14,14 +14,14 @@ without ids [] = []
 without ids (c ∷ cs) = pick (among c.id ids) (without ids cs) (c ∷ without ids cs)
 
 -- the column of an id; with no row where there is none
-unfoldable pub columnOf : (id : ℕ) → List Column → Column
-columnOf i [] = columnWith i []
-columnOf i (c ∷ cs) = pick (eqb c.id i) c (columnOf i cs)
+unfoldable pub column_of : (id : ℕ) → List Column → Column
+column_of i [] = column_with i []
+column_of i (c ∷ cs) = pick (eqb c.id i) c (column_of i cs)
 
 -- the columns of some ids, in the ids' order
-unfoldable pub columnsOf : (ids : List ℕ) → List Column → List Column
-columnsOf [] cs = []
-columnsOf (i ∷ is) cs = columnOf i cs ∷ columnsOf is cs
+unfoldable pub columns_of : (ids : List ℕ) → List Column → List Column
+columns_of [] cs = []
+columns_of (i ∷ is) cs = column_of i cs ∷ columns_of is cs
 
 -- the register after an accepted addition: the batch's columns enter
 abbrev pub added : Register → (batch : List Column) → Register

@@ -2,7 +2,7 @@
 -- row to row. Document 02's question for the next row. Assumes nothing: these are definitions.
 use Rattle.std.specs.Prelude.{◌≡◌, ◌⊎◌, ◌≢◌, List, [], ◌∷◌, ℕ, suc, ◌≤◌, ◌<◌, leb}
 use Rattle.lists.specs.Lists.{pick}
-use Rattle.symbolic.specs.Factor.{FactorColumn, columnAt, patternOf, multiplicitiesOf}
+use Rattle.symbolic.specs.Factor.{FactorColumn, column_at, pattern_of, multiplicities_of}
 
 -- ---- computed
 
@@ -12,18 +12,18 @@ pub record ColumnEntry : Type 0 where
   pub count : ℕ
 
 -- the first of rising rows at or above i, with what stands beside it in a list that keeps step
-unfoldable pub firstFrom : (i : ℕ) → (rows counts : List ℕ) → ColumnEntry
-firstFrom i [] ns = record { row = 0; count = 0 }
-firstFrom i (x ∷ xs) [] = record { row = 0; count = 0 }
-firstFrom i (x ∷ xs) (n ∷ ns) = pick (leb i x) (record { row = x; count = n }) (firstFrom i xs ns)
+unfoldable pub first_from : (i : ℕ) → (rows counts : List ℕ) → ColumnEntry
+first_from i [] ns = record { row = 0; count = 0 }
+first_from i (x ∷ xs) [] = record { row = 0; count = 0 }
+first_from i (x ∷ xs) (n ∷ ns) = pick (leb i x) (record { row = x; count = n }) (first_from i xs ns)
 
 -- the same of a factor column
-abbrev pub nextIn : FactorColumn → (i : ℕ) → ColumnEntry
-nextIn f i = firstFrom i (patternOf f) (multiplicitiesOf f)
+abbrev pub next_in : FactorColumn → (i : ℕ) → ColumnEntry
+next_in f i = first_from i (pattern_of f) (multiplicities_of f)
 
 -- "the first row at or above i in column j and its multiplicity, both 0 if the column ends before"
-abbrev pub nextRow : List FactorColumn → (i j : ℕ) → ColumnEntry
-nextRow fs i j = nextIn (columnAt fs j) i
+abbrev pub next_row : List FactorColumn → (i j : ℕ) → ColumnEntry
+next_row fs i j = next_in (column_at fs j) i
 
 -- ---- without computing
 
@@ -39,10 +39,10 @@ pub record IsNext (m : ℕ) (M : ℕ → ℕ → ℕ) (i j : ℕ) (x : ColumnEnt
 -- ---- a walk
 
 -- rows with their multiplicities, entry by entry
-unfoldable pub columnEntries : (rows counts : List ℕ) → List ColumnEntry
-columnEntries [] ns = []
-columnEntries (x ∷ xs) [] = []
-columnEntries (x ∷ xs) (n ∷ ns) = record { row = x; count = n } ∷ columnEntries xs ns
+unfoldable pub column_entries : (rows counts : List ℕ) → List ColumnEntry
+column_entries [] ns = []
+column_entries (x ∷ xs) [] = []
+column_entries (x ∷ xs) (n ∷ ns) = record { row = x; count = n } ∷ column_entries xs ns
 
 -- "asking from 1, then from one above each row given, until row m or 0": what a walk from row i on is given, where ask k answers for row k; a last answer of row 0
 -- is no entry

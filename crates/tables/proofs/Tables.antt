@@ -10,18 +10,18 @@ use lib.Dec.{leb}
 use lib.ListN.{length}
 use lib.Seq.{length-take-le}
 use borrow.Author.Tests.{leb-true, le-leb}
-use Rattle.lists.specs.Lists.{isIn, all}
+use Rattle.lists.specs.Lists.{is_in, all}
 use Rattle.lists.proofs.Tests.{and_both, both-and}
 use Rattle.lists.proofs.Member.{all-at, all-make}
-use Rattle.symbolic.specs.Columns.{Column, live, fitsRows}
-use Rattle.symbolic.specs.Factor.{factorOf, factorFor}
-use Rattle.symbolic.specs.Grades.{areLimits}
+use Rattle.symbolic.specs.Columns.{Column, live, fits_rows}
+use Rattle.symbolic.specs.Factor.{factor_of, factor_for}
+use Rattle.symbolic.specs.Grades.{are_limits}
 use Rattle.book.specs.Book as book
 use Rattle.book.proofs.Sound.{columns-fit, columns-rows}
-use Rattle.windows.specs.Windowed.{areSound}
+use Rattle.windows.specs.Windowed.{are_sound}
 use Rattle.windows.proofs.Windowed.{windowed-all}
-use Rattle.tables.specs.Stored.{isSoundFor, holdsFrom}
-use Rattle.tables.specs.Tables.{Tables, Sizes, State, longEnough, storedIn, bookIn, windowsIn, registerOf, holdsSound, isSound}
+use Rattle.tables.specs.Stored.{is_sound_for, holds_from}
+use Rattle.tables.specs.Tables.{Tables, Sizes, State, long_enough, stored_in, book_in, windows_in, register_of, holds_sound, is_sound}
 use Rattle.tables.specs.Stays.{TailsStay}
 use Rattle.tables.proofs.Stored.{sound-holds}
 
@@ -33,22 +33,22 @@ pub record Long (l : Sizes) (t : Tables) : Type 0 where
   pub rows : l.f ≤ length t.rows
   pub counts : l.f ≤ length t.counts
   pub next : l.f ≤ length t.next
-  pub bookHeads : l.n ≤ length t.bookHeads
-  pub bookRows : l.c ≤ length t.bookRows
-  pub bookNext : l.c ≤ length t.bookNext
+  pub book_heads : l.n ≤ length t.book_heads
+  pub book_rows : l.c ≤ length t.book_rows
+  pub book_next : l.c ≤ length t.book_next
   pub windows : 2 * l.n ≤ length t.windows
 
 module _ (l : Sizes) (t : Tables) where
-  pub long-facts : longEnough l t ≡ true → Long l t
+  pub long-facts : long_enough l t ≡ true → Long l t
   long-facts z =
       let a : Bool = leb l.m (length t.heads) in
       let b : Bool = leb l.m (length t.parents) in
       let c : Bool = leb l.f (length t.rows) in
       let d : Bool = leb l.f (length t.counts) in
       let e : Bool = leb l.f (length t.next) in
-      let f : Bool = leb l.n (length t.bookHeads) in
-      let g : Bool = leb l.c (length t.bookRows) in
-      let h : Bool = leb l.c (length t.bookNext) in
+      let f : Bool = leb l.n (length t.book_heads) in
+      let g : Bool = leb l.c (length t.book_rows) in
+      let h : Bool = leb l.c (length t.book_next) in
       let k : Bool = leb (2 * l.n) (length t.windows) in
       let o : ((a && b && c && d && e && f && g && h) ≡ true) × (k ≡ true) = and_both (a && b && c && d && e && f && g && h) k z in
       let p : ((a && b && c && d && e && f && g) ≡ true) × (h ≡ true) = and_both (a && b && c && d && e && f && g) h o.0 in
@@ -64,22 +64,22 @@ module _ (l : Sizes) (t : Tables) where
         rows = leb-true l.f (length t.rows) v.1;
         counts = leb-true l.f (length t.counts) u.1;
         next = leb-true l.f (length t.next) s.1;
-        bookHeads = leb-true l.n (length t.bookHeads) r.1;
-        bookRows = leb-true l.c (length t.bookRows) q.1;
-        bookNext = leb-true l.c (length t.bookNext) p.1;
+        book_heads = leb-true l.n (length t.book_heads) r.1;
+        book_rows = leb-true l.c (length t.book_rows) q.1;
+        book_next = leb-true l.c (length t.book_next) p.1;
         windows = leb-true (2 * l.n) (length t.windows) o.1;
       }
 
-  pub facts-long : Long l t → longEnough l t ≡ true
+  pub facts-long : Long l t → long_enough l t ≡ true
   facts-long h =
       both-and (both-and (both-and (both-and (both-and (both-and (both-and (both-and (le-leb l.m (length t.heads) h.heads)
       (le-leb l.m (length t.parents) h.parents)) (le-leb l.f (length t.rows) h.rows)) (le-leb l.f (length t.counts) h.counts))
-      (le-leb l.f (length t.next) h.next)) (le-leb l.n (length t.bookHeads) h.bookHeads))
-      (le-leb l.c (length t.bookRows) h.bookRows)) (le-leb l.c (length t.bookNext) h.bookNext))
+      (le-leb l.f (length t.next) h.next)) (le-leb l.n (length t.book_heads) h.book_heads))
+      (le-leb l.c (length t.book_rows) h.book_rows)) (le-leb l.c (length t.book_next) h.book_next))
       (le-leb (2 * l.n) (length t.windows) h.windows)
 
 -- tables whose lengths stay stay long enough
-pub tails-long : (l : Sizes) (t u : Tables) → TailsStay l t u → longEnough l t ≡ true → longEnough l u ≡ true
+pub tails-long : (l : Sizes) (t u : Tables) → TailsStay l t u → long_enough l t ≡ true → long_enough l u ≡ true
 tails-long l t u s z =
     let h : Long l t = long-facts l t z in
     facts-long l u (record {
@@ -88,9 +88,9 @@ tails-long l t u s z =
       rows = omega (arith, s.rows.same_length);
       counts = omega (arith, s.counts.same_length);
       next = omega (arith, s.next.same_length);
-      bookHeads = omega (arith, s.bookHeads.same_length);
-      bookRows = omega (arith, s.bookRows.same_length);
-      bookNext = omega (arith, s.bookNext.same_length);
+      book_heads = omega (arith, s.book_heads.same_length);
+      book_rows = omega (arith, s.book_rows.same_length);
+      book_next = omega (arith, s.book_next.same_length);
       windows = omega (arith, s.windows.same_length);
     })
 
@@ -98,53 +98,53 @@ tails-long l t u s z =
 
 -- book, windows and stored columns, each sound
 record SoundParts (s : State) (t : Tables) : Type 0 where
-  booked : book.isSound s.sizes.m (bookIn s t) ≡ true
-  windows : areSound (bookIn s t).heads (windowsIn s t) ≡ true
-  stored : isSoundFor (live (registerOf s t)) (storedIn s t) ≡ true
+  booked : book.is_sound s.sizes.m (book_in s t) ≡ true
+  windows : are_sound (book_in s t).heads (windows_in s t) ≡ true
+  stored : is_sound_for (live (register_of s t)) (stored_in s t) ≡ true
 
 module _ (s : State) (t : Tables) where
-  pub sound-limits : isSound s t ≡ true → areLimits s.limits ≡ true
-  sound-limits h = (and_both (areLimits s.limits) (holdsSound s t) h).0
+  pub sound-limits : is_sound s t ≡ true → are_limits s.limits ≡ true
+  sound-limits h = (and_both (are_limits s.limits) (holds_sound s t) h).0
 
-  sound-parts : isSound s t ≡ true → SoundParts s t
+  sound-parts : is_sound s t ≡ true → SoundParts s t
   sound-parts h =
-      let A : Bool = book.isSound s.sizes.m (bookIn s t) in
-      let B : Bool = areSound (bookIn s t).heads (windowsIn s t) in
-      let C : Bool = isSoundFor (live (registerOf s t)) (storedIn s t) in
-      let p : ((A && B) ≡ true) × (C ≡ true) = and_both (A && B) C (and_both (areLimits s.limits) (holdsSound s t) h).1 in
+      let A : Bool = book.is_sound s.sizes.m (book_in s t) in
+      let B : Bool = are_sound (book_in s t).heads (windows_in s t) in
+      let C : Bool = is_sound_for (live (register_of s t)) (stored_in s t) in
+      let p : ((A && B) ≡ true) × (C ≡ true) = and_both (A && B) C (and_both (are_limits s.limits) (holds_sound s t) h).1 in
       let q : (A ≡ true) × (B ≡ true) = and_both A B p.0 in
       record { booked = q.0; windows = q.1; stored = p.1 }
 
-  pub sound-book : isSound s t ≡ true → book.isSound s.sizes.m (bookIn s t) ≡ true
+  pub sound-book : is_sound s t ≡ true → book.is_sound s.sizes.m (book_in s t) ≡ true
   sound-book h = (sound-parts h).booked
 
-  pub sound-windows : isSound s t ≡ true → areSound (bookIn s t).heads (windowsIn s t) ≡ true
+  pub sound-windows : is_sound s t ≡ true → are_sound (book_in s t).heads (windows_in s t) ≡ true
   sound-windows h = (sound-parts h).windows
 
-  pub sound-stored : isSound s t ≡ true → isSoundFor (live (registerOf s t)) (storedIn s t) ≡ true
+  pub sound-stored : is_sound s t ≡ true → is_sound_for (live (register_of s t)) (stored_in s t) ≡ true
   sound-stored h = (sound-parts h).stored
 
   -- every booked column has 1 to 256 rows, rising, within 1 to m
-  pub sound-fits : isSound s t ≡ true → all (book.columnFits s.sizes.m) (registerOf s t).columns ≡ true
+  pub sound-fits : is_sound s t ≡ true → all (book.column_fits s.sizes.m) (register_of s t).columns ≡ true
   sound-fits h =
-      windowed-all (windowsIn s t) (length (bookIn s t).heads) (book.columnFits s.sizes.m) (λ c a b. refl) (book.columnsIn (bookIn s t)) ∙
-      columns-fit s.sizes.m (bookIn s t) (sound-book h)
+      windowed-all (windows_in s t) (length (book_in s t).heads) (book.column_fits s.sizes.m) (λ c a b. refl) (book.columns_in (book_in s t)) ∙
+      columns-fit s.sizes.m (book_in s t) (sound-book h)
 
   -- so its rows rise within 1 to m
-  pub sound-rows : isSound s t ≡ true → all (fitsRows s.sizes.m) (registerOf s t).columns ≡ true
+  pub sound-rows : is_sound s t ≡ true → all (fits_rows s.sizes.m) (register_of s t).columns ≡ true
   sound-rows h =
-      windowed-all (windowsIn s t) (length (bookIn s t).heads) (fitsRows s.sizes.m) (λ c a b. refl) (book.columnsIn (bookIn s t)) ∙
-      columns-rows s.sizes.m (bookIn s t) (sound-book h)
+      windowed-all (windows_in s t) (length (book_in s t).heads) (fits_rows s.sizes.m) (λ c a b. refl) (book.columns_in (book_in s t)) ∙
+      columns-rows s.sizes.m (book_in s t) (sound-book h)
 
-  pub stored-rows : longEnough s.sizes t ≡ true → length (storedIn s t).heads ≡ s.sizes.m
+  pub stored-rows : long_enough s.sizes t ≡ true → length (stored_in s t).heads ≡ s.sizes.m
   stored-rows z = length-take-le s.sizes.m t.heads (long-facts s.sizes t z).heads
 
   -- "the factor equals the definition above for the live columns"
-  pub sound-factor : longEnough s.sizes t ≡ true → isSound s t ≡ true → holdsFrom (storedIn s t) (factorFor (registerOf s t)) 1 s.sizes.m ≡ true
+  pub sound-factor : long_enough s.sizes t ≡ true → is_sound s t ≡ true → holds_from (stored_in s t) (factor_for (register_of s t)) 1 s.sizes.m ≡ true
   sound-factor z h =
-      subst (λ (n : ℕ). holdsFrom (storedIn s t) (factorOf n (live (registerOf s t))) 1 n ≡ true) (stored-rows z)
-      (sound-holds (live (registerOf s t)) (storedIn s t) (sound-stored h))
+      subst (λ (n : ℕ). holds_from (stored_in s t) (factor_of n (live (register_of s t))) 1 n ≡ true) (stored-rows z)
+      (sound-holds (live (register_of s t)) (stored_in s t) (sound-stored h))
 
 -- a column that fits has rows within 1 to m, rising
-pub fits-rows : (m : ℕ) (cs : List Column) → all (book.columnFits m) cs ≡ true → all (fitsRows m) cs ≡ true
-fits-rows m cs h = all-make (fitsRows m) cs (λ c k. (and_both (fitsRows m c) (isIn 1 256 (length c.rows)) (all-at (book.columnFits m) k h)).0)
+pub fits-rows : (m : ℕ) (cs : List Column) → all (book.column_fits m) cs ≡ true → all (fits_rows m) cs ≡ true
+fits-rows m cs h = all-make (fits_rows m) cs (λ c k. (and_both (fits_rows m c) (is_in 1 256 (length c.rows)) (all-at (book.column_fits m) k h)).0)

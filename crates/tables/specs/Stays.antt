@@ -3,28 +3,28 @@
 -- Assumes nothing: these are definitions.
 use Rattle.std.specs.Prelude.{◌≡◌, true, List, ℕ, ◌+◌, ◌*◌, length, drop}
 use Rattle.lists.specs.Lists.{Mem, at}
-use Rattle.symbolic.specs.Factor.{FactorColumn, inPattern}
-use Rattle.tables.specs.Stored.{Stored, recordsOf}
+use Rattle.symbolic.specs.Factor.{FactorColumn, in_pattern}
+use Rattle.tables.specs.Stored.{Stored, records_of}
 use Rattle.tables.specs.Tables.{Tables, Sizes}
 
 -- "A factor column is altered unless its head, its parent and every record of its chain stay, each record with its number, row, multiplicity and next"
 pub record ColumnStays (before after : Stored) (j : ℕ) : Type 0 where
   pub head : at after.heads j ≡ at before.heads j
   pub parent : at after.parents j ≡ at before.parents j
-  pub records : recordsOf after j ≡ recordsOf before j
-  pub row : (x : ℕ) → Mem x (recordsOf before j) → at after.rows x ≡ at before.rows x
-  pub count : (x : ℕ) → Mem x (recordsOf before j) → at after.counts x ≡ at before.counts x
-  pub next : (x : ℕ) → Mem x (recordsOf before j) → at after.next x ≡ at before.next x
+  pub records : records_of after j ≡ records_of before j
+  pub row : (x : ℕ) → Mem x (records_of before j) → at after.rows x ≡ at before.rows x
+  pub count : (x : ℕ) → Mem x (records_of before j) → at after.counts x ≡ at before.counts x
+  pub next : (x : ℕ) → Mem x (records_of before j) → at after.next x ≡ at before.next x
 
 -- "An entry that stands in a column before and after a batch keeps its record"
 abbrev pub EntriesKeep : (before after : Stored) (j : ℕ) → Type 0
 EntriesKeep b a j =
-    (x y : ℕ) → Mem x (recordsOf b j) → Mem y (recordsOf a j) → at b.rows x ≡ at a.rows y → x ≡ y
+    (x y : ℕ) → Mem x (records_of b j) → Mem y (records_of a j) → at b.rows x ≡ at a.rows y → x ≡ y
 
 -- the same of the entries that stand in a third factor too, that of the columns which stay while others leave and enter
 abbrev pub EntriesStay : (staying : List FactorColumn) (before after : Stored) (j : ℕ) → Type 0
 EntriesStay fs b a j =
-    (x y : ℕ) → Mem x (recordsOf b j) → Mem y (recordsOf a j) → at b.rows x ≡ at a.rows y → inPattern fs (at b.rows x) j ≡ true → x ≡ y
+    (x y : ℕ) → Mem x (records_of b j) → Mem y (records_of a j) → at b.rows x ≡ at a.rows y → in_pattern fs (at b.rows x) j ≡ true → x ≡ y
 
 -- the minutes of an id, of n, stay
 pub record MinutesStay (n : ℕ) (before after : List ℕ) (id : ℕ) : Type 0 where
@@ -43,7 +43,7 @@ pub record TailsStay (l : Sizes) (before after : Tables) : Type 0 where
   pub rows : Beyond l.f before.rows after.rows
   pub counts : Beyond l.f before.counts after.counts
   pub next : Beyond l.f before.next after.next
-  pub bookHeads : Beyond l.n before.bookHeads after.bookHeads
-  pub bookRows : Beyond l.c before.bookRows after.bookRows
-  pub bookNext : Beyond l.c before.bookNext after.bookNext
+  pub book_heads : Beyond l.n before.book_heads after.book_heads
+  pub book_rows : Beyond l.c before.book_rows after.book_rows
+  pub book_next : Beyond l.c before.book_next after.book_next
   pub windows : Beyond (2 * l.n) before.windows after.windows

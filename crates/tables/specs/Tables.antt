@@ -3,10 +3,10 @@
 -- Assumes nothing: these are definitions.
 use Rattle.std.specs.Prelude.{Bool, ◌&&◌, List, ℕ, ◌*◌, leb, length, take}
 use Rattle.symbolic.specs.Columns.{Register, live}
-use Rattle.symbolic.specs.Grades.{Limits, areLimits}
+use Rattle.symbolic.specs.Grades.{Limits, are_limits}
 use Rattle.book.specs.Book as book
-use Rattle.windows.specs.Windowed.{registerIn, areSound}
-use Rattle.tables.specs.Stored.{Stored, isSoundFor}
+use Rattle.windows.specs.Windowed.{register_in, are_sound}
+use Rattle.tables.specs.Stored.{Stored, is_sound_for}
 
 -- "What belongs to number k stands at place k − 1, so tables need m, n, F or C places"; the windows 2n, first minutes, then second minutes
 pub record Tables : Type 0 where
@@ -16,9 +16,9 @@ pub record Tables : Type 0 where
   -- the multiplicities
   pub counts : List ℕ
   pub next : List ℕ
-  pub bookHeads : List ℕ
-  pub bookRows : List ℕ
-  pub bookNext : List ℕ
+  pub book_heads : List ℕ
+  pub book_rows : List ℕ
+  pub book_next : List ℕ
   pub windows : List ℕ
 
 -- the four sizes
@@ -29,32 +29,32 @@ pub record Sizes : Type 0 where
   pub c : ℕ
 
 -- four sizes as one
-abbrev pub sizesOf : (m n f c : ℕ) → Sizes
-sizesOf m n f c = record { m = m; n = n; f = f; c = c }
+abbrev pub sizes_of : (m n f c : ℕ) → Sizes
+sizes_of m n f c = record { m = m; n = n; f = f; c = c }
 
 -- nine tables as one
-abbrev pub tables_of : (heads parents rows counts next bookHeads bookRows bookNext windows : List ℕ) → Tables
+abbrev pub tables_of : (heads parents rows counts next book_heads book_rows book_next windows : List ℕ) → Tables
 tables_of hs ps rs cs ns bh br bn ws =
-    record { heads = hs; parents = ps; rows = rs; counts = cs; next = ns; bookHeads = bh; bookRows = br; bookNext = bn; windows = ws }
+    record { heads = hs; parents = ps; rows = rs; counts = cs; next = ns; book_heads = bh; book_rows = br; book_next = bn; windows = ws }
 
 -- the record of sizes, limits and free heads, and the minute at which the clock stands
 pub record State : Type 0 where
   pub sizes : Sizes
   pub limits : Limits
   pub free : ℕ
-  pub bookFree : ℕ
+  pub book_free : ℕ
   pub clock : ℕ
 
 -- "tables need m, n, F or C places", the windows 2n: each has at least so many
-abbrev pub longEnough : Sizes → Tables → Bool
-longEnough l t =
+abbrev pub long_enough : Sizes → Tables → Bool
+long_enough l t =
     leb l.m (length t.heads) && leb l.m (length t.parents) && leb l.f (length t.rows) && leb l.f (length t.counts) &&
-    leb l.f (length t.next) && leb l.n (length t.bookHeads) && leb l.c (length t.bookRows) && leb l.c (length t.bookNext) &&
+    leb l.f (length t.next) && leb l.n (length t.book_heads) && leb l.c (length t.book_rows) && leb l.c (length t.book_next) &&
     leb (2 * l.n) (length t.windows)
 
 -- the stored columns of L, within the sizes
-abbrev pub storedIn : State → Tables → Stored
-storedIn s t =
+abbrev pub stored_in : State → Tables → Stored
+stored_in s t =
     record {
       heads = take s.sizes.m t.heads;
       parents = take s.sizes.m t.parents;
@@ -65,23 +65,23 @@ storedIn s t =
     }
 
 -- the book, within the sizes
-abbrev pub bookIn : State → Tables → book.Book
-bookIn s t =
-    book.bookOf (take s.sizes.n t.bookHeads) (take s.sizes.c t.bookRows) (take s.sizes.c t.bookNext) s.bookFree
+abbrev pub book_in : State → Tables → book.Book
+book_in s t =
+    book.book_of (take s.sizes.n t.book_heads) (take s.sizes.c t.book_rows) (take s.sizes.c t.book_next) s.book_free
 
 -- the windows, within the sizes
-abbrev pub windowsIn : State → Tables → List ℕ
-windowsIn s t = take (2 * s.sizes.n) t.windows
+abbrev pub windows_in : State → Tables → List ℕ
+windows_in s t = take (2 * s.sizes.n) t.windows
 
 -- the register that book and windows hold at the record's clock, by rising id
-abbrev pub registerOf : State → Tables → Register
-registerOf s t = registerIn s.sizes.m s.clock (bookIn s t) (windowsIn s t)
+abbrev pub register_of : State → Tables → Register
+register_of s t = register_in s.sizes.m s.clock (book_in s t) (windows_in s t)
 
 -- what the tables hold is sound: book and windows are, and the stored columns are the definition's for the live columns; the clock may stand at any minute
-abbrev pub holdsSound : State → Tables → Bool
-holdsSound s t =
-    book.isSound s.sizes.m (bookIn s t) && areSound (bookIn s t).heads (windowsIn s t) && isSoundFor (live (registerOf s t)) (storedIn s t)
+abbrev pub holds_sound : State → Tables → Bool
+holds_sound s t =
+    book.is_sound s.sizes.m (book_in s t) && are_sound (book_in s t).heads (windows_in s t) && is_sound_for (live (register_of s t)) (stored_in s t)
 
 -- "Tables are sound if .."; limits that break the rule, "later they, and zeros, are unsound"
-abbrev pub isSound : State → Tables → Bool
-isSound s t = areLimits s.limits && holdsSound s t
+abbrev pub is_sound : State → Tables → Bool
+is_sound s t = are_limits s.limits && holds_sound s t

@@ -11,7 +11,7 @@ use borrow.Author.Tests.{le-leb, lt-leb}
 use Rattle.lists.specs.Lists.{pick}
 use Rattle.lists.proofs.Tests.{cases}
 use Rattle.symbolic.specs.Columns.{Column}
-use Rattle.symbolic.specs.Factor.{factorOf, sizeSum}
+use Rattle.symbolic.specs.Factor.{factor_of, size_sum}
 use Rattle.symbolic.specs.Batch.{touched, label_of}
 use Rattle.workspace.specs.Regions.{cleared}
 use Rattle.pool.specs.Chains.{chain}
@@ -64,9 +64,9 @@ module _ {s : Stored} {work : List ℕ} {R W : List Column} (c : CanPlan s R W w
       made ok v =
           let b : Between s.next work w m flags R W true F (suc m) f l n k used avail = e.made ok in
           record {
-            fits-is = x.fits-is ∙ ok ∙ sym (le-leb (sizeSum (factorOf m (R ++ W))) (length s.next) (sizes-fit (sound-size s R c.sized c.sound) b.numbers));
+            fits-is = x.fits-is ∙ ok ∙ sym (le-leb (size_sum (factor_of m (R ++ W))) (length s.next) (sizes-fit (sound-size s R c.sized c.sound) b.numbers));
             plan = λ _. let q = x.numbers ok in rw (q.0, q.1, q.2, q.3)
-                (subst (λ (t : List ℕ). PlanIs m (length s.next) F (factorOf m R) (factorOf m (R ++ W)) (label_of (factorOf m (R ++ W)) W) (touched (factorOf m (R ++ W)) W) work t f n k used)
+                (subst (λ (t : List ℕ). PlanIs m (length s.next) F (factor_of m R) (factor_of m (R ++ W)) (label_of (factor_of m (R ++ W)) W) (touched (factor_of m (R ++ W)) W) work t f n k used)
                 (sym v) (plan-made b setting.fitting));
             unchanged = λ q. absurd (true≢false (sym (x.fits-is ∙ ok) ∙ q));
           }
@@ -74,7 +74,7 @@ module _ {s : Stored} {work : List ℕ} {R W : List Column} (c : CanPlan s R W w
       refused : fits ≡ false → w' ≡ cleared (cleared w flags 64) 0 (8 * m + used) → AddPlanned s R W work w' z f' n' k' used'
       refused bad v =
           record {
-            fits-is = x.fits-is ∙ bad ∙ sym (lt-leb (sizeSum (factorOf m (R ++ W))) (length s.next) (e.halted bad).2);
+            fits-is = x.fits-is ∙ bad ∙ sym (lt-leb (size_sum (factor_of m (R ++ W))) (length s.next) (e.halted bad).2);
             plan = λ q. absurd (true≢false (sym q ∙ x.fits-is ∙ bad));
             unchanged = λ _. cleared-back (e.halted bad).1 refl c.zero c.flags-zero v;
           }

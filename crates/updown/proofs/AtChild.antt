@@ -10,14 +10,14 @@ use lib.Dec.{eqb}
 use lib.ListN.{length}
 use Rattle.lists.proofs.Tests.{eq-or-ne}
 use Rattle.symbolic.specs.Columns.{Column}
-use Rattle.symbolic.specs.Factor.{columnAt}
-use Rattle.symbolic.specs.Batch.{isTouched}
+use Rattle.symbolic.specs.Factor.{column_at}
+use Rattle.symbolic.specs.Batch.{is_touched}
 use Rattle.workspace.specs.Regions.{cell}
 use Rattle.workspace.specs.Layout.{next_at, plan_at}
-use Rattle.updown.specs.Marks.{otherAt}
-use Rattle.updown.specs.Turns.{larger, smaller, otherParent, standing}
+use Rattle.updown.specs.Marks.{other_at}
+use Rattle.updown.specs.Turns.{larger, smaller, other_parent, standing}
 use Rattle.updown.specs.Walks.{ChainOf, Columns, Parents, AtChild, Handled}
-use Rattle.updown.proofs.Brought.{Steady, Bumps, PlanOf, old_of, keptRow, wholeRow}
+use Rattle.updown.proofs.Brought.{Steady, Bumps, PlanOf, old_of, kept_row, whole_row}
 use Rattle.updown.proofs.SoFar.{so_far_kept, so-far-gained, so-far-lost, so-far-steady}
 use Rattle.updown.proofs.Standing.{waits-child, waits-lost, waits-fresh, other-above}
 use Rattle.updown.proofs.Turning.{turn-plan, turn-chain, turn-other}
@@ -35,17 +35,17 @@ module _ {work : List ℕ} {m : ℕ} {R W : List Column} {adding : Bool} {j used
     pub child-fresh : (H c ≡ false) × (standing m R W j c ≡ queue)
     child-fresh = waits-fresh m R W j a.turn.low a.turn.high H c queue a.low a.high side a.waits
 
-    child-done : (c < j) × (isTouched (larger m R W) W c ≡ true)
+    child-done : (c < j) × (is_touched (larger m R W) W c ≡ true)
     child-done =
         elim side [
-          | inl e ↦ let v : (isTouched (larger m R W) W c ≡ true) × (c < j) × (_ ≡ j) = waits-child m R W j a.turn.low a.turn.high c (child-fresh.1 ∙ e) in (v.1, v.0)
+          | inl e ↦ let v : (is_touched (larger m R W) W c ≡ true) × (c < j) × (_ ≡ j) = waits-child m R W j a.turn.low a.turn.high c (child-fresh.1 ∙ e) in (v.1, v.0)
           | inr e ↦
-              let v : (isTouched (larger m R W) W c ≡ true) × (c < j) × (_ < j) × (0 < _) × (_ ≡ j) =
+              let v : (is_touched (larger m R W) W c ≡ true) × (c < j) × (_ < j) × (0 < _) × (_ ≡ j) =
               waits-lost m R W j a.turn.low a.turn.high c a.low a.high (child-fresh.1 ∙ e) in
               (v.1, v.0)
         ]
 
-    pub child-plan : PlanOf work m c adding (columnAt (larger m R W) c).counts (columnAt (smaller m R) c).counts
+    pub child-plan : PlanOf work m c adding (column_at (larger m R W) c).counts (column_at (smaller m R) c).counts
     child-plan = turn-plan a.turn c a.low child-done.0 child-done.1 a.narrow a.few
 
     -- the end of its plan can be read
@@ -53,19 +53,19 @@ module _ {work : List ℕ} {m : ℕ} {R W : List Column} {adding : Bool} {j used
     child-end = (omega (arith, a.turn.long), a.narrow, a.low, a.high, child-plan.next_low, child-plan.next-high)
 
     pub child-chain : {heads rows next : List ℕ} → Columns heads rows next m R W adding →
-        ChainOf heads rows next m c (old_of adding (columnAt (larger m R W) c).counts (columnAt (smaller m R) c).counts)
+        ChainOf heads rows next m c (old_of adding (column_at (larger m R W) c).counts (column_at (smaller m R) c).counts)
     child-chain k = turn-chain a.turn c a.low child-done.0 child-done.1 k
 
-    pub child-other : {parents : List ℕ} → Parents parents m R W adding → otherAt parents work m c adding ≡ otherParent m R c
+    pub child-other : {parents : List ℕ} → Parents parents m R W adding → other_at parents work m c adding ≡ other_parent m R c
     child-other p = turn-other a.turn c a.low child-done.0 child-done.1 p
 
     -- whether it is kept, by the other parent that is read
-    pub child-kept : {parents : List ℕ} → Parents parents m R W adding → {o : ℕ} → o ≡ otherAt parents work m c adding → eqb o j ≡ eqb (otherParent m R c) j
+    pub child-kept : {parents : List ℕ} → Parents parents m R W adding → {o : ℕ} → o ≡ other_at parents work m c adding → eqb o j ≡ eqb (other_parent m R c) j
     child-kept p e = ap (λ (x : ℕ). eqb x j) (e ∙ child-other p)
 
-    pub other-within : {parents : List ℕ} → Parents parents m R W adding → (o : ℕ) → o ≡ otherAt parents work m c adding → o ≤ m
+    pub other-within : {parents : List ℕ} → Parents parents m R W adding → (o : ℕ) → o ≡ other_at parents work m c adding → o ≤ m
     other-within p o e =
-        elim (eq-or-ne (otherParent m R c) 0) [
+        elim (eq-or-ne (other_parent m R c) 0) [
           | inl z ↦ omega (arith, child-other p)
           | inr z ↦ omega (arith, child-other p, other-above m R W c a.low a.high (omega arith))
         ]
@@ -74,8 +74,8 @@ module _ {work : List ℕ} {m : ℕ} {R W : List Column} {adding : Bool} {j used
 
 module _ {work work' : List ℕ} {m : ℕ} {R W : List Column} {adding : Bool} {j used n n' c : ℕ} {H : ℕ → Bool} where
   -- B
-  pub handled-kept : AtChild work m R W adding j used n j c H → otherParent m R c ≡ j →
-      Bumps m work work' n' adding (keptRow (columnAt (larger m R W) c).counts (columnAt (smaller m R) c).counts) → Handled m R W adding work work' n' j c H
+  pub handled-kept : AtChild work m R W adding j used n j c H → other_parent m R c ≡ j →
+      Bumps m work work' n' adding (kept_row (column_at (larger m R W) c).counts (column_at (smaller m R) c).counts) → Handled m R W adding work work' n' j c H
   handled-kept a o b =
       record {
         so_far = so_far_kept m R W adding j a.turn.low a.turn.high c a.low a.high (child-fresh a (inl refl)).0 (child-done a (inl refl)).0 a.turn.so_far b
@@ -84,7 +84,7 @@ module _ {work work' : List ℕ} {m : ℕ} {R W : List Column} {adding : Bool} {
       }
 
   -- C
-  pub handled-gained : AtChild work m R W adding j used n j c H → otherParent m R c ≢ j → Bumps m work work' n' adding (wholeRow (columnAt (larger m R W) c).counts c) →
+  pub handled-gained : AtChild work m R W adding j used n j c H → other_parent m R c ≢ j → Bumps m work work' n' adding (whole_row (column_at (larger m R W) c).counts c) →
       Handled m R W adding work work' n' j c H
   handled-gained a o b =
       record {
@@ -94,10 +94,10 @@ module _ {work work' : List ℕ} {m : ℕ} {R W : List Column} {adding : Bool} {
       }
 
   -- D
-  pub handled-lost : AtChild work m R W adding j used n (m + j) c H → Bumps m work work' n' (not adding) (wholeRow (columnAt (smaller m R) c).counts c) →
+  pub handled-lost : AtChild work m R W adding j used n (m + j) c H → Bumps m work work' n' (not adding) (whole_row (column_at (smaller m R) c).counts c) →
       Handled m R W adding work work' n' j c H
   handled-lost a b =
-      let v : (isTouched (larger m R W) W c ≡ true) × (c < j) × (_ < j) × (0 < _) × (otherParent m R c ≡ j) =
+      let v : (is_touched (larger m R W) W c ≡ true) × (c < j) × (_ < j) × (0 < _) × (other_parent m R c ≡ j) =
       waits-lost m R W j a.turn.low a.turn.high c a.low a.high (child-fresh a (inr refl)).1 in
       record {
         so_far = so-far-lost m R W adding j a.turn.low a.turn.high c a.low a.high (child-fresh a (inr refl)).0 v.1 a.turn.so_far b (omega arith) v.4;

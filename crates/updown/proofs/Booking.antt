@@ -10,7 +10,7 @@ use lib.ListN.{length, get_or, take, drop, length-drop, length-append, get_or-ap
 use lib.Seq.{ext_get_or, get_or-take, get_or-drop, get_or-append-add, length-take-le}
 use lib.Dec.{eqb}
 use borrow.Author.Tests.{ne_eqb}
-use Rattle.lists.specs.Lists.{pick, at, among, rises, valuesAt, over}
+use Rattle.lists.specs.Lists.{pick, at, among, rises, values_at, over}
 use Rattle.lists.proofs.Rising.{rises-length}
 use Rattle.symbolic.specs.Columns.{Column, smallest, holds}
 use Rattle.workspace.specs.Regions.{cell, region, IsZero}
@@ -43,7 +43,7 @@ from-length b (r ∷ rs) (i ∷ is) [] h = absurd h
 from-length b (r ∷ rs) (i ∷ is) (w ∷ ws) h = let e = from-length b rs is ws h.4 in (ap suc e.0, ap suc e.1)
 
 booked-at : (b : book.Book) (starts ids : List ℕ) (W : List Column) (k : ℕ) → BookedFrom b starts ids W → k < length W →
-    ((get_or W k none).rows ≡ pick (eqb (get_or starts k 0) 0) [] (book.columnFor b (get_or ids k 0)).rows) × (get_or starts k 0 ≡ smallest (get_or W k none)) ×
+    ((get_or W k none).rows ≡ pick (eqb (get_or starts k 0) 0) [] (book.column_for b (get_or ids k 0)).rows) × (get_or starts k 0 ≡ smallest (get_or W k none)) ×
     (1 ≤ get_or ids k 0) × (get_or ids k 0 ≤ length b.heads)
 unfolding BookedFrom
 booked-at b rs is [] k h l = absurd (omega arith)
@@ -67,7 +67,7 @@ module _ {heads rows next starts ids : List ℕ} {m : ℕ} {W : List Column} (h 
     abbrev id : ℕ
     id = get_or ids k 0
 
-    entry : ((get_or W k none).rows ≡ pick (eqb (get_or starts k 0) 0) [] (valuesAt rows (chain next (at heads id)))) × (get_or starts k 0 ≡ smallest (get_or W k none)) × (1 ≤ id) × (id ≤ length heads)
+    entry : ((get_or W k none).rows ≡ pick (eqb (get_or starts k 0) 0) [] (values_at rows (chain next (at heads id)))) × (get_or starts k 0 ≡ smallest (get_or W k none)) × (1 ≤ id) × (id ≤ length heads)
     entry = booked-at (book.tables_of heads rows next) starts ids W k h.booked (omega (arith, booked-size))
 
     booked-fits : Fits m (get_or W k none)
@@ -78,14 +78,14 @@ module _ {heads rows next starts ids : List ℕ} {m : ℕ} {W : List Column} (h 
 
     -- it counts rows: those of the book
     module _ (n : get_or starts k 0 ≢ 0) where
-      booked-rows : (get_or W k none).rows ≡ valuesAt rows (chain next (at heads id))
-      booked-rows = entry.0 ∙ ap (λ (z : Bool). pick z [] (valuesAt rows (chain next (at heads id)))) (ne_eqb (get_or starts k 0) 0 n)
+      booked-rows : (get_or W k none).rows ≡ values_at rows (chain next (at heads id))
+      booked-rows = entry.0 ∙ ap (λ (z : Bool). pick z [] (values_at rows (chain next (at heads id)))) (ne_eqb (get_or starts k 0) 0 n)
 
-      booked-rise : rises 1 m (valuesAt rows (chain next (at heads id))) ≡ true
+      booked-rise : rises 1 m (values_at rows (chain next (at heads id))) ≡ true
       booked-rise = sym (ap (rises 1 m) booked-rows) ∙ booked-fits.rising
 
-      booked-short : length (valuesAt rows (chain next (at heads id))) ≤ m
-      booked-short = omega (arith, rises-length 1 m (valuesAt rows (chain next (at heads id))) (omega arith) booked-rise)
+      booked-short : length (values_at rows (chain next (at heads id))) ≤ m
+      booked-short = omega (arith, rises-length 1 m (values_at rows (chain next (at heads id))) (omega arith) booked-rise)
 
       booked-copy : (room : ℕ) → room ≡ m → CanCopy heads rows next id room
       booked-copy room e =
@@ -182,15 +182,15 @@ module _ {heads rows next starts ids : List ℕ} {m : ℕ} {R W : List Column} {
     booked-ready = booked-copy h k l some
 
     -- the copied rows
-    pub booked-gathered : (ys : List ℕ) (g : ℕ) → g ≡ length (valuesAt rows (chain next (at heads (get_or ids k 0)))) →
-        ys ≡ over (valuesAt rows (chain next (at heads (get_or ids k 0)))) (take (3 * m - 2 * m) (drop (2 * m) w)) →
-        Gathered m w (take (2 * m) w ++ (ys ++ drop (3 * m - 2 * m) (drop (2 * m) w))) g (λ i. among i (valuesAt rows (chain next (at heads (get_or ids k 0)))))
+    pub booked-gathered : (ys : List ℕ) (g : ℕ) → g ≡ length (values_at rows (chain next (at heads (get_or ids k 0)))) →
+        ys ≡ over (values_at rows (chain next (at heads (get_or ids k 0)))) (take (3 * m - 2 * m) (drop (2 * m) w)) →
+        Gathered m w (take (2 * m) w ++ (ys ++ drop (3 * m - 2 * m) (drop (2 * m) w))) g (λ i. among i (values_at rows (chain next (at heads (get_or ids k 0)))))
     booked-gathered ys g q o =
-        subst (λ (x : ℕ). Gathered m w (take (2 * m) w ++ (ys ++ drop (3 * m - 2 * m) (drop (2 * m) w))) x (λ i. among i (valuesAt rows (chain next (at heads (get_or ids k 0)))))) (sym q)
-        (put-gathered m w (valuesAt rows (chain next (at heads (get_or ids k 0)))) ys booked-steady.tally.touched.long booked-steady.tally.buffer
+        subst (λ (x : ℕ). Gathered m w (take (2 * m) w ++ (ys ++ drop (3 * m - 2 * m) (drop (2 * m) w))) x (λ i. among i (values_at rows (chain next (at heads (get_or ids k 0)))))) (sym q)
+        (put-gathered m w (values_at rows (chain next (at heads (get_or ids k 0)))) ys booked-steady.tally.touched.long booked-steady.tally.buffer
         (booked-short h k l some) o (booked-rise h k l some))
 
-    pub booked-here : {w₁ w₂ : List ℕ} {g n' : ℕ} → Gathered m w w₁ g (λ i. among i (valuesAt rows (chain next (at heads (get_or ids k 0))))) → Counted m w₁ g adding w₂ n' →
+    pub booked-here : {w₁ w₂ : List ℕ} {g n' : ℕ} → Gathered m w w₁ g (λ i. among i (values_at rows (chain next (at heads (get_or ids k 0))))) → Counted m w₁ g adding w₂ n' →
         Counting m R W adding w₀ w₂ n' j (k + 1)
     booked-here x y =
         counting-here c t (omega (arith, booked-size h)) (sym (booked-first h k l) ∙ e)

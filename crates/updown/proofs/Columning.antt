@@ -10,7 +10,7 @@ use lib.ListN.{length}
 use Rattle.lists.specs.Lists.{at}
 use Rattle.lists.proofs.Tests.{lt-or-le}
 use Rattle.symbolic.specs.Columns.{Column}
-use Rattle.symbolic.specs.Factor.{columnAt, size_of}
+use Rattle.symbolic.specs.Factor.{column_at, size_of}
 use Rattle.pool.specs.Chains.{chain, Linked}
 use Rattle.emission.specs.Emit.{CanEmit, Ready, Emits}
 use Rattle.emission.specs.declared.Emission.{Emission}
@@ -23,26 +23,26 @@ use Rattle.updown.proofs.Turning.{column-counts}
 
 module _ {heads rows counts next : List ℕ} {m : ℕ} {R W : List Column} {adding : Bool} (k : Columns heads rows next m R W adding) (q : Multiplicities heads counts next m R W adding)
     {w : List ℕ} {j n : ℕ} (low : 1 ≤ j) (high : j ≤ m) (definition : IsDefinition m R W adding w n j) (used avail : ℕ) (linked : Linked next avail (chain next avail))
-    (room : used + size_of (columnAt (before adding m R W) j) + length (chain next avail) ≤ length next) (long : 8 * m + length next ≤ length w) where
+    (room : used + size_of (column_at (before adding m R W) j) + length (chain next avail) ≤ length next) (long : 8 * m + length next ≤ length w) where
   abbrev old : List ℕ
-  old = (columnAt (before adding m R W) j).counts
+  old = (column_at (before adding m R W) j).counts
 
   abbrev new : List ℕ
-  new = (columnAt (after adding m R W) j).counts
+  new = (column_at (after adding m R W) j).counts
 
-  own-counts : Counts m j (columnAt (larger m R W) j).counts (columnAt (smaller m R) j).counts
+  own-counts : Counts m j (column_at (larger m R W) j).counts (column_at (smaller m R) j).counts
   own-counts = column-counts m R W j low high k.narrow k.few
 
   -- by direction
-  lengths : (z : Bool) → (length (columnAt (before z m R W) j).counts ≡ m) × (length (columnAt (after z m R W) j).counts ≡ m)
+  lengths : (z : Bool) → (length (column_at (before z m R W) j).counts ≡ m) × (length (column_at (after z m R W) j).counts ≡ m)
   lengths true = (own-counts.less-long, own-counts.more-long)
   lengths false = (own-counts.more-long, own-counts.less-long)
 
-  lows : (z : Bool) (i : ℕ) → 1 ≤ i → i < j → (at (columnAt (before z m R W) j).counts i ≡ 0) × (at (columnAt (after z m R W) j).counts i ≡ 0)
+  lows : (z : Bool) (i : ℕ) → 1 ≤ i → i < j → (at (column_at (before z m R W) j).counts i ≡ 0) × (at (column_at (after z m R W) j).counts i ≡ 0)
   lows true i x y = ((own-counts.below i x y).1, (own-counts.below i x y).0)
   lows false i x y = ((own-counts.below i x y).0, (own-counts.below i x y).1)
 
-  smalls : (z : Bool) (i : ℕ) → at (columnAt (after z m R W) j).counts i < 65536
+  smalls : (z : Bool) (i : ℕ) → at (column_at (after z m R W) j).counts i < 65536
   smalls true i = own-counts.more-small (i - 1)
   smalls false i = own-counts.less-small (i - 1)
 

@@ -16,15 +16,15 @@ use Rattle.lists.proofs.Times.{mem-times, times-mem, among-count, UpTo}
 use Rattle.lists.proofs.Member.{among-mem, mem-among}
 use Rattle.lists.proofs.Count.{count-ext, count_at}
 use Rattle.symbolic.specs.Columns.{Column}
-use Rattle.symbolic.specs.Batch.{isTouched}
+use Rattle.symbolic.specs.Batch.{is_touched}
 use Rattle.workspace.specs.Regions.{cell, Outside, OnlyIn}
-use Rattle.workspace.specs.Layout.{childrenAt}
+use Rattle.workspace.specs.Layout.{children_at}
 use Rattle.pool.specs.Chains.{chain}
 use Rattle.pool.proofs.Chains.{linked-chain, linked-once, linked-in}
 use Rattle.updown.specs.Plans.{InPlan}
-use Rattle.updown.specs.Marks.{queued, passedOn}
+use Rattle.updown.specs.Marks.{queued, passed_on}
 use Rattle.updown.specs.Queues.{links, Queue, Queues}
-use Rattle.updown.specs.Turns.{larger, before, after, treeParent, otherParent, label_at, done, standing, PlansTo, waiting}
+use Rattle.updown.specs.Turns.{larger, before, after, tree_parent, other_parent, label_at, done, standing, PlansTo, waiting}
 use Rattle.updown.specs.SoFar.{also}
 use Rattle.updown.specs.Walks.{Turn, Still, AtChild, Handled}
 use Rattle.updown.proofs.Queueing.{queue-frame, queue-first, links-length, link-frame, queues-ext, queues-frame, queues-open, local-open, local-first, queues-pop, local-pop, queued-length, queued-other, queues-push, local-push, moved, moved-self, moved_other, moved-again}
@@ -36,7 +36,7 @@ use Rattle.updown.proofs.AtChild.{child-fresh}
 -- queue h is emptied, from cur on
 pub record Drain (m : ℕ) (work : List ℕ) (h cur : ℕ) (place : ℕ → ℕ) : Type 0 where
   pub here : Queue (links m work) cur (λ c. eqb (place c) h)
-  pub empty : cell work (childrenAt m) (h - 1) ≡ 0
+  pub empty : cell work (children_at m) (h - 1) ≡ 0
 
 -- ---- how many wait
 
@@ -84,7 +84,7 @@ module _ {m : ℕ} {R W : List Column} {adding : Bool} {w : List ℕ} {j used n 
       h k p.0 (elim p.1 [ inl x ↦ inl x | inr x ↦ inr (omega arith) ]) (away k i))
     where
       use-touched : {c : ℕ} → Mem c (done m R W j) → (1 ≤ c) × (c < j)
-      use-touched {c} x = let v : (1 ≤ c) × (c < 1 + (j - 1)) × (isTouched (larger m R W) W c ≡ true) = in-touched (larger m R W) W 1 (j - 1) c x in omega (arith, t.low)
+      use-touched {c} x = let v : (1 ≤ c) × (c < 1 + (j - 1)) × (is_touched (larger m R W) W c ≡ true) = in-touched (larger m R W) W 1 (j - 1) c x in omega (arith, t.low)
 
       away : (k : ℕ) → InPlan m used (done m R W j) k → k ≢ 5 * m + (j - 1)
       away k (inr x) e = omega (arith, t.low, t.high)
@@ -260,9 +260,9 @@ module _ {m : ℕ} {R W : List Column} {adding : Bool} {w : List ℕ} {j used n 
           (queued-other m popped c (m + o) (5 * m + (h - 1)) (omega (arith, head-range)) (omega (arith, head-range, ne)) ∙ popped-empty))
 
     -- B and C: what pass_on stores
-    pub turn-child : h ≡ j → Drained m R W adding w (passedOn m w₁ c j (otherParent m R c)) j used n' h c (cell w₁ (7 * m) (c - 1)) H
+    pub turn-child : h ≡ j → Drained m R W adding w (passed_on m w₁ c j (other_parent m R c)) j used n' h c (cell w₁ (7 * m) (c - 1)) H
     turn-child e =
-        let o : ℕ = otherParent m R c in
+        let o : ℕ = other_parent m R c in
         let g : Bool = not (eqb o j) && not (eqb o 0) in
         let k : target ≡ pick g (m + o) 0 = moves-child m R W j t.low t.high c a.low a.high ((child-fresh a side).1 ∙ e) in
         elim (cases g) [
@@ -270,8 +270,8 @@ module _ {m : ℕ} {R W : List Column} {adding : Bool} {w : List ℕ} {j used n 
               let v : (not (eqb o j) ≡ true) × (not (eqb o 0) ≡ true) = and_both (not (eqb o j)) (not (eqb o 0)) x in
               let o≢j : o ≢ j = eqb-false o j (not-true (eqb o j) v.0) in
               let o≢0 : o ≢ 0 = eqb-false o 0 (not-true (eqb o 0) v.1) in
-              let u : (0 < treeParent m R W c) × (treeParent m R W c ≤ o) × (c < o) × (o ≤ m) = other-above m R W c a.low a.high (omega arith) in
-              let y : (isTouched (larger m R W) W c ≡ true) × (c < j) × (treeParent m R W c ≡ j) = waits-child m R W j t.low t.high c ((child-fresh a side).1 ∙ e) in
+              let u : (0 < tree_parent m R W c) × (tree_parent m R W c ≤ o) × (c < o) × (o ≤ m) = other-above m R W c a.low a.high (omega arith) in
+              let y : (is_touched (larger m R W) W c ≡ true) × (c < j) × (tree_parent m R W c ≡ j) = waits-child m R W j t.low t.high c ((child-fresh a side).1 ∙ e) in
               rw x (step_push o (omega arith) u.3 (k ∙ rw x refl))
           | inr x ↦ rw x (step-pop (k ∙ rw x refl))
         ]

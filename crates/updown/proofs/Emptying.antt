@@ -15,8 +15,8 @@ use Rattle.lists.proofs.Tests.{cases, both_ways, or-either, or_left, or_right}
 use Rattle.symbolic.specs.Columns.{Column}
 use Rattle.workspace.specs.Regions.{cell}
 use Rattle.updown.specs.Queues.{Queues}
-use Rattle.updown.specs.Marks.{otherAt, passedOn}
-use Rattle.updown.specs.Turns.{otherParent, standing, waiting}
+use Rattle.updown.specs.Marks.{other_at, passed_on}
+use Rattle.updown.specs.Turns.{other_parent, standing, waiting}
 use Rattle.updown.specs.SoFar.{nobody, also, children, family}
 use Rattle.updown.specs.Walks.{Columns, Parents, Turn, Still, TurnTo, TurnDone, AtChild, Handled}
 use Rattle.updown.proofs.Queueing.{queue-empty, links-length, queues-ext, queues-close}
@@ -63,12 +63,12 @@ module _ {m : ℕ} {R W : List Column} {adding : Bool} {w₀ w : List ℕ} {j us
       }
 
   -- B or C, by what the calls gave
-  pub child-drained : {parents w₁ w₂ : List ℕ} {n' cur o : ℕ} → h ≡ j → Parents parents m R W adding → o ≡ otherAt parents w m c adding →
-      Handled m R W adding w w₁ n' j c i.handled → cur ≡ cell w₁ (7 * m) (c - 1) → w₂ ≡ passedOn m w₁ c j o → Drained m R W adding w w₂ j used n' h c cur i.handled
+  pub child-drained : {parents w₁ w₂ : List ℕ} {n' cur o : ℕ} → h ≡ j → Parents parents m R W adding → o ≡ other_at parents w m c adding →
+      Handled m R W adding w w₁ n' j c i.handled → cur ≡ cell w₁ (7 * m) (c - 1) → w₂ ≡ passed_on m w₁ c j o → Drained m R W adding w w₂ j used n' h c cur i.handled
   child-drained {w₁ = w₁} {w₂} {n'} {cur} {o} z p e b f g =
-      let q : o ≡ otherParent m R c = e ∙ child-other a (inl z) p in
+      let q : o ≡ other_parent m R c = e ∙ child-other a (inl z) p in
       subst (λ (x : ℕ). Drained m R W adding w w₂ j used n' h c x i.handled) (sym f)
-      (subst (λ (x : List ℕ). Drained m R W adding w x j used n' h c (cell w₁ (7 * m) (c - 1)) i.handled) (sym (g ∙ ap (passedOn m w₁ c j) q)) (turn-child a (inl z) i.drain b z))
+      (subst (λ (x : List ℕ). Drained m R W adding w x j used n' h c (cell w₁ (7 * m) (c - 1)) i.handled) (sym (g ∙ ap (passed_on m w₁ c j) q)) (turn-child a (inl z) i.drain b z))
 
 -- ---- from the open queue to the closed one
 

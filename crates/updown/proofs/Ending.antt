@@ -12,14 +12,14 @@ use borrow.Author.Tests.{ne_eqb}
 use Rattle.lists.specs.Lists.{at, among, Mem}
 use Rattle.lists.proofs.Tests.{eq-or-ne, lt-or-le}
 use Rattle.symbolic.specs.Columns.{Column}
-use Rattle.symbolic.specs.Batch.{touched, touchedFrom, entriesOf}
+use Rattle.symbolic.specs.Batch.{touched, touched_from, entries_of}
 use Rattle.symbolic.proofs.Build.{factor-length}
 use Rattle.workspace.specs.Regions.{Outside, cleared}
 use Rattle.workspace.proofs.Regions.{zero-at, cleared-length, cleared-zero, cleared-outside}
 use Rattle.differences.specs.Tally.{Tally}
-use Rattle.columns.specs.Plan.{ofKind}
+use Rattle.columns.specs.Plan.{of_kind}
 use Rattle.updown.specs.Plans.{InPlan, first_of, PlansFrom, PlanIs}
-use Rattle.workspace.specs.Layout.{marksAt, startsAt, next_at}
+use Rattle.workspace.specs.Layout.{marks_at, starts_at, next_at}
 use Rattle.updown.specs.Turns.{larger, before, after, label_at, done, standing, PlansTo}
 use Rattle.updown.specs.States.{Busy, differs, plans, marks, queues, flagged, Walking, Numbers, Between, Fitting}
 use Rattle.updown.proofs.Queueing.{queue-none, links-length}
@@ -102,7 +102,7 @@ module _ {next work₀ w : List ℕ} {m flags : ℕ} {R W : List Column} {adding
       idle i n o x y (flagged u v) = elim o [ inl z ↦ omega arith | inr z ↦ omega arith ]
 
   end-done : done m R W (suc m) ≡ touched (larger m R W) W
-  end-done = let q : suc m - 1 ≡ length (larger m R W) = omega (arith, factor-length m (R ++ W)) in ap (λ (x : ℕ). touchedFrom (larger m R W) W 1 x) q
+  end-done = let q : suc m - 1 ≡ length (larger m R W) = omega (arith, factor-length m (R ++ W)) in ap (λ (x : ℕ). touched_from (larger m R W) W 1 x) q
 
   pub plan-made : Fitting next m R W adding free →
       PlanIs m (length next) free (before adding m R W) (after adding m R W) (label_at m R W) (touched (larger m R W) W) work₀ wc f c k used
@@ -119,12 +119,12 @@ module _ {next work₀ w : List ℕ} {m flags : ℕ} {R W : List Column} {adding
             (plans-all m (before adding m R W) (after adding m R W) (label_at m R W) wc (done m R W (suc m)) 0 used p);
         first-is = n.first-is ∙ ap first_of e;
         count-is = n.count-is ∙ ap length e;
-        entries-is = n.entries-is ∙ ap (entriesOf (before adding m R W) (after adding m R W)) e;
+        entries-is = n.entries-is ∙ ap (entries_of (before adding m R W) (after adding m R W)) e;
         room = omega (arith, n.room, fit (suc m) (omega arith) (omega arith));
         new-fit = omega (
           arith,
           n.taken,
-          ap (ofKind 1) (region-same w wc (8 * m) used (cleared-length w flags 64 long) (λ i x. same (8 * m + i) (inl (omega (arith, h.plan-room))))),
+          ap (of_kind 1) (region-same w wc (8 * m) used (cleared-length w flags 64 long) (λ i x. same (8 * m + i) (inl (omega (arith, h.plan-room))))),
         );
         clean = λ i x. let y : InPlan m used (done m R W (suc m)) i → ⊥ = λ z. x (subst (λ (js : List ℕ). InPlan m used js i) e z) in
             elim (lt-or-le i flags) [
@@ -142,7 +142,7 @@ module _ {next work₀ w : List ℕ} {m flags : ℕ} {R W : List Column} {adding
           let y : InPlan m used (done m R W (suc m)) i = inl x in
           elim (plan-places m R W (suc m) used (omega arith) i y).1 [ inl z ↦ omega (arith, h.room.low) | inr z ↦ absurd (low i x z) ]
         where
-          low : (i : ℕ) → (j : ℕ) × (Mem j (done m R W (suc m)) × ((i ≡ marksAt m + (j - 1)) ⊎ ((i ≡ startsAt m + (j - 1)) ⊎ (i ≡ next_at m + (j - 1))))) → 8 * m ≤ i → ⊥
+          low : (i : ℕ) → (j : ℕ) × (Mem j (done m R W (suc m)) × ((i ≡ marks_at m + (j - 1)) ⊎ ((i ≡ starts_at m + (j - 1)) ⊎ (i ≡ next_at m + (j - 1))))) → 8 * m ≤ i → ⊥
           low i x z =
               let v : (1 ≤ x.0) × (x.0 < suc m) = done-in m R W (suc m) (omega arith) x.1.0 in
               elim x.1.1 [ inl y ↦ omega arith | inr (inl y) ↦ omega arith | inr (inr y) ↦ omega arith ]

@@ -15,11 +15,11 @@ use Rattle.lists.specs.Lists.{pick, among, rises, all}
 use Rattle.lists.proofs.Tests.{eq-or-ne, refute}
 use Rattle.lists.proofs.Member.{all-at, place-mem, among-mem}
 use Rattle.lists.proofs.Rising.{rises-first, rises-high}
-use Rattle.symbolic.specs.Columns.{Column, columnWith, smallest, holds, fitsRows}
+use Rattle.symbolic.specs.Columns.{Column, column_with, smallest, holds, fits_rows}
 use Rattle.workspace.specs.Regions.{IsZero, OnlyIn}
 use Rattle.workspace.proofs.Regions.{only-refl, only-trans}
 use Rattle.updown.specs.Entries.{Listed}
-use Rattle.updown.specs.Marks.{Room, markAt, flagAt, marked, startMarked}
+use Rattle.updown.specs.Marks.{Room, mark_at, flag_at, marked, start_marked}
 use Rattle.updown.proofs.Brought.{Steady, Bumps}
 use Rattle.updown.specs.SoFar.{nobody, SoFar}
 use Rattle.updown.specs.States.{start_of}
@@ -30,7 +30,7 @@ use Rattle.updown.proofs.Gathering.{can-gather, bumps}
 use Rattle.updown.proofs.SoFar.{so-far-column, so-far-past, so-far-all, so-far-steady}
 
 abbrev pub none : Column
-none = columnWith 0 []
+none = column_with 0 []
 
 -- ---- a column that fits
 
@@ -38,8 +38,8 @@ pub record Fits (m : ℕ) (w : Column) : Type 0 where
   pub rising : rises 1 m w.rows ≡ true
   pub high : smallest w ≤ m
 
-pub fits-at : (m : ℕ) (W : List Column) → all (fitsRows m) W ≡ true → (k : ℕ) → k < length W → Fits m (get_or W k none)
-fits-at m W h k l = let r : fitsRows m (get_or W k none) ≡ true = all-at (fitsRows m) (place-mem W k none l) h in record { rising = r; high = rises-high 1 m (get_or W k none).rows r 0 }
+pub fits-at : (m : ℕ) (W : List Column) → all (fits_rows m) W ≡ true → (k : ℕ) → k < length W → Fits m (get_or W k none)
+fits-at m W h k l = let r : fits_rows m (get_or W k none) ≡ true = all-at (fits_rows m) (place-mem W k none l) h in record { rising = r; high = rises-high 1 m (get_or W k none).rows r 0 }
 
 -- its rows lie at or above its first
 pub rows_above : (m : ℕ) (w : Column) → Fits m w → (i : ℕ) → i < smallest w → holds w i ≡ false
@@ -141,7 +141,7 @@ module _ {m flags : ℕ} {W : List Column} {w₀ w : List ℕ} {k : ℕ} (s : St
   abbrev w₁ : List ℕ
   w₁ = marked m flags w q₀ x₀
 
-  w₁-own : markAt m w₁ q₀ ≡ x₀
+  w₁-own : mark_at m w₁ q₀ ≡ x₀
   w₁-own =
       get_or-set_other (set w (3 * m + (q₀ - 1)) x₀) (flags + (q₀ - 1) / 64) (3 * m + (q₀ - 1)) 1 0 (omega (arith, r.low)) ∙
       get_or-set_same w (3 * m + (q₀ - 1)) x₀ 0 (omega (arith, r.low, r.long))
@@ -149,13 +149,13 @@ module _ {m flags : ℕ} {W : List Column} {w₀ w : List ℕ} {k : ℕ} (s : St
   w₁-other : (x : ℕ) → x ≢ 3 * m + (q₀ - 1) → x ≢ flags + (q₀ - 1) / 64 → get_or w₁ x 0 ≡ get_or w x 0
   w₁-other x p q = get_or-set_other (set w (3 * m + (q₀ - 1)) x₀) (flags + (q₀ - 1) / 64) x 1 0 q ∙ get_or-set_other w (3 * m + (q₀ - 1)) x x₀ 0 p
 
-  mark-other : (q : ℕ) → 1 ≤ q → q ≤ m → q ≢ q₀ → markAt m w₁ q ≡ markAt m w q
+  mark-other : (q : ℕ) → 1 ≤ q → q ≤ m → q ≢ q₀ → mark_at m w₁ q ≡ mark_at m w q
   mark-other q x y n = w₁-other (3 * m + (q - 1)) (omega arith) (omega (arith, r.low))
 
-  flag-other : (q : ℕ) → (q - 1) / 64 ≢ (q₀ - 1) / 64 → flagAt flags w₁ q ≡ flagAt flags w q
+  flag-other : (q : ℕ) → (q - 1) / 64 ≢ (q₀ - 1) / 64 → flag_at flags w₁ q ≡ flag_at flags w q
   flag-other q n = w₁-other (flags + (q - 1) / 64) (omega (arith, r.low)) (omega arith)
 
-  flag-own : (q : ℕ) → (q - 1) / 64 ≡ (q₀ - 1) / 64 → flagAt flags w₁ q ≡ 1
+  flag-own : (q : ℕ) → (q - 1) / 64 ≡ (q₀ - 1) / 64 → flag_at flags w₁ q ≡ 1
   flag-own q e =
       ap (λ (x : ℕ). get_or w₁ (flags + x) 0) e ∙
       get_or-set_same (set w (3 * m + (q₀ - 1)) x₀) (flags + (q₀ - 1) / 64) 1 0 (simp length-set (omega (arith, r.long, r.m-bound)))
@@ -165,21 +165,21 @@ module _ {m flags : ℕ} {W : List Column} {w₀ w : List ℕ} {k : ℕ} (s : St
       record {
         same_length = length-set (set w (3 * m + (q₀ - 1)) x₀) (flags + (q₀ - 1) / 64) 1 ∙ length-set w (3 * m + (q₀ - 1)) x₀ ∙ s.same_length;
         start = λ p x y o. elim (eq-or-ne (start_of W p) q₀) [
-          | inl e ↦ omega (arith, ap (markAt m w₁) e, w₁-own)
+          | inl e ↦ omega (arith, ap (mark_at m w₁) e, w₁-own)
           | inr e ↦
               let l : p ≤ k = older p x y e in
               omega (arith, s.start p x l o, ap (λ (v : ℕ). v / 4) (mark-other (start_of W p) o (within p x l) e))
         ];
         bit = λ p x y o. elim (eq-or-ne (start_of W p) q₀) [
-          | inl e ↦ ap (λ (v : ℕ). v % 4) (ap (markAt m w₁) e ∙ w₁-own) ∙ four
+          | inl e ↦ ap (λ (v : ℕ). v % 4) (ap (mark_at m w₁) e ∙ w₁-own) ∙ four
           | inr e ↦
               let l : p ≤ k = older p x y e in
               ap (λ (v : ℕ). v % 4) (mark-other (start_of W p) o (within p x l) e) ∙ s.bit p x l o
         ];
         cause = λ q x y n. elim (eq-or-ne q q₀) [
-          | inl e ↦ (k + 1, omega arith, omega arith, sym e, ap (markAt m w₁) e ∙ w₁-own)
+          | inl e ↦ (k + 1, omega arith, omega arith, sym e, ap (mark_at m w₁) e ∙ w₁-own)
           | inr e ↦
-              let t : (p : ℕ) × (1 ≤ p) × (p ≤ k) × (start_of W p ≡ q) × (markAt m w q ≡ 4 * p + 2) = s.cause q x y (λ z. n (mark-other q x y e ∙ z)) in
+              let t : (p : ℕ) × (1 ≤ p) × (p ≤ k) × (start_of W p ≡ q) × (mark_at m w q ≡ 4 * p + 2) = s.cause q x y (λ z. n (mark-other q x y e ∙ z)) in
               (t.0, t.1, omega (arith, t.2), t.3, mark-other q x y e ∙ t.4)
         ];
         flagged = λ q x y n f. elim (eq-or-ne ((q - 1) / 64) ((q₀ - 1) / 64)) [
@@ -203,7 +203,7 @@ starts-skip {m} {W = W} {w = w} {k = k} s z =
       start = λ p x y o. s.start p x (older p y o) o;
       bit = λ p x y o. s.bit p x (older p y o) o;
       cause = λ q x y n.
-          let t : (p : ℕ) × (1 ≤ p) × (p ≤ k) × (start_of W p ≡ q) × (markAt m w q ≡ 4 * p + 2) = s.cause q x y n in
+          let t : (p : ℕ) × (1 ≤ p) × (p ≤ k) × (start_of W p ≡ q) × (mark_at m w q ≡ 4 * p + 2) = s.cause q x y n in
           (t.0, t.1, omega (arith, t.2), t.3, t.4);
       flagged = s.flagged;
       rest = s.rest;
@@ -213,13 +213,13 @@ starts-skip {m} {W = W} {w = w} {k = k} s z =
     older p y o = elim (eq-or-ne p (k + 1)) [ inl e ↦ absurd (omega (arith, ap (start_of W) e)) | inr e ↦ omega arith ]
 
 -- one column more, as mark_start marks it
-starts_more : {m flags : ℕ} {W : List Column} {w₀ w w₁ : List ℕ} {k row : ℕ} → all (fitsRows m) W ≡ true → StartsTo m flags W w₀ w k → Room m flags w → k < length W →
-    row ≡ smallest (get_or W k none) → w₁ ≡ startMarked m flags w row (k + 1) → StartsTo m flags W w₀ w₁ (k + 1)
+starts_more : {m flags : ℕ} {W : List Column} {w₀ w w₁ : List ℕ} {k row : ℕ} → all (fits_rows m) W ≡ true → StartsTo m flags W w₀ w k → Room m flags w → k < length W →
+    row ≡ smallest (get_or W k none) → w₁ ≡ start_marked m flags w row (k + 1) → StartsTo m flags W w₀ w₁ (k + 1)
 starts_more {m} {flags} {W} {w₀} {w} {w₁} {k} {row} fits s r l a e =
     let q : k + 1 - 1 ≡ k = omega arith in
     let g : row ≡ start_of W (k + 1) = a ∙ ap (λ (x : ℕ). smallest (get_or W x none)) (sym q) in
     let within : (p : ℕ) → 1 ≤ p → p ≤ k + 1 → start_of W p ≤ m = λ p x y. (fits-at m W fits (p - 1) (omega arith)).high in
-    subst (λ (x : List ℕ). StartsTo m flags W w₀ x (k + 1)) (sym (e ∙ ap (λ (x : ℕ). startMarked m flags w x (k + 1)) g))
+    subst (λ (x : List ℕ). StartsTo m flags W w₀ x (k + 1)) (sym (e ∙ ap (λ (x : ℕ). start_marked m flags w x (k + 1)) g))
     (elim (eq-or-ne (start_of W (k + 1)) 0) [
       | inl z ↦ rw (eq-eqb (start_of W (k + 1)) 0 z) (starts-skip s z)
       | inr z ↦ rw (ne_eqb (start_of W (k + 1)) 0 z) (starts-next s r (omega arith) (within (k + 1) (omega arith) (omega arith)) (λ p x y. within p x (omega arith)))
@@ -227,7 +227,7 @@ starts_more {m} {flags} {W} {w₀} {w} {w₁} {k} {row} fits s r l a e =
 
 -- what marking asks, from a batch whose starts are given
 pub can-mark : {starts : List ℕ} {m flags : ℕ} {work : List ℕ} {W : List Column} → (length W ≡ length starts) × ((k : ℕ) → k < length W → get_or starts k 0 ≡ smallest (get_or W k none)) →
-    all (fitsRows m) W ≡ true → length W ≤ 64 → Room m flags work → IsZero work (3 * m) m → CanMark starts m flags work W
+    all (fits_rows m) W ≡ true → length W ≤ 64 → Room m flags work → IsZero work (3 * m) m → CanMark starts m flags work W
 can-mark e f n r z = record { size = e.0; starts-are = λ k a b. e.1 (k - 1) (omega arith); fits = f; few = n; room = r; bare = z }
 
 module _ {starts : List ℕ} {m flags : ℕ} {w₀ : List ℕ} {W : List Column} (c : CanMark starts m flags w₀ W) {w : List ℕ} {k : ℕ} (s : StartsTo m flags W w₀ w k)
@@ -243,8 +243,8 @@ module _ {starts : List ℕ} {m flags : ℕ} {w₀ : List ℕ} {W : List Column}
   pub marking-row : Room m flags w × (get_or starts k 0 ≤ m) × (k + 1 ≤ 64)
   marking-row = (room-here, omega (arith, first-here, (fits-at m W c.fits k (omega (arith, c.size))).high), omega (arith, c.few, c.size))
 
-  pub marking-next : {w₁ : List ℕ} {position : ℕ} → w₁ ≡ startMarked m flags w (get_or starts k 0) position → position ≡ k + 1 → StartsTo m flags W w₀ w₁ (k + 1)
-  marking-next e q = starts_more c.fits s room-here (omega (arith, c.size)) first-here (e ∙ ap (startMarked m flags w (get_or starts k 0)) q)
+  pub marking-next : {w₁ : List ℕ} {position : ℕ} → w₁ ≡ start_marked m flags w (get_or starts k 0) position → position ≡ k + 1 → StartsTo m flags W w₀ w₁ (k + 1)
+  marking-next e q = starts_more c.fits s room-here (omega (arith, c.size)) first-here (e ∙ ap (start_marked m flags w (get_or starts k 0)) q)
 
 pub marking-end : {starts : List ℕ} {m flags : ℕ} {W : List Column} {w₀ w : List ℕ} {k : ℕ} → CanMark starts m flags w₀ W → StartsTo m flags W w₀ w k → k ≤ length starts →
     length starts ≤ k → StartsTo m flags W w₀ w (length W)
@@ -282,7 +282,7 @@ counting-end {m} {R} {W} {adding} {j = j} c t l = record { so_far = so-far-all m
 
 -- none of them starts here
 pub started_none : {m : ℕ} {R W : List Column} {adding : Bool} {w : List ℕ} {j : ℕ} → CanStart m R W adding w j →
-    ((i : ℕ) → 1 ≤ i → i ≤ length W → start_of W i ≡ j → markAt m w j % 4 ≡ 2) → markAt m w j % 4 ≢ 2 → Started m R W adding w w 0 j
+    ((i : ℕ) → 1 ≤ i → i ≤ length W → start_of W i ≡ j → mark_at m w j % 4 ≡ 2) → mark_at m w j % 4 ≢ 2 → Started m R W adding w w 0 j
 started_none {m} {R} {W} {adding} {w} {j} c bits n = counting-end c (go (length W) (omega arith)) (omega arith)
   where
     away : (k : ℕ) → k < length W → smallest (get_or W k none) ≢ j

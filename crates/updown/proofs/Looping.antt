@@ -7,11 +7,11 @@ use mathlib.Core.List.{List}
 use Prim.Native.Nat.{ℕ, suc, ◌*◌, ◌%◌, ◌≤◌, ◌<◌}
 use lib.ListN.{length}
 use Rattle.lists.specs.Lists.{all}
-use Rattle.symbolic.specs.Columns.{Column, fitsRows}
-use Rattle.symbolic.specs.Factor.{sizeSum}
+use Rattle.symbolic.specs.Columns.{Column, fits_rows}
+use Rattle.symbolic.specs.Factor.{size_sum}
 use Rattle.pool.specs.Chains.{chain}
 use Rattle.updown.specs.Entries.{Listed}
-use Rattle.updown.specs.Marks.{markAt, Taken}
+use Rattle.updown.specs.Marks.{mark_at, Taken}
 use Rattle.updown.specs.Turns.{larger}
 use Rattle.updown.specs.States.{start_of, Between, Halted}
 use Rattle.updown.specs.Starts.{CanStart, Started, SomeStart, BookHolds, SomeStartBooked, CanWalk, Walked, CanWalkListed, CanWalkBooked}
@@ -22,7 +22,7 @@ use Rattle.updown.proofs.Exceeding.{stops-adding}
 -- all columns so far have free records, or the walk stopped
 pub record Looping (next work₀ work : List ℕ) (m flags free : ℕ) (R W : List Column) (adding fits : Bool) (first last count entries used avail : ℕ) : Type 0 where
   pub onward : fits ≡ true → Between next work₀ work m flags R W adding free (suc last) first last count entries used avail
-  pub halted : fits ≡ false → (adding ≡ true) × Halted m (length next) flags work₀ work used × (length next < sizeSum (larger m R W))
+  pub halted : fits ≡ false → (adding ≡ true) × Halted m (length next) flags work₀ work used × (length next < size_sum (larger m R W))
 
 -- stopped
 pub loop-stops : {next work₀ w : List ℕ} {m flags free : ℕ} {R W : List Column} {adding ok : Bool} {f l n k used avail : ℕ} →
@@ -49,11 +49,11 @@ module _ {heads parents rows counts next : List ℕ} {m flags free : ℕ} {R W :
 
     module _ (z : j ≢ 0) where
       -- what A asks
-      loop-start : all (fitsRows m) W ≡ true → CanStart m R W adding wb j × (4 * m ≤ length wb)
+      loop-start : all (fits_rows m) W ≡ true → CanStart m R W adding wb j × (4 * m ≤ length wb)
       loop-start = seeking-start c.setting h t z
 
       loop-turning : {wa : List ℕ} {d : ℕ} →
-          (((i : ℕ) → 1 ≤ i → i ≤ length W → start_of W i ≡ j → markAt m wb j % 4 ≡ 2) → Started m R W adding wb wa d j) →
+          (((i : ℕ) → 1 ≤ i → i ≤ length W → start_of W i ≡ j → mark_at m wb j % 4 ≡ 2) → Started m R W adding wb wa d j) →
           Turning next work₀ wa m flags R W adding F d j f l n k used avail
       loop-turning a = turning-from c.setting h t z (a (seeking-bits c.setting h t z))
 
@@ -64,7 +64,7 @@ module _ {heads parents rows counts next : List ℕ} {m flags free : ℕ} {R W :
           record {
             onward = d.onward;
             halted = λ x.
-                let u : (adding ≡ true) × (length next < sizeSum (larger m R W)) =
+                let u : (adding ≡ true) × (length next < size_sum (larger m R W)) =
                 stops-adding adding c.size j b.low b.high c.setting.columns.narrow c.setting.columns.few b.touched a.numbers (sym d.fits-is ∙ x) in
                 (u.0, d.halted x, u.1);
           }
@@ -80,7 +80,7 @@ module _ {heads parents rows counts next starts row_counts row_list : List ℕ} 
       (record { R = R; W = W; listed = c.listed; can = s.0 }, s.1)
 
   pub listed-turning : {wa : List ℕ} {d : ℕ} → ((R W : List Column) → Listed starts row_counts row_list W → CanStart m R W true wb j →
-      ((i : ℕ) → 1 ≤ i → i ≤ length W → start_of W i ≡ j → markAt m wb j % 4 ≡ 2) → Started m R W true wb wa d j) →
+      ((i : ℕ) → 1 ≤ i → i ≤ length W → start_of W i ≡ j → mark_at m wb j % 4 ≡ 2) → Started m R W true wb wa d j) →
       Turning next work₀ wa m flags R W true (length (chain next free)) d j f l n k used avail
   listed-turning a = loop-turning c.walk g y t z (a R W c.listed (loop-start c.walk g y t z c.fits).0)
 
@@ -95,6 +95,6 @@ module _ {heads parents rows counts next book-heads book-rows book-next starts i
       (record { R = R; W = W; holds = c.holds; can = s.0 }, s.1)
 
   pub booked-turning : {wa : List ℕ} {d : ℕ} → ((R W : List Column) → BookHolds book-heads book-rows book-next starts ids m W → CanStart m R W adding wb j →
-      ((i : ℕ) → 1 ≤ i → i ≤ length W → start_of W i ≡ j → markAt m wb j % 4 ≡ 2) → Started m R W adding wb wa d j) →
+      ((i : ℕ) → 1 ≤ i → i ≤ length W → start_of W i ≡ j → mark_at m wb j % 4 ≡ 2) → Started m R W adding wb wa d j) →
       Turning next work₀ wa m flags R W adding (length (chain next free)) d j f l n k used avail
   booked-turning a = loop-turning c.walk g y t z (a R W c.holds (loop-start c.walk g y t z c.holds.fits).0)

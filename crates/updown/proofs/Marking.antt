@@ -6,12 +6,12 @@ use Prim.Native.Nat.{ℕ, ◌+◌, ◌-◌, ◌*◌, ◌/◌, ◌≤◌, ◌<◌
 use native.Mathlib.Omega.{arith}
 use Rattle.lists.proofs.Tests.{eq-or-ne, lt-or-le}
 use Rattle.workspace.specs.Regions.{cell}
-use Rattle.updown.specs.Marks.{markAt, Flagged, Next}
+use Rattle.updown.specs.Marks.{mark_at, Flagged, Next}
 
 -- the first i rows past the first ones are not marked
 pub record Passing (m : ℕ) (work : List ℕ) (from i : ℕ) : Type 0 where
   pub low : from ≤ i
-  pub passed : (q : ℕ) → from < q → q ≤ i → q ≤ m → markAt m work q ≡ 0
+  pub passed : (q : ℕ) → from < q → q ≤ i → q ≤ m → mark_at m work q ≡ 0
 
 pub passing-start : {m : ℕ} {work : List ℕ} (from : ℕ) → Passing m work from from
 passing-start from = record { low = omega arith; passed = λ q a b d. absurd (omega arith) }
@@ -28,9 +28,9 @@ module _ {m : ℕ} {work : List ℕ} {from i : ℕ} (p : Passing m work from i) 
         ];
       }
     where
-      quiet : (q : ℕ) → from < q → q ≤ m → (q - 1) / 64 ≡ i / 64 → markAt m work q ≡ 0
+      quiet : (q : ℕ) → from < q → q ≤ m → (q - 1) / 64 ≡ i / 64 → mark_at m work q ≡ 0
       quiet q a d e =
-          elim (eq-or-ne (markAt m work q) 0) [
+          elim (eq-or-ne (mark_at m work q) 0) [
             | inl y ↦ y
             | inr y ↦ absurd (h q a d y (ap (λ (b : ℕ). cell work flags b) e ∙ z))
           ]

@@ -12,14 +12,14 @@ use Rattle.lists.specs.Lists.{one, among, rises}
 use Rattle.lists.proofs.Tests.{eq-or-ne, and-false}
 use Rattle.lists.proofs.Times.{times-nil}
 use Rattle.symbolic.specs.Columns.{Column}
-use Rattle.symbolic.specs.Batch.{isTouched, touchedFrom}
+use Rattle.symbolic.specs.Batch.{is_touched, touched_from}
 use Rattle.symbolic.proofs.Labels.{label-start}
 use Rattle.workspace.specs.Regions.{IsZero}
 use Rattle.workspace.proofs.Regions.{zero-at, not-inside}
 use Rattle.pool.specs.Chains.{Linked}
 use Rattle.pool.proofs.Chains.{linked-nil}
 use Rattle.differences.specs.Tally.{base, Tally}
-use Rattle.updown.specs.Marks.{Room, markAt}
+use Rattle.updown.specs.Marks.{Room, mark_at}
 use Rattle.updown.specs.Queues.{links, Queues}
 use Rattle.updown.specs.Turns.{larger, before, after, label_at, standing}
 use Rattle.updown.specs.States.{start_of, MarksHold, marks, flagged, Walking}
@@ -68,17 +68,17 @@ module _ {m flags : ℕ} (R : List Column) {W : List Column} (adding : Bool) {w�
         start = s.start;
         bit = s.bit;
         child = λ c x y t l. absurd (omega arith);
-        bound = λ q x y. elim (eq-or-ne (markAt m w q) 0) [
+        bound = λ q x y. elim (eq-or-ne (mark_at m w q) 0) [
           | inl e ↦ omega (arith, ap (λ (v : ℕ). v / 4) e)
           | inr e ↦
-              let t : (k : ℕ) × (1 ≤ k) × (k ≤ length W) × (start_of W k ≡ q) × (markAt m w q ≡ 4 * k + 2) = s.cause q x y e in
+              let t : (k : ℕ) × (1 ≤ k) × (k ≤ length W) × (start_of W k ≡ q) × (mark_at m w q ≡ 4 * k + 2) = s.cause q x y e in
               omega (arith, t.4, label-start m (R ++ W) W q t.0 x y t.1 t.2 t.3)
         ];
         whole = λ q x y e.
-            let t : (k : ℕ) × (1 ≤ k) × (k ≤ length W) × (start_of W k ≡ q) × (markAt m w q ≡ 4 * k + 2) = s.cause q x y e in
+            let t : (k : ℕ) × (1 ≤ k) × (k ≤ length W) × (start_of W k ≡ q) × (mark_at m w q ≡ 4 * k + 2) = s.cause q x y e in
             omega (arith, t.4, t.1);
         cause = λ q x y e.
-            let t : (k : ℕ) × (1 ≤ k) × (k ≤ length W) × (start_of W k ≡ q) × (markAt m w q ≡ 4 * k + 2) = s.cause q x y e in
+            let t : (k : ℕ) × (1 ≤ k) × (k ≤ length W) × (start_of W k ≡ q) × (mark_at m w q ≡ 4 * k + 2) = s.cause q x y e in
             inl (t.0, t.1, t.2, t.3);
       }
 
@@ -86,7 +86,7 @@ module _ {m flags : ℕ} (R : List Column) {W : List Column} (adding : Bool) {w�
   cell-zero k x y = s.rest k (elim x [ inl u ↦ inl u | inr u ↦ inr (omega arith) ]) (inl (omega (arith, r.low))) ∙ zero-at w₀ 0 (8 * m) k zero₀ (omega arith) (omega arith)
 
   pub walking_start : Walking m flags R W adding w₀ w 1 0
-  unfolding touchedFrom
+  unfolding touched_from
   walking_start =
       record {
         low = omega arith;
@@ -105,4 +105,4 @@ module _ {m flags : ℕ} (R : List Column) {W : List Column} (adding : Bool) {w�
       }
     where
       unplaced : (c : ℕ) → 1 ≤ c → standing m R W 1 c ≡ 0
-      unplaced c a = stands-none m R W 1 c (ap (λ (z : Bool). isTouched (larger m R W) W c && z) (le-ltb c 1 a) ∙ and-false (isTouched (larger m R W) W c))
+      unplaced c a = stands-none m R W 1 c (ap (λ (z : Bool). is_touched (larger m R W) W c && z) (le-ltb c 1 a) ∙ and-false (is_touched (larger m R W) W c))

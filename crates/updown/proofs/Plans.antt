@@ -14,38 +14,38 @@ use Rattle.lists.proofs.Tests.{and_both}
 use Rattle.lists.proofs.Sum.{sum-append}
 use Rattle.lists.proofs.Rising.{rises-in}
 use Rattle.symbolic.specs.Columns.{Column}
-use Rattle.symbolic.specs.Factor.{FactorColumn, columnAt, size_of}
-use Rattle.symbolic.specs.Batch.{isTouched, touchedFrom, sizeSumOf, entriesOf}
+use Rattle.symbolic.specs.Factor.{FactorColumn, column_at, size_of}
+use Rattle.symbolic.specs.Batch.{is_touched, touched_from, size_sum_of, entries_of}
 use Rattle.symbolic.proofs.Passing.{passing-join, passing-mem, mem-passing, passing-rises, touched-passing}
 use Rattle.workspace.specs.Regions.{cell, region}
 use Rattle.workspace.proofs.Regions.{region-cell}
 use Rattle.pool.specs.Chains.{last_of}
 use Rattle.columns.specs.Plan.{planned, Suits}
-use Rattle.updown.specs.Plans.{labelIn, parent_in, PlansFrom, InPlan}
-use Rattle.workspace.specs.Layout.{marksAt, startsAt, next_at, plan_at}
+use Rattle.updown.specs.Plans.{label_in, parent_in, PlansFrom, InPlan}
+use Rattle.workspace.specs.Layout.{marks_at, starts_at, next_at, plan_at}
 use Rattle.updown.specs.Turns.{DoneColumn, PlansTo}
 
 -- ---- the touched columns below a row, one row more
 
 -- n rows from i on, then k more
-pub touched-join : (fs : List FactorColumn) (cs : List Column) (i n k : ℕ) → touchedFrom fs cs i (n + k) ≡ touchedFrom fs cs i n ++ touchedFrom fs cs (i + n) k
+pub touched-join : (fs : List FactorColumn) (cs : List Column) (i n k : ℕ) → touched_from fs cs i (n + k) ≡ touched_from fs cs i n ++ touched_from fs cs (i + n) k
 touched-join fs cs i n k =
-    rw (touched-passing fs cs i (n + k), touched-passing fs cs i n, touched-passing fs cs (i + n) k) (passing-join (isTouched fs cs) i n k)
+    rw (touched-passing fs cs i (n + k), touched-passing fs cs i n, touched-passing fs cs (i + n) k) (passing-join (is_touched fs cs) i n k)
 
-pub touched-more : (fs : List FactorColumn) (cs : List Column) (i n : ℕ) → touchedFrom fs cs i (suc n) ≡ touchedFrom fs cs i n ++ pick (isTouched fs cs (i + n)) ((i + n) ∷ []) []
-unfolding touchedFrom
+pub touched-more : (fs : List FactorColumn) (cs : List Column) (i n : ℕ) → touched_from fs cs i (suc n) ≡ touched_from fs cs i n ++ pick (is_touched fs cs (i + n)) ((i + n) ∷ []) []
+unfolding touched_from
 touched-more fs cs i n =
     let q : suc n ≡ n + 1 = omega arith in
-    ap (touchedFrom fs cs i) q ∙ touched-join fs cs i n 1
+    ap (touched_from fs cs i) q ∙ touched-join fs cs i n 1
 
-pub touched-in : (fs : List FactorColumn) (cs : List Column) (i n c : ℕ) → i ≤ c → c < i + n → isTouched fs cs c ≡ true → Mem c (touchedFrom fs cs i n)
-touched-in fs cs i n c a b h = rw (touched-passing fs cs i n) (passing-mem (isTouched fs cs) i n c a b h)
+pub touched-in : (fs : List FactorColumn) (cs : List Column) (i n c : ℕ) → i ≤ c → c < i + n → is_touched fs cs c ≡ true → Mem c (touched_from fs cs i n)
+touched-in fs cs i n c a b h = rw (touched-passing fs cs i n) (passing-mem (is_touched fs cs) i n c a b h)
 
-pub in-touched : (fs : List FactorColumn) (cs : List Column) (i n c : ℕ) → Mem c (touchedFrom fs cs i n) → (i ≤ c) × (c < i + n) × (isTouched fs cs c ≡ true)
-in-touched fs cs i n c m = mem-passing (isTouched fs cs) i n c (rw (touched-passing fs cs i n) at m)
+pub in-touched : (fs : List FactorColumn) (cs : List Column) (i n c : ℕ) → Mem c (touched_from fs cs i n) → (i ≤ c) × (c < i + n) × (is_touched fs cs c ≡ true)
+in-touched fs cs i n c m = mem-passing (is_touched fs cs) i n c (rw (touched-passing fs cs i n) at m)
 
-pub touched-rising : (fs : List FactorColumn) (cs : List Column) (i n b : ℕ) → i + n ≤ suc b → rises i b (touchedFrom fs cs i n) ≡ true
-touched-rising fs cs i n b h = rw (touched-passing fs cs i n) (passing-rises (isTouched fs cs) i n b h)
+pub touched-rising : (fs : List FactorColumn) (cs : List Column) (i n b : ℕ) → i + n ≤ suc b → rises i b (touched_from fs cs i n) ≡ true
+touched-rising fs cs i n b h = rw (touched-passing fs cs i n) (passing-rises (is_touched fs cs) i n b h)
 
 pub last-append : (r : ℕ) (xs : List ℕ) (x : ℕ) → last_of r (xs ++ (x ∷ [])) ≡ x
 unfolding last_of
@@ -63,11 +63,11 @@ last_mem x xs = elim (last-in x xs) [ inl e ↦ subst (λ (y : ℕ). Mem y (x �
 
 -- ---- sums over columns
 
-pub sizes-append : (fs : List FactorColumn) (xs ys : List ℕ) → sizeSumOf fs (xs ++ ys) ≡ sizeSumOf fs xs + sizeSumOf fs ys
-sizes-append fs = sum-append (λ j. size_of (columnAt fs j))
+pub sizes-append : (fs : List FactorColumn) (xs ys : List ℕ) → size_sum_of fs (xs ++ ys) ≡ size_sum_of fs xs + size_sum_of fs ys
+sizes-append fs = sum-append (λ j. size_of (column_at fs j))
 
-pub entries-append : (fs gs : List FactorColumn) (xs ys : List ℕ) → entriesOf fs gs (xs ++ ys) ≡ entriesOf fs gs xs + entriesOf fs gs ys
-entries-append fs gs = sum-append (λ j. max (size_of (columnAt fs j)) (size_of (columnAt gs j)))
+pub entries-append : (fs gs : List FactorColumn) (xs ys : List ℕ) → entries_of fs gs (xs ++ ys) ≡ entries_of fs gs xs + entries_of fs gs ys
+entries-append fs gs = sum-append (λ j. max (size_of (column_at fs j)) (size_of (column_at gs j)))
 
 -- ---- plans
 
@@ -83,8 +83,8 @@ module _ (m : ℕ) (L L' : List FactorColumn) (label : ℕ → ℕ) where
   plans-low w (j ∷ js) s n u p = omega (arith, plans-low w js p.0 n u p.1.1, p.1.0.plan.rises)
 
   module _ (w w' : List ℕ) (l : length w' ≡ length w) where
-    pub column-frame : {j s e n n' : ℕ} → DoneColumn m L L' label w j s e n → cell w' (marksAt m) (j - 1) ≡ cell w (marksAt m) (j - 1) →
-        cell w' (startsAt m) (j - 1) ≡ cell w (startsAt m) (j - 1) → cell w' (next_at m) (j - 1) ≡ n' →
+    pub column-frame : {j s e n n' : ℕ} → DoneColumn m L L' label w j s e n → cell w' (marks_at m) (j - 1) ≡ cell w (marks_at m) (j - 1) →
+        cell w' (starts_at m) (j - 1) ≡ cell w (starts_at m) (j - 1) → cell w' (next_at m) (j - 1) ≡ n' →
         ((k : ℕ) → plan_at m + s ≤ k → k < plan_at m + e → get_or w' k 0 ≡ get_or w k 0) → DoneColumn m L L' label w' j s e n'
     column-frame {j} {s} {e} d a b c h =
         let r : region w' (plan_at m + s) (e - s) ≡ region w (plan_at m + s) (e - s) =
@@ -92,12 +92,12 @@ module _ (m : ℕ) (L L' : List FactorColumn) (label : ℕ → ℕ) where
         record {
           plan = record {
             rises = d.plan.rises;
-            label_is = ap labelIn a ∙ d.plan.label_is;
+            label_is = ap label_in a ∙ d.plan.label_is;
             parent_is = ap parent_in a ∙ d.plan.parent_is;
             starts = b ∙ d.plan.starts;
             next-is = c;
-            suits = subst (λ (x : List ℕ). Suits (columnAt L j).counts j x) (sym r) d.plan.suits;
-            becomes = ap (planned (columnAt L j).counts) r ∙ d.plan.becomes;
+            suits = subst (λ (x : List ℕ). Suits (column_at L j).counts j x) (sym r) d.plan.suits;
+            becomes = ap (planned (column_at L j).counts) r ∙ d.plan.becomes;
           };
           entries = r ∙ d.entries;
         }
@@ -109,7 +109,7 @@ module _ (m : ℕ) (L L' : List FactorColumn) (label : ℕ → ℕ) where
         let up : p.0 ≤ u = plans-low w js p.0 n u p.1.1 in (
           p.0,
           (
-            column-frame p.1.0 (h (marksAt m + (j - 1)) (inl (j, (first, inl refl)))) (h (startsAt m + (j - 1)) (inl (j, (first, inr (inl refl)))))
+            column-frame p.1.0 (h (marks_at m + (j - 1)) (inl (j, (first, inl refl)))) (h (starts_at m + (j - 1)) (inl (j, (first, inr (inl refl)))))
                 (h (next_at m + (j - 1)) (inl (j, (first, inr (inr refl)))) ∙ p.1.0.plan.next-is) (λ k a b. h k (inr (omega arith, omega arith))),
             plans-frame js p.0 n u p.1.1 (λ k i. h k (wider k i)),
           ),
@@ -129,7 +129,7 @@ module _ (m : ℕ) (L L' : List FactorColumn) (label : ℕ → ℕ) where
         let v : (suc r ≤ j) × (j ≤ b) = rises-in {x = j} (suc r) b (first {xs = []}) q in (
           p.0,
           (
-            column-frame p.1.0 (h (marksAt m + (j - 1)) (inl (j, (first, inl refl))) (omega arith)) (h (startsAt m + (j - 1)) (inl (j, (first, inr (inl refl)))) (omega arith))
+            column-frame p.1.0 (h (marks_at m + (j - 1)) (inl (j, (first, inl refl))) (omega arith)) (h (starts_at m + (j - 1)) (inl (j, (first, inr (inl refl)))) (omega arith))
                 (c (omega arith)) (λ k x y. h k (inr (omega arith, omega (arith, p.1.1))) (omega arith)),
             p.1.1,
           ),
@@ -143,7 +143,7 @@ module _ (m : ℕ) (L L' : List FactorColumn) (label : ℕ → ℕ) where
         plans-link (i ∷ js) j p.0 n n' u b f t.1 p.1.1 (λ k x d. h k (wider k x) d) (λ d. c (omega arith)) in (
           p.0,
           (
-            column-frame p.1.0 (h (marksAt m + (j - 1)) (inl (j, (first, inl refl))) (omega arith)) (h (startsAt m + (j - 1)) (inl (j, (first, inr (inl refl)))) (omega arith))
+            column-frame p.1.0 (h (marks_at m + (j - 1)) (inl (j, (first, inl refl))) (omega arith)) (h (starts_at m + (j - 1)) (inl (j, (first, inr (inl refl)))) (omega arith))
                 (h (next_at m + (j - 1)) (inl (j, (first, inr (inr refl)))) (omega arith) ∙ p.1.0.plan.next-is)
                 (λ k x y. h k (inr (omega arith, omega arith)) (omega arith)),
             rest,
@@ -168,11 +168,11 @@ module _ (m : ℕ) (L L' : List FactorColumn) (label : ℕ → ℕ) where
     pub end : ℕ
     pub next : ℕ
     pub column : DoneColumn m L L' label w c start end next
-    pub ends : cell w (startsAt m) (next - 1) ≡ end
+    pub ends : cell w (starts_at m) (next - 1) ≡ end
     pub high : end ≤ u
     pub next-in : Mem next js ⊎ (next ≡ n)
 
-  pub plans-find : (w : List ℕ) (js : List ℕ) (s n u c : ℕ) → Mem c js → PlansTo m L L' label w js s n u → cell w (startsAt m) (n - 1) ≡ u → Found w js n u c
+  pub plans-find : (w : List ℕ) (js : List ℕ) (s n u c : ℕ) → Mem c js → PlansTo m L L' label w js s n u → cell w (starts_at m) (n - 1) ≡ u → Found w js n u c
   unfolding PlansTo
   plans-find w [] s n u c m p e = elim m [ ]
   plans-find w (j ∷ []) s n u c first p e = record { start = s; end = p.0; next = n; column = p.1.0; ends = e ∙ sym p.1.1; high = omega (arith, p.1.1); next-in = inr refl }

@@ -9,14 +9,14 @@ use native.Mathlib.Omega.{arith}
 use lib.ListN.{length, get_or}
 use Rattle.lists.specs.Lists.{all}
 use Rattle.lists.proofs.Tests.{cases}
-use Rattle.symbolic.specs.Columns.{Column, smallest, fitsRows}
-use Rattle.symbolic.specs.Factor.{FactorColumn, factorOf, columnAt, parent_of, multiplicitiesOf}
-use Rattle.symbolic.specs.Batch.{sizeSumOf}
+use Rattle.symbolic.specs.Columns.{Column, smallest, fits_rows}
+use Rattle.symbolic.specs.Factor.{FactorColumn, factor_of, column_at, parent_of, multiplicities_of}
+use Rattle.symbolic.specs.Batch.{size_sum_of}
 use Rattle.workspace.specs.Regions.{IsZero}
 use Rattle.workspace.proofs.Regions.{zero-at}
 use Rattle.pool.specs.Chains.{chain}
 use Rattle.book.specs.Book as book
-use Rattle.tables.specs.Stored.{Stored, Sized, isSoundFor}
+use Rattle.tables.specs.Stored.{Stored, Sized, is_sound_for}
 use Rattle.updown.specs.Entries.{BookedFrom, CanPlan}
 use Rattle.updown.specs.Walks.{ChainOf}
 use Rattle.updown.specs.Marks.{Room}
@@ -28,9 +28,9 @@ use Rattle.updown.proofs.Sound.{sound-column, sound-chain, sound-size, sizes-wit
 
 -- ---- the setting: tables that hold the factor before the batch
 
-module _ (s : Stored) (cs R W : List Column) (adding : Bool) (z : Sized s) (sound : isSoundFor cs s ≡ true) (e : factorOf (length s.heads) cs ≡ before adding (length s.heads) R W)
+module _ (s : Stored) (cs R W : List Column) (adding : Bool) (z : Sized s) (sound : is_sound_for cs s ≡ true) (e : factor_of (length s.heads) cs ≡ before adding (length s.heads) R W)
     (narrow : length s.heads ≤ 4096) (records : length s.next ≤ 1048576) (few : length R + length W ≤ 60000) (positions : length W ≤ 64)
-    (fits : all (fitsRows (length s.heads)) W ≡ true) (free : ℕ) (free-small : free ≤ length (chain s.next s.free)) where
+    (fits : all (fits_rows (length s.heads)) W ≡ true) (free : ℕ) (free-small : free ≤ length (chain s.next s.free)) where
   abbrev m : ℕ
   m = length s.heads
 
@@ -43,11 +43,11 @@ module _ (s : Stored) (cs R W : List Column) (adding : Bool) (z : Sized s) (soun
         columns = record {
           narrow = narrow;
           few = few;
-          chains = λ c a b. subst (λ (fs : List FactorColumn). ChainOf s.heads s.rows s.next m c (columnAt fs c).counts) e (sound-chain s cs z sound c a b);
+          chains = λ c a b. subst (λ (fs : List FactorColumn). ChainOf s.heads s.rows s.next m c (column_at fs c).counts) e (sound-chain s cs z sound c a b);
         };
         parents-hold = record { long = z.parents-long; are = λ c a b. (sound-column s cs z sound c a b).2 ∙ ap (λ (fs : List FactorColumn). parent_of fs c) e };
-        multiplicities = record { long = z.counts-long; are = λ c a b. (sound-column s cs z sound c a b).1 ∙ ap (λ (fs : List FactorColumn). multiplicitiesOf (columnAt fs c)) e };
-        fitting = λ j a b. subst (λ (fs : List FactorColumn). sizeSumOf fs (done m R W j) + free ≤ length s.next) e
+        multiplicities = record { long = z.counts-long; are = λ c a b. (sound-column s cs z sound c a b).1 ∙ ap (λ (fs : List FactorColumn). multiplicities_of (column_at fs c)) e };
+        fitting = λ j a b. subst (λ (fs : List FactorColumn). size_sum_of fs (done m R W j) + free ≤ length s.next) e
             (omega (arith, sizes-within m cs R W j a b, sound-size s cs z sound));
         fit = omega arith;
         records = records;
@@ -87,7 +87,7 @@ booked-tables b (r ∷ rs) (i ∷ is) [] h = h
 booked-tables b (r ∷ rs) (i ∷ is) (w ∷ ws) h = (h.0, h.1, h.2, h.3, booked-tables b rs is ws h.4)
 
 module _ {s : Stored} {cs W : List Column} {work : List ℕ} (p : CanPlan s cs W work) (b : book.Book) {starts ids : List ℕ} (booked : BookedFrom b starts ids W) (sized : book.Sized b) (free : ℕ)
-    (sound : book.isSound (length s.heads) (book.bookOf b.heads b.rows b.next free) ≡ true) where
+    (sound : book.is_sound (length s.heads) (book.book_of b.heads b.rows b.next free) ≡ true) where
   pub book-holds : BookHolds b.heads b.rows b.next starts ids (length s.heads) W
   book-holds = record { booked = booked-tables b starts ids W booked; sized = sized; free = free; sound = sound; fits = p.batch-fits }
 

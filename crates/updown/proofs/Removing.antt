@@ -9,7 +9,7 @@ use lib.ListN.{length, length-append}
 use Rattle.lists.specs.Lists.{pick}
 use Rattle.lists.proofs.Tests.{cases}
 use Rattle.symbolic.specs.Columns.{Column}
-use Rattle.symbolic.specs.Factor.{factorOf}
+use Rattle.symbolic.specs.Factor.{factor_of}
 use Rattle.symbolic.specs.Batch.{touched, label_of}
 use Rattle.symbolic.proofs.Bags.{bag-length}
 use Rattle.symbolic.proofs.Order.{factor-bag}
@@ -17,7 +17,7 @@ use Rattle.workspace.specs.Regions.{cleared}
 use Rattle.pool.specs.Chains.{chain, Linked}
 use Rattle.pool.proofs.Chains.{chain-nil, linked-nil}
 use Rattle.book.specs.Book as book
-use Rattle.tables.specs.Stored.{Stored, storedOf}
+use Rattle.tables.specs.Stored.{Stored, stored_of}
 use Rattle.updown.specs.Entries.{CanRemove, RemovePlanned}
 use Rattle.updown.specs.Plans.{PlanIs}
 use Rattle.updown.specs.Turns.{before}
@@ -38,7 +38,7 @@ module _ {s : Stored} {b : book.Book} {starts ids work : List ℕ} {R W : List C
   pub remove-mark : CanMark starts (length s.heads) (8 * length s.heads + 4 * length s.next) work W
   remove-mark = mark_of c.can (booked-starts b starts ids W c.booked)
 
-  same-factor : factorOf m c.columns ≡ before false m R W
+  same-factor : factor_of m c.columns ≡ before false m R W
   same-factor = factor-bag m c.columns (R ++ W) c.same
 
   few-columns : length R + length W ≤ 60000
@@ -50,7 +50,7 @@ module _ {s : Stored} {b : book.Book} {starts ids work : List ℕ} {R W : List C
 
   setting : Setting s.heads s.parents s.rows s.counts s.next m flags R W false (length (chain s.next 0))
   setting =
-      setting-of (storedOf s.heads s.parents s.rows s.counts s.next c.free) c.columns R W false c.can.sized c.can.sound same-factor c.can.m-bound c.can.f-bound
+      setting-of (stored_of s.heads s.parents s.rows s.counts s.next c.free) c.columns R W false c.can.sized c.can.sound same-factor c.can.m-bound c.can.f-bound
       few-columns c.can.positions.1 c.can.batch-fits (length (chain s.next 0)) (omega (arith, none_free))
 
   pub remove-walk : {w : List ℕ} → StartsTo (length s.heads) (8 * length s.heads + 4 * length s.next) W work w (length W) →
@@ -75,7 +75,7 @@ module _ {s : Stored} {b : book.Book} {starts ids work : List ℕ} {R W : List C
       record {
         fits-is = x.fits-is ∙ ok;
         plan = let q = x.numbers ok in rw (q.0, q.1, q.2, q.3)
-            (subst (λ (q : ℕ). PlanIs m (length s.next) q (factorOf m (R ++ W)) (factorOf m R) (label_of (factorOf m (R ++ W)) W) (touched (factorOf m (R ++ W)) W) work w' f n k used) none_free
-            (subst (λ (t : List ℕ). PlanIs m (length s.next) (length (chain s.next 0)) (factorOf m (R ++ W)) (factorOf m R) (label_of (factorOf m (R ++ W)) W) (touched (factorOf m (R ++ W)) W) work t f n k used)
+            (subst (λ (q : ℕ). PlanIs m (length s.next) q (factor_of m (R ++ W)) (factor_of m R) (label_of (factor_of m (R ++ W)) W) (touched (factor_of m (R ++ W)) W) work w' f n k used) none_free
+            (subst (λ (t : List ℕ). PlanIs m (length s.next) (length (chain s.next 0)) (factor_of m (R ++ W)) (factor_of m R) (label_of (factor_of m (R ++ W)) W) (touched (factor_of m (R ++ W)) W) work t f n k used)
             (sym v) (plan-made (e.made ok) setting.fitting)));
       }

@@ -8,12 +8,12 @@ use Prim.Native.Nat.{ℕ, zero, suc, ◌+◌, ◌-◌, ◌*◌, ◌%◌, ◌≤�
 use native.Mathlib.Omega.{arith}
 use lib.ListN.{length, get_or}
 use Rattle.lists.specs.Lists.{pick, sum_of, all}
-use Rattle.symbolic.specs.Columns.{Column, fitsRows}
-use Rattle.symbolic.specs.Batch.{touchedFrom, sizeSumOf, entriesOf}
+use Rattle.symbolic.specs.Columns.{Column, fits_rows}
+use Rattle.symbolic.specs.Batch.{touched_from, size_sum_of, entries_of}
 use Rattle.workspace.specs.Regions.{region}
 use Rattle.pool.specs.Chains.{chain, last_of, Linked}
-use Rattle.columns.specs.Plan.{ofKind}
-use Rattle.updown.specs.Marks.{Room, markAt, Flagged, Taken}
+use Rattle.columns.specs.Plan.{of_kind}
+use Rattle.updown.specs.Marks.{Room, mark_at, Flagged, Taken}
 use Rattle.updown.specs.Turns.{before, after, done}
 use Rattle.updown.specs.States.{start_of, Numbers, Walking, Setting, Between}
 use Rattle.updown.proofs.Worked.{Begun}
@@ -30,7 +30,7 @@ use Rattle.updown.proofs.Turned.{Turning}
 pub between_start : {next work₀ w : List ℕ} {m flags : ℕ} {R W : List Column} {adding ok : Bool} {f l c k used avail : ℕ} (free : ℕ) →
     (ok ≡ true) × (f ≡ 0) × (l ≡ 0) × (c ≡ 0) × (k ≡ 0) × (used ≡ 0) × (avail ≡ free) → Walking m flags R W adding work₀ w 1 0 → Linked next free (chain next free) →
     Between next work₀ w m flags R W adding (length (chain next free)) (suc l) f l c k used avail
-unfolding touchedFrom last_of sum_of ofKind
+unfolding touched_from last_of sum_of of_kind
 between_start free e h x =
     rw (e.1, e.2, e.3, e.4, e.5, e.6) (record {
       walking = h;
@@ -38,7 +38,7 @@ between_start free e h x =
     })
 
 module _ {next work₀ w : List ℕ} {m flags : ℕ} {R W : List Column} {adding : Bool} {free f l c k used avail : ℕ} where
-  between-skip : {j : ℕ} → Between next work₀ w m flags R W adding free j f l c k used avail → j ≤ m → markAt m w j ≡ 0 →
+  between-skip : {j : ℕ} → Between next work₀ w m flags R W adding free j f l c k used avail → j ≤ m → mark_at m w j ≡ 0 →
       Between next work₀ w m flags R W adding free (suc j) f l c k used avail
   between-skip {j} h b z =
       let e : done m R W (suc j) ≡ done m R W j = done-skip m R W j h.walking.low (touched-mark m R W h.walking.marks h.walking.low b z) in
@@ -49,15 +49,15 @@ module _ {next work₀ w : List ℕ} {m flags : ℕ} {R W : List Column} {adding
           first-is = n.first-is ∙ ap (λ (x : List ℕ). get_or x 0 0) (sym e);
           last-is = n.last-is ∙ ap (last_of 0) (sym e);
           count-is = n.count-is ∙ ap length (sym e);
-          entries-is = n.entries-is ∙ ap (entriesOf (before adding m R W) (after adding m R W)) (sym e);
+          entries-is = n.entries-is ∙ ap (entries_of (before adding m R W) (after adding m R W)) (sym e);
           linked = n.linked;
           taken = n.taken;
-          room = omega (arith, n.room, ap (sizeSumOf (before adding m R W)) e);
-          grown = λ x. omega (arith, n.grown x, ap (sizeSumOf (before adding m R W)) e, ap (sizeSumOf (after adding m R W)) e);
+          room = omega (arith, n.room, ap (size_sum_of (before adding m R W)) e);
+          grown = λ x. omega (arith, n.grown x, ap (size_sum_of (before adding m R W)) e, ap (size_sum_of (after adding m R W)) e);
         };
       }
 
-  between-to : (n : ℕ) {j : ℕ} → Between next work₀ w m flags R W adding free j f l c k used avail → j + n ≤ suc m → ((q : ℕ) → j ≤ q → q < j + n → markAt m w q ≡ 0) →
+  between-to : (n : ℕ) {j : ℕ} → Between next work₀ w m flags R W adding free j f l c k used avail → j + n ≤ suc m → ((q : ℕ) → j ≤ q → q < j + n → mark_at m w q ≡ 0) →
       Between next work₀ w m flags R W adding free (j + n) f l c k used avail
   between-to zero {j} h b z = let e : j ≡ j + 0 = omega arith in subst (λ (x : ℕ). Between next work₀ w m flags R W adding free x f l c k used avail) e h
   between-to (suc n) {j} h b z =
@@ -92,8 +92,8 @@ taken_none {next} {work₀} {w} {m} {flags} {R} {W} {adding} {free} {f} {l} {c} 
 -- row j is the next marked one
 module _ {heads parents rows counts next : List ℕ} {m flags : ℕ} {R W : List Column} {adding : Bool} {free : ℕ} (s : Setting heads parents rows counts next m flags R W adding free)
     {work₀ w : List ℕ} {f l c k used avail : ℕ} (h : Between next work₀ w m flags R W adding free (suc l) f l c k used avail) {wb : List ℕ} {j : ℕ} (t : Taken m w wb l used j) (z : j ≢ 0) where
-  taken-row : (l < j) × (j ≤ m) × (markAt m w j ≢ 0)
-  taken-row = let u : (l < j) × ((j ≤ m) × (markAt m w j ≢ 0)) = t.next.found z in (u.0, u.1.0, u.1.1)
+  taken-row : (l < j) × (j ≤ m) × (mark_at m w j ≢ 0)
+  taken-row = let u : (l < j) × ((j ≤ m) × (mark_at m w j ≢ 0)) = t.next.found z in (u.0, u.1.0, u.1.1)
 
   here : Between next work₀ w m flags R W adding free j f l c k used avail
   here =
@@ -119,7 +119,7 @@ module _ {heads parents rows counts next : List ℕ} {m flags : ℕ} {R W : List
   long-b = ap length (t.begins z) ∙ begun-length here.walking taken-row.1 taken-row.2 within l here.numbers.last-is
 
   -- what A asks
-  pub seeking-start : all (fitsRows m) W ≡ true → CanStart m R W adding wb j × (4 * m ≤ length wb)
+  pub seeking-start : all (fits_rows m) W ≡ true → CanStart m R W adding wb j × (4 * m ≤ length wb)
   seeking-start fits =
       let tally = tally-frame long-b (λ i x. same-past i (inl x)) here.walking.tally in (
         record {
@@ -134,8 +134,8 @@ module _ {heads parents rows counts next : List ℕ} {m flags : ℕ} {R W : List
       )
 
   -- the mark says whether a batch column starts at j
-  pub seeking-bits : (i : ℕ) → 1 ≤ i → i ≤ length W → start_of W i ≡ j → markAt m wb j % 4 ≡ 2
-  seeking-bits i x y g = ap (λ (v : ℕ). markAt m wb v % 4) (sym g) ∙ taken-begun.marks.bit i x y (omega arith)
+  pub seeking-bits : (i : ℕ) → 1 ≤ i → i ≤ length W → start_of W i ≡ j → mark_at m wb j % 4 ≡ 2
+  seeking-bits i x y g = ap (λ (v : ℕ). mark_at m wb v % 4) (sym g) ∙ taken-begun.marks.bit i x y (omega arith)
 
   pub turning-from : {w' : List ℕ} {n : ℕ} → Started m R W adding wb w' n j → Turning next work₀ w' m flags R W adding free n j f l c k used avail
   turning-from {w'} a =
@@ -151,18 +151,18 @@ module _ {heads parents rows counts next : List ℕ} {m flags : ℕ} {R W : List
           count-is = nums.count-is;
           entries-is = nums.entries-is;
           linked = nums.linked;
-          taken = ap (λ (x : List ℕ). ofKind 1 x + length (chain next avail)) r ∙ nums.taken;
+          taken = ap (λ (x : List ℕ). of_kind 1 x + length (chain next avail)) r ∙ nums.taken;
           room = nums.room;
-          grown = λ x. omega (arith, nums.grown x, ap (ofKind 1) r);
+          grown = λ x. omega (arith, nums.grown x, ap (of_kind 1) r);
         };
       }
 
 -- ---- each turn ends the walk or leaves fewer rows
 
 -- how many rows are left after the last touched column, 0 where the walk ended
-abbrev pub rowsLeft : (m : ℕ) (fits : Bool) (last : ℕ) → ℕ
-rowsLeft m fits l = pick fits (suc m - l) 0
+abbrev pub rows_left : (m : ℕ) (fits : Bool) (last : ℕ) → ℕ
+rows_left m fits l = pick fits (suc m - l) 0
 
-pub rows-fewer : {m l l' j used : ℕ} {w w' : List ℕ} (ok ok' : Bool) → ok ≡ true → Taken m w w' l used j → j ≢ 0 → (ok' ≡ true → l' ≡ j) → rowsLeft m ok' l' < rowsLeft m ok l
+pub rows-fewer : {m l l' j used : ℕ} {w w' : List ℕ} (ok ok' : Bool) → ok ≡ true → Taken m w w' l used j → j ≢ 0 → (ok' ≡ true → l' ≡ j) → rows_left m ok' l' < rows_left m ok l
 rows-fewer ok true h t z e = rw h (omega (arith, t.next.found z, e refl))
 rows-fewer ok false h t z e = rw h (omega (arith, t.next.found z))

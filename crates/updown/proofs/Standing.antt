@@ -12,23 +12,23 @@ use borrow.Author.Tests.{ltb-true, lt-ltb, le-ltb, le-leb, lt-leb, eqb-true, eqb
 use Rattle.lists.specs.Lists.{pick}
 use Rattle.lists.proofs.Tests.{cases, eq-or-ne, lt-or-le, zero-or-pos, and_both, both-and, both_ways, or-either, or_left, or_right, refute, and-false, or-false}
 use Rattle.symbolic.specs.Columns.{Column}
-use Rattle.symbolic.specs.Batch.{isTouched}
+use Rattle.symbolic.specs.Batch.{is_touched}
 use Rattle.symbolic.proofs.Build.{laws}
 use Rattle.symbolic.proofs.Touched.{touched-parent}
 use Rattle.symbolic.proofs.Locality.{parent-stays-or-falls, touched-old-parent}
-use Rattle.updown.specs.Turns.{larger, treeParent, otherParent, isDone, standing, waiting}
+use Rattle.updown.specs.Turns.{larger, tree_parent, other_parent, is_done, standing, waiting}
 use Rattle.updown.specs.SoFar.{also, children, lost, family}
 use Rattle.updown.proofs.Queueing.{moved}
 
 module _ (m : ℕ) (R W : List Column) where
   abbrev T : ℕ → Bool
-  T c = isTouched (larger m R W) W c
+  T c = is_touched (larger m R W) W c
 
   abbrev U : ℕ → ℕ
-  U = treeParent m R W
+  U = tree_parent m R W
 
   abbrev O : ℕ → ℕ
-  O = otherParent m R
+  O = other_parent m R
 
   -- ---- parents
 
@@ -40,24 +40,24 @@ module _ (m : ℕ) (R W : List Column) where
       let t : (0 < U c) × (U c ≤ O c) = parent-stays-or-falls m R W c a b p in
       (t.0, t.1, ((laws m R).parent_in c a b p).0, ((laws m R).parent_in c a b p).1)
 
-  done-true : (j c : ℕ) → T c ≡ true → c < j → isDone m R W j c ≡ true
+  done-true : (j c : ℕ) → T c ≡ true → c < j → is_done m R W j c ≡ true
   done-true j c t l = both-and t (lt-ltb c j l)
 
-  done-parts : (j c : ℕ) → isDone m R W j c ≡ true → (T c ≡ true) × (c < j)
+  done-parts : (j c : ℕ) → is_done m R W j c ≡ true → (T c ≡ true) × (c < j)
   done-parts j c h = let t : (T c ≡ true) × (ltb c j ≡ true) = and_both (T c) (ltb c j) h in (t.0, ltb-true c j t.1)
 
   -- ---- where a column waits
 
-  pub stands-none : (j c : ℕ) → isDone m R W j c ≡ false → standing m R W j c ≡ 0
+  pub stands-none : (j c : ℕ) → is_done m R W j c ≡ false → standing m R W j c ≡ 0
   stands-none j c e = rw e refl
 
-  stands-tree : (j c : ℕ) → isDone m R W j c ≡ true → j ≤ U c → standing m R W j c ≡ U c
+  stands-tree : (j c : ℕ) → is_done m R W j c ≡ true → j ≤ U c → standing m R W j c ≡ U c
   stands-tree j c e l = rw (e, le-leb j (U c) l) refl
 
-  stands-other : (j c : ℕ) → isDone m R W j c ≡ true → U c < j → 0 < U c → O c ≢ U c → j ≤ O c → standing m R W j c ≡ m + O c
+  stands-other : (j c : ℕ) → is_done m R W j c ≡ true → U c < j → 0 < U c → O c ≢ U c → j ≤ O c → standing m R W j c ≡ m + O c
   stands-other j c e l p n k = rw (e, lt-leb j (U c) l, ne_eqb (U c) 0 (omega arith), ne_eqb (O c) (U c) n, le-leb j (O c) k) refl
 
-  stands-gone : (j c : ℕ) → isDone m R W j c ≡ true → U c < j → (U c ≡ 0) ⊎ ((O c ≡ U c) ⊎ (O c < j)) → standing m R W j c ≡ 0
+  stands-gone : (j c : ℕ) → is_done m R W j c ≡ true → U c < j → (U c ≡ 0) ⊎ ((O c ≡ U c) ⊎ (O c < j)) → standing m R W j c ≡ 0
   stands-gone j c e l d =
       elim d [
         | inl z ↦ rw (e, lt-leb j (U c) l, eq-eqb (U c) 0 z) refl
@@ -75,14 +75,14 @@ module _ (m : ℕ) (R W : List Column) where
 
   -- all cases at once
   pub data Stands (j c : ℕ) : Type 0 where
-    nowhere : isDone m R W j c ≡ false → standing m R W j c ≡ 0 → Stands j c
-    tree : isDone m R W j c ≡ true → j ≤ U c → standing m R W j c ≡ U c → Stands j c
-    other : isDone m R W j c ≡ true → U c < j → 0 < U c → O c ≢ U c → j ≤ O c → standing m R W j c ≡ m + O c → Stands j c
-    gone : isDone m R W j c ≡ true → U c < j → (U c ≡ 0) ⊎ ((O c ≡ U c) ⊎ (O c < j)) → standing m R W j c ≡ 0 → Stands j c
+    nowhere : is_done m R W j c ≡ false → standing m R W j c ≡ 0 → Stands j c
+    tree : is_done m R W j c ≡ true → j ≤ U c → standing m R W j c ≡ U c → Stands j c
+    other : is_done m R W j c ≡ true → U c < j → 0 < U c → O c ≢ U c → j ≤ O c → standing m R W j c ≡ m + O c → Stands j c
+    gone : is_done m R W j c ≡ true → U c < j → (U c ≡ 0) ⊎ ((O c ≡ U c) ⊎ (O c < j)) → standing m R W j c ≡ 0 → Stands j c
 
   pub stands : (j c : ℕ) → Stands j c
   stands j c =
-      elim (cases (isDone m R W j c)) [
+      elim (cases (is_done m R W j c)) [
         | inr e ↦ nowhere e (stands-none j c e)
         | inl e ↦ elim (lt-or-le (U c) j) [
           | inr l ↦ tree e l (stands-tree j c e l)
@@ -132,7 +132,7 @@ module _ (m : ℕ) (R W : List Column) where
           | gone e l d z ↦ (omega arith, omega arith)
         ]
 
-    done_more : (c : ℕ) → c ≢ j → isDone m R W (suc j) c ≡ isDone m R W j c
+    done_more : (c : ℕ) → c ≢ j → is_done m R W (suc j) c ≡ is_done m R W j c
     done_more c n = ap (λ (z : Bool). T c && z) (same c n)
       where
         same : (c : ℕ) → c ≢ j → ltb c (suc j) ≡ ltb c j
@@ -151,7 +151,7 @@ module _ (m : ℕ) (R W : List Column) where
 
     pub stands_self : T j ≡ true → standing m R W (suc j) j ≡ U j
     stands_self t =
-        let d : isDone m R W (suc j) j ≡ true = done-true (suc j) j t (omega arith) in
+        let d : is_done m R W (suc j) j ≡ true = done-true (suc j) j t (omega arith) in
         elim (zero-or-pos (U j)) [
           | inl z ↦ stands-gone (suc j) j d (omega arith) (inl z) ∙ sym z
           | inr z ↦ stands-tree (suc j) j d (omega (arith, tree-above j a b z))
@@ -164,7 +164,7 @@ module _ (m : ℕ) (R W : List Column) where
     pub moves-child : (c : ℕ) → 1 ≤ c → c ≤ m → standing m R W j c ≡ j → standing m R W (suc j) c ≡ pick (not (eqb (O c) j) && not (eqb (O c) 0)) (m + O c) 0
     moves-child c x y h =
         let w : (T c ≡ true) × (c < j) × (U c ≡ j) = waits-child c h in
-        let d : isDone m R W (suc j) c ≡ true = done-true (suc j) c w.0 (omega arith) in
+        let d : is_done m R W (suc j) c ≡ true = done-true (suc j) c w.0 (omega arith) in
         elim (eq-or-ne (O c) j) [
           | inl e ↦ stands-gone (suc j) c d (omega arith) (inr (inl (omega arith))) ∙ rw (eq-eqb (O c) j e) refl
           | inr e ↦ elim (zero-or-pos (O c)) [
@@ -185,8 +185,8 @@ module _ (m : ℕ) (R W : List Column) where
     stands-untouched t c x y =
         elim (eq-or-ne c j) [
           | inl e ↦
-              let d : isDone m R W (suc j) c ≡ false = rw (ap T e ∙ t) refl in
-              let k : isDone m R W j c ≡ false = rw (ap T e ∙ t) refl in
+              let d : is_done m R W (suc j) c ≡ false = rw (ap T e ∙ t) refl in
+              let k : is_done m R W j c ≡ false = rw (ap T e ∙ t) refl in
               stands-none (suc j) c d ∙ sym (stands-none j c k)
           | inr e ↦ stands-keep c e
               (λ z. let w : (T c ≡ true) × (c < j) × (U c ≡ j) = waits-child c z in

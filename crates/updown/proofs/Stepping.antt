@@ -12,16 +12,16 @@ use Rattle.lists.specs.Lists.{pick, Mem, first}
 use Rattle.lists.proofs.Tests.{lt-or-le}
 use Rattle.lists.proofs.Member.{mem-left, mem-right}
 use Rattle.symbolic.specs.Columns.{Column}
-use Rattle.symbolic.specs.Factor.{FactorColumn, columnAt, parent_of}
-use Rattle.symbolic.specs.Batch.{isTouched, touchedFrom}
+use Rattle.symbolic.specs.Factor.{FactorColumn, column_at, parent_of}
+use Rattle.symbolic.specs.Batch.{is_touched, touched_from}
 use Rattle.workspace.specs.Regions.{cell, region, Outside}
 use Rattle.emission.specs.Emit as emit
 use Rattle.emission.specs.declared.Emission.{Emission}
 use Rattle.columns.specs.Plan.{planned, Suits}
-use Rattle.updown.specs.Plans.{labelIn, parent_in, InPlan}
+use Rattle.updown.specs.Plans.{label_in, parent_in, InPlan}
 use Rattle.workspace.specs.Layout.{plan_at}
 use Rattle.workspace.proofs.Regions.{not-inside}
-use Rattle.updown.specs.Marks.{markAt, Flagged}
+use Rattle.updown.specs.Marks.{mark_at, Flagged}
 use Rattle.updown.specs.Queues.{Queues}
 use Rattle.updown.specs.Turns.{larger, before, after, label_at, done, standing, waiting, DoneColumn, PlansTo}
 use Rattle.updown.specs.SoFar.{family}
@@ -36,27 +36,27 @@ use Rattle.updown.proofs.Marked.{mark-label}
 -- ---- the done columns, one row more
 
 module _ (m : ℕ) (R W : List Column) (j : ℕ) (a : 1 ≤ j) where
-  done-one : done m R W (suc j) ≡ done m R W j ++ pick (isTouched (larger m R W) W j) (j ∷ []) []
+  done-one : done m R W (suc j) ≡ done m R W j ++ pick (is_touched (larger m R W) W j) (j ∷ []) []
   done-one =
       let p : suc j - 1 ≡ suc (j - 1) = omega arith in
       let q : 1 + (j - 1) ≡ j = omega arith in
-      ap (λ (n : ℕ). touchedFrom (larger m R W) W 1 n) p ∙ touched-more (larger m R W) W 1 (j - 1) ∙ ap (λ (x : ℕ). done m R W j ++ pick (isTouched (larger m R W) W x) (x ∷ []) []) q
+      ap (λ (n : ℕ). touched_from (larger m R W) W 1 n) p ∙ touched-more (larger m R W) W 1 (j - 1) ∙ ap (λ (x : ℕ). done m R W j ++ pick (is_touched (larger m R W) W x) (x ∷ []) []) q
 
-  pub done_next : isTouched (larger m R W) W j ≡ true → done m R W (suc j) ≡ done m R W j ++ (j ∷ [])
+  pub done_next : is_touched (larger m R W) W j ≡ true → done m R W (suc j) ≡ done m R W j ++ (j ∷ [])
   done_next t = done-one ∙ rw t refl
 
-  pub done-skip : isTouched (larger m R W) W j ≡ false → done m R W (suc j) ≡ done m R W j
+  pub done-skip : is_touched (larger m R W) W j ≡ false → done m R W (suc j) ≡ done m R W j
   done-skip t = done-one ∙ rw t (append-nil (done m R W j))
 
   pub done-in : {c : ℕ} → Mem c (done m R W j) → (1 ≤ c) × (c < j)
-  done-in {c} x = let v : (1 ≤ c) × (c < 1 + (j - 1)) × (isTouched (larger m R W) W c ≡ true) = in-touched (larger m R W) W 1 (j - 1) c x in omega arith
+  done-in {c} x = let v : (1 ≤ c) × (c < 1 + (j - 1)) × (is_touched (larger m R W) W c ≡ true) = in-touched (larger m R W) W 1 (j - 1) c x in omega arith
 
   -- the plans' places, one column more
-  pub in-plan-wider : isTouched (larger m R W) W j ≡ true → {used used' k : ℕ} → used ≤ used' → InPlan m used (done m R W j) k → InPlan m used' (done m R W (suc j)) k
+  pub in-plan-wider : is_touched (larger m R W) W j ≡ true → {used used' k : ℕ} → used ≤ used' → InPlan m used (done m R W j) k → InPlan m used' (done m R W (suc j)) k
   in-plan-wider t l (inr x) = inr (x.0, omega arith)
   in-plan-wider t l (inl x) = inl (x.0, (subst (λ (y : List ℕ). Mem x.0 y) (sym (done_next t)) (mem-left (j ∷ []) x.1.0), x.1.1))
 
-  pub own_in : isTouched (larger m R W) W j ≡ true → Mem j (done m R W (suc j))
+  pub own_in : is_touched (larger m R W) W j ≡ true → Mem j (done m R W (suc j))
   own_in t = subst (λ (y : List ℕ). Mem j y) (sym (done_next t)) (mem-right (done m R W j) first)
 
 -- ---- the step
@@ -78,14 +78,14 @@ module _ {next : List ℕ} {m flags : ℕ} {R W : List Column} {adding : Bool} {
       queue-none (λ c x y. ne_eqb (waiting m R W j (family m R W j) c) j (family-none m R W j b.low b.high c x (omega (arith, links-length m w₁ long₁))))
       (d.queues.queue j (omega arith) (omega (arith, b.high)) (omega (arith, b.low)))
 
-  mark-same : markAt m w₁ j ≡ markAt m w j
+  mark-same : mark_at m w₁ j ≡ mark_at m w j
   mark-same = d.still (3 * m + (j - 1)) (omega arith) (inl (omega (arith, b.high, b.low))) (omega (arith, b.high, b.low)) (inl (omega (arith, b.high, b.low)))
 
-  pub label_same : markAt m w₁ j / 4 ≡ label_at m R W j
+  pub label_same : mark_at m w₁ j / 4 ≡ label_at m R W j
   label_same = ap (λ (x : ℕ). x / 4) mark-same ∙ mark-label m R W b.marks b.low b.high b.touched
 
   module _ (ok : e.fits ≡ true) (fit : 8 * m + length next ≤ flags) where
-    module _ (w₂ : List ℕ) (p : ℕ) (l : length w₂ ≡ length w₁) (few : label_at m R W j ≤ 64) (parent : p ≡ parent_of L' j) (own : cell w₂ (3 * m) (j - 1) ≡ markAt m w₁ j + 262144 * p)
+    module _ (w₂ : List ℕ) (p : ℕ) (l : length w₂ ≡ length w₁) (few : label_at m R W j ≤ 64) (parent : p ≡ parent_of L' j) (own : cell w₂ (3 * m) (j - 1) ≡ mark_at m w₁ j + 262144 * p)
         (other : (k : ℕ) → k ≢ 3 * m + (j - 1) → Outside (3 * m + j) (m - j) k → Outside (5 * m + j) (3 * m - j) k → Outside flags 64 k → get_or w₂ k 0 ≡ get_or w₁ k 0)
         (ms : MarksHold m R W w₂ (suc j)) (fs : Flagged m flags w₂ j) (qs : Queues m w₂ (suc j) 0 (standing m R W (suc j))) where
       -- a place before the plan that the step and the turn leave
@@ -108,19 +108,19 @@ module _ {next : List ℕ} {m flags : ℕ} {R W : List Column} {adding : Bool} {
 
       own-column : DoneColumn m L L' (label_at m R W) w₂ j used e.used 0
       own-column =
-          let f : emit.Plan next m j used avail (columnAt L j).counts (columnAt L' j).counts w₁ e = d.planned.plan ok in
+          let f : emit.Plan next m j used avail (column_at L j).counts (column_at L' j).counts w₁ e = d.planned.plan ok in
           let r : region w₂ (plan_at m + used) (e.used - used) ≡ region w₁ (plan_at m + used) (e.used - used) =
           region-same w₁ w₂ (plan_at m + used) (e.used - used) l (λ i x.
           other (plan_at m + used + i) (omega (arith, b.high)) (inr (omega (arith, b.high))) (inr (omega (arith, b.high))) (inl (omega (arith, fit, d.planned.used_high, d.planned.used_low)))) in
           record {
             plan = record {
               rises = d.planned.used_low;
-              label_is = ap labelIn own ∙ omega (arith, label_same);
+              label_is = ap label_in own ∙ omega (arith, label_same);
               parent_is = ap parent_in own ∙ omega (arith, label_same, parent);
               starts = stay (4 * m + (j - 1)) (omega arith) (omega (arith, b.high)) (omega (arith, b.high)) (inr (omega (arith, b.high))) (inl (omega (arith, b.high))) (omega (arith, b.high)) ∙ b.starts;
               next-is = other (5 * m + (j - 1)) (omega (arith, b.high)) (inr (omega (arith, b.high))) (inl (omega (arith, b.low))) (inl (omega (arith, b.room.low, b.high))) ∙ next-zero;
-              suits = subst (λ (x : List ℕ). Suits (columnAt L j).counts j x) (sym r) f.suits;
-              becomes = ap (planned (columnAt L j).counts) r ∙ f.becomes;
+              suits = subst (λ (x : List ℕ). Suits (column_at L j).counts j x) (sym r) f.suits;
+              becomes = ap (planned (column_at L j).counts) r ∙ f.becomes;
             };
             entries = r ∙ f.entries;
           }

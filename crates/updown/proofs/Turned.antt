@@ -11,15 +11,15 @@ use lib.ListN.{length, get_or}
 use Rattle.lists.specs.Lists.{pick, sum_of, at}
 use Rattle.lists.proofs.Tests.{zero-or-pos}
 use Rattle.symbolic.specs.Columns.{Column}
-use Rattle.symbolic.specs.Factor.{factorOf, columnAt, parent_of, size_of, firstAbove}
-use Rattle.symbolic.specs.Batch.{sizeSumOf}
+use Rattle.symbolic.specs.Factor.{factor_of, column_at, parent_of, size_of, first_above}
+use Rattle.symbolic.specs.Batch.{size_sum_of}
 use Rattle.symbolic.proofs.Build.{laws, parent_is}
 use Rattle.pool.specs.Chains.{chain}
-use Rattle.columns.specs.Plan.{ofKind}
-use Rattle.emission.specs.Plans.{planFrom}
+use Rattle.columns.specs.Plan.{of_kind}
+use Rattle.emission.specs.Plans.{plan_from}
 use Rattle.emission.specs.declared.Emission.{Emission}
-use Rattle.updown.specs.Marks.{Room, markAt, steppedUp, upAt, CanStep, SteppedTo}
-use Rattle.updown.specs.Turns.{before, after, treeParent, done}
+use Rattle.updown.specs.Marks.{Room, mark_at, stepped_up, up_at, CanStep, SteppedTo}
+use Rattle.updown.specs.Turns.{before, after, tree_parent, done}
 use Rattle.updown.specs.SoFar.{nobody, children, SoFar, IsDefinition}
 use Rattle.updown.specs.Walks.{Columns, Parents, Turn, TurnTo, TurnDone, SomeTurn, SomeTurnD}
 use Rattle.updown.specs.States.{Multiplicities, start_of, Numbers, Walking, Planned, SomePlanned, Halted, Setting, Between}
@@ -39,7 +39,7 @@ pub record Turning (next work₀ work : List ℕ) (m flags : ℕ) (R W : List Co
 
 -- the turn of j fits exactly if there are free records for its new rows, and then the walk goes on from j, its last column
 pub record Turned (next work₀ work : List ℕ) (m flags : ℕ) (R W : List Column) (adding : Bool) (free j avail₀ : ℕ) (fits : Bool) (first last count entries used avail : ℕ) : Type 0 where
-  pub fits-is : fits ≡ leb (ofKind 1 (planFrom 1 (columnAt (before adding m R W) j).counts (columnAt (after adding m R W) j).counts)) (length (chain next avail₀))
+  pub fits-is : fits ≡ leb (of_kind 1 (plan_from 1 (column_at (before adding m R W) j).counts (column_at (after adding m R W) j).counts)) (length (chain next avail₀))
   pub onward : fits ≡ true → Between next work₀ work m flags R W adding free (suc last) first last count entries used avail
   pub halted : fits ≡ false → Halted m (length next) flags work₀ work used
 
@@ -48,7 +48,7 @@ module _ {heads parents rows counts next : List ℕ} {m flags : ℕ} {R W : List
   turning-turn : Turn m R W adding w j used n 0 nobody
   turning-turn = begun-turn t.begun t.so_far
 
-  turning-room : used + size_of (columnAt (before adding m R W) j) + length (chain next avail) ≤ length next
+  turning-room : used + size_of (column_at (before adding m R W) j) + length (chain next avail) ≤ length next
   unfolding sum_of
   turning-room =
       let b : Begun m flags R W adding work₀ w j used = t.begun in
@@ -56,7 +56,7 @@ module _ {heads parents rows counts next : List ℕ} {m flags : ℕ} {R W : List
         arith,
         t.numbers.room,
         s.fitting (suc j) (omega arith) (omega (arith, b.high)),
-        ap (sizeSumOf (before adding m R W)) (done_next m R W j b.low b.touched),
+        ap (size_sum_of (before adding m R W)) (done_next m R W j b.low b.touched),
         sizes-append (before adding m R W) (done m R W j) (j ∷ []),
       )
 
@@ -64,23 +64,23 @@ module _ {heads parents rows counts next : List ℕ} {m flags : ℕ} {R W : List
 
   module _ {w₁ : List ℕ} {e : Emission} (d : Worked next w w₁ m R W adding j used avail e) (ok : e.fits ≡ true) where
     abbrev up : ℕ
-    up = upAt parents j e.parent.0 adding
+    up = up_at parents j e.parent.0 adding
 
     new-parent : e.parent.0 ≡ parent_of (after adding m R W) j
     new-parent = (d.planned.plan ok).parent ∙ sym (go adding)
       where
-        go : (z : Bool) → parent_of (after z m R W) j ≡ firstAbove j 1 (columnAt (after z m R W) j).counts
+        go : (z : Bool) → parent_of (after z m R W) j ≡ first_above j 1 (column_at (after z m R W) j).counts
         go true = parent_is m (R ++ W) j t.begun.low t.begun.high
         go false = parent_is m R j t.begun.low t.begun.high
 
-    tree_is : up ≡ treeParent m R W j
+    tree_is : up ≡ tree_parent m R W j
     tree_is = go adding new-parent (s.parents-hold.are j t.begun.low t.begun.high)
       where
-        go : (z : Bool) → e.parent.0 ≡ parent_of (after z m R W) j → at parents j ≡ parent_of (before z m R W) j → upAt parents j e.parent.0 z ≡ treeParent m R W j
+        go : (z : Bool) → e.parent.0 ≡ parent_of (after z m R W) j → at parents j ≡ parent_of (before z m R W) j → up_at parents j e.parent.0 z ≡ tree_parent m R W j
         go true y u = y
         go false y u = u
 
-    high-of : (cs : List Column) (p : ℕ) → p ≡ parent_of (factorOf m cs) j → p ≤ m
+    high-of : (cs : List Column) (p : ℕ) → p ≡ parent_of (factor_of m cs) j → p ≤ m
     high-of cs p x = elim (zero-or-pos p) [ inl z ↦ omega arith | inr z ↦ omega (arith, x, ((laws m cs).parent_in j t.begun.low t.begun.high (omega (arith, x))).1) ]
 
     parent-high : e.parent.0 ≤ m
@@ -96,7 +96,7 @@ module _ {heads parents rows counts next : List ℕ} {m flags : ℕ} {R W : List
     can-step : CanStep parents w₁ m flags j e.parent.0 adding c k e.larger
     can-step =
         let b : Begun m flags R W adding work₀ w j used = t.begun in
-        let r : Room m flags w₁ × (1 ≤ j) × (j ≤ m) × (markAt m w₁ j < 260) = step_room b d ok s.fit s.positions within e.parent.0 new-parent in
+        let r : Room m flags w₁ × (1 ≤ j) × (j ≤ m) × (mark_at m w₁ j < 260) = step_room b d ok s.fit s.positions within e.parent.0 new-parent in
         record {
           room = r.0;
           low = r.1;
@@ -110,7 +110,7 @@ module _ {heads parents rows counts next : List ℕ} {m flags : ℕ} {R W : List
           larger-small = omega (arith, (d.planned.plan ok).larger, larger-small m R W adding j b.low b.high s.columns.narrow);
         }
 
-    stepped-on : {w₂ : List ℕ} → w₂ ≡ steppedUp m flags w₁ j e.parent.0 up → {f' l' c' k' used' avail' : ℕ} →
+    stepped-on : {w₂ : List ℕ} → w₂ ≡ stepped_up m flags w₁ j e.parent.0 up → {f' l' c' k' used' avail' : ℕ} →
         f' ≡ pick (eqb f 0) j f → l' ≡ j → c' ≡ c + 1 → k' ≡ k + e.larger → used' ≡ e.used → avail' ≡ e.avail.0 →
         Between next work₀ w₂ m flags R W adding free (suc l') f' l' c' k' used' avail'
     stepped-on {w₂} y {f'} {l'} {c'} {k'} {used'} {avail'} ef el ec ek eu ea =
@@ -166,7 +166,7 @@ module _ {heads parents rows counts next : List ℕ} {m flags : ℕ} {R W : List
 
       -- the plan
       module _ {wp : List ℕ} {e : Emission} (with-plan : (R W : List Column) (adding : Bool) → Columns heads rows next m R W adding → Multiplicities heads counts next m R W adding →
-          IsDefinition m R W adding wd nd j → used + size_of (columnAt (before adding m R W) j) + length (chain next avail) ≤ length next →
+          IsDefinition m R W adding wd nd j → used + size_of (column_at (before adding m R W) j) + length (chain next avail) ≤ length next →
           Planned next wd wp m R W adding j used avail e) where
         has-plan : Worked next w wp m R W adding j used avail e
         has-plan = worked has-children has-family (with-plan R W adding s.columns s.multiplicities has-family.definition turning-room)

@@ -11,39 +11,39 @@ use lib.ListN.{length, get_or, length-append, get_or-eq_default}
 use Rattle.lists.specs.Lists.{at, among, rises}
 use Rattle.lists.proofs.Tests.{lt-or-le}
 use Rattle.symbolic.specs.Columns.{Column}
-use Rattle.symbolic.specs.Factor.{factorOf, columnAt, multiplicity, parent_of}
-use Rattle.symbolic.specs.Batch.{isTouched}
+use Rattle.symbolic.specs.Factor.{factor_of, column_at, multiplicity, parent_of}
+use Rattle.symbolic.specs.Batch.{is_touched}
 use Rattle.symbolic.proofs.Laws.{diagonal-in}
 use Rattle.symbolic.proofs.Build.{laws, counts-length}
 use Rattle.symbolic.proofs.Order.{count-bound}
 use Rattle.symbolic.proofs.Locality.{multiplicity-stays}
 use Rattle.workspace.specs.Regions.{cell, region}
-use Rattle.differences.specs.Tally.{shifted, differenceAt, Touched, Tally}
-use Rattle.differences.specs.Gather.{planPart}
-use Rattle.emission.specs.Plans.{planFrom}
+use Rattle.differences.specs.Tally.{shifted, difference_at, Touched, Tally}
+use Rattle.differences.specs.Gather.{plan_part}
+use Rattle.emission.specs.Plans.{plan_from}
 use Rattle.updown.specs.Plans.{parent_in, InPlan}
-use Rattle.workspace.specs.Layout.{marksAt}
-use Rattle.updown.specs.Marks.{end_at, otherAt}
-use Rattle.updown.proofs.Brought.{Counts, PlanOf, old_of, newOf}
-use Rattle.updown.specs.Turns.{larger, smaller, before, after, otherParent, label_at, done}
+use Rattle.workspace.specs.Layout.{marks_at}
+use Rattle.updown.specs.Marks.{end_at, other_at}
+use Rattle.updown.proofs.Brought.{Counts, PlanOf, old_of, new_of}
+use Rattle.updown.specs.Turns.{larger, smaller, before, after, other_parent, label_at, done}
 use Rattle.updown.specs.SoFar.{SoFar}
 use Rattle.updown.specs.Walks.{ChainOf, Columns, Parents, Turn}
 use Rattle.updown.proofs.Plans.{touched-in, in-touched, region-same, Found, plans-find}
 
 -- ---- multiplicities
 
-counts-small : (m : ℕ) (cs : List Column) (c : ℕ) → 1 ≤ c → c ≤ m → m ≤ 4096 → length cs ≤ 60000 → (k : ℕ) → get_or (columnAt (factorOf m cs) c).counts k 0 < 65536
+counts-small : (m : ℕ) (cs : List Column) (c : ℕ) → 1 ≤ c → c ≤ m → m ≤ 4096 → length cs ≤ 60000 → (k : ℕ) → get_or (column_at (factor_of m cs) c).counts k 0 < 65536
 counts-small m cs c a b n f k =
     elim (lt-or-le k m) [
       | inl l ↦
           let q : suc k - 1 ≡ k = omega arith in
-          let e : multiplicity (factorOf m cs) (suc k) c ≡ get_or (columnAt (factorOf m cs) c).counts k 0 = ap (λ (x : ℕ). get_or (columnAt (factorOf m cs) c).counts x 0) q in
+          let e : multiplicity (factor_of m cs) (suc k) c ≡ get_or (column_at (factor_of m cs) c).counts k 0 = ap (λ (x : ℕ). get_or (column_at (factor_of m cs) c).counts x 0) q in
           omega (arith, count-bound m cs (suc k) c (omega arith) (omega arith) a b)
-      | inr l ↦ omega (arith, get_or-eq_default (columnAt (factorOf m cs) c).counts 0 {n = k} (omega (arith, counts-length m cs c a b)))
+      | inr l ↦ omega (arith, get_or-eq_default (column_at (factor_of m cs) c).counts 0 {n = k} (omega (arith, counts-length m cs c a b)))
     ]
 
 pub column-counts : (m : ℕ) (R W : List Column) (c : ℕ) → 1 ≤ c → c ≤ m → m ≤ 4096 → length R + length W ≤ 60000 →
-    Counts m c (columnAt (larger m R W) c).counts (columnAt (smaller m R) c).counts
+    Counts m c (column_at (larger m R W) c).counts (column_at (smaller m R) c).counts
 column-counts m R W c a b n f =
     record {
       low = a;
@@ -96,7 +96,7 @@ tally-frame {m} l h t =
 pub so-far-frame : {m : ℕ} {R W : List Column} {adding : Bool} {w w' : List ℕ} {n j k : ℕ} {H : ℕ → Bool} → length w' ≡ length w →
     ((i : ℕ) → i < 3 * m → get_or w' i 0 ≡ get_or w i 0) → 1 ≤ j → j ≤ m → SoFar m R W adding w n j k H → SoFar m R W adding w' n j k H
 so-far-frame {m} {R} {W} {adding} {w} {w'} {n} {j} {k} {H} l h a b t =
-    let u : Tally m w' n (differenceAt w) = tally-frame l h t.tally in
+    let u : Tally m w' n (difference_at w) = tally-frame l h t.tally in
     record {
       tally = record { touched = u.touched; values = λ i x y. refl; buffer = u.buffer };
       rows = λ i x y. ap (λ (d : ℕ). multiplicity (before adding m R W) i j + d) (ap shifted (h (i - 1) (omega arith))) ∙ t.rows i x y;
@@ -107,7 +107,7 @@ so-far-frame {m} {R} {W} {adding} {w} {w'} {n} {j} {k} {H} l h a b t =
 pub plan-places : (m : ℕ) (R W : List Column) (j used : ℕ) → j ≤ suc m → (k : ℕ) → InPlan m used (done m R W j) k → (3 * m ≤ k) × ((k < 6 * m) ⊎ (8 * m ≤ k))
 plan-places m R W j used h k (inr t) = (omega arith, inr t.0)
 plan-places m R W j used h k (inl t) =
-    let v : (1 ≤ t.0) × (t.0 < 1 + (j - 1)) × (isTouched (larger m R W) W t.0 ≡ true) = in-touched (larger m R W) W 1 (j - 1) t.0 t.1.0 in
+    let v : (1 ≤ t.0) × (t.0 < 1 + (j - 1)) × (is_touched (larger m R W) W t.0 ≡ true) = in-touched (larger m R W) W 1 (j - 1) t.0 t.1.0 in
     elim t.1.1 [
       | inl e ↦ (omega arith, inl (omega arith))
       | inr (inl e) ↦ (omega arith, inl (omega arith))
@@ -117,7 +117,7 @@ plan-places m R W j used h k (inl t) =
 -- ---- one done column
 
 module _ {m : ℕ} {R W : List Column} {adding : Bool} {work : List ℕ} {j used n except : ℕ} {H : ℕ → Bool} (t : Turn m R W adding work j used n except H)
-    (c : ℕ) (a : 1 ≤ c) (b : c < j) (touched : isTouched (larger m R W) W c ≡ true) where
+    (c : ℕ) (a : 1 ≤ c) (b : c < j) (touched : is_touched (larger m R W) W c ≡ true) where
   turn-found : Found m (before adding m R W) (after adding m R W) (label_at m R W) work (done m R W j) j used c
   turn-found =
       plans-find m (before adding m R W) (after adding m R W) (label_at m R W) work (done m R W j) 0 j used c
@@ -126,7 +126,7 @@ module _ {m : ℕ} {R W : List Column} {adding : Bool} {work : List ℕ} {j used
   next-range : (1 ≤ turn-found.next) × (turn-found.next ≤ m)
   next-range =
       elim turn-found.next-in [
-        | inl x ↦ let v : (1 ≤ turn-found.next) × (turn-found.next < 1 + (j - 1)) × (isTouched (larger m R W) W turn-found.next ≡ true) =
+        | inl x ↦ let v : (1 ≤ turn-found.next) × (turn-found.next < 1 + (j - 1)) × (is_touched (larger m R W) W turn-found.next ≡ true) =
             in-touched (larger m R W) W 1 (j - 1) turn-found.next x in omega (arith, t.high)
         | inr x ↦ omega (arith, t.low, t.high)
       ]
@@ -134,35 +134,35 @@ module _ {m : ℕ} {R W : List Column} {adding : Bool} {work : List ℕ} {j used
   turn_end : end_at m work c ≡ turn-found.end
   turn_end = ap (λ (x : ℕ). cell work (4 * m) (x - 1)) turn-found.column.plan.next-is ∙ turn-found.ends
 
-  olds : (z : Bool) → (columnAt (before z m R W) c).counts ≡ old_of z (columnAt (larger m R W) c).counts (columnAt (smaller m R) c).counts
+  olds : (z : Bool) → (column_at (before z m R W) c).counts ≡ old_of z (column_at (larger m R W) c).counts (column_at (smaller m R) c).counts
   olds true = refl
   olds false = refl
 
-  pub turn-plan : m ≤ 4096 → length R + length W ≤ 60000 → PlanOf work m c adding (columnAt (larger m R W) c).counts (columnAt (smaller m R) c).counts
+  pub turn-plan : m ≤ 4096 → length R + length W ≤ 60000 → PlanOf work m c adding (column_at (larger m R W) c).counts (column_at (smaller m R) c).counts
   turn-plan narrow few =
       let f : Found m (before adding m R W) (after adding m R W) (label_at m R W) work (done m R W j) j used c = turn-found in
-      let part : planPart m work (cell work (4 * m) (c - 1)) (end_at m work c) ≡ planPart m work f.start f.end =
-      ap (λ (x : ℕ). planPart m work x (end_at m work c)) f.column.plan.starts ∙ ap (λ (x : ℕ). planPart m work f.start x) turn_end in
+      let part : plan_part m work (cell work (4 * m) (c - 1)) (end_at m work c) ≡ plan_part m work f.start f.end =
+      ap (λ (x : ℕ). plan_part m work x (end_at m work c)) f.column.plan.starts ∙ ap (λ (x : ℕ). plan_part m work f.start x) turn_end in
       record {
         column = column-counts m R W c a (omega (arith, t.high)) narrow few;
         long = omega (arith, turn_end, f.high, t.long);
         next_low = omega (arith, f.column.plan.next-is, next-range);
         next-high = omega (arith, f.column.plan.next-is, next-range);
         order = omega (arith, turn_end, f.column.plan.starts, f.column.plan.rises);
-        entries = part ∙ f.column.entries ∙ ap (λ (x : List ℕ). planFrom 1 x (columnAt (after adding m R W) c).counts) (olds adding) ∙
-            ap (λ (x : List ℕ). planFrom 1 (old_of adding (columnAt (larger m R W) c).counts (columnAt (smaller m R) c).counts) x) (news adding);
+        entries = part ∙ f.column.entries ∙ ap (λ (x : List ℕ). plan_from 1 x (column_at (after adding m R W) c).counts) (olds adding) ∙
+            ap (λ (x : List ℕ). plan_from 1 (old_of adding (column_at (larger m R W) c).counts (column_at (smaller m R) c).counts) x) (news adding);
       }
     where
-      news : (z : Bool) → (columnAt (after z m R W) c).counts ≡ newOf z (columnAt (larger m R W) c).counts (columnAt (smaller m R) c).counts
+      news : (z : Bool) → (column_at (after z m R W) c).counts ≡ new_of z (column_at (larger m R W) c).counts (column_at (smaller m R) c).counts
       news true = refl
       news false = refl
 
-  pub turn-chain : {heads rows next : List ℕ} → Columns heads rows next m R W adding → ChainOf heads rows next m c (old_of adding (columnAt (larger m R W) c).counts (columnAt (smaller m R) c).counts)
+  pub turn-chain : {heads rows next : List ℕ} → Columns heads rows next m R W adding → ChainOf heads rows next m c (old_of adding (column_at (larger m R W) c).counts (column_at (smaller m R) c).counts)
   turn-chain {heads} {rows} {next} k = subst (λ (x : List ℕ). ChainOf heads rows next m c x) (olds adding) (k.chains c a (omega (arith, t.high)))
 
-  pub turn-other : {parents : List ℕ} → Parents parents m R W adding → otherAt parents work m c adding ≡ otherParent m R c
+  pub turn-other : {parents : List ℕ} → Parents parents m R W adding → other_at parents work m c adding ≡ other_parent m R c
   turn-other {parents} p = go adding (p.are c a (omega (arith, t.high))) turn-found.column.plan.parent_is
     where
-      go : (z : Bool) → at parents c ≡ parent_of (before z m R W) c → parent_in (cell work (marksAt m) (c - 1)) ≡ parent_of (after z m R W) c → otherAt parents work m c z ≡ otherParent m R c
+      go : (z : Bool) → at parents c ≡ parent_of (before z m R W) c → parent_in (cell work (marks_at m) (c - 1)) ≡ parent_of (after z m R W) c → other_at parents work m c z ≡ other_parent m R c
       go true x y = x
       go false x y = y

@@ -13,12 +13,12 @@ use borrow.Author.Tests.{eq-eqb, ne_eqb}
 use Rattle.lists.specs.Lists.{pick, Mem}
 use Rattle.lists.proofs.Tests.{eq-or-ne, lt-or-le}
 use Rattle.symbolic.specs.Columns.{Column}
-use Rattle.symbolic.specs.Batch.{isTouched}
+use Rattle.symbolic.specs.Batch.{is_touched}
 use Rattle.workspace.specs.Regions.{cell, OnlyIn}
 use Rattle.workspace.proofs.Regions.{zero-at}
 use Rattle.pool.specs.Chains.{last_of}
 use Rattle.updown.specs.Plans.{InPlan}
-use Rattle.updown.specs.Marks.{markAt, begun}
+use Rattle.updown.specs.Marks.{mark_at, begun}
 use Rattle.updown.specs.Turns.{larger, before, after, label_at, done, standing, PlansTo}
 use Rattle.updown.specs.SoFar.{nobody, SoFar}
 use Rattle.updown.specs.Walks.{Turn}
@@ -34,9 +34,9 @@ use Rattle.updown.proofs.Stepping.{done-skip, done-in, in-plan-wider, own_in}
 module _ {m flags : ℕ} {R W : List Column} {adding : Bool} {work₀ w : List ℕ} where
   -- ---- a row without a mark
 
-  pub walking_skip : {j used : ℕ} → Walking m flags R W adding work₀ w j used → j ≤ m → markAt m w j ≡ 0 → Walking m flags R W adding work₀ w (suc j) used
+  pub walking_skip : {j used : ℕ} → Walking m flags R W adding work₀ w j used → j ≤ m → mark_at m w j ≡ 0 → Walking m flags R W adding work₀ w (suc j) used
   walking_skip {j} {used} h b z =
-      let t : isTouched (larger m R W) W j ≡ false = touched-mark m R W h.marks h.low b z in
+      let t : is_touched (larger m R W) W j ≡ false = touched-mark m R W h.marks h.low b z in
       let e : done m R W (suc j) ≡ done m R W j = done-skip m R W j h.low t in
       let l : 8 * m ≤ length w = omega (arith, h.room.low, h.room.long) in
       let same : (c : ℕ) → 1 ≤ c → c ≤ m → standing m R W (suc j) c ≡ standing m R W j c = stands-untouched m R W j h.low b t in
@@ -75,7 +75,7 @@ module _ {m flags : ℕ} {R W : List Column} {adding : Bool} {work₀ w : List �
 
   -- ---- a turn begins
 
-  module _ {j used : ℕ} (h : Walking m flags R W adding work₀ w j used) (b : j ≤ m) (n : markAt m w j ≢ 0) (within : (k : ℕ) → 1 ≤ k → k ≤ length W → start_of W k ≤ m)
+  module _ {j used : ℕ} (h : Walking m flags R W adding work₀ w j used) (b : j ≤ m) (n : mark_at m w j ≢ 0) (within : (k : ℕ) → 1 ≤ k → k ≤ length W → start_of W k ≤ m)
       (last : ℕ) (e : last ≡ last_of 0 (done m R W j)) where
     abbrev wb : List ℕ
     wb = begun m w last j used
@@ -83,7 +83,7 @@ module _ {m flags : ℕ} {R W : List Column} {adding : Bool} {work₀ w : List �
     abbrev wl : List ℕ
     wl = pick (eqb last 0) w (set w (5 * m + (last - 1)) j)
 
-    touched : isTouched (larger m R W) W j ≡ true
+    touched : is_touched (larger m R W) W j ≡ true
     touched = mark-touched m R W h.marks h.low b n
 
     last_done : last ≢ 0 → Mem last (done m R W j)

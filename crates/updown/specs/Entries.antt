@@ -2,20 +2,20 @@
 -- tables and the lists suit. Assumes nothing: these are definitions.
 use Rattle.std.specs.Prelude.{◌≡◌, Bool, true, false, List, [], ◌∷◌, ◌++◌, ℕ, ◌+◌, ◌≤◌, leb, eqb, length, get_or, take, drop}
 use Rattle.lists.specs.Lists.{pick, all}
-use Rattle.symbolic.specs.Columns.{Column, smallest, fitsRows}
-use Rattle.symbolic.specs.Factor.{factorOf, sizeSum}
+use Rattle.symbolic.specs.Columns.{Column, smallest, fits_rows}
+use Rattle.symbolic.specs.Factor.{factor_of, size_sum}
 use Rattle.symbolic.specs.Batch.{touched, label_of}
 use Rattle.symbolic.specs.Change.{Bag}
 use Rattle.workspace.specs.Regions.{IsZero}
-use Rattle.workspace.specs.Layout.{spare, flagsAt, flagCount}
+use Rattle.workspace.specs.Layout.{spare, flags_at, flag_count}
 use Rattle.pool.specs.Chains.{chain}
 use Rattle.book.specs.Book as book
-use Rattle.tables.specs.Stored.{Stored, Sized, storedOf, isSoundFor}
+use Rattle.tables.specs.Stored.{Stored, Sized, stored_of, is_sound_for}
 use Rattle.updown.specs.Plans.{PlanIs}
 
 -- the length of a work table that planning asks; it uses the regions before `spare` and the flags, and reads no other place
-abbrev pub planNeed : (m f : ℕ) → ℕ
-planNeed m f = flagsAt m f + 1024
+abbrev pub plan_need : (m f : ℕ) → ℕ
+plan_need m f = flags_at m f + 1024
 
 -- ---- batches, as they are lent, and by position where each column starts
 
@@ -36,7 +36,7 @@ BookedFrom b [] (i ∷ is) ws = ⊥
 BookedFrom b (r ∷ rs) [] ws = ⊥
 BookedFrom b (r ∷ rs) (i ∷ is) [] = ⊥
 BookedFrom b (r ∷ rs) (i ∷ is) (w ∷ ws) =
-    (w.rows ≡ pick (eqb r 0) [] (book.columnFor b i).rows) × (smallest w ≡ r) × (1 ≤ i) × (i ≤ length b.heads) × BookedFrom b rs is ws
+    (w.rows ≡ pick (eqb r 0) [] (book.column_for b i).rows) × (smallest w ≡ r) × (1 ≤ i) × (i ≤ length b.heads) × BookedFrom b rs is ws
 
 -- ---- batches whose columns count all their rows
 
@@ -45,35 +45,35 @@ unfoldable pub Booked : book.Book → (ids : List ℕ) → (batch : List Column)
 Booked b [] [] = Unit {0}
 Booked b [] (w ∷ ws) = ⊥
 Booked b (i ∷ is) [] = ⊥
-Booked b (i ∷ is) (w ∷ ws) = (w.rows ≡ (book.columnFor b i).rows) × (1 ≤ i) × (i ≤ length b.heads) × Booked b is ws
+Booked b (i ∷ is) (w ∷ ws) = (w.rows ≡ (book.column_for b i).rows) × (1 ≤ i) × (i ≤ length b.heads) × Booked b is ws
 
 -- where listed columns start that count all their rows, 0 for one that has none
-unfoldable pub listedStarts : (counts list : List ℕ) → List ℕ
-listedStarts [] xs = []
-listedStarts (k ∷ ks) xs = get_or (take k xs) 0 0 ∷ listedStarts ks (drop k xs)
+unfoldable pub listed_starts : (counts list : List ℕ) → List ℕ
+listed_starts [] xs = []
+listed_starts (k ∷ ks) xs = get_or (take k xs) 0 0 ∷ listed_starts ks (drop k xs)
 
 -- where booked columns start that count all their rows, 0 for one that has none
-unfoldable pub bookedStarts : book.Book → (ids : List ℕ) → List ℕ
-bookedStarts b [] = []
-bookedStarts b (i ∷ is) = smallest (book.columnFor b i) ∷ bookedStarts b is
+unfoldable pub booked_starts : book.Book → (ids : List ℕ) → List ℕ
+booked_starts b [] = []
+booked_starts b (i ∷ is) = smallest (book.column_for b i) ∷ booked_starts b is
 
 -- ---- what planning asks: stored columns that are sound for columns cs, a batch, and a work table whose regions for it are zero
 
 -- what planning asks, of an addition and of a removal alike
 pub record CanPlan (s : Stored) (cs batch : List Column) (work : List ℕ) : Type 0 where
   pub sized : Sized s
-  pub sound : isSoundFor cs s ≡ true
-  pub batch-fits : all (fitsRows (length s.heads)) batch ≡ true
+  pub sound : is_sound_for cs s ≡ true
+  pub batch-fits : all (fits_rows (length s.heads)) batch ≡ true
   pub some : 1 ≤ length s.heads
   pub m-bound : length s.heads ≤ 4096
   pub f-bound : length s.next ≤ 1048576
   -- a loose bound above document 01's 16,384 ids and 64 positions, which only keeps multiplicities within 16 bits
   pub few : length cs + length batch ≤ 60000
   pub positions : (1 ≤ length batch) × (length batch ≤ 64)
-  pub long : planNeed (length s.heads) (length s.next) ≤ length work
+  pub long : plan_need (length s.heads) (length s.next) ≤ length work
   -- the regions that planning uses: up to the plan's end, and the flags; what stands between and after them is not read
   pub zero : IsZero work 0 (spare (length s.heads) (length s.next))
-  pub flags-zero : IsZero work (flagsAt (length s.heads) (length s.next)) flagCount
+  pub flags-zero : IsZero work (flags_at (length s.heads) (length s.next)) flag_count
 
 -- adding W to the columns R that the tables are sound for
 pub record CanAdd (s : Stored) (starts counts list work : List ℕ) (R W : List Column) : Type 0 where
@@ -92,7 +92,7 @@ pub record CanEnter (s : Stored) (b : book.Book) (starts ids work : List ℕ) (R
   pub booked : BookedFrom b starts ids W
   pub book-sized : book.Sized b
   pub book-free : ℕ
-  pub book-sound : book.isSound (length s.heads) (book.bookOf b.heads b.rows b.next book-free) ≡ true
+  pub book-sound : book.is_sound (length s.heads) (book.book_of b.heads b.rows b.next book-free) ≡ true
 
 -- what a caller shows: that W, which the book has, can be added to R, for some R and W
 pub record SomeEnter (s : Stored) (b : book.Book) (starts ids work : List ℕ) : Type 0 where
@@ -106,7 +106,7 @@ pub record CanAddBooked (s : Stored) (b : book.Book) (ids work : List ℕ) (R W 
   pub booked : Booked b ids W
   pub book-sized : book.Sized b
   pub book-free : ℕ
-  pub book-sound : book.isSound (length s.heads) (book.bookOf b.heads b.rows b.next book-free) ≡ true
+  pub book-sound : book.is_sound (length s.heads) (book.book_of b.heads b.rows b.next book-free) ≡ true
 
 -- what a caller shows: that W, which counts all its rows, can be added to R, for some R and W
 pub record SomeAddBooked (s : Stored) (b : book.Book) (ids work : List ℕ) : Type 0 where
@@ -119,11 +119,11 @@ pub record CanRemove (s : Stored) (b : book.Book) (starts ids work : List ℕ) (
   pub columns : List Column
   pub free : ℕ
   pub book-free : ℕ
-  pub can : CanPlan (storedOf s.heads s.parents s.rows s.counts s.next free) columns W work
+  pub can : CanPlan (stored_of s.heads s.parents s.rows s.counts s.next free) columns W work
   pub same : Bag columns (R ++ W)
   pub booked : BookedFrom b starts ids W
   pub book-sized : book.Sized b
-  pub book-sound : book.isSound (length s.heads) (book.bookOf b.heads b.rows b.next book-free) ≡ true
+  pub book-sound : book.is_sound (length s.heads) (book.book_of b.heads b.rows b.next book-free) ≡ true
 
 -- what a caller shows: that W can be removed and R stays, for some R and W
 pub record SomeRemove (s : Stored) (b : book.Book) (starts ids work : List ℕ) : Type 0 where
@@ -135,15 +135,15 @@ pub record SomeRemove (s : Stored) (b : book.Book) (starts ids work : List ℕ) 
 
 -- from R to R ++ W: "16: the sum of all pattern sizes would exceed F" decides; where it does not fit, the work table is as lent
 pub record AddPlanned (s : Stored) (R W : List Column) (before after : List ℕ) (fits : Bool) (first count entries used : ℕ) : Type 0 where
-  pub fits-is : fits ≡ leb (sizeSum (factorOf (length s.heads) (R ++ W))) (length s.next)
+  pub fits-is : fits ≡ leb (size_sum (factor_of (length s.heads) (R ++ W))) (length s.next)
   pub plan : fits ≡ true →
-      PlanIs (length s.heads) (length s.next) (length (chain s.next s.free)) (factorOf (length s.heads) R) (factorOf (length s.heads) (R ++ W))
-      (label_of (factorOf (length s.heads) (R ++ W)) W) (touched (factorOf (length s.heads) (R ++ W)) W) before after first count entries used
+      PlanIs (length s.heads) (length s.next) (length (chain s.next s.free)) (factor_of (length s.heads) R) (factor_of (length s.heads) (R ++ W))
+      (label_of (factor_of (length s.heads) (R ++ W)) W) (touched (factor_of (length s.heads) (R ++ W)) W) before after first count entries used
   pub unchanged : fits ≡ false → after ≡ before
 
 -- from R ++ W to R: it always fits, and no entry is new
 pub record RemovePlanned (s : Stored) (R W : List Column) (before after : List ℕ) (fits : Bool) (first count entries used : ℕ) : Type 0 where
   pub fits-is : fits ≡ true
   pub plan :
-      PlanIs (length s.heads) (length s.next) 0 (factorOf (length s.heads) (R ++ W)) (factorOf (length s.heads) R)
-      (label_of (factorOf (length s.heads) (R ++ W)) W) (touched (factorOf (length s.heads) (R ++ W)) W) before after first count entries used
+      PlanIs (length s.heads) (length s.next) 0 (factor_of (length s.heads) (R ++ W)) (factor_of (length s.heads) R)
+      (label_of (factor_of (length s.heads) (R ++ W)) W) (touched (factor_of (length s.heads) (R ++ W)) W) before after first count entries used

@@ -1,22 +1,22 @@
 -- The work table between two turns (Walking), and after the differences of a column became its plan (Planned). Busy are the plans so far, the marks and queues
 -- of the rows to come, the flags, the differences; a walk leaves all else alone. Assumes nothing: these are definitions.
 use Rattle.std.specs.Prelude.{◌≡◌, ◌⊎◌, ◌≢◌, Bool, true, List, ℕ, suc, ◌+◌, ◌-◌, ◌/◌, ◌%◌, ◌≤◌, ◌<◌, length, get_or}
-use Rattle.lists.specs.Lists.{at, valuesAt}
+use Rattle.lists.specs.Lists.{at, values_at}
 use Rattle.symbolic.specs.Columns.{Column, smallest}
-use Rattle.symbolic.specs.Factor.{columnAt, size_of, nonZero}
-use Rattle.symbolic.specs.Batch.{atPosition, isTouched, sizeSumOf, entriesOf}
+use Rattle.symbolic.specs.Factor.{column_at, size_of, non_zero}
+use Rattle.symbolic.specs.Batch.{at_position, is_touched, size_sum_of, entries_of}
 use Rattle.workspace.specs.Regions.{region, Outside, IsZero}
-use Rattle.workspace.specs.Planned.{newKind}
-use Rattle.workspace.specs.Layout.{marksAt, startsAt, childrenAt, plan_at, spare, flagCount}
+use Rattle.workspace.specs.Planned.{new_kind}
+use Rattle.workspace.specs.Layout.{marks_at, starts_at, children_at, plan_at, spare, flag_count}
 use Rattle.pool.specs.Chains.{chain, last_of, Linked}
-use Rattle.columns.specs.Plan.{ofKind}
+use Rattle.columns.specs.Plan.{of_kind}
 use Rattle.differences.specs.Tally.{base, Tally}
 use Rattle.emission.specs.Emit as emit
 use Rattle.emission.specs.declared.Emission.{Emission}
-use Rattle.updown.specs.Plans.{InPlan, first_of, startBit, labelWeight}
-use Rattle.updown.specs.Marks.{Room, markAt, Flagged}
+use Rattle.updown.specs.Plans.{InPlan, first_of, start_bit, label_weight}
+use Rattle.updown.specs.Marks.{Room, mark_at, Flagged}
 use Rattle.updown.specs.Queues.{Queues}
-use Rattle.updown.specs.Turns.{larger, before, after, treeParent, label_at, done, standing, PlansTo}
+use Rattle.updown.specs.Turns.{larger, before, after, tree_parent, label_at, done, standing, PlansTo}
 use Rattle.updown.specs.SoFar.{IsDefinition}
 use Rattle.updown.specs.Walks.{Columns, Parents}
 
@@ -25,11 +25,11 @@ use Rattle.updown.specs.Walks.{Columns, Parents}
 -- the stored multiplicities
 pub record Multiplicities (heads counts next : List ℕ) (m : ℕ) (R W : List Column) (adding : Bool) : Type 0 where
   pub long : length counts ≡ length next
-  pub are : (c : ℕ) → 1 ≤ c → c ≤ m → valuesAt counts (chain next (at heads c)) ≡ nonZero (columnAt (before adding m R W) c).counts
+  pub are : (c : ℕ) → 1 ≤ c → c ≤ m → values_at counts (chain next (at heads c)) ≡ non_zero (column_at (before adding m R W) c).counts
 
 -- the touched columns before the batch and the free records together are no more than there are
 abbrev pub Fitting : (next : List ℕ) (m : ℕ) (R W : List Column) (adding : Bool) (free : ℕ) → Type 0
-Fitting next m R W adding free = (j : ℕ) → 1 ≤ j → j ≤ suc m → sizeSumOf (before adding m R W) (done m R W j) + free ≤ length next
+Fitting next m R W adding free = (j : ℕ) → 1 ≤ j → j ≤ suc m → size_sum_of (before adding m R W) (done m R W j) + free ≤ length next
 
 -- ---- the numbers of a walk, before the turn of j; free is the number of free records at first
 
@@ -38,38 +38,38 @@ pub record Numbers (next work : List ℕ) (m : ℕ) (R W : List Column) (adding 
   pub first-is : first ≡ first_of (done m R W j)
   pub last-is : last ≡ last_of 0 (done m R W j)
   pub count-is : count ≡ length (done m R W j)
-  pub entries-is : entries ≡ entriesOf (before adding m R W) (after adding m R W) (done m R W j)
+  pub entries-is : entries ≡ entries_of (before adding m R W) (after adding m R W) (done m R W j)
   pub linked : Linked next avail (chain next avail)
-  pub taken : ofKind newKind (region work (plan_at m) used) + length (chain next avail) ≡ free
-  pub room : used + length (chain next avail) ≤ sizeSumOf (before adding m R W) (done m R W j) + free
+  pub taken : of_kind new_kind (region work (plan_at m) used) + length (chain next avail) ≡ free
+  pub room : used + length (chain next avail) ≤ size_sum_of (before adding m R W) (done m R W j) + free
   -- adding drops no row
-  pub grown : adding ≡ true → sizeSumOf (after adding m R W) (done m R W j) ≡ sizeSumOf (before adding m R W) (done m R W j) + ofKind newKind (region work (plan_at m) used)
+  pub grown : adding ≡ true → size_sum_of (after adding m R W) (done m R W j) ≡ size_sum_of (before adding m R W) (done m R W j) + of_kind new_kind (region work (plan_at m) used)
 
 -- ---- marks
 
 -- the row where the batch column of a position starts, 0 for a column with no row
 abbrev pub start_of : (W : List Column) (position : ℕ) → ℕ
-start_of W k = smallest (atPosition W k)
+start_of W k = smallest (at_position W k)
 
 -- the marks of the rows from j on: where batch columns start, and the tree parents of done columns, with the largest label so far
 pub record MarksHold (m : ℕ) (R W : List Column) (work : List ℕ) (j : ℕ) : Type 0 where
-  pub start : (k : ℕ) → 1 ≤ k → k ≤ length W → j ≤ start_of W k → k ≤ markAt m work (start_of W k) / labelWeight
-  pub bit : (k : ℕ) → 1 ≤ k → k ≤ length W → j ≤ start_of W k → markAt m work (start_of W k) % labelWeight ≡ startBit
-  pub child : (c : ℕ) → 1 ≤ c → c < j → isTouched (larger m R W) W c ≡ true → j ≤ treeParent m R W c → label_at m R W c ≤ markAt m work (treeParent m R W c) / labelWeight
-  pub bound : (q : ℕ) → j ≤ q → q ≤ m → markAt m work q / labelWeight ≤ label_at m R W q
-  pub whole : (q : ℕ) → j ≤ q → q ≤ m → markAt m work q ≢ 0 → 4 ≤ markAt m work q
-  pub cause : (q : ℕ) → j ≤ q → q ≤ m → markAt m work q ≢ 0 →
-      ((k : ℕ) × (1 ≤ k) × (k ≤ length W) × (start_of W k ≡ q)) ⊎ ((c : ℕ) × (1 ≤ c) × (c < j) × (isTouched (larger m R W) W c ≡ true) × (treeParent m R W c ≡ q))
+  pub start : (k : ℕ) → 1 ≤ k → k ≤ length W → j ≤ start_of W k → k ≤ mark_at m work (start_of W k) / label_weight
+  pub bit : (k : ℕ) → 1 ≤ k → k ≤ length W → j ≤ start_of W k → mark_at m work (start_of W k) % label_weight ≡ start_bit
+  pub child : (c : ℕ) → 1 ≤ c → c < j → is_touched (larger m R W) W c ≡ true → j ≤ tree_parent m R W c → label_at m R W c ≤ mark_at m work (tree_parent m R W c) / label_weight
+  pub bound : (q : ℕ) → j ≤ q → q ≤ m → mark_at m work q / label_weight ≤ label_at m R W q
+  pub whole : (q : ℕ) → j ≤ q → q ≤ m → mark_at m work q ≢ 0 → 4 ≤ mark_at m work q
+  pub cause : (q : ℕ) → j ≤ q → q ≤ m → mark_at m work q ≢ 0 →
+      ((k : ℕ) × (1 ≤ k) × (k ≤ length W) × (start_of W k ≡ q)) ⊎ ((c : ℕ) × (1 ≤ c) × (c < j) × (is_touched (larger m R W) W c ≡ true) × (tree_parent m R W c ≡ q))
 
 -- ---- between two turns
 
 -- a place that the walk may have written before the turn of j
 pub data Busy (m flags used : ℕ) (columns : List ℕ) (j k : ℕ) : Type 0 where
-  differs : k < marksAt m → Busy m flags used columns j k
+  differs : k < marks_at m → Busy m flags used columns j k
   plans : InPlan m used columns k → Busy m flags used columns j k
-  marks : marksAt m + (j - 1) ≤ k → k < startsAt m → Busy m flags used columns j k
-  queues : childrenAt m + (j - 1) ≤ k → k < plan_at m → Busy m flags used columns j k
-  flagged : flags ≤ k → k < flags + flagCount → Busy m flags used columns j k
+  marks : marks_at m + (j - 1) ≤ k → k < starts_at m → Busy m flags used columns j k
+  queues : children_at m + (j - 1) ≤ k → k < plan_at m → Busy m flags used columns j k
+  flagged : flags ≤ k → k < flags + flag_count → Busy m flags used columns j k
 
 -- the work table before the turn of j: plans of the done columns, marks and queues of the rows to come, no differences
 pub record Walking (m flags : ℕ) (R W : List Column) (adding : Bool) (work₀ work : List ℕ) (j used : ℕ) : Type 0 where
@@ -79,7 +79,7 @@ pub record Walking (m flags : ℕ) (R W : List Column) (adding : Bool) (work₀ 
   pub plan-room : plan_at m + used ≤ flags
   pub same_length : length work ≡ length work₀
   pub zero : IsZero work₀ 0 (plan_at m)
-  pub flags-zero : IsZero work₀ flags flagCount
+  pub flags-zero : IsZero work₀ flags flag_count
   pub plans : PlansTo m (before adding m R W) (after adding m R W) (label_at m R W) work (done m R W j) 0 0 used
   pub marks : MarksHold m R W work j
   pub flagged : Flagged m flags work (j - 1)
@@ -93,15 +93,15 @@ pub record Walking (m flags : ℕ) (R W : List Column) (adding : Bool) (work₀ 
 pub record Halted (m f flags : ℕ) (work₀ work : List ℕ) (used : ℕ) : Type 0 where
   pub plan-room : used ≤ f
   pub flags-past : spare m f ≤ flags
-  pub long : flags + flagCount ≤ length work
+  pub long : flags + flag_count ≤ length work
   pub same_length : length work ≡ length work₀
-  pub rest : (k : ℕ) → plan_at m + used ≤ k → Outside flags flagCount k → get_or work k 0 ≡ get_or work₀ k 0
+  pub rest : (k : ℕ) → plan_at m + used ≤ k → Outside flags flag_count k → get_or work k 0 ≡ get_or work₀ k 0
 
 -- ---- column j planned after D
 
 -- its plan from before the call to after it, as emission leaves it
 abbrev pub Planned : (next before-work after-work : List ℕ) (m : ℕ) (R W : List Column) (adding : Bool) (j used avail : ℕ) (e : Emission) → Type 0
-Planned next w w' m R W z j used avail e = emit.Emitted next w m j used avail (columnAt (before z m R W) j).counts (columnAt (after z m R W) j).counts w' e
+Planned next w w' m R W z j used avail e = emit.Emitted next w m j used avail (column_at (before z m R W) j).counts (column_at (after z m R W) j).counts w' e
 
 -- what a caller shows: tables that hold the factor, the definition's multiplicities of column j and room for its plan, for some R and W
 pub record SomePlanned (heads rows counts next work : List ℕ) (m n j used avail : ℕ) : Type 0 where
@@ -114,7 +114,7 @@ pub record SomePlanned (heads rows counts next work : List ℕ) (m n j used avai
   pub high : j ≤ m
   pub definition : IsDefinition m R W adding work n j
   pub linked : Linked next avail (chain next avail)
-  pub room : used + size_of (columnAt (before adding m R W) j) + length (chain next avail) ≤ length next
+  pub room : used + size_of (column_at (before adding m R W) j) + length (chain next avail) ≤ length next
   pub long : plan_at m + length next ≤ length work
 
 -- ---- the tables and numbers of a walk

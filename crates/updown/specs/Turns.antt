@@ -3,21 +3,21 @@
 use Rattle.std.specs.Prelude.{◌≡◌, Bool, ◌&&◌, not, List, [], ◌∷◌, ◌++◌, ℕ, suc, ◌+◌, ◌-◌, ltb, leb, eqb}
 use Rattle.lists.specs.Lists.{pick}
 use Rattle.symbolic.specs.Columns.{Column}
-use Rattle.symbolic.specs.Factor.{FactorColumn, factorOf, columnAt, parent_of}
-use Rattle.symbolic.specs.Batch.{isTouched, touchedFrom, label_of}
-use Rattle.differences.specs.Gather.{planPart}
-use Rattle.emission.specs.Plans.{planFrom}
+use Rattle.symbolic.specs.Factor.{FactorColumn, factor_of, column_at, parent_of}
+use Rattle.symbolic.specs.Batch.{is_touched, touched_from, label_of}
+use Rattle.differences.specs.Gather.{plan_part}
+use Rattle.emission.specs.Plans.{plan_from}
 use Rattle.updown.specs.Plans.{ColumnPlan, first_of}
 
 -- ---- the two factors
 
 -- the factor with the batch
 abbrev pub larger : (m : ℕ) (R W : List Column) → List FactorColumn
-larger m R W = factorOf m (R ++ W)
+larger m R W = factor_of m (R ++ W)
 
 -- the factor without the batch
 abbrev pub smaller : (m : ℕ) (R : List Column) → List FactorColumn
-smaller m R = factorOf m R
+smaller m R = factor_of m R
 
 -- the factor before the call: without the batch when adding, with it when removing
 abbrev pub before : (adding : Bool) (m : ℕ) (R W : List Column) → List FactorColumn
@@ -28,12 +28,12 @@ abbrev pub after : (adding : Bool) (m : ℕ) (R W : List Column) → List Factor
 after z m R W = pick z (larger m R W) (smaller m R)
 
 -- the parent with the batch: the walk goes up this tree
-abbrev pub treeParent : (m : ℕ) (R W : List Column) (c : ℕ) → ℕ
-treeParent m R W c = parent_of (larger m R W) c
+abbrev pub tree_parent : (m : ℕ) (R W : List Column) (c : ℕ) → ℕ
+tree_parent m R W c = parent_of (larger m R W) c
 
 -- the parent without the batch
-abbrev pub otherParent : (m : ℕ) (R : List Column) (c : ℕ) → ℕ
-otherParent m R c = parent_of (smaller m R) c
+abbrev pub other_parent : (m : ℕ) (R : List Column) (c : ℕ) → ℕ
+other_parent m R c = parent_of (smaller m R) c
 
 -- the label of a column, in the tree with the batch
 abbrev pub label_at : (m : ℕ) (R W : List Column) (c : ℕ) → ℕ
@@ -43,24 +43,24 @@ label_at m R W c = label_of (larger m R W) W c
 
 -- the touched columns below j
 abbrev pub done : (m : ℕ) (R W : List Column) (j : ℕ) → List ℕ
-done m R W j = touchedFrom (larger m R W) W 1 (j - 1)
+done m R W j = touched_from (larger m R W) W 1 (j - 1)
 
 -- a column is touched and below j
-abbrev pub isDone : (m : ℕ) (R W : List Column) (j c : ℕ) → Bool
-isDone m R W j c = isTouched (larger m R W) W c && ltb c j
+abbrev pub is_done : (m : ℕ) (R W : List Column) (j c : ℕ) → Bool
+is_done m R W j c = is_touched (larger m R W) W c && ltb c j
 
 -- where a done column waits before the turn of j: for its tree parent, then for its other parent if that is another one
 abbrev pub standing : (m : ℕ) (R W : List Column) (j c : ℕ) → ℕ
 standing m R W j c =
-    pick (isDone m R W j c)
-    (pick (leb j (treeParent m R W c)) (treeParent m R W c)
-    (pick (not (eqb (treeParent m R W c) 0) && not (eqb (otherParent m R c) (treeParent m R W c)) && leb j (otherParent m R c)) (m + otherParent m R c) 0))
+    pick (is_done m R W j c)
+    (pick (leb j (tree_parent m R W c)) (tree_parent m R W c)
+    (pick (not (eqb (tree_parent m R W c) 0) && not (eqb (other_parent m R c) (tree_parent m R W c)) && leb j (other_parent m R c)) (m + other_parent m R c) 0))
     0
 
 -- the plan of a done column
 pub record DoneColumn (m : ℕ) (L L' : List FactorColumn) (label : ℕ → ℕ) (work : List ℕ) (j start end next : ℕ) : Type 0 where
   pub plan : ColumnPlan m L L' label work j start end next
-  pub entries : planPart m work start end ≡ planFrom 1 (columnAt L j).counts (columnAt L' j).counts
+  pub entries : plan_part m work start end ≡ plan_from 1 (column_at L j).counts (column_at L' j).counts
 
 -- the plans of done columns, one after another; the next column after the last one is given
 unfoldable pub PlansTo : (m : ℕ) (L L' : List FactorColumn) (label : ℕ → ℕ) (work : List ℕ) (columns : List ℕ) (start next used : ℕ) → Type 0

@@ -1,11 +1,11 @@
 -- What B, C and D ask and promise: the tables hold the factor before the batch; the state of the work table in the turn of column j, with some children
 -- handled; a promise holds for all columns R and W that the tables suit. Assumes nothing: these are definitions.
 use Rattle.std.specs.Prelude.{◌≡◌, ◌≢◌, Bool, List, ℕ, ◌+◌, ◌-◌, ◌*◌, ◌≤◌, length, get_or}
-use Rattle.lists.specs.Lists.{at, valuesAt}
+use Rattle.lists.specs.Lists.{at, values_at}
 use Rattle.symbolic.specs.Columns.{Column}
-use Rattle.symbolic.specs.Factor.{columnAt, parent_of, patternFrom}
+use Rattle.symbolic.specs.Factor.{column_at, parent_of, pattern_from}
 use Rattle.workspace.specs.Regions.{cell, Outside, OnlyIn}
-use Rattle.workspace.specs.Layout.{marksAt, startsAt, childrenAt, lostAt, plan_at}
+use Rattle.workspace.specs.Layout.{marks_at, starts_at, children_at, lost_at, plan_at}
 use Rattle.pool.specs.Chains.{chain, Linked}
 use Rattle.updown.specs.Queues.{Queues}
 use Rattle.updown.specs.Turns.{before, after, label_at, done, waiting, PlansTo}
@@ -18,14 +18,14 @@ pub record ChainOf (heads rows next : List ℕ) (m c : ℕ) (old : List ℕ) : T
   pub heads-long : length heads ≡ m
   pub rows_long : length rows ≡ length next
   pub linked : Linked next (at heads c) (chain next (at heads c))
-  pub rows_are : valuesAt rows (chain next (at heads c)) ≡ patternFrom 1 old
+  pub rows_are : values_at rows (chain next (at heads c)) ≡ pattern_from 1 old
 
 -- the chains hold the rows of the factor before the batch, and rows and columns are few enough
 pub record Columns (heads rows next : List ℕ) (m : ℕ) (R W : List Column) (adding : Bool) : Type 0 where
   pub narrow : m ≤ 4096
   -- a loose bound above document 01's, as in Entries.antt
   pub few : length R + length W ≤ 60000
-  pub chains : (c : ℕ) → 1 ≤ c → c ≤ m → ChainOf heads rows next m c (columnAt (before adding m R W) c).counts
+  pub chains : (c : ℕ) → 1 ≤ c → c ≤ m → ChainOf heads rows next m c (column_at (before adding m R W) c).counts
 
 -- the parents are those of the factor before the batch
 pub record Parents (parents : List ℕ) (m : ℕ) (R W : List Column) (adding : Bool) : Type 0 where
@@ -40,13 +40,13 @@ pub record Turn (m : ℕ) (R W : List Column) (adding : Bool) (work : List ℕ) 
   pub high : j ≤ m
   pub long : plan_at m + used ≤ length work
   pub plans : PlansTo m (before adding m R W) (after adding m R W) (label_at m R W) work (done m R W j) 0 j used
-  pub starts : cell work (startsAt m) (j - 1) ≡ used
+  pub starts : cell work (starts_at m) (j - 1) ≡ used
   pub queues : Queues m work j except (waiting m R W j handled)
   pub so_far : SoFar m R W adding work n j (length W) handled
 
 -- what B, C and D leave: all but the differences, the queues of other parents and the links, and the head of j's own queue
 abbrev pub Still : (m j : ℕ) (before after : List ℕ) → Type 0
-Still m j w w' = (k : ℕ) → marksAt m ≤ k → Outside (lostAt m) (2 * m) k → k ≢ childrenAt m + (j - 1) → get_or w' k 0 ≡ get_or w k 0
+Still m j w w' = (k : ℕ) → marks_at m ≤ k → Outside (lost_at m) (2 * m) k → k ≢ children_at m + (j - 1) → get_or w' k 0 ≡ get_or w k 0
 
 -- the turn of j goes on, with other children handled
 pub record TurnTo (m : ℕ) (R W : List Column) (adding : Bool) (before after : List ℕ) (j used n : ℕ) (handled : ℕ → Bool) : Type 0 where
@@ -91,7 +91,7 @@ pub record AtChild (work : List ℕ) (m : ℕ) (R W : List Column) (adding : Boo
 -- child c is handled too, and nothing but the differences changed
 pub record Handled (m : ℕ) (R W : List Column) (adding : Bool) (before after : List ℕ) (n j c : ℕ) (handled : ℕ → Bool) : Type 0 where
   pub so_far : SoFar m R W adding after n j (length W) (also handled c)
-  pub only : OnlyIn 0 (marksAt m) before after
+  pub only : OnlyIn 0 (marks_at m) before after
 
 -- what a caller shows before B: c waits among the children of some column j, for some R and W
 pub record SomeWaiting (work : List ℕ) (m n c : ℕ) (adding : Bool) : Type 0 where

@@ -4,12 +4,12 @@
 ghost use Rattle.std.specs.Prelude.{◌≡◌, ◌≢◌, Bool, List, ℕ, ◌+◌, ◌-◌, ◌≤◌, eqb, length};
 ghost use Rattle.lists.specs.Lists.{at};
 ghost use Rattle.workspace.specs.Regions.{cell};
-ghost use Rattle.updown.specs.Marks.{end_at, otherAt, passedOn};
+ghost use Rattle.updown.specs.Marks.{end_at, other_at, passed_on};
 ghost use Rattle.symbolic.specs.Columns.{Column};
-ghost use Rattle.updown.specs.Turns.{otherParent};
+ghost use Rattle.updown.specs.Turns.{other_parent};
 ghost use Rattle.updown.specs.SoFar.{nobody, children};
 ghost use Rattle.updown.specs.Walks.{Columns, Parents, Turn, TurnTo, TurnDone, SomeTurn, SomeTurnD, AtChild, Handled, SomeWaiting, SomeChild};
-ghost use Rattle.workspace.specs.Layout.{next_at, linksAt, plan_at};
+ghost use Rattle.workspace.specs.Layout.{next_at, links_at, plan_at};
 
 use crate::PARENT_WEIGHT;
 use book::Row;
@@ -37,7 +37,7 @@ fn second(heads: &[u32], next: &[u32], c: Row) -> Rec
 // The parent of a done column without the batch: its old one when adding, its new one when removing.
 fn other_parent(parents: &[u16], work: &[u32], m: usize, c: Row, adding: bool) -> Row
     requires { (plan_at m ≤ length work.now) × (m ≤ 4096) × (1 ≤ c.0) × (c.0 ≤ m) × (length parents.now ≡ m) }
-    ensures { result.0 ≡ otherAt parents.now work.now m c.0 adding }
+    ensures { result.0 ≡ other_at parents.now work.now m c.0 adding }
 {
     let i = (c.0 - 1) as usize;
     if adding {
@@ -49,7 +49,7 @@ fn other_parent(parents: &[u16], work: &[u32], m: usize, c: Row, adding: bool) -
 // B, for child c of j that is kept: counts the rows that it has with the batch alone, its new rows up when adding, its gone rows down when removing.
 fn case_b(work: &mut [u32], m: usize, n: usize, c: Row, adding: bool) -> usize
     requires { SomeWaiting work.old m n c.0 adding }
-    ensures { (R W : List Column) (j used : ℕ) (handled : ℕ → Bool) → AtChild work.old m R W adding j used n j c.0 handled → otherParent m R c.0 ≡ j → Handled m R W adding work.old work.new result j c.0 handled }
+    ensures { (R W : List Column) (j used : ℕ) (handled : ℕ → Bool) → AtChild work.old m R W adding j used n j c.0 handled → other_parent m R c.0 ≡ j → Handled m R W adding work.old work.new result j c.0 handled }
 {
     let from = work[STARTS * m + (c.0 - 1) as usize] as usize;
     let to = plan_end(work, m, c);
@@ -73,7 +73,7 @@ fn case_c(
     adding: bool,
 ) -> usize
     requires { SomeChild heads.now rows.now next.now work.old m n c.0 adding (λ j. j) }
-    ensures { (R W : List Column) (j used : ℕ) (handled : ℕ → Bool) → Columns heads.now rows.now next.now m R W adding → AtChild work.old m R W adding j used n j c.0 handled → otherParent m R c.0 ≢ j → Handled m R W adding work.old work.new result j c.0 handled }
+    ensures { (R W : List Column) (j used : ℕ) (handled : ℕ → Bool) → Columns heads.now rows.now next.now m R W adding → AtChild work.old m R W adding j used n j c.0 handled → other_parent m R c.0 ≢ j → Handled m R W adding work.old work.new result j c.0 handled }
 {
     let r = second(heads, next, c);
     if adding {
@@ -99,7 +99,7 @@ fn case_b_or_c(
     adding: bool,
 ) -> usize
     requires { SomeChild heads.now rows.now next.now work.old m n c.0 adding (λ j. j) }
-    ensures { (R W : List Column) (j used : ℕ) (handled : ℕ → Bool) → Columns heads.now rows.now next.now m R W adding → AtChild work.old m R W adding j used n j c.0 handled → kept ≡ eqb (otherParent m R c.0) j → Handled m R W adding work.old work.new result j c.0 handled }
+    ensures { (R W : List Column) (j used : ℕ) (handled : ℕ → Bool) → Columns heads.now rows.now next.now m R W adding → AtChild work.old m R W adding j used n j c.0 handled → kept ≡ eqb (other_parent m R c.0) j → Handled m R W adding work.old work.new result j c.0 handled }
 {
     if kept {
         return case_b(work, m, n, c, adding);
@@ -136,7 +136,7 @@ fn lost_child(
 // queue.
 fn pass_on(work: &mut [u32], m: usize, c: Row, j: Row, other: Row) -> Row
     requires { (plan_at m ≤ length work.old) × (m ≤ 4096) × (1 ≤ c.0) × (c.0 ≤ m) × (other.0 ≤ m) }
-    ensures { (result.0 ≡ cell work.old (linksAt m) (c.0 - 1)) × (work.new ≡ passedOn m work.old c.0 j.0 other.0) }
+    ensures { (result.0 ≡ cell work.old (links_at m) (c.0 - 1)) × (work.new ≡ passed_on m work.old c.0 j.0 other.0) }
 {
     let i = LINKS * m + (c.0 - 1) as usize;
     let after = Row(work[i]);

@@ -3,7 +3,7 @@ ghost use Rattle.std.specs.Prelude.{◌≡◌, List, ℕ, ◌+◌, ◌≤◌, �
 ghost use Rattle.lists.specs.Lists.{sum_of};
 ghost use Rattle.book.specs.Book.{tables_of};
 ghost use Rattle.book.specs.Entries.{HasHead};
-ghost use Rattle.updown.specs.Entries.{listedStarts, bookedStarts};
+ghost use Rattle.updown.specs.Entries.{listed_starts, booked_starts};
 
 use book::{Id, Row};
 
@@ -21,7 +21,7 @@ fn first_row(row_list: &[u32], at: usize, n: usize) -> Row
 // Fills in where the columns start whose rows stand one after another in row_list, row_counts[k] of them each.
 pub fn listed_starts(row_counts: &[u32], row_list: &[u32], starts: &mut [u32])
     requires { (length starts.old ≡ length row_counts.now) × (sum_of (λ n. n) row_counts.now ≤ length row_list.now) }
-    ensures { starts.new ≡ listedStarts row_counts.now row_list.now }
+    ensures { starts.new ≡ listed_starts row_counts.now row_list.now }
 {
     let mut k: usize = 0;
     let mut at: usize = 0;
@@ -37,7 +37,7 @@ pub fn listed_starts(row_counts: &[u32], row_list: &[u32], starts: &mut [u32])
 // Fills in where the columns start that the book has under ids.
 pub fn booked_starts(book_heads: &[u32], book_rows: &[u16], ids: &[u32], starts: &mut [u32])
     requires { (length starts.old ≡ length ids.now) × ((k : ℕ) → k < length ids.now → HasHead book_heads.now book_rows.now (get_or ids.now k 0)) }
-    ensures { (next : List ℕ) → length book_rows.now ≡ length next → starts.new ≡ bookedStarts (tables_of book_heads.now book_rows.now next) ids.now }
+    ensures { (next : List ℕ) → length book_rows.now ≡ length next → starts.new ≡ booked_starts (tables_of book_heads.now book_rows.now next) ids.now }
 {
     let mut k: usize = 0;
     while k < ids.len() {

@@ -3,7 +3,7 @@
 // Both walk the tree of all columns, those of the batch among them: in it, a touched column stands in the queue of its parent, and, once that is done and
 // where its parent without the batch is another one, in that one's queue of lost children (removing: gained).
 ghost use Rattle.std.specs.Prelude.{List};
-ghost use Rattle.tables.specs.Stored.{storedOf};
+ghost use Rattle.tables.specs.Stored.{stored_of};
 ghost use Rattle.symbolic.specs.Columns.{Column};
 ghost use Rattle.book.specs.Book.{tables_of};
 ghost use Rattle.updown.specs.Entries.{CanAdd, SomeAdd, CanEnter, SomeEnter, AddPlanned, CanRemove, SomeRemove, RemovePlanned};
@@ -78,8 +78,8 @@ pub fn plan_add(
     starts: &[u32],
     free: Rec,
 ) -> Plan
-    requires { SomeAdd (storedOf heads.now parents.now rows.now counts.now next.now free.0) starts.now row_counts.now row_list.now work.old }
-    ensures { (R W : List Column) → CanAdd (storedOf heads.now parents.now rows.now counts.now next.now free.0) starts.now row_counts.now row_list.now work.old R W → AddPlanned (storedOf heads.now parents.now rows.now counts.now next.now free.0) R W work.old work.new result.fits result.first.0 result.count result.entries result.used }
+    requires { SomeAdd (stored_of heads.now parents.now rows.now counts.now next.now free.0) starts.now row_counts.now row_list.now work.old }
+    ensures { (R W : List Column) → CanAdd (stored_of heads.now parents.now rows.now counts.now next.now free.0) starts.now row_counts.now row_list.now work.old R W → AddPlanned (stored_of heads.now parents.now rows.now counts.now next.now free.0) R W work.old work.new result.fits result.first.0 result.count result.entries result.used }
 {
     let m = heads.len();
     let flags = PLAN * m + RECORD_PLACES * next.len();
@@ -106,8 +106,8 @@ pub fn plan_enter(
     starts: &[u32],
     free: Rec,
 ) -> Plan
-    requires { SomeEnter (storedOf heads.now parents.now rows.now counts.now next.now free.0) (tables_of book_heads.now book_rows.now book_next.now) starts.now ids.now work.old }
-    ensures { (R W : List Column) → CanEnter (storedOf heads.now parents.now rows.now counts.now next.now free.0) (tables_of book_heads.now book_rows.now book_next.now) starts.now ids.now work.old R W → AddPlanned (storedOf heads.now parents.now rows.now counts.now next.now free.0) R W work.old work.new result.fits result.first.0 result.count result.entries result.used }
+    requires { SomeEnter (stored_of heads.now parents.now rows.now counts.now next.now free.0) (tables_of book_heads.now book_rows.now book_next.now) starts.now ids.now work.old }
+    ensures { (R W : List Column) → CanEnter (stored_of heads.now parents.now rows.now counts.now next.now free.0) (tables_of book_heads.now book_rows.now book_next.now) starts.now ids.now work.old R W → AddPlanned (stored_of heads.now parents.now rows.now counts.now next.now free.0) R W work.old work.new result.fits result.first.0 result.count result.entries result.used }
 {
     let m = heads.len();
     let flags = PLAN * m + RECORD_PLACES * next.len();
@@ -133,8 +133,8 @@ pub fn plan_remove(
     ids: &[u32],
     starts: &[u32],
 ) -> Plan
-    requires { SomeRemove (storedOf heads.now parents.now rows.now counts.now next.now 0) (tables_of book_heads.now book_rows.now book_next.now) starts.now ids.now work.old }
-    ensures { (R W : List Column) → CanRemove (storedOf heads.now parents.now rows.now counts.now next.now 0) (tables_of book_heads.now book_rows.now book_next.now) starts.now ids.now work.old R W → RemovePlanned (storedOf heads.now parents.now rows.now counts.now next.now 0) R W work.old work.new result.fits result.first.0 result.count result.entries result.used }
+    requires { SomeRemove (stored_of heads.now parents.now rows.now counts.now next.now 0) (tables_of book_heads.now book_rows.now book_next.now) starts.now ids.now work.old }
+    ensures { (R W : List Column) → CanRemove (stored_of heads.now parents.now rows.now counts.now next.now 0) (tables_of book_heads.now book_rows.now book_next.now) starts.now ids.now work.old R W → RemovePlanned (stored_of heads.now parents.now rows.now counts.now next.now 0) R W work.old work.new result.fits result.first.0 result.count result.entries result.used }
 {
     let m = heads.len();
     let flags = PLAN * m + RECORD_PLACES * next.len();

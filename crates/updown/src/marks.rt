@@ -1,6 +1,6 @@
 // The marks of the rows to visit, and a flag for each block of 64 rows that has one: a mark is set with its flag, and the next marked row is found.
 ghost use Rattle.std.specs.Prelude.{◌≡◌, ◌≤◌};
-ghost use Rattle.updown.specs.Marks.{Room, startMarked, raised, Flagged, Next};
+ghost use Rattle.updown.specs.Marks.{Room, start_marked, raised, Flagged, Next};
 
 use crate::{LABEL_WEIGHT, START_BIT};
 use book::Row;
@@ -9,7 +9,7 @@ use workspace::{BLOCK, MARKS};
 // Marks a row where the batch column at position k starts, no row where that is row 0; positions come rising.
 pub fn mark_start(work: &mut [u32], m: usize, flags: usize, row: Row, k: u32)
     requires { Room m flags work.old × (row.0 ≤ m) × (k ≤ 64) }
-    ensures { work.new ≡ startMarked m flags work.old row.0 k }
+    ensures { work.new ≡ start_marked m flags work.old row.0 k }
 {
     if row.0 == 0 {
         return;

@@ -1,13 +1,13 @@
 // Where the columns of a batch start, as lent by position: their starts are marked, and A of Algorithms 3 and 4 counts the batch columns that start at j. A
 // column that counts no row starts at row 0, that is nowhere.
 ghost use Rattle.std.specs.Prelude.{◌≡◌, true, List, ℕ, ◌%◌, ◌≤◌, length};
-ghost use Rattle.updown.specs.Marks.{markAt};
+ghost use Rattle.updown.specs.Marks.{mark_at};
 ghost use Rattle.symbolic.specs.Columns.{Column};
 ghost use Rattle.updown.specs.States.{start_of};
 ghost use Rattle.updown.specs.Entries.{Listed};
 ghost use Rattle.updown.specs.Starts.{StartsTo, CanMark, SomeMark, CanStart, Started, SomeStart, BookHolds, SomeStartBooked};
-ghost use Rattle.workspace.specs.Layout.{startsAt};
-ghost use Rattle.updown.specs.Plans.{startBit, labelWeight};
+ghost use Rattle.workspace.specs.Layout.{starts_at};
+ghost use Rattle.updown.specs.Plans.{start_bit, label_weight};
 
 use crate::{LABEL_WEIGHT, START_BIT, marks};
 use book::{Id, Row};
@@ -97,8 +97,8 @@ pub fn case_a_listed(
     m: usize,
     j: Row,
 ) -> usize
-    requires { SomeStart starts.now row_counts.now row_list.now m work.old j.0 × (startsAt m ≤ length work.old) }
-    ensures { (R W : List Column) → Listed starts.now row_counts.now row_list.now W → CanStart m R W true work.old j.0 → ((i : ℕ) → 1 ≤ i → i ≤ length W → start_of W i ≡ j.0 → markAt m work.old j.0 % labelWeight ≡ startBit) → Started m R W true work.old work.new result j.0 }
+    requires { SomeStart starts.now row_counts.now row_list.now m work.old j.0 × (starts_at m ≤ length work.old) }
+    ensures { (R W : List Column) → Listed starts.now row_counts.now row_list.now W → CanStart m R W true work.old j.0 → ((i : ℕ) → 1 ≤ i → i ≤ length W → start_of W i ≡ j.0 → mark_at m work.old j.0 % label_weight ≡ start_bit) → Started m R W true work.old work.new result j.0 }
 {
     if work[MARKS * m + (j.0 - 1) as usize] % LABEL_WEIGHT == START_BIT {
         return count_listed(work, row_counts, row_list, starts, m, j);
@@ -118,8 +118,8 @@ pub fn case_a_booked(
     j: Row,
     adding: bool,
 ) -> usize
-    requires { SomeStartBooked book_heads.now book_rows.now book_next.now starts.now ids.now m work.old j.0 adding × (startsAt m ≤ length work.old) }
-    ensures { (R W : List Column) → BookHolds book_heads.now book_rows.now book_next.now starts.now ids.now m W → CanStart m R W adding work.old j.0 → ((i : ℕ) → 1 ≤ i → i ≤ length W → start_of W i ≡ j.0 → markAt m work.old j.0 % labelWeight ≡ startBit) → Started m R W adding work.old work.new result j.0 }
+    requires { SomeStartBooked book_heads.now book_rows.now book_next.now starts.now ids.now m work.old j.0 adding × (starts_at m ≤ length work.old) }
+    ensures { (R W : List Column) → BookHolds book_heads.now book_rows.now book_next.now starts.now ids.now m W → CanStart m R W adding work.old j.0 → ((i : ℕ) → 1 ≤ i → i ≤ length W → start_of W i ≡ j.0 → mark_at m work.old j.0 % label_weight ≡ start_bit) → Started m R W adding work.old work.new result j.0 }
 {
     if work[MARKS * m + (j.0 - 1) as usize] % LABEL_WEIGHT == START_BIT {
         return count_booked(

@@ -1,9 +1,9 @@
 // The first and the last steps of a turn: the next column is taken, its plan is written, and one step is taken up the tree.
 ghost use Rattle.std.specs.Prelude.{◌≡◌, Bool, true, List, ◌+◌, ◌≤◌, ◌<◌, eqb, length};
 ghost use Rattle.lists.specs.Lists.{pick};
-ghost use Rattle.updown.specs.Marks.{Room, markAt, Flagged, begun, steppedUp, Taken, upAt, CanStep, SteppedTo};
+ghost use Rattle.updown.specs.Marks.{Room, mark_at, Flagged, begun, stepped_up, Taken, up_at, CanStep, SteppedTo};
 ghost use Rattle.symbolic.specs.Columns.{Column};
-ghost use Rattle.symbolic.specs.Factor.{columnAt, size_of};
+ghost use Rattle.symbolic.specs.Factor.{column_at, size_of};
 ghost use Rattle.pool.specs.Chains.{chain};
 ghost use Rattle.updown.specs.Turns.{before};
 ghost use Rattle.updown.specs.SoFar.{IsDefinition};
@@ -84,7 +84,7 @@ pub fn write_plan(
     avail: Rec,
 ) -> Emission
     requires { SomePlanned heads.now rows.now counts.now next.now work.old m n j.0 used avail.0 }
-    ensures { (R W : List Column) (adding : Bool) → Columns heads.now rows.now next.now m R W adding → Multiplicities heads.now counts.now next.now m R W adding → IsDefinition m R W adding work.old n j.0 → used + size_of (columnAt (before adding m R W) j.0) + length (chain next.now avail.0) ≤ length next.now → Planned next.now work.old work.new m R W adding j.0 used avail.0 result }
+    ensures { (R W : List Column) (adding : Bool) → Columns heads.now rows.now next.now m R W adding → Multiplicities heads.now counts.now next.now m R W adding → IsDefinition m R W adding work.old n j.0 → used + size_of (column_at (before adding m R W) j.0) + length (chain next.now avail.0) ≤ length next.now → Planned next.now work.old work.new m R W adding j.0 used avail.0 result }
 {
     let h = Rec(heads[(j.0 - 1) as usize]);
     emission::emit(rows, counts, next, work, m, n, j, h, used, avail)
@@ -93,7 +93,7 @@ pub fn write_plan(
 // The parent of j in the tree of all columns: the new one when adding, the old one when removing.
 fn tree_parent(parents: &[u16], j: Row, parent: Row, adding: bool) -> Row
     requires { (1 ≤ j.0) × (j.0 ≤ length parents.now) }
-    ensures { result.0 ≡ upAt parents.now j.0 parent.0 adding }
+    ensures { result.0 ≡ up_at parents.now j.0 parent.0 adding }
 {
     if adding {
         return parent;
@@ -103,8 +103,8 @@ fn tree_parent(parents: &[u16], j: Row, parent: Row, adding: bool) -> Row
 
 // Keeps the new parent of j, and places j's label in the mark of its tree parent, whose queue of children j enters.
 fn place_marker(work: &mut [u32], m: usize, flags: usize, j: Row, parent: Row, up: Row)
-    requires { Room m flags work.old × (1 ≤ j.0) × (j.0 ≤ m) × (parent.0 ≤ m) × (up.0 ≤ m) × (markAt m work.old j.0 < 260) }
-    ensures { work.new ≡ steppedUp m flags work.old j.0 parent.0 up.0 }
+    requires { Room m flags work.old × (1 ≤ j.0) × (j.0 ≤ m) × (parent.0 ≤ m) × (up.0 ≤ m) × (mark_at m work.old j.0 < 260) }
+    ensures { work.new ≡ stepped_up m flags work.old j.0 parent.0 up.0 }
 {
     let i = (j.0 - 1) as usize;
     let x = work[MARKS * m + i];

@@ -8,8 +8,8 @@ use native.Mathlib.Omega.{arith}
 use native.Mathlib.Numerals.{add-one}
 use lib.ListN.{length, take, set, length-set}
 use lib.Seq.{take-suc-set}
-use Rattle.book.specs.Book.{isBooked}
-use Rattle.windows.specs.Chosen.{idsFrom, idsOn, Collected}
+use Rattle.book.specs.Book.{is_booked}
+use Rattle.windows.specs.Chosen.{ids_from, ids_on, Collected}
 use Rattle.windows.proofs.Chosen.{ids-in, ids-out}
 
 -- the first k places have the ids up to i, and the rest comes
@@ -18,23 +18,23 @@ pub record Collecting (heads : List ℕ) (p : ℕ → Bool) (first : ℕ) (list�
   pub high : i ≤ length heads + 1
   pub long : length list ≡ length list₀
   pub fits : k ≤ length list₀
-  pub ids : idsOn heads p first ≡ take k list ++ idsOn heads p i
+  pub ids : ids_on heads p first ≡ take k list ++ ids_on heads p i
 
 -- ---- the ids from one id on
 
 module _ (hs : List ℕ) (p : ℕ → Bool) (i : ℕ) (h : i ≤ length hs) where
-  rest : idsFrom hs p (suc i) (length hs - i) ≡ idsOn hs p (i + 1)
+  rest : ids_from hs p (suc i) (length hs - i) ≡ ids_on hs p (i + 1)
   rest =
       let e : length hs - i ≡ length hs + 1 - (i + 1) = omega arith in
-      ap (λ (n : ℕ). idsFrom hs p (suc i) n) e ∙ ap (λ (l : ℕ). idsFrom hs p l (length hs + 1 - (i + 1))) (sym (add-one i))
+      ap (λ (n : ℕ). ids_from hs p (suc i) n) e ∙ ap (λ (l : ℕ). ids_from hs p l (length hs + 1 - (i + 1))) (sym (add-one i))
 
-  whole : idsOn hs p i ≡ idsFrom hs p i (suc (length hs - i))
-  whole = let e : length hs + 1 - i ≡ suc (length hs - i) = omega arith in ap (idsFrom hs p i) e
+  whole : ids_on hs p i ≡ ids_from hs p i (suc (length hs - i))
+  whole = let e : length hs + 1 - i ≡ suc (length hs - i) = omega arith in ap (ids_from hs p i) e
 
-  on_in : (isBooked hs i && p i) ≡ true → idsOn hs p i ≡ i ∷ idsOn hs p (i + 1)
+  on_in : (is_booked hs i && p i) ≡ true → ids_on hs p i ≡ i ∷ ids_on hs p (i + 1)
   on_in e = whole ∙ ids-in hs p i (length hs - i) e ∙ ap (λ (l : List ℕ). i ∷ l) rest
 
-  on_out : (isBooked hs i && p i) ≡ false → idsOn hs p i ≡ idsOn hs p (i + 1)
+  on_out : (is_booked hs i && p i) ≡ false → ids_on hs p i ≡ ids_on hs p (i + 1)
   on_out e = whole ∙ ids-out hs p i (length hs - i) e ∙ rest
 
 -- ---- the loop
@@ -43,7 +43,7 @@ pub collecting-start : (heads : List ℕ) (p : ℕ → Bool) (first : ℕ) (list
 collecting-start heads p first list h = record { low = omega arith; high = h; long = refl; fits = omega arith; ids = refl }
 
 module _ {heads : List ℕ} {p : ℕ → Bool} {first : ℕ} {list₀ list : List ℕ} {k i : ℕ} (c : Collecting heads p first list₀ list k i) where
-  pub collecting-took : i ≤ length heads → k < length list → (isBooked heads i && p i) ≡ true → Collecting heads p first list₀ (set list k i) (k + 1) (i + 1)
+  pub collecting-took : i ≤ length heads → k < length list → (is_booked heads i && p i) ≡ true → Collecting heads p first list₀ (set list k i) (k + 1) (i + 1)
   collecting-took h l e =
       let t : take (k + 1) (set list k i) ≡ take k list ++ (i ∷ []) = ap (λ (n : ℕ). take n (set list k i)) (add-one k) ∙ take-suc-set list k i l in
       record {
@@ -52,11 +52,11 @@ module _ {heads : List ℕ} {p : ℕ → Bool} {first : ℕ} {list₀ list : Lis
         long = length-set list k i ∙ c.long;
         fits = omega (arith, c.long);
         ids =
-            c.ids ∙ ap (λ (r : List ℕ). take k list ++ r) (on_in heads p i h e) ∙ sym (append_assoc (take k list) (i ∷ []) (idsOn heads p (i + 1))) ∙
-            ap (λ (r : List ℕ). r ++ idsOn heads p (i + 1)) (sym t);
+            c.ids ∙ ap (λ (r : List ℕ). take k list ++ r) (on_in heads p i h e) ∙ sym (append_assoc (take k list) (i ∷ []) (ids_on heads p (i + 1))) ∙
+            ap (λ (r : List ℕ). r ++ ids_on heads p (i + 1)) (sym t);
       }
 
-  pub collecting-passed : i ≤ length heads → (isBooked heads i && p i) ≡ false → Collecting heads p first list₀ list k (i + 1)
+  pub collecting-passed : i ≤ length heads → (is_booked heads i && p i) ≡ false → Collecting heads p first list₀ list k (i + 1)
   collecting-passed h e = record {
     low = omega (arith, c.low);
     high = omega arith;

@@ -10,12 +10,12 @@ use borrow.Author.Tests.{eq-eqb, ne_eqb}
 use Rattle.lists.specs.Lists.{Mem, first, later, all, at, among, sum_of}
 use Rattle.lists.proofs.Tests.{cases, eq-or-ne, and_both}
 use Rattle.symbolic.specs.Columns.{Column, within}
-use Rattle.symbolic.specs.Change.{ids_of, without, columnOf, columnsOf, Bag}
+use Rattle.symbolic.specs.Change.{ids_of, without, column_of, columns_of, Bag}
 use Rattle.windows.specs.Windowed.{windowed}
 
 -- a column with the window that a table has for its id
-abbrev pub windowedOne : (windows : List ℕ) → (n : ℕ) → Column → Column
-windowedOne w n c = within (at w c.id) (at w (n + c.id)) c
+abbrev pub windowed_one : (windows : List ℕ) → (n : ℕ) → Column → Column
+windowed_one w n c = within (at w c.id) (at w (n + c.id)) c
 
 module _ (w : List ℕ) (n : ℕ) where
   pub windowed-nil : windowed w n [] ≡ []
@@ -25,7 +25,7 @@ module _ (w : List ℕ) (n : ℕ) where
   pub windowed-append : (cs ds : List Column) → windowed w n (cs ++ ds) ≡ windowed w n cs ++ windowed w n ds
   unfolding windowed
   windowed-append [] ds = refl
-  windowed-append (c ∷ cs) ds = ap (λ (es : List Column). windowedOne w n c ∷ es) (windowed-append cs ds)
+  windowed-append (c ∷ cs) ds = ap (λ (es : List Column). windowed_one w n c ∷ es) (windowed-append cs ds)
 
   pub windowed-length : (cs : List Column) → length (windowed w n cs) ≡ length cs
   unfolding windowed
@@ -37,14 +37,14 @@ module _ (w : List ℕ) (n : ℕ) where
   windowed-ids [] = refl
   windowed-ids (c ∷ cs) = ap (λ (is : List ℕ). c.id ∷ is) (windowed-ids cs)
 
-  pub windowed-sum : (f : Column → ℕ) (cs : List Column) → sum_of f (windowed w n cs) ≡ sum_of (λ c. f (windowedOne w n c)) cs
+  pub windowed-sum : (f : Column → ℕ) (cs : List Column) → sum_of f (windowed w n cs) ≡ sum_of (λ c. f (windowed_one w n c)) cs
   unfolding windowed sum_of
   windowed-sum f [] = refl
-  windowed-sum f (c ∷ cs) = ap (λ (k : ℕ). f (windowedOne w n c) + k) (windowed-sum f cs)
+  windowed-sum f (c ∷ cs) = ap (λ (k : ℕ). f (windowed_one w n c) + k) (windowed-sum f cs)
 
   -- the order of columns does not matter
   pub windowed-bag : (cs ds : List Column) → Bag cs ds → Bag (windowed w n cs) (windowed w n ds)
-  windowed-bag cs ds b f = windowed-sum f cs ∙ b (λ c. f (windowedOne w n c)) ∙ sym (windowed-sum f ds)
+  windowed-bag cs ds b f = windowed-sum f cs ∙ b (λ c. f (windowed_one w n c)) ∙ sym (windowed-sum f ds)
 
   -- a test that does not read the window
   pub windowed-all : (p : Column → Bool) → ((c : Column) (a b : ℕ) → p (within a b c) ≡ p c) → (cs : List Column) → all p (windowed w n cs) ≡ all p cs
@@ -60,12 +60,12 @@ module _ (w : List ℕ) (n : ℕ) where
   windowed-without is (c ∷ cs) =
       elim (cases (among c.id is)) [
         | inl e ↦ rw e (windowed-without is cs)
-        | inr e ↦ rw e (ap (λ (es : List Column). windowedOne w n c ∷ es) (windowed-without is cs))
+        | inr e ↦ rw e (ap (λ (es : List Column). windowed_one w n c ∷ es) (windowed-without is cs))
       ]
 
   -- the column of an id that one of the columns has
-  pub windowed-column : (i : ℕ) (cs : List Column) → among i (ids_of cs) ≡ true → columnOf i (windowed w n cs) ≡ windowedOne w n (columnOf i cs)
-  unfolding windowed columnOf ids_of among
+  pub windowed-column : (i : ℕ) (cs : List Column) → among i (ids_of cs) ≡ true → column_of i (windowed w n cs) ≡ windowed_one w n (column_of i cs)
+  unfolding windowed column_of ids_of among
   windowed-column i [] h = absurd (false≢true h)
   windowed-column i (c ∷ cs) h =
       elim (eq-or-ne c.id i) [
@@ -73,14 +73,14 @@ module _ (w : List ℕ) (n : ℕ) where
         | inr q ↦ rw (ne_eqb c.id i q) (windowed-column i cs (rw (ne_eqb i c.id (λ e. q (sym e))) at h))
       ]
 
-  pub windowed-columns : (is : List ℕ) (cs : List Column) → all (λ (i : ℕ). among i (ids_of cs)) is ≡ true → columnsOf is (windowed w n cs) ≡ windowed w n (columnsOf is cs)
-  unfolding windowed columnsOf all
+  pub windowed-columns : (is : List ℕ) (cs : List Column) → all (λ (i : ℕ). among i (ids_of cs)) is ≡ true → columns_of is (windowed w n cs) ≡ windowed w n (columns_of is cs)
+  unfolding windowed columns_of all
   windowed-columns [] cs h = refl
   windowed-columns (i ∷ is) cs h =
       let t : (among i (ids_of cs) ≡ true) × (all (λ (k : ℕ). among k (ids_of cs)) is ≡ true) =
       and_both (among i (ids_of cs)) (all (λ (k : ℕ). among k (ids_of cs)) is) h in
-      ap (λ (c : Column). c ∷ columnsOf is (windowed w n cs)) (windowed-column i cs t.0) ∙
-      ap (λ (es : List Column). windowedOne w n (columnOf i cs) ∷ es) (windowed-columns is cs t.1)
+      ap (λ (c : Column). c ∷ columns_of is (windowed w n cs)) (windowed-column i cs t.0) ∙
+      ap (λ (es : List Column). windowed_one w n (column_of i cs) ∷ es) (windowed-columns is cs t.1)
 
 -- tables that have the same minutes for the columns' ids
 pub windowed-same : (w w' : List ℕ) (n : ℕ) (cs : List Column) →
@@ -90,4 +90,4 @@ windowed-same w w' n [] h = refl
 windowed-same w w' n (c ∷ cs) h =
     let t : (at w' c.id ≡ at w c.id) × (at w' (n + c.id) ≡ at w (n + c.id)) = h c first in
     ap (λ (a : ℕ). within a (at w' (n + c.id)) c ∷ windowed w' n cs) t.0 ∙ ap (λ (b : ℕ). within (at w c.id) b c ∷ windowed w' n cs) t.1 ∙
-    ap (λ (es : List Column). windowedOne w n c ∷ es) (windowed-same w w' n cs (λ d m. h d (later m)))
+    ap (λ (es : List Column). windowed_one w n c ∷ es) (windowed-same w w' n cs (λ d m. h d (later m)))

@@ -2,9 +2,9 @@
 -- that may be outside their windows. Assumes nothing: these are definitions.
 use Rattle.std.specs.Prelude.{Bool, ◌&&◌, List, [], ◌∷◌, ℕ, ◌+◌, ◌*◌, ◌≤◌, ◌<◌, eqb, length, get_or, drop}
 use Rattle.lists.specs.Lists.{pick, all, at, put, up_from}
-use Rattle.symbolic.specs.Columns.{Column, within, isInside, isWindow, Register}
-use Rattle.book.specs.Book.{Book, isBooked, columnsIn}
-use Rattle.windows.specs.Windows.{countsAt}
+use Rattle.symbolic.specs.Columns.{Column, within, is_inside, is_window, Register}
+use Rattle.book.specs.Book.{Book, is_booked, columns_in}
+use Rattle.windows.specs.Windows.{counts_at}
 
 -- ---- the register
 
@@ -14,39 +14,39 @@ windowed w n [] = []
 windowed w n (c ∷ cs) = within (at w c.id) (at w (n + c.id)) c ∷ windowed w n cs
 
 -- the booked columns with their windows, by rising id
-abbrev pub linesIn : Book → (windows : List ℕ) → List Column
-linesIn b w = windowed w (length b.heads) (columnsIn b)
+abbrev pub lines_in : Book → (windows : List ℕ) → List Column
+lines_in b w = windowed w (length b.heads) (columns_in b)
 
 -- the register that a book and its windows hold, for rows 1 to m and a clock
-abbrev pub registerIn : (m clock : ℕ) → Book → (windows : List ℕ) → Register
-registerIn m t b w = record { m = m; clock = t; columns = linesIn b w }
+abbrev pub register_in : (m clock : ℕ) → Book → (windows : List ℕ) → Register
+register_in m t b w = record { m = m; clock = t; columns = lines_in b w }
 
 -- ---- sound
 
 -- the minutes of an id: of a booked one a window, of any other "anything but 0" is unsound
-abbrev pub minutesFit : (heads windows : List ℕ) → (id : ℕ) → Bool
-minutesFit hs w i =
-    pick (isBooked hs i) (isWindow (at w i) (at w (length hs + i))) (eqb (at w i) 0 && eqb (at w (length hs + i)) 0)
+abbrev pub minutes_fit : (heads windows : List ℕ) → (id : ℕ) → Bool
+minutes_fit hs w i =
+    pick (is_booked hs i) (is_window (at w i) (at w (length hs + i))) (eqb (at w i) 0 && eqb (at w (length hs + i)) 0)
 
 -- SOUND: the minutes of every id fit
-abbrev pub areSound : (heads windows : List ℕ) → Bool
-areSound hs w = all (minutesFit hs w) (up_from 1 (length hs))
+abbrev pub are_sound : (heads windows : List ℕ) → Bool
+are_sound hs w = all (minutes_fit hs w) (up_from 1 (length hs))
 
 -- ---- minutes written
 
 -- the minutes of an id, of n
-abbrev pub putMinutes : (windows : List ℕ) → (n id first second : ℕ) → List ℕ
-putMinutes w n i a b = put (put w i a) (n + i) b
+abbrev pub put_minutes : (windows : List ℕ) → (n id first second : ℕ) → List ℕ
+put_minutes w n i a b = put (put w i a) (n + i) b
 
 -- ids get the minutes that two lists have for them, by position
 unfoldable pub entered : (windows : List ℕ) → (n : ℕ) → (ids firsts seconds : List ℕ) → List ℕ
 entered w n [] ps qs = w
-entered w n (i ∷ is) ps qs = entered (putMinutes w n i (get_or ps 0 0) (get_or qs 0 0)) n is (drop 1 ps) (drop 1 qs)
+entered w n (i ∷ is) ps qs = entered (put_minutes w n i (get_or ps 0 0) (get_or qs 0 0)) n is (drop 1 ps) (drop 1 qs)
 
 -- ids get minutes 0 and 0
 unfoldable pub left : (windows : List ℕ) → (n : ℕ) → (ids : List ℕ) → List ℕ
 left w n [] = w
-left w n (i ∷ is) = left (putMinutes w n i 0 0) n is
+left w n (i ∷ is) = left (put_minutes w n i 0 0) n is
 
 -- ids of 1 to n, and two places for each in the table
 pub record HasIds (windows : List ℕ) (n : ℕ) (ids : List ℕ) : Type 0 where
@@ -57,11 +57,11 @@ pub record HasIds (windows : List ℕ) (n : ℕ) (ids : List ℕ) : Type 0 where
 -- ---- where columns start
 
 -- by position, 0 for one that is outside its window
-unfoldable pub listedInside : (minute : ℕ) → (firsts seconds starts : List ℕ) → List ℕ
-listedInside t ps qs [] = []
-listedInside t ps qs (s ∷ ss) = pick (isInside (get_or ps 0 0) (get_or qs 0 0) t) s 0 ∷ listedInside t (drop 1 ps) (drop 1 qs) ss
+unfoldable pub listed_inside : (minute : ℕ) → (firsts seconds starts : List ℕ) → List ℕ
+listed_inside t ps qs [] = []
+listed_inside t ps qs (s ∷ ss) = pick (is_inside (get_or ps 0 0) (get_or qs 0 0) t) s 0 ∷ listed_inside t (drop 1 ps) (drop 1 qs) ss
 
 -- the same of ids, by the table's windows
-unfoldable pub bookedInside : (minute : ℕ) → (windows : List ℕ) → (n : ℕ) → (ids starts : List ℕ) → List ℕ
-bookedInside t w n is [] = []
-bookedInside t w n is (s ∷ ss) = pick (countsAt w n t (get_or is 0 0)) s 0 ∷ bookedInside t w n (drop 1 is) ss
+unfoldable pub booked_inside : (minute : ℕ) → (windows : List ℕ) → (n : ℕ) → (ids starts : List ℕ) → List ℕ
+booked_inside t w n is [] = []
+booked_inside t w n is (s ∷ ss) = pick (counts_at w n t (get_or is 0 0)) s 0 ∷ booked_inside t w n (drop 1 is) ss

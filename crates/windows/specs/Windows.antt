@@ -2,16 +2,16 @@
 -- minute. Assumes nothing: these are definitions.
 use Rattle.std.specs.Prelude.{Bool, ◌&&◌, not, List, ℕ, ◌+◌}
 use Rattle.lists.specs.Lists.{at}
-use Rattle.symbolic.specs.Columns.{isInside}
+use Rattle.symbolic.specs.Columns.{is_inside}
 
 -- whether an id, of n, counts at a minute
-abbrev pub countsAt : (windows : List ℕ) → (n minute id : ℕ) → Bool
-countsAt w n t i = isInside (at w i) (at w (n + i)) t
+abbrev pub counts_at : (windows : List ℕ) → (n minute id : ℕ) → Bool
+counts_at w n t i = is_inside (at w i) (at w (n + i)) t
 
 -- whether an id counts at one minute and not at another
-abbrev pub movesFrom : (windows : List ℕ) → (n minute other id : ℕ) → Bool
-movesFrom w n t u i = countsAt w n t i && not (countsAt w n u i)
+abbrev pub moves_from : (windows : List ℕ) → (n minute other id : ℕ) → Bool
+moves_from w n t u i = counts_at w n t i && not (counts_at w n u i)
 
 -- whether an id counts at both
-abbrev pub staysBetween : (windows : List ℕ) → (n minute other id : ℕ) → Bool
-staysBetween w n t u i = countsAt w n t i && countsAt w n u i
+abbrev pub stays_between : (windows : List ℕ) → (n minute other id : ℕ) → Bool
+stays_between w n t u i = counts_at w n t i && counts_at w n u i

@@ -1,15 +1,15 @@
 // The minutes of windows, two for each id: when a table of them is sound, minutes written as ids enter and leave, and the starts of columns hidden that are
 // outside their windows.
 ghost use Rattle.std.specs.Prelude.{◌≡◌, ◌+◌, ◌*◌, ◌≤◌, length};
-ghost use Rattle.symbolic.specs.Columns.{isWindow};
-ghost use Rattle.windows.specs.Windowed.{minutesFit, areSound, putMinutes, entered, left, HasIds, listedInside, bookedInside};
+ghost use Rattle.symbolic.specs.Columns.{is_window};
+ghost use Rattle.windows.specs.Windowed.{minutes_fit, are_sound, put_minutes, entered, left, HasIds, listed_inside, booked_inside};
 
 use crate::{counts_at, is_inside};
 use book::Id;
 
 // Whether two minutes are a window: 0 and 0 for none, or a second minute later than the first.
 pub fn is_window(first: u32, second: u32) -> bool
-    ensures { result ≡ isWindow first second }
+    ensures { result ≡ is_window first second }
 {
     if second == 0 {
         return first == 0;
@@ -20,7 +20,7 @@ pub fn is_window(first: u32, second: u32) -> bool
 // Whether the minutes of an id fit: of a booked one a window, of any other 0 and 0.
 fn minutes_fit(book_heads: &[u32], windows: &[u32], id: Id) -> bool
     requires { (1 ≤ id.0) × (id.0 ≤ length book_heads.now) × (2 * length book_heads.now ≤ length windows.now) × (length book_heads.now ≤ 200000) }
-    ensures { result ≡ minutesFit book_heads.now windows.now id.0 }
+    ensures { result ≡ minutes_fit book_heads.now windows.now id.0 }
 {
     let k = id.0 as usize;
     let first = windows[k - 1];
@@ -37,7 +37,7 @@ fn minutes_fit(book_heads: &[u32], windows: &[u32], id: Id) -> bool
 // Whether the minutes of every id fit.
 pub fn are_sound(book_heads: &[u32], windows: &[u32]) -> bool
     requires { (2 * length book_heads.now ≤ length windows.now) × (length book_heads.now ≤ 200000) }
-    ensures { result ≡ areSound book_heads.now windows.now }
+    ensures { result ≡ are_sound book_heads.now windows.now }
 {
     let n = book_heads.len();
     let mut i: u32 = 1;
@@ -53,7 +53,7 @@ pub fn are_sound(book_heads: &[u32], windows: &[u32]) -> bool
 // Writes the minutes of an id, of n.
 fn put_minutes(windows: &mut [u32], n: usize, id: Id, first: u32, second: u32)
     requires { (1 ≤ id.0) × (id.0 ≤ n) × (n + n ≤ length windows.old) × (n ≤ 200000) }
-    ensures { windows.new ≡ putMinutes windows.old n id.0 first second }
+    ensures { windows.new ≡ put_minutes windows.old n id.0 first second }
 {
     let k = id.0 as usize;
     windows[k - 1] = first;
@@ -87,7 +87,7 @@ pub fn leave(windows: &mut [u32], n: usize, ids: &[u32])
 // Writes start 0 for each column whose minutes, by position, have it outside at a minute.
 pub fn hide_listed(firsts: &[u32], seconds: &[u32], minute: u32, starts: &mut [u32])
     requires { (length firsts.now ≡ length starts.old) × (length seconds.now ≡ length starts.old) }
-    ensures { starts.new ≡ listedInside minute firsts.now seconds.now starts.old }
+    ensures { starts.new ≡ listed_inside minute firsts.now seconds.now starts.old }
 {
     let mut k: usize = 0;
     while k < starts.len() {
@@ -103,7 +103,7 @@ pub fn hide_listed(firsts: &[u32], seconds: &[u32], minute: u32, starts: &mut [u
 // Writes start 0 for each id, by position, that the table has outside at a minute.
 pub fn hide_booked(windows: &[u32], n: usize, ids: &[u32], minute: u32, starts: &mut [u32])
     requires { HasIds windows.now n ids.now × (length starts.old ≡ length ids.now) }
-    ensures { starts.new ≡ bookedInside minute windows.now n ids.now starts.old }
+    ensures { starts.new ≡ booked_inside minute windows.now n ids.now starts.old }
 {
     let mut k: usize = 0;
     while k < ids.len() {

@@ -3,15 +3,15 @@
 use mathlib.Core.Path.{◌≡◌}
 use Prim.Native.Nat.{ℕ, ◌≤◌}
 use native.Mathlib.Omega.{arith}
-use Rattle.workspace.specs.Planned.{packed, rowOf, multiplicityOf, kind_of, FitsEntry}
+use Rattle.workspace.specs.Planned.{packed, row_of, multiplicity_of, kind_of, FitsEntry}
 
 -- ---- packed, then read
 
 module _ {row multiplicity kind : ℕ} (e : FitsEntry row multiplicity kind) where
-  pub packed-row : rowOf (packed row multiplicity kind) ≡ row
+  pub packed-row : row_of (packed row multiplicity kind) ≡ row
   packed-row = omega arith
 
-  pub packed-multiplicity : multiplicityOf (packed row multiplicity kind) ≡ multiplicity
+  pub packed-multiplicity : multiplicity_of (packed row multiplicity kind) ≡ multiplicity
   packed-multiplicity = omega arith
 
   pub packed-kind : kind_of (packed row multiplicity kind) ≡ kind
@@ -19,5 +19,5 @@ module _ {row multiplicity kind : ℕ} (e : FitsEntry row multiplicity kind) whe
 
 -- ---- read of any place
 
-pub row-bounds : (x : ℕ) → (1 ≤ rowOf x) × (rowOf x ≤ 4096)
+pub row-bounds : (x : ℕ) → (1 ≤ row_of x) × (row_of x ≤ 4096)
 row-bounds x = omega arith

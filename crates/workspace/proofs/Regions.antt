@@ -11,7 +11,7 @@ use native.Mathlib.Numerals.{add-one}
 use lib.ListN.{length, get_or, take, drop, set, replicate, length-append, length-take, length-drop, length-set, length-replicate, get_or-replicate, get_or-append}
 use lib.Seq.{ext_get_or, set_out, take-suc, take-set-le, get_or-set_same, get_or-set_other, get_or-take, get_or-drop, get_or-append-add, length-take-le, take-add, take-set-lt, drop-set-add, drop-drop}
 use Rattle.lists.proofs.Tests.{eq-or-ne, lt-or-le}
-use Rattle.workspace.specs.Regions.{cell, region, Outside, Apart, IsZero, OnlyIn, cleared, zeroFirst}
+use Rattle.workspace.specs.Regions.{cell, region, Outside, Apart, IsZero, OnlyIn, cleared, zero_first}
 
 -- ---- a place of the table
 
@@ -230,12 +230,12 @@ cleared-next w a i h =
 
 -- ---- the first places of the table
 
-pub first-cleared : (n : ℕ) (w : List ℕ) → n ≤ length w → zeroFirst n w ≡ cleared w 0 n
+pub first-cleared : (n : ℕ) (w : List ℕ) → n ≤ length w → zero_first n w ≡ cleared w 0 n
 first-cleared n w h = let e : length {A = ℕ} (replicate n 0) ≡ 0 + n = omega (arith, length-replicate {A = ℕ} n 0) in ap (λ (k : ℕ). replicate n 0 ++ drop k w) e
 
 -- the first places are zero and the rest is as lent
-pub first-unique : (n : ℕ) {w x : List ℕ} → n ≤ length w → OnlyIn 0 n w x → IsZero x 0 n → x ≡ zeroFirst n w
+pub first-unique : (n : ℕ) {w x : List ℕ} → n ≤ length w → OnlyIn 0 n w x → IsZero x 0 n → x ≡ zero_first n w
 first-unique n {w} h o z = cleared-unique w 0 n (omega arith) o z ∙ sym (first-cleared n w h)
 
-pub first-same : (n : ℕ) (w : List ℕ) → n ≤ length w → IsZero w 0 n → zeroFirst n w ≡ w
+pub first-same : (n : ℕ) (w : List ℕ) → n ≤ length w → IsZero w 0 n → zero_first n w ≡ w
 first-same n w h z = sym (first-unique n h only-refl z)

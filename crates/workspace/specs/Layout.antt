@@ -5,8 +5,8 @@
 use Rattle.std.specs.Prelude.{ℕ, ◌+◌, ◌*◌}
 
 -- "W = 8 × m + 4 × F + C + n + 1,024"
-abbrev pub workNeed : (m n f c : ℕ) → ℕ
-workNeed m n f c = 8 * m + 4 * f + c + n + 1024
+abbrev pub work_need : (m n f c : ℕ) → ℕ
+work_need m n f c = 8 * m + 4 * f + c + n + 1024
 
 -- ---- a batch
 
@@ -19,32 +19,32 @@ abbrev pub rows_at : (m : ℕ) → ℕ
 rows_at m = m
 
 -- rows gathered to be counted; those of them that were not touched are then merged into the touched rows
-abbrev pub bufferAt : (m : ℕ) → ℕ
-bufferAt m = 2 * m
+abbrev pub buffer_at : (m : ℕ) → ℕ
+buffer_at m = 2 * m
 
 -- per column: its mark, with label and new parent
-abbrev pub marksAt : (m : ℕ) → ℕ
-marksAt m = 3 * m
+abbrev pub marks_at : (m : ℕ) → ℕ
+marks_at m = 3 * m
 
 -- per column: where its planned entries begin
-abbrev pub startsAt : (m : ℕ) → ℕ
-startsAt m = 4 * m
+abbrev pub starts_at : (m : ℕ) → ℕ
+starts_at m = 4 * m
 
 -- per column, until its turn: its first touched child, the head of a queue
-abbrev pub childrenAt : (m : ℕ) → ℕ
-childrenAt m = 5 * m
+abbrev pub children_at : (m : ℕ) → ℕ
+children_at m = 5 * m
 
 -- the same places after its turn: the next touched column
 abbrev pub next_at : (m : ℕ) → ℕ
-next_at m = childrenAt m
+next_at m = children_at m
 
 -- per column: its first lost child (removing: gained), the head of a queue
-abbrev pub lostAt : (m : ℕ) → ℕ
-lostAt m = 6 * m
+abbrev pub lost_at : (m : ℕ) → ℕ
+lost_at m = 6 * m
 
 -- per column: the next in the one queue that it is in
-abbrev pub linksAt : (m : ℕ) → ℕ
-linksAt m = 7 * m
+abbrev pub links_at : (m : ℕ) → ℕ
+links_at m = 7 * m
 
 -- the planned entries, F places
 abbrev pub plan_at : (m : ℕ) → ℕ
@@ -54,21 +54,21 @@ plan_at m = 8 * m
 abbrev pub spare : (m f : ℕ) → ℕ
 spare m f = 8 * m + f
 
--- per block of rows: whether one of them was marked, flagCount places of 1,024
-abbrev pub flagsAt : (m f : ℕ) → ℕ
-flagsAt m f = 8 * m + 4 * f
+-- per block of rows: whether one of them was marked, flag_count places of 1,024
+abbrev pub flags_at : (m f : ℕ) → ℕ
+flags_at m f = 8 * m + 4 * f
 
 -- rows of a block
-abbrev pub blockRows : ℕ
-blockRows = 64
+abbrev pub block_rows : ℕ
+block_rows = 64
 
 -- blocks of 4,096 rows, a flag for each
-abbrev pub flagCount : ℕ
-flagCount = 64
+abbrev pub flag_count : ℕ
+flag_count = 64
 
 -- left to the read-through, C + n places
-abbrev pub readThrough : (m f : ℕ) → ℕ
-readThrough m f = 8 * m + 4 * f + 1024
+abbrev pub read_through : (m f : ℕ) → ℕ
+read_through m f = 8 * m + 4 * f + 1024
 
 -- ---- an exchange: in the 3F places that its plans leave free
 
@@ -77,8 +77,8 @@ abbrev pub saved_at : (m f : ℕ) → ℕ
 saved_at m f = spare m f
 
 -- per column: in the lower part its parent before the exchange, and in the upper part, once it is gathered, one more than its size before
-abbrev pub gatherAt : (m f : ℕ) → ℕ
-gatherAt m f = saved_at m f + 2 * f
+abbrev pub gather_at : (m f : ℕ) → ℕ
+gather_at m f = saved_at m f + 2 * f
 
 -- ---- the read-through
 
@@ -87,41 +87,41 @@ abbrev pub counters : ℕ
 counters = 0
 
 -- per column: the first of its children
-abbrev pub childHead : (m : ℕ) → ℕ
-childHead m = m
+abbrev pub child_head : (m : ℕ) → ℕ
+child_head m = m
 
 -- per column: the next child of the same parent
-abbrev pub childNext : (m : ℕ) → ℕ
-childNext m = 2 * m
+abbrev pub child_next : (m : ℕ) → ℕ
+child_next m = 2 * m
 
 -- per row: the first book column whose smallest row it is
-abbrev pub columnHead : (m : ℕ) → ℕ
-columnHead m = 3 * m
+abbrev pub column_head : (m : ℕ) → ℕ
+column_head m = 3 * m
 
 -- per column: where its rows begin in the row stash, and the end of the last; m + 1 places, one of them in the next m
-abbrev pub stashStart : (m : ℕ) → ℕ
-stashStart m = 4 * m
+abbrev pub stash_start : (m : ℕ) → ℕ
+stash_start m = 4 * m
 
 -- per column: its last record
-abbrev pub lastsAt : (m : ℕ) → ℕ
-lastsAt m = 6 * m
+abbrev pub lasts_at : (m : ℕ) → ℕ
+lasts_at m = 6 * m
 
 -- per record of L: the last column read whose chain ends there, F places, written before they are read
 abbrev pub names_at : (m : ℕ) → ℕ
 names_at m = 8 * m
 
 -- the rows met, column by column, F places
-abbrev pub rowStash : (m f : ℕ) → ℕ
-rowStash m f = 8 * m + f
+abbrev pub row_stash : (m f : ℕ) → ℕ
+row_stash m f = 8 * m + f
 
 -- pieces of the free chain, 2F places
-abbrev pub piecesAt : (m f : ℕ) → ℕ
-piecesAt m f = 8 * m + 2 * f
+abbrev pub pieces_at : (m f : ℕ) → ℕ
+pieces_at m f = 8 * m + 2 * f
 
 -- per record of the book: the last id read whose column ends there, C places, written before they are read; then pieces of the book's free chain
-abbrev pub bookNames : (m f : ℕ) → ℕ
-bookNames m f = 8 * m + 4 * f + 1024
+abbrev pub book_names : (m f : ℕ) → ℕ
+book_names m f = 8 * m + 4 * f + 1024
 
 -- per id: the last record of its column while the book is read, then the next id with the same smallest row, n places
-abbrev pub columnNext : (m f c : ℕ) → ℕ
-columnNext m f c = 8 * m + 4 * f + 1024 + c
+abbrev pub column_next : (m f c : ℕ) → ℕ
+column_next m f c = 8 * m + 4 * f + 1024 + c

@@ -3,13 +3,13 @@
 use Rattle.std.specs.Prelude.{ℕ, ◌/◌, ◌%◌}
 
 -- by which the upper part of a place counts; a lower part is below it
-abbrev pub upperWeight : ℕ
-upperWeight = 8192
+abbrev pub upper_weight : ℕ
+upper_weight = 8192
 
 -- the lower part of a place
-abbrev pub lowerPart : (place : ℕ) → ℕ
-lowerPart x = x % upperWeight
+abbrev pub lower_part : (place : ℕ) → ℕ
+lower_part x = x % upper_weight
 
 -- the upper part of a place
-abbrev pub upperPart : (place : ℕ) → ℕ
-upperPart x = x / upperWeight
+abbrev pub upper_part : (place : ℕ) → ℕ
+upper_part x = x / upper_weight

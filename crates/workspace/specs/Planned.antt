@@ -8,12 +8,12 @@ abbrev pub packed : (row multiplicity kind : ℕ) → ℕ
 packed i n k = i - 1 + 4096 * n + 1073741824 * k
 
 -- the row of a planned entry
-abbrev pub rowOf : (entry : ℕ) → ℕ
-rowOf x = x % 4096 + 1
+abbrev pub row_of : (entry : ℕ) → ℕ
+row_of x = x % 4096 + 1
 
 -- the new multiplicity of a planned entry
-abbrev pub multiplicityOf : (entry : ℕ) → ℕ
-multiplicityOf x = x / 4096 % 262144
+abbrev pub multiplicity_of : (entry : ℕ) → ℕ
+multiplicity_of x = x / 4096 % 262144
 
 -- the kind of a planned entry
 abbrev pub kind_of : (entry : ℕ) → ℕ
@@ -22,16 +22,16 @@ kind_of x = x / 1073741824
 -- ---- kinds
 
 -- the row stays, with another multiplicity
-abbrev pub changedKind : ℕ
-changedKind = 0
+abbrev pub changed_kind : ℕ
+changed_kind = 0
 
 -- the row comes
-abbrev pub newKind : ℕ
-newKind = 1
+abbrev pub new_kind : ℕ
+new_kind = 1
 
 -- the row goes
-abbrev pub goneKind : ℕ
-goneKind = 2
+abbrev pub gone_kind : ℕ
+gone_kind = 2
 
 -- ---- what one place can hold
 

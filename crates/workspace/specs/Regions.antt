@@ -34,5 +34,5 @@ abbrev pub cleared : (work : List ℕ) → (a n : ℕ) → List ℕ
 cleared w a n = take a w ++ (replicate n 0 ++ drop (a + n) w)
 
 -- "the first W work places are zero", the rest as lent
-abbrev pub zeroFirst : (n : ℕ) → (work : List ℕ) → List ℕ
-zeroFirst n w = over (replicate n 0) w
+abbrev pub zero_first : (n : ℕ) → (work : List ℕ) → List ℕ
+zero_first n w = over (replicate n 0) w

@@ -3,8 +3,8 @@
 // table and a start, since two parts of one table cannot be lent at once.
 ghost use Rattle.std.specs.Prelude.{◌≡◌, ◌+◌, ◌*◌, ◌≤◌, ◌<◌, length};
 ghost use Rattle.workspace.specs.Regions.{cleared};
-ghost use Rattle.workspace.specs.Layout.{workNeed};
-ghost use Rattle.workspace.specs.Planned.{packed, FitsEntry, rowOf, multiplicityOf, kind_of};
+ghost use Rattle.workspace.specs.Layout.{work_need};
+ghost use Rattle.workspace.specs.Planned.{packed, FitsEntry, row_of, multiplicity_of, kind_of};
 
 // Where the regions of a batch start, in multiples of m; specs/Layout.antt has them all. NEXT and CHILDREN are the same places, after a column's turn and
 // until then.
@@ -44,7 +44,7 @@ pub const GONE: u32 = 2;
 
 // How many places of the work table the sizes m, n, f and c need: W of document 01. It is summed in 64 bits, so that no sizes are too large for it.
 pub fn work_need(m: u32, n: u32, f: u32, c: u32) -> usize
-    ensures { result ≡ workNeed m n f c }
+    ensures { result ≡ work_need m n f c }
 {
     8 * (m as usize) + 4 * (f as usize) + (c as usize) + (n as usize) + 1024
 }
@@ -71,14 +71,14 @@ pub fn pack(row: u32, multiplicity: u32, kind: u32) -> u32
 
 // The row of a planned entry.
 pub fn row_of(entry: u32) -> u32
-    ensures { result ≡ rowOf entry }
+    ensures { result ≡ row_of entry }
 {
     entry % 4096 + 1
 }
 
 // The multiplicity of a planned entry.
 pub fn multiplicity_of(entry: u32) -> u32
-    ensures { result ≡ multiplicityOf entry }
+    ensures { result ≡ multiplicity_of entry }
 {
     entry / 4096 % 262144
 }

@@ -11,32 +11,32 @@ use lib.Seq.{take_all}
 use Rattle.lists.specs.Lists.{among, over, sum_of}
 use Rattle.lists.proofs.Tests.{both-and}
 use Rattle.symbolic.specs.Columns.{Column, Register, live}
-use Rattle.symbolic.specs.Factor.{factorOf, factorFor, columnAt}
+use Rattle.symbolic.specs.Factor.{factor_of, factor_for, column_at}
 use Rattle.symbolic.specs.Change.{Bag}
 use Rattle.symbolic.specs.Grades.{Limits}
 use Rattle.symbolic.proofs.Live.{live-order}
 use Rattle.book.specs.Book as book
-use Rattle.windows.specs.Windowed.{linesIn, areSound}
-use Rattle.tables.specs.Stored.{Stored, isSoundFor}
+use Rattle.windows.specs.Windowed.{lines_in, are_sound}
+use Rattle.tables.specs.Stored.{Stored, is_sound_for}
 use Rattle.tables.specs.Stays.{ColumnStays, EntriesKeep, MinutesStay}
-use Rattle.tables.specs.Tables.{Tables, storedIn, bookIn, windowsIn, isSound}
+use Rattle.tables.specs.Tables.{Tables, stored_in, book_in, windows_in, is_sound}
 use Rattle.tables.proofs.Stored.{sound-bag}
 use Rattle.tables.proofs.Tables.{sound-limits}
 use Rattle.calls.specs.Calls.{Change}
-use Rattle.calls.specs.Changes.{effect, touchedBy, labelled}
-use Rattle.calls.specs.Steps.{bookedIn, Exchanged}
+use Rattle.calls.specs.Changes.{effect, touched_by, labelled}
+use Rattle.calls.specs.Steps.{booked_in, Exchanged}
 use Rattle.calls.proofs.Changes.{rows_stay, touched-rise, untouched-same}
 use Rattle.updown.specs.Plans.{PlanIs}
 use Rattle.updown.specs.declared.Plan.{Plan}
 use Rattle.commit.specs.Writes.{CanWrite, PlanWritten}
-use Rattle.commit.specs.Report.{labelsFor, CanReport, Reported}
-use Rattle.steps.specs.Outcome.{cutSizes, cutWorld, storedWhole, bookWhole, CanFind}
+use Rattle.commit.specs.Report.{labels_for, CanReport, Reported}
+use Rattle.steps.specs.Outcome.{cut_sizes, cut_world, stored_whole, book_whole, CanFind}
 use Rattle.steps.proofs.Cut as cut
 use Rattle.writing.specs.Writing.{CanWriteBatch, BatchWritten}
 
 -- the labels of a plan are the report's
-labels-same : (f : ℕ → ℕ) (js : List ℕ) → labelsFor f js ≡ labelled f js
-unfolding labelsFor labelled
+labels-same : (f : ℕ → ℕ) (js : List ℕ) → labels_for f js ≡ labelled f js
+unfolding labels_for labelled
 labels-same f [] = refl
 labels-same f (j ∷ js) = ap (λ (ls : List ℕ). f j ∷ ls) (labels-same f js)
 
@@ -46,28 +46,28 @@ labels-same f (j ∷ js) = ap (λ (ls : List ℕ). f j ∷ ls) (labels-same f js
 pub record BookAfter (m : ℕ) (b : book.Book) (w : List ℕ) (cs : List Column) (ids : List ℕ) (after : book.Book) (w' : List ℕ) : Type 0 where
   pub some : 1 ≤ length ids
   pub sized : book.Sized after
-  pub sound : book.isSound m after ≡ true
+  pub sound : book.is_sound m after ≡ true
   pub same-heads : length after.heads ≡ length b.heads
   pub same-records : length after.next ≡ length b.next
   pub same-windows : length w' ≡ length w
-  pub windows-sound : areSound after.heads w' ≡ true
-  pub columns : Bag (linesIn after w') cs
+  pub windows-sound : are_sound after.heads w' ≡ true
+  pub columns : Bag (lines_in after w') cs
   pub others : (i : ℕ) → 1 ≤ i → i ≤ length b.heads → among i ids ≡ false → book.ColumnStays b after i
   pub minutes : (i : ℕ) → 1 ≤ i → i ≤ length b.heads → among i ids ≡ false → MinutesStay (length b.heads) w w' i
 
 -- ---- the plan's report and writing
 
 module _ {t : Tables} {lim : Limits} {o f g : ℕ} {k : Change} {w w' a b : List ℕ} {plan : Plan}
-    (c : CanWriteBatch (cutWorld t lim o f g) k w w' a b plan) where
+    (c : CanWriteBatch (cut_world t lim o f g) k w w' a b plan) where
   abbrev r : Register
-  r = bookedIn (cutWorld t lim o f g)
+  r = booked_in (cut_world t lim o f g)
 
-  abbrev find : CanFind (cutWorld t lim o f g) w
+  abbrev find : CanFind (cut_world t lim o f g) w
   find = c.can.find
 
   pub write-can :
-      CanWrite (storedWhole t f) (live (bookedIn (cutWorld t lim o f g))) (live (effect (bookedIn (cutWorld t lim o f g)) k).register)
-      (effect (bookedIn (cutWorld t lim o f g)) k).label (touchedBy (bookedIn (cutWorld t lim o f g)) k)
+      CanWrite (stored_whole t f) (live (booked_in (cut_world t lim o f g))) (live (effect (booked_in (cut_world t lim o f g)) k).register)
+      (effect (booked_in (cut_world t lim o f g)) k).label (touched_by (booked_in (cut_world t lim o f g)) k)
       w w' plan.first.0 plan.count plan.entries plan.used
   write-can =
       record {
@@ -77,20 +77,20 @@ module _ {t : Tables} {lim : Limits} {o f g : ℕ} {k : Change} {w w' a b : List
         free = c.plan.room;
         free-enough = c.plan.room_fits;
         plan = subst (λ (n : ℕ).
-            PlanIs r.m (length t.next) c.plan.room (factorFor r) (factorOf n (live (effect r k).register)) (effect r k).label (touchedBy r k) w w' plan.first.0 plan.count plan.entries plan.used)
+            PlanIs r.m (length t.next) c.plan.room (factor_for r) (factor_of n (live (effect r k).register)) (effect r k).label (touched_by r k) w w' plan.first.0 plan.count plan.entries plan.used)
             (rows_stay r k) c.plan.plan;
         zero = cut.work-zero find;
         long = cut.work-long find;
         rising = touched-rise r k;
         off = λ j p q h. sym
-            (subst (λ (n : ℕ). columnAt (factorOf n (live (effect r k).register)) j ≡ columnAt (factorFor r) j) (rows_stay r k)
-            (untouched-same (cutSizes t) r (cut.columns-distinct find) j p q k c.accepted h));
+            (subst (λ (n : ℕ). column_at (factor_of n (live (effect r k).register)) j ≡ column_at (factor_for r) j) (rows_stay r k)
+            (untouched-same (cut_sizes t) r (cut.columns-distinct find) j p q k c.accepted h));
       }
 
   pub report-can :
-      CanReport (length t.heads) (factorOf (length t.heads) (live (bookedIn (cutWorld t lim o f g))))
-      (factorOf (length t.heads) (live (effect (bookedIn (cutWorld t lim o f g)) k).register))
-      (effect (bookedIn (cutWorld t lim o f g)) k).label (touchedBy (bookedIn (cutWorld t lim o f g)) k) w' a b plan.first.0 plan.used
+      CanReport (length t.heads) (factor_of (length t.heads) (live (booked_in (cut_world t lim o f g))))
+      (factor_of (length t.heads) (live (effect (booked_in (cut_world t lim o f g)) k).register))
+      (effect (booked_in (cut_world t lim o f g)) k).label (touched_by (booked_in (cut_world t lim o f g)) k) w' a b plan.first.0 plan.used
   report-can =
       record {
         m-bound = write-can.m-bound;
@@ -104,39 +104,39 @@ module _ {t : Tables} {lim : Limits} {o f g : ℕ} {k : Change} {w w' a b : List
 
   -- ---- columns written and a book changed, at the same clock
 
-  module _ {t' : Tables} {f' g' : ℕ} {w'' a' b' : List ℕ} (same-clock : (effect (bookedIn (cutWorld t lim o f g)) k).register.clock ≡ o) (same_next : length t'.next ≡ length t.next)
-      (z : Reported (effect (bookedIn (cutWorld t lim o f g)) k).label (touchedBy (bookedIn (cutWorld t lim o f g)) k) a b a' b')
-      (x : PlanWritten (storedWhole t f) (live (effect (bookedIn (cutWorld t lim o f g)) k).register) (touchedBy (bookedIn (cutWorld t lim o f g)) k) w (storedWhole t' f') w'')
-      (y : BookAfter (length t.heads) (bookWhole t g) t.windows (effect (bookedIn (cutWorld t lim o f g)) k).register.columns (effect (bookedIn (cutWorld t lim o f g)) k).ids (bookWhole t' g') t'.windows) where
+  module _ {t' : Tables} {f' g' : ℕ} {w'' a' b' : List ℕ} (same-clock : (effect (booked_in (cut_world t lim o f g)) k).register.clock ≡ o) (same_next : length t'.next ≡ length t.next)
+      (z : Reported (effect (booked_in (cut_world t lim o f g)) k).label (touched_by (booked_in (cut_world t lim o f g)) k) a b a' b')
+      (x : PlanWritten (stored_whole t f) (live (effect (booked_in (cut_world t lim o f g)) k).register) (touched_by (booked_in (cut_world t lim o f g)) k) w (stored_whole t' f') w'')
+      (y : BookAfter (length t.heads) (book_whole t g) t.windows (effect (booked_in (cut_world t lim o f g)) k).register.columns (effect (booked_in (cut_world t lim o f g)) k).ids (book_whole t' g') t'.windows) where
     abbrev same-heads : length t'.heads ≡ length t.heads
     same-heads = ap length x.heads
 
-    stored-after : storedIn (cutWorld t' lim o f' g').state t' ≡ storedWhole t' f'
+    stored-after : stored_in (cut_world t' lim o f' g').state t' ≡ stored_whole t' f'
     stored-after = cut.stored-whole t' lim o f' g' x.sized
 
-    book-after : bookIn (cutWorld t' lim o f' g').state t' ≡ bookWhole t' g'
+    book-after : book_in (cut_world t' lim o f' g').state t' ≡ book_whole t' g'
     book-after = cut.book-whole t' lim o f' g' y.sized
 
-    windows-after : windowsIn (cutWorld t' lim o f' g').state t' ≡ t'.windows
-    windows-after = take_all (2 * length t'.bookHeads) t'.windows (omega (arith, find.windows, y.same-windows, y.same-heads))
+    windows-after : windows_in (cut_world t' lim o f' g').state t' ≡ t'.windows
+    windows-after = take_all (2 * length t'.book_heads) t'.windows (omega (arith, find.windows, y.same-windows, y.same-heads))
 
-    columns-after : Bag (bookedIn (cutWorld t' lim o f' g')).columns (effect (bookedIn (cutWorld t lim o f g)) k).register.columns
-    columns-after h = (λ i. sum_of h (linesIn (book-after i) (windows-after i))) ∙ y.columns h
+    columns-after : Bag (booked_in (cut_world t' lim o f' g')).columns (effect (booked_in (cut_world t lim o f g)) k).register.columns
+    columns-after h = (λ i. sum_of h (lines_in (book-after i) (windows-after i))) ∙ y.columns h
 
     -- book, windows and stored columns
-    sound-after : isSound (cutWorld t' lim o f' g').state t' ≡ true
+    sound-after : is_sound (cut_world t' lim o f' g').state t' ≡ true
     sound-after =
-        let p : book.isSound (length t'.heads) (bookIn (cutWorld t' lim o f' g').state t') ≡ true =
-        (λ i. book.isSound (same-heads i) (book-after i)) ∙ y.sound in
-        let v : areSound (bookIn (cutWorld t' lim o f' g').state t').heads (windowsIn (cutWorld t' lim o f' g').state t') ≡ true =
-        (λ i. areSound (book-after i).heads (windows-after i)) ∙ y.windows-sound in
-        let r' : Register = bookedIn (cutWorld t' lim o f' g') in
-        let q : isSoundFor (live r') (storedIn (cutWorld t' lim o f' g').state t') ≡ true =
-        subst (λ (s : Stored). isSoundFor (live r') s ≡ true) (sym stored-after)
-        (sound-bag (live r') (live (effect r k).register) (storedWhole t' f') (live-order r' (effect r k).register (sym same-clock) columns-after) ∙ x.sound) in
-        both-and (sound-limits (cutWorld t lim o f g).state t find.sound) (both-and (both-and p v) q)
+        let p : book.is_sound (length t'.heads) (book_in (cut_world t' lim o f' g').state t') ≡ true =
+        (λ i. book.is_sound (same-heads i) (book-after i)) ∙ y.sound in
+        let v : are_sound (book_in (cut_world t' lim o f' g').state t').heads (windows_in (cut_world t' lim o f' g').state t') ≡ true =
+        (λ i. are_sound (book-after i).heads (windows-after i)) ∙ y.windows-sound in
+        let r' : Register = booked_in (cut_world t' lim o f' g') in
+        let q : is_sound_for (live r') (stored_in (cut_world t' lim o f' g').state t') ≡ true =
+        subst (λ (s : Stored). is_sound_for (live r') s ≡ true) (sym stored-after)
+        (sound-bag (live r') (live (effect r k).register) (stored_whole t' f') (live-order r' (effect r k).register (sym same-clock) columns-after) ∙ x.sound) in
+        both-and (sound-limits (cut_world t lim o f g).state t find.sound) (both-and (both-and p v) q)
 
-    pub batch-exchanged : Exchanged (cutWorld t lim o f g) k (cutWorld t' lim o f' g')
+    pub batch-exchanged : Exchanged (cut_world t lim o f g) k (cut_world t' lim o f' g')
     batch-exchanged =
         record {
           sizes = λ i. record { m = same-heads i; n = y.same-heads i; f = same_next i; c = y.same-records i };
@@ -147,7 +147,7 @@ module _ {t : Tables} {lim : Limits} {o f g : ℕ} {k : Change} {w w' a b : List
           others = λ j p q h. cut.both_read (λ (s s' : Stored). ColumnStays s s' j) (cut.stored_cut find) stored-after (x.others j p q h);
           entries = λ j p q i l d e h n. cut.both_read (λ (s s' : Stored). EntriesKeep s s' j) (cut.stored_cut find) stored-after (x.keep j p q) i l d e h;
           book = λ i p q h. cut.both_read (λ (d d' : book.Book). book.ColumnStays d d' i) (cut.book-cut find) book-after (y.others i p q h);
-          minutes = λ i p q h. cut.both_read (λ (v v' : List ℕ). MinutesStay (length t.bookHeads) v v' i) (cut.windows-cut find) windows-after (y.minutes i p q h);
+          minutes = λ i p q h. cut.both_read (λ (v v' : List ℕ). MinutesStay (length t.book_heads) v v' i) (cut.windows-cut find) windows-after (y.minutes i p q h);
           still = λ e. absurd (omega (arith, y.some, ap length e));
           tails = record {
             heads = cut.beyond-cut refl same-heads;
@@ -155,18 +155,18 @@ module _ {t : Tables} {lim : Limits} {o f g : ℕ} {k : Change} {w w' a b : List
             rows = cut.beyond-cut find.rows (x.sized.rows_long ∙ same_next ∙ sym find.rows);
             counts = cut.beyond-cut find.counts (x.sized.counts-long ∙ same_next ∙ sym find.counts);
             next = cut.beyond-cut refl same_next;
-            bookHeads = cut.beyond-cut refl y.same-heads;
-            bookRows = cut.beyond-cut find.book-rows (y.sized ∙ y.same-records ∙ sym find.book-rows);
-            bookNext = cut.beyond-cut refl y.same-records;
+            book_heads = cut.beyond-cut refl y.same-heads;
+            book_rows = cut.beyond-cut find.book-rows (y.sized ∙ y.same-records ∙ sym find.book-rows);
+            book_next = cut.beyond-cut refl y.same-records;
             windows = cut.beyond-cut find.windows y.same-windows;
           };
         }
 
-    pub batch-written : BatchWritten (cutWorld t lim o f g) k w a b (cutWorld t' lim o f' g') w'' a' b'
+    pub batch-written : BatchWritten (cut_world t lim o f g) k w a b (cut_world t' lim o f' g') w'' a' b'
     batch-written =
         record {
           exchanged = batch-exchanged;
           work-is = x.work-is;
           touched-is = z.touched-is;
-          labels-is = z.labels-is ∙ ap (λ (ls : List ℕ). over ls b) (labels-same (effect r k).label (touchedBy r k));
+          labels-is = z.labels-is ∙ ap (λ (ls : List ℕ). over ls b) (labels-same (effect r k).label (touched_by r k));
         }

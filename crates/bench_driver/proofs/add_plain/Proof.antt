@@ -7,9 +7,9 @@ use lib.ListN.{length, take, replicate}
 use lib.Seq.{length-take-le}
 use Rattle.tables.specs.Tables.{Tables, tables_of}
 use Rattle.calls.specs.Calls.{adding}
-use Rattle.factor.specs.Entries.{state_of, worldOf}
+use Rattle.factor.specs.Entries.{state_of, world_of}
 use Rattle.factor.specs.declared.Factor.{Factor}
-use Rattle.answers.specs.Answers.{CanChange, changedAnswer}
+use Rattle.answers.specs.Answers.{CanChange, changed_answer}
 use Rattle.continuing.proofs.Continuing.{change-can}
 use Rattle.bench_driver.proofs.add_plain.Statement.{statement}
 use Rattle.bench_driver.proofs.add_plain.Tie as tie
@@ -25,8 +25,8 @@ lent c = c.before.before.before.before.before.before.before.before.before.before
 abbrev ran : tie.After-slice-known22 → tie.After-add-unchecked
 ran c = c.before.before.before.before.before.before.before.before.before.before.before.before.before.before.before.before.before.before.before.before.before.before
 
-abbrev tablesAt : tie.Start → Tables
-tablesAt s = tables_of s.args.heads.now s.args.parents.now s.args.rows.now s.args.counts.now s.args.next.now s.args.book-heads.now s.args.book-rows.now s.args.book-next.now s.args.windows.now
+abbrev tables_at : tie.Start → Tables
+tables_at s = tables_of s.args.heads.now s.args.parents.now s.args.rows.now s.args.counts.now s.args.next.now s.args.book-heads.now s.args.book-rows.now s.args.book-next.now s.args.windows.now
 
 -- a batch has at most 64 ids
 few : (c : tie.Else1) → length (entry c).args.ids.now ≤ 64
@@ -38,7 +38,7 @@ refused-requires c κs = search rules
 returns : tie.Need-returns
 returns c =
     let s : tie.Start = c.before.before.before.before.before.before.before.before.before.before.before.before.before.before.before.before.before in
-    subst (λ (x : Factor). CanChange (state_of x) (tablesAt s) s.args.work.now s.args.touched.now s.args.labels.now) (sym c.refused.ensures) s.requires
+    subst (λ (x : Factor). CanChange (state_of x) (tables_at s) s.args.work.now s.args.touched.now s.args.labels.now) (sym c.refused.ensures) s.requires
 
 array-share-prefix-firsts : tie.Need-array-share-prefix-firsts
 array-share-prefix-firsts c = few c.before.before.before.before.before.before.before.before.before.before.before
@@ -94,8 +94,8 @@ returns-2 c =
     let s : tie.Start = entry (lent u.before) in
     let zeros = take (length s.args.ids.now) (replicate {A = ℕ} 64 0) in
     let t : Tables = tables_of s.args.heads.now u.add-unchecked.last.1.1.0 u.add-unchecked.last.1.1.1.0 u.add-unchecked.last.1.1.1.1.0 u.add-unchecked.last.1.1.1.1.1.0 u.add-unchecked.last.1.1.1.1.1.1.0 u.add-unchecked.last.1.1.1.1.1.1.1.0 u.add-unchecked.last.1.1.1.1.1.1.1.1.0 u.add-unchecked.last.1.1.1.1.1.1.1.1.1.0 in
-    change-can s.pre u.add-unchecked.last.1.1.1.1.1.1.1.1.1.1.0 u.add-unchecked.last.1.1.1.1.1.1.1.1.1.1.1.0 u.add-unchecked.last.1.1.1.1.1.1.1.1.1.1.1.1.0 (worldOf u.add-unchecked.result.factor t)
-    u.add-unchecked.kept.1.1.1.1.1.1.1.1.1.1.1.0 u.add-unchecked.kept.1.1.1.1.1.1.1.1.1.1.1.1.0 (adding s.args.ids.now s.args.row_counts.now s.args.row_list.now zeros zeros) (changedAnswer u.add-unchecked.result) u.add-unchecked.ensures
+    change-can s.pre u.add-unchecked.last.1.1.1.1.1.1.1.1.1.1.0 u.add-unchecked.last.1.1.1.1.1.1.1.1.1.1.1.0 u.add-unchecked.last.1.1.1.1.1.1.1.1.1.1.1.1.0 (world_of u.add-unchecked.result.factor t)
+    u.add-unchecked.kept.1.1.1.1.1.1.1.1.1.1.1.0 u.add-unchecked.kept.1.1.1.1.1.1.1.1.1.1.1.1.0 (adding s.args.ids.now s.args.row_counts.now s.args.row_list.now zeros zeros) (changed_answer u.add-unchecked.result) u.add-unchecked.ensures
 
 pub add-plain-spec : {M : Type 1} → statement M
 add-plain-spec =

@@ -2,8 +2,8 @@
 use Rattle.tables.specs.Tables.{Tables, tables_of}
 use Rattle.continuing.proofs.Continuing.{change-can}
 use Rattle.calls.specs.Calls.{removing}
-use Rattle.factor.specs.Entries.{worldOf}
-use Rattle.answers.specs.Answers.{changedAnswer}
+use Rattle.factor.specs.Entries.{world_of}
+use Rattle.answers.specs.Answers.{changed_answer}
 use Rattle.bench_driver.proofs.change.Statement.{statement}
 use Rattle.bench_driver.proofs.change.Tie as tie
 
@@ -101,8 +101,8 @@ returns-2 c =
     let u : tie.After-remove-unchecked = removed c in
     let s : tie.Start = removing-from u.before in
     let t : Tables = tables_of s.args.heads.now u.remove-unchecked.last.1.1.0 u.remove-unchecked.last.1.1.1.0 u.remove-unchecked.last.1.1.1.1.0 u.remove-unchecked.last.1.1.1.1.1.0 u.remove-unchecked.last.1.1.1.1.1.1.0 u.remove-unchecked.last.1.1.1.1.1.1.1.0 u.remove-unchecked.last.1.1.1.1.1.1.1.1.0 u.remove-unchecked.last.1.1.1.1.1.1.1.1.1.0 in
-    change-can s.pre u.remove-unchecked.last.1.1.1.1.1.1.1.1.1.1.0 u.remove-unchecked.last.1.1.1.1.1.1.1.1.1.1.1.0 u.remove-unchecked.last.1.1.1.1.1.1.1.1.1.1.1.1.0 (worldOf u.remove-unchecked.result.factor t)
-    u.remove-unchecked.kept.1.1.1.1.1.1.1.1.1.1.1.0 u.remove-unchecked.kept.1.1.1.1.1.1.1.1.1.1.1.1.0 (removing s.args.ids.now) (changedAnswer u.remove-unchecked.result) u.remove-unchecked.ensures
+    change-can s.pre u.remove-unchecked.last.1.1.1.1.1.1.1.1.1.1.0 u.remove-unchecked.last.1.1.1.1.1.1.1.1.1.1.1.0 u.remove-unchecked.last.1.1.1.1.1.1.1.1.1.1.1.1.0 (world_of u.remove-unchecked.result.factor t)
+    u.remove-unchecked.kept.1.1.1.1.1.1.1.1.1.1.1.0 u.remove-unchecked.kept.1.1.1.1.1.1.1.1.1.1.1.1.0 (removing s.args.ids.now) (changed_answer u.remove-unchecked.result) u.remove-unchecked.ensures
 
 pub change-spec : {M : Type 1} → statement M
 change-spec =

@@ -7,12 +7,12 @@ use borrow.Author.Rules.{rules}
 use lib.ListN.{take}
 use Rattle.tables.specs.Tables.{Tables, State, tables_of}
 use Rattle.tables.proofs.Tables.{Long}
-use Rattle.calls.specs.Refusals.{isAccepted}
+use Rattle.calls.specs.Refusals.{is_accepted}
 use Rattle.calls.specs.Calls.{Change, adding}
 use Rattle.calls.proofs.Refusals.{sizes-facts}
 use Rattle.factor.specs.Entries.{state_of}
 use Rattle.admission.proofs.Cutting.{Cut, cut}
-use Rattle.answers.proofs.Stepping.{worldCut, change-long, change-can, joined_length}
+use Rattle.answers.proofs.Stepping.{world_cut, change-long, change-can, joined_length}
 use Rattle.judging.specs.Judging.{Judged}
 use Rattle.changes.proofs.Batching.{batch-refused, batch-can, batch-taken}
 use Rattle.changes.proofs.add_unchecked.Statement.{statement}
@@ -38,28 +38,28 @@ lent c = c.before.before.before.before.before.before.before.before.before.before
 abbrev wrote : tie.After-accepted → tie.After-write-add
 wrote c = c.before.before.before.before.before.before.before.before.before.before.before.before.before.before.before.before.before.before.before.before.before.before.before
 
-abbrev stateAt : tie.Start → State
-stateAt s = state_of s.args.factor
+abbrev state_at : tie.Start → State
+state_at s = state_of s.args.factor
 
-abbrev tablesAt : tie.Start → Tables
-tablesAt s = tables_of s.args.heads.now s.args.parents.now s.args.rows.now s.args.counts.now s.args.next.now s.args.book-heads.now s.args.book-rows.now s.args.book-next.now s.args.windows.now
+abbrev tables_at : tie.Start → Tables
+tables_at s = tables_of s.args.heads.now s.args.parents.now s.args.rows.now s.args.counts.now s.args.next.now s.args.book-heads.now s.args.book-rows.now s.args.book-next.now s.args.windows.now
 
-abbrev changeAt : tie.Start → Change
-changeAt s = adding s.args.ids.now s.args.row_counts.now s.args.row_list.now s.args.firsts.now s.args.seconds.now
+abbrev change_at : tie.Start → Change
+change_at s = adding s.args.ids.now s.args.row_counts.now s.args.row_list.now s.args.firsts.now s.args.seconds.now
 
-lengths : (c : tie.After-judge-add-arg) → Cut (stateAt (entry c)) (tablesAt (entry c))
-lengths c = let s : tie.Start = entry c in cut (stateAt s) (tablesAt s) s.pre.can-use.usable.long
+lengths : (c : tie.After-judge-add-arg) → Cut (state_at (entry c)) (tables_at (entry c))
+lengths c = let s : tie.Start = entry c in cut (state_at s) (tables_at s) s.pre.can-use.usable.long
 
-long : (c : tie.After-judge-add-arg) → Long (stateAt (entry c)).sizes (tablesAt (entry c))
-long c = let s : tie.Start = entry c in change-long s.args.factor (tablesAt s) s.pre
+long : (c : tie.After-judge-add-arg) → Long (state_at (entry c)).sizes (tables_at (entry c))
+long c = let s : tie.Start = entry c in change-long s.args.factor (tables_at s) s.pre
 
 -- the verdict
 verdict : (c : tie.After-judge-add) →
     let s = entry (judging c) in
-    Judged (worldCut s.args.factor (tablesAt s)) (changeAt s) s.args.work.now c.judge-add.new.1.1.1.1.1.1.1.0 c.judge-add.result
+    Judged (world_cut s.args.factor (tables_at s)) (change_at s) s.args.work.now c.judge-add.new.1.1.1.1.1.1.1.0 c.judge-add.result
 verdict c =
     let s = entry (judging c) in
-    c.judge-add.ensures (stateAt s).limits (take s.args.factor.c s.args.book-rows.now) (take (2 * s.args.factor.n) s.args.windows.now) (change-can s.args.factor (tablesAt s) s.pre).find
+    c.judge-add.ensures (state_at s).limits (take s.args.factor.c s.args.book-rows.now) (take (2 * s.args.factor.n) s.args.windows.now) (change-can s.args.factor (tables_at s) s.pre).find
 
 cast-m : tie.Need-overflow-cast-m
 cast-m c = search rules
@@ -103,21 +103,21 @@ slice-aggregate-judge-add-5 : tie.Need-slice-aggregate-judge-add-5
 slice-aggregate-judge-add-5 c = sym (lengths c.before.before.before.before).next
 
 slice-reshare-prefix-judge-add-5 : tie.Need-slice-reshare-prefix-judge-add-5
-slice-reshare-prefix-judge-add-5 c = (long c.before.before.before.before).bookHeads
+slice-reshare-prefix-judge-add-5 c = (long c.before.before.before.before).book_heads
 
 slice-aggregate-judge-add-6 : tie.Need-slice-aggregate-judge-add-6
-slice-aggregate-judge-add-6 c = sym (lengths c.before.before.before.before.before).bookHeads
+slice-aggregate-judge-add-6 c = sym (lengths c.before.before.before.before.before).book_heads
 
 slice-reshare-prefix-judge-add-6 : tie.Need-slice-reshare-prefix-judge-add-6
-slice-reshare-prefix-judge-add-6 c = (long c.before.before.before.before.before).bookNext
+slice-reshare-prefix-judge-add-6 c = (long c.before.before.before.before.before).book_next
 
 slice-aggregate-judge-add-7 : tie.Need-slice-aggregate-judge-add-7
-slice-aggregate-judge-add-7 c = sym (lengths c.before.before.before.before.before.before).bookNext
+slice-aggregate-judge-add-7 c = sym (lengths c.before.before.before.before.before.before).book_next
 
 judge-add-requires : tie.Need-judge-add-requires
 judge-add-requires c κs =
     let s = entry c.before.before.before.before.before.before.before in
-    record { limits = (stateAt s).limits; book-rows = take s.args.factor.c s.args.book-rows.now; windows = take (2 * s.args.factor.n) s.args.windows.now; can = (change-can s.args.factor (tablesAt s) s.pre).find }
+    record { limits = (state_at s).limits; book-rows = take s.args.factor.c s.args.book-rows.now; windows = take (2 * s.args.factor.n) s.args.windows.now; can = (change-can s.args.factor (tables_at s) s.pre).find }
 
 -- ---- refused
 
@@ -149,7 +149,7 @@ returns : tie.Need-returns
 returns c =
     let x = c.before.before.before.before.before.before in
     let s = entry (judging x) in
-    batch-refused s.args.factor (tablesAt s) s.pre (verdict x) c.before.if1.true c.refused.ensures
+    batch-refused s.args.factor (tables_at s) s.pre (verdict x) c.before.if1.true c.refused.ensures
 
 -- ---- written
 
@@ -181,25 +181,25 @@ slice-aggregate-write-add-5 : tie.Need-slice-aggregate-write-add-5
 slice-aggregate-write-add-5 c = sym (lengths (writing c.before.before.before.before)).next
 
 slice-relend-prefix-write-add-5 : tie.Need-slice-relend-prefix-write-add-5
-slice-relend-prefix-write-add-5 c = (long (writing c.before.before.before.before)).bookHeads
+slice-relend-prefix-write-add-5 c = (long (writing c.before.before.before.before)).book_heads
 
 slice-aggregate-write-add-6 : tie.Need-slice-aggregate-write-add-6
-slice-aggregate-write-add-6 c = sym (lengths (writing c.before.before.before.before.before)).bookHeads
+slice-aggregate-write-add-6 c = sym (lengths (writing c.before.before.before.before.before)).book_heads
 
 slice-relend-prefix-write-add-6 : tie.Need-slice-relend-prefix-write-add-6
-slice-relend-prefix-write-add-6 c = (long (writing c.before.before.before.before.before)).bookRows
+slice-relend-prefix-write-add-6 c = (long (writing c.before.before.before.before.before)).book_rows
 
 slice-aggregate-write-add-7 : tie.Need-slice-aggregate-write-add-7
-slice-aggregate-write-add-7 c = sym (lengths (writing c.before.before.before.before.before.before)).bookRows
+slice-aggregate-write-add-7 c = sym (lengths (writing c.before.before.before.before.before.before)).book_rows
 
 slice-relend-prefix-write-add-7 : tie.Need-slice-relend-prefix-write-add-7
-slice-relend-prefix-write-add-7 c = (long (writing c.before.before.before.before.before.before)).bookNext
+slice-relend-prefix-write-add-7 c = (long (writing c.before.before.before.before.before.before)).book_next
 
 slice-aggregate-write-add-8 : tie.Need-slice-aggregate-write-add-8
-slice-aggregate-write-add-8 c = sym (lengths (writing c.before.before.before.before.before.before.before)).bookNext
+slice-aggregate-write-add-8 c = sym (lengths (writing c.before.before.before.before.before.before.before)).book_next
 
 mul-write-add : tie.Need-overflow-mul-write-add
-mul-write-add c = let s = entry (writing c.before.before.before.before.before.before.before) in omega (arith, (sizes-facts (stateAt s).sizes (ap isAccepted s.pre.can-use.usable.sizes)).n-high)
+mul-write-add c = let s = entry (writing c.before.before.before.before.before.before.before) in omega (arith, (sizes-facts (state_at s).sizes (ap is_accepted s.pre.can-use.usable.sizes)).n-high)
 
 slice-relend-prefix-write-add-8 : tie.Need-slice-relend-prefix-write-add-8
 slice-relend-prefix-write-add-8 c = (long (writing c.before.before.before.before.before.before.before)).windows
@@ -212,7 +212,7 @@ write-add-requires c κs =
     let e = lent c in
     let x = judged e in
     let s = entry (judging x) in
-    record { limits = (stateAt s).limits; clock = s.args.factor.clock; before = s.args.work.now; can = batch-can s.args.factor (tablesAt s) s.pre (verdict x) e.if1.left }
+    record { limits = (state_at s).limits; clock = s.args.factor.clock; before = s.args.work.now; can = batch-can s.args.factor (tables_at s) s.pre (verdict x) e.if1.left }
 
 accepted-requires : tie.Need-accepted-requires
 accepted-requires c κs = tt
@@ -261,9 +261,9 @@ returns-2 c =
     let x = judged e in
     let s = entry (judging x) in
     let t : Tables = tables_of (take s.args.factor.m s.args.heads.now) y.write-add.last.1.0 y.write-add.last.1.1.0 y.write-add.last.1.1.1.0 y.write-add.last.1.1.1.1.0 y.write-add.last.1.1.1.1.1.0 y.write-add.last.1.1.1.1.1.1.0 y.write-add.last.1.1.1.1.1.1.1.0 y.write-add.last.1.1.1.1.1.1.1.1.0 in
-    let can = batch-can s.args.factor (tablesAt s) s.pre (verdict x) e.if1.left in
-    batch-taken s.args.factor (tablesAt s) s.pre (verdict x) e.if1.left t y.write-add.result.free.0 y.write-add.result.book_free.0
-    (y.write-add.ensures (stateAt s).limits s.args.factor.clock s.args.work.now can) refl c.accepted.ensures
+    let can = batch-can s.args.factor (tables_at s) s.pre (verdict x) e.if1.left in
+    batch-taken s.args.factor (tables_at s) s.pre (verdict x) e.if1.left t y.write-add.result.free.0 y.write-add.result.book_free.0
+    (y.write-add.ensures (state_at s).limits s.args.factor.clock s.args.work.now can) refl c.accepted.ensures
 
 pub add_unchecked_spec : {M : Type 1} → statement M
 add_unchecked_spec =

@@ -2,9 +2,9 @@
 use mathlib.Core.Path.{refl, ◌∙◌}
 use borrow.Author.Rules.{rules}
 use Rattle.tables.specs.Tables.{Tables, State, tables_of}
-use Rattle.calls.specs.Calls.{removing, reportLists}
-use Rattle.factor.specs.Entries.{state_of, worldOf}
-use Rattle.answers.specs.Answers.{changedAnswer}
+use Rattle.calls.specs.Calls.{removing, report_lists}
+use Rattle.factor.specs.Entries.{state_of, world_of}
+use Rattle.answers.specs.Answers.{changed_answer}
 use Rattle.answers.proofs.Changing.{admits-change, change-refused, admitted-can, changed-whole}
 use Rattle.changes.proofs.remove.Statement.{statement}
 use Rattle.changes.proofs.remove.Tie as tie
@@ -26,11 +26,11 @@ handed c = c.before.before.before.before.before.before.before.before.before.befo
 abbrev ran : tie.After-slice-known23 → tie.After-remove-unchecked
 ran c = c.before.before.before.before.before.before.before.before.before.before.before.before.before.before.before.before.before.before.before.before.before.before
 
-abbrev stateAt : tie.Start → State
-stateAt s = state_of s.args.factor
+abbrev state_at : tie.Start → State
+state_at s = state_of s.args.factor
 
-abbrev tablesAt : tie.Start → Tables
-tablesAt s = tables_of s.args.heads.now s.args.parents.now s.args.rows.now s.args.counts.now s.args.next.now s.args.book-heads.now s.args.book-rows.now s.args.book-next.now s.args.windows.now
+abbrev tables_at : tie.Start → Tables
+tables_at s = tables_of s.args.heads.now s.args.parents.now s.args.rows.now s.args.counts.now s.args.next.now s.args.book-heads.now s.args.book-rows.now s.args.book-next.now s.args.windows.now
 
 short-lists-requires : tie.Need-short-lists-requires
 short-lists-requires c κs = search rules
@@ -79,8 +79,8 @@ returns c =
     let d : tie.After-admit = c.before.before.before.before in
     let h : tie.After-short-lists = listed d in
     let s : tie.Start = entry h in
-    change-refused s.args.factor (tablesAt s) (admits-change (stateAt s) (tablesAt s) s.args.work.now s.args.touched.now s.args.labels.now h.short-lists.ensures (removing s.args.ids.now)) d.admit.ensures
-    c.before.if1.true (reportLists d.admit.new.1.1.1.1.1.1.1.1.1.1.0 s.args.touched.now s.args.labels.now) refl c.refused.ensures
+    change-refused s.args.factor (tables_at s) (admits-change (state_at s) (tables_at s) s.args.work.now s.args.touched.now s.args.labels.now h.short-lists.ensures (removing s.args.ids.now)) d.admit.ensures
+    c.before.if1.true (report_lists d.admit.new.1.1.1.1.1.1.1.1.1.1.0 s.args.touched.now s.args.labels.now) refl c.refused.ensures
 
 remove-unchecked-requires : tie.Need-remove-unchecked-requires
 remove-unchecked-requires c κs =
@@ -88,7 +88,7 @@ remove-unchecked-requires c κs =
     let d : tie.After-admit = passed e in
     let h : tie.After-short-lists = listed d in
     let s : tie.Start = entry h in
-    admitted-can (stateAt s) (tablesAt s) s.args.work.now s.args.touched.now s.args.labels.now h.short-lists.ensures d.admit.ensures e.if1.left
+    admitted-can (state_at s) (tables_at s) s.args.work.now s.args.touched.now s.args.labels.now h.short-lists.ensures d.admit.ensures e.if1.left
 
 same-length-12 : tie.Need-same-length-12
 same-length-12 c = (ran c).remove-unchecked.auto.1.1.0
@@ -131,8 +131,8 @@ returns-2 c =
     let h : tie.After-short-lists = listed d in
     let s : tie.Start = entry h in
     let t : Tables = tables_of s.args.heads.now u.remove-unchecked.last.1.1.0 u.remove-unchecked.last.1.1.1.0 u.remove-unchecked.last.1.1.1.1.0 u.remove-unchecked.last.1.1.1.1.1.0 u.remove-unchecked.last.1.1.1.1.1.1.0 u.remove-unchecked.last.1.1.1.1.1.1.1.0 u.remove-unchecked.last.1.1.1.1.1.1.1.1.0 u.remove-unchecked.last.1.1.1.1.1.1.1.1.1.0 in
-    changed-whole (stateAt s) (tablesAt s) s.args.work.now s.args.touched.now s.args.labels.now h.short-lists.ensures d.admit.ensures e.if1.left (removing s.args.ids.now)
-    (changedAnswer u.remove-unchecked.result) (reportLists u.remove-unchecked.last.1.1.1.1.1.1.1.1.1.1.0 u.remove-unchecked.last.1.1.1.1.1.1.1.1.1.1.1.0 u.remove-unchecked.last.1.1.1.1.1.1.1.1.1.1.1.1.0) (worldOf u.remove-unchecked.result.factor t) u.remove-unchecked.ensures
+    changed-whole (state_at s) (tables_at s) s.args.work.now s.args.touched.now s.args.labels.now h.short-lists.ensures d.admit.ensures e.if1.left (removing s.args.ids.now)
+    (changed_answer u.remove-unchecked.result) (report_lists u.remove-unchecked.last.1.1.1.1.1.1.1.1.1.1.0 u.remove-unchecked.last.1.1.1.1.1.1.1.1.1.1.1.0 u.remove-unchecked.last.1.1.1.1.1.1.1.1.1.1.1.1.0) (world_of u.remove-unchecked.result.factor t) u.remove-unchecked.ensures
 
 pub remove-spec : {M : Type 1} → statement M
 remove-spec =

@@ -7,12 +7,12 @@ use borrow.Author.Rules.{rules}
 use lib.ListN.{take}
 use Rattle.tables.specs.Tables.{Tables, State, tables_of}
 use Rattle.tables.proofs.Tables.{Long}
-use Rattle.calls.specs.Refusals.{isAccepted}
+use Rattle.calls.specs.Refusals.{is_accepted}
 use Rattle.calls.specs.Calls.{Change, removing}
 use Rattle.calls.proofs.Refusals.{sizes-facts}
 use Rattle.factor.specs.Entries.{state_of}
 use Rattle.admission.proofs.Cutting.{Cut, cut}
-use Rattle.answers.proofs.Stepping.{worldCut, change-long, change-can, joined_length}
+use Rattle.answers.proofs.Stepping.{world_cut, change-long, change-can, joined_length}
 use Rattle.judging.specs.Judging.{Judged}
 use Rattle.changes.proofs.Batching.{batch-refused, batch-can, batch-taken}
 use Rattle.changes.proofs.remove_unchecked.Statement.{statement}
@@ -38,28 +38,28 @@ lent c = c.before.before.before.before.before.before.before.before.before.before
 abbrev wrote : tie.After-accepted → tie.After-write-remove
 wrote c = c.before.before.before.before.before.before.before.before.before.before.before.before.before.before.before.before.before.before.before.before.before.before.before
 
-abbrev stateAt : tie.Start → State
-stateAt s = state_of s.args.factor
+abbrev state_at : tie.Start → State
+state_at s = state_of s.args.factor
 
-abbrev tablesAt : tie.Start → Tables
-tablesAt s = tables_of s.args.heads.now s.args.parents.now s.args.rows.now s.args.counts.now s.args.next.now s.args.book-heads.now s.args.book-rows.now s.args.book-next.now s.args.windows.now
+abbrev tables_at : tie.Start → Tables
+tables_at s = tables_of s.args.heads.now s.args.parents.now s.args.rows.now s.args.counts.now s.args.next.now s.args.book-heads.now s.args.book-rows.now s.args.book-next.now s.args.windows.now
 
-abbrev changeAt : tie.Start → Change
-changeAt s = removing s.args.ids.now
+abbrev change_at : tie.Start → Change
+change_at s = removing s.args.ids.now
 
-lengths : (c : tie.After-judge-remove-arg) → Cut (stateAt (entry c)) (tablesAt (entry c))
-lengths c = let s : tie.Start = entry c in cut (stateAt s) (tablesAt s) s.pre.can-use.usable.long
+lengths : (c : tie.After-judge-remove-arg) → Cut (state_at (entry c)) (tables_at (entry c))
+lengths c = let s : tie.Start = entry c in cut (state_at s) (tables_at s) s.pre.can-use.usable.long
 
-long : (c : tie.After-judge-remove-arg) → Long (stateAt (entry c)).sizes (tablesAt (entry c))
-long c = let s : tie.Start = entry c in change-long s.args.factor (tablesAt s) s.pre
+long : (c : tie.After-judge-remove-arg) → Long (state_at (entry c)).sizes (tables_at (entry c))
+long c = let s : tie.Start = entry c in change-long s.args.factor (tables_at s) s.pre
 
 -- the verdict
 verdict : (c : tie.After-judge-remove) →
     let s = entry (judging c) in
-    Judged (worldCut s.args.factor (tablesAt s)) (changeAt s) s.args.work.now c.judge-remove.new.1.1.1.1.1.1.1.1.1.0 c.judge-remove.result
+    Judged (world_cut s.args.factor (tables_at s)) (change_at s) s.args.work.now c.judge-remove.new.1.1.1.1.1.1.1.1.1.0 c.judge-remove.result
 verdict c =
     let s = entry (judging c) in
-    c.judge-remove.ensures (stateAt s).limits s.args.factor.free s.args.factor.book_free (change-can s.args.factor (tablesAt s) s.pre).find
+    c.judge-remove.ensures (state_at s).limits s.args.factor.free s.args.factor.book_free (change-can s.args.factor (tables_at s) s.pre).find
 
 cast-m : tie.Need-overflow-cast-m
 cast-m c = search rules
@@ -103,22 +103,22 @@ slice-aggregate-judge-remove-5 : tie.Need-slice-aggregate-judge-remove-5
 slice-aggregate-judge-remove-5 c = sym (lengths c.before.before.before.before).next
 
 slice-reshare-prefix-judge-remove-5 : tie.Need-slice-reshare-prefix-judge-remove-5
-slice-reshare-prefix-judge-remove-5 c = (long c.before.before.before.before).bookHeads
+slice-reshare-prefix-judge-remove-5 c = (long c.before.before.before.before).book_heads
 
 slice-aggregate-judge-remove-6 : tie.Need-slice-aggregate-judge-remove-6
-slice-aggregate-judge-remove-6 c = sym (lengths c.before.before.before.before.before).bookHeads
+slice-aggregate-judge-remove-6 c = sym (lengths c.before.before.before.before.before).book_heads
 
 slice-reshare-prefix-judge-remove-6 : tie.Need-slice-reshare-prefix-judge-remove-6
-slice-reshare-prefix-judge-remove-6 c = (long c.before.before.before.before.before).bookRows
+slice-reshare-prefix-judge-remove-6 c = (long c.before.before.before.before.before).book_rows
 
 slice-aggregate-judge-remove-7 : tie.Need-slice-aggregate-judge-remove-7
-slice-aggregate-judge-remove-7 c = sym (lengths c.before.before.before.before.before.before).bookRows
+slice-aggregate-judge-remove-7 c = sym (lengths c.before.before.before.before.before.before).book_rows
 
 slice-reshare-prefix-judge-remove-7 : tie.Need-slice-reshare-prefix-judge-remove-7
-slice-reshare-prefix-judge-remove-7 c = (long c.before.before.before.before.before.before).bookNext
+slice-reshare-prefix-judge-remove-7 c = (long c.before.before.before.before.before.before).book_next
 
 slice-aggregate-judge-remove-8 : tie.Need-slice-aggregate-judge-remove-8
-slice-aggregate-judge-remove-8 c = sym (lengths c.before.before.before.before.before.before.before).bookNext
+slice-aggregate-judge-remove-8 c = sym (lengths c.before.before.before.before.before.before.before).book_next
 
 mul-judge-remove : tie.Need-overflow-mul-judge-remove
 mul-judge-remove c = search rules
@@ -132,7 +132,7 @@ slice-aggregate-judge-remove-9 c = sym (lengths c.before.before.before.before.be
 judge-remove-requires : tie.Need-judge-remove-requires
 judge-remove-requires c κs =
     let s = entry c.before.before.before.before.before.before.before.before.before in
-    record { limits = (stateAt s).limits; free = s.args.factor.free; book-free = s.args.factor.book_free; can = (change-can s.args.factor (tablesAt s) s.pre).find }
+    record { limits = (state_at s).limits; free = s.args.factor.free; book-free = s.args.factor.book_free; can = (change-can s.args.factor (tables_at s) s.pre).find }
 
 -- ---- refused
 
@@ -170,7 +170,7 @@ returns : tie.Need-returns
 returns c =
     let x = c.before.before.before.before.before.before in
     let s = entry (judging x) in
-    batch-refused s.args.factor (tablesAt s) s.pre (verdict x) c.before.if1.true c.refused.ensures
+    batch-refused s.args.factor (tables_at s) s.pre (verdict x) c.before.if1.true c.refused.ensures
 
 -- ---- written
 
@@ -202,25 +202,25 @@ slice-aggregate-write-remove-5 : tie.Need-slice-aggregate-write-remove-5
 slice-aggregate-write-remove-5 c = sym (lengths (writing c.before.before.before.before)).next
 
 slice-relend-prefix-write-remove-5 : tie.Need-slice-relend-prefix-write-remove-5
-slice-relend-prefix-write-remove-5 c = (long (writing c.before.before.before.before)).bookHeads
+slice-relend-prefix-write-remove-5 c = (long (writing c.before.before.before.before)).book_heads
 
 slice-aggregate-write-remove-6 : tie.Need-slice-aggregate-write-remove-6
-slice-aggregate-write-remove-6 c = sym (lengths (writing c.before.before.before.before.before)).bookHeads
+slice-aggregate-write-remove-6 c = sym (lengths (writing c.before.before.before.before.before)).book_heads
 
 slice-relend-prefix-write-remove-6 : tie.Need-slice-relend-prefix-write-remove-6
-slice-relend-prefix-write-remove-6 c = (long (writing c.before.before.before.before.before)).bookRows
+slice-relend-prefix-write-remove-6 c = (long (writing c.before.before.before.before.before)).book_rows
 
 slice-aggregate-write-remove-7 : tie.Need-slice-aggregate-write-remove-7
-slice-aggregate-write-remove-7 c = sym (lengths (writing c.before.before.before.before.before.before)).bookRows
+slice-aggregate-write-remove-7 c = sym (lengths (writing c.before.before.before.before.before.before)).book_rows
 
 slice-relend-prefix-write-remove-7 : tie.Need-slice-relend-prefix-write-remove-7
-slice-relend-prefix-write-remove-7 c = (long (writing c.before.before.before.before.before.before)).bookNext
+slice-relend-prefix-write-remove-7 c = (long (writing c.before.before.before.before.before.before)).book_next
 
 slice-aggregate-write-remove-8 : tie.Need-slice-aggregate-write-remove-8
-slice-aggregate-write-remove-8 c = sym (lengths (writing c.before.before.before.before.before.before.before)).bookNext
+slice-aggregate-write-remove-8 c = sym (lengths (writing c.before.before.before.before.before.before.before)).book_next
 
 mul-write-remove : tie.Need-overflow-mul-write-remove
-mul-write-remove c = let s = entry (writing c.before.before.before.before.before.before.before) in omega (arith, (sizes-facts (stateAt s).sizes (ap isAccepted s.pre.can-use.usable.sizes)).n-high)
+mul-write-remove c = let s = entry (writing c.before.before.before.before.before.before.before) in omega (arith, (sizes-facts (state_at s).sizes (ap is_accepted s.pre.can-use.usable.sizes)).n-high)
 
 slice-relend-prefix-write-remove-8 : tie.Need-slice-relend-prefix-write-remove-8
 slice-relend-prefix-write-remove-8 c = (long (writing c.before.before.before.before.before.before.before)).windows
@@ -233,7 +233,7 @@ write-remove-requires c κs =
     let e = lent c in
     let x = judged e in
     let s = entry (judging x) in
-    record { limits = (stateAt s).limits; clock = s.args.factor.clock; before = s.args.work.now; can = batch-can s.args.factor (tablesAt s) s.pre (verdict x) e.if1.left }
+    record { limits = (state_at s).limits; clock = s.args.factor.clock; before = s.args.work.now; can = batch-can s.args.factor (tables_at s) s.pre (verdict x) e.if1.left }
 
 accepted-requires : tie.Need-accepted-requires
 accepted-requires c κs = tt
@@ -282,9 +282,9 @@ returns-2 c =
     let x = judged e in
     let s = entry (judging x) in
     let t : Tables = tables_of (take s.args.factor.m s.args.heads.now) y.write-remove.last.1.0 y.write-remove.last.1.1.0 y.write-remove.last.1.1.1.0 y.write-remove.last.1.1.1.1.0 y.write-remove.last.1.1.1.1.1.0 y.write-remove.last.1.1.1.1.1.1.0 y.write-remove.last.1.1.1.1.1.1.1.0 y.write-remove.last.1.1.1.1.1.1.1.1.0 in
-    let can = batch-can s.args.factor (tablesAt s) s.pre (verdict x) e.if1.left in
-    batch-taken s.args.factor (tablesAt s) s.pre (verdict x) e.if1.left t y.write-remove.result.free.0 y.write-remove.result.book_free.0
-    (y.write-remove.ensures (stateAt s).limits s.args.factor.clock s.args.work.now can) refl c.accepted.ensures
+    let can = batch-can s.args.factor (tables_at s) s.pre (verdict x) e.if1.left in
+    batch-taken s.args.factor (tables_at s) s.pre (verdict x) e.if1.left t y.write-remove.result.free.0 y.write-remove.result.book_free.0
+    (y.write-remove.ensures (state_at s).limits s.args.factor.clock s.args.work.now can) refl c.accepted.ensures
 
 pub remove-unchecked-spec : {M : Type 1} → statement M
 remove-unchecked-spec =

@@ -2,9 +2,9 @@
 use mathlib.Core.Path.{refl, ◌∙◌}
 use borrow.Author.Rules.{rules}
 use Rattle.tables.specs.Tables.{Tables, State, tables_of}
-use Rattle.calls.specs.Calls.{setting, reportLists}
-use Rattle.factor.specs.Entries.{state_of, worldOf}
-use Rattle.answers.specs.Answers.{changedAnswer}
+use Rattle.calls.specs.Calls.{setting, report_lists}
+use Rattle.factor.specs.Entries.{state_of, world_of}
+use Rattle.answers.specs.Answers.{changed_answer}
 use Rattle.answers.proofs.Changing.{admits-change, change-refused, admitted-can, changed-whole}
 use Rattle.clock.proofs.set_clock.Statement.{statement}
 use Rattle.clock.proofs.set_clock.Tie as tie
@@ -26,11 +26,11 @@ handed c = c.before.before.before.before.before.before.before
 abbrev ran : tie.After-slice-known15 → tie.After-set-clock-unchecked
 ran c = c.before.before.before.before.before.before.before.before.before.before.before.before.before.before
 
-abbrev stateAt : tie.Start → State
-stateAt s = state_of s.args.factor
+abbrev state_at : tie.Start → State
+state_at s = state_of s.args.factor
 
-abbrev tablesAt : tie.Start → Tables
-tablesAt s = tables_of s.args.heads.now s.args.parents.now s.args.rows.now s.args.counts.now s.args.next.now s.args.book-heads.now s.args.book-rows.now s.args.book-next.now s.args.windows.now
+abbrev tables_at : tie.Start → Tables
+tables_at s = tables_of s.args.heads.now s.args.parents.now s.args.rows.now s.args.counts.now s.args.next.now s.args.book-heads.now s.args.book-rows.now s.args.book-next.now s.args.windows.now
 
 short-lists-requires : tie.Need-short-lists-requires
 short-lists-requires c κs = search rules
@@ -67,8 +67,8 @@ returns c =
     let d : tie.After-admit = c.before.before.before.before in
     let h : tie.After-short-lists = listed d in
     let s : tie.Start = entry h in
-    change-refused s.args.factor (tablesAt s) (admits-change (stateAt s) (tablesAt s) s.args.work.now s.args.touched.now s.args.labels.now h.short-lists.ensures (setting s.args.minute)) d.admit.ensures
-    c.before.if1.true (reportLists d.admit.new.1.1.1.1.1.1.1.1.1.1.0 s.args.touched.now s.args.labels.now) refl c.refused.ensures
+    change-refused s.args.factor (tables_at s) (admits-change (state_at s) (tables_at s) s.args.work.now s.args.touched.now s.args.labels.now h.short-lists.ensures (setting s.args.minute)) d.admit.ensures
+    c.before.if1.true (report_lists d.admit.new.1.1.1.1.1.1.1.1.1.1.0 s.args.touched.now s.args.labels.now) refl c.refused.ensures
 
 set-clock-unchecked-requires : tie.Need-set-clock-unchecked-requires
 set-clock-unchecked-requires c κs =
@@ -76,7 +76,7 @@ set-clock-unchecked-requires c κs =
     let d : tie.After-admit = passed e in
     let h : tie.After-short-lists = listed d in
     let s : tie.Start = entry h in
-    admitted-can (stateAt s) (tablesAt s) s.args.work.now s.args.touched.now s.args.labels.now h.short-lists.ensures d.admit.ensures e.if1.left
+    admitted-can (state_at s) (tables_at s) s.args.work.now s.args.touched.now s.args.labels.now h.short-lists.ensures d.admit.ensures e.if1.left
 
 same-length-8 : tie.Need-same-length-8
 same-length-8 c = (ran c).set-clock-unchecked.auto.1.1.0
@@ -107,8 +107,8 @@ returns-2 c =
     let h : tie.After-short-lists = listed d in
     let s : tie.Start = entry h in
     let t : Tables = tables_of s.args.heads.now u.set-clock-unchecked.last.1.1.0 u.set-clock-unchecked.last.1.1.1.0 u.set-clock-unchecked.last.1.1.1.1.0 u.set-clock-unchecked.last.1.1.1.1.1.0 s.args.book-heads.now s.args.book-rows.now s.args.book-next.now s.args.windows.now in
-    changed-whole (stateAt s) (tablesAt s) s.args.work.now s.args.touched.now s.args.labels.now h.short-lists.ensures d.admit.ensures e.if1.left (setting s.args.minute)
-    (changedAnswer u.set-clock-unchecked.result) (reportLists u.set-clock-unchecked.last.1.1.1.1.1.1.1.1.1.1.0 u.set-clock-unchecked.last.1.1.1.1.1.1.1.1.1.1.1.0 u.set-clock-unchecked.last.1.1.1.1.1.1.1.1.1.1.1.1.0) (worldOf u.set-clock-unchecked.result.factor t) u.set-clock-unchecked.ensures
+    changed-whole (state_at s) (tables_at s) s.args.work.now s.args.touched.now s.args.labels.now h.short-lists.ensures d.admit.ensures e.if1.left (setting s.args.minute)
+    (changed_answer u.set-clock-unchecked.result) (report_lists u.set-clock-unchecked.last.1.1.1.1.1.1.1.1.1.1.0 u.set-clock-unchecked.last.1.1.1.1.1.1.1.1.1.1.1.0 u.set-clock-unchecked.last.1.1.1.1.1.1.1.1.1.1.1.1.0) (world_of u.set-clock-unchecked.result.factor t) u.set-clock-unchecked.ensures
 
 pub set-clock-spec : {M : Type 1} → statement M
 set-clock-spec =

@@ -6,7 +6,7 @@ use borrow.Author.Tests.{not-true, not-false}
 use lib.Seq.{length-take-le}
 use Rattle.tables.specs.Tables.{Tables, State, tables_of}
 use Rattle.tables.proofs.Tables.{Long}
-use Rattle.steps.proofs.Lifting.{cutTables}
+use Rattle.steps.proofs.Lifting.{cut_tables}
 use Rattle.factor.specs.Entries.{state_of}
 use Rattle.admission.proofs.Cutting.{Cut, cut}
 use Rattle.answers.proofs.Stepping.{change-long, change-can, joined_length}
@@ -39,23 +39,23 @@ told c = c.before.before.before.before.before
 abbrev cleared : tie.After-clocked → tie.After-clear2
 cleared c = c.before.before.before
 
-abbrev stateAt : tie.Start → State
-stateAt s = state_of s.args.factor
+abbrev state_at : tie.Start → State
+state_at s = state_of s.args.factor
 
-abbrev tablesAt : tie.Start → Tables
-tablesAt s = tables_of s.args.heads.now s.args.parents.now s.args.rows.now s.args.counts.now s.args.next.now s.args.book-heads.now s.args.book-rows.now s.args.book-next.now s.args.windows.now
+abbrev tables_at : tie.Start → Tables
+tables_at s = tables_of s.args.heads.now s.args.parents.now s.args.rows.now s.args.counts.now s.args.next.now s.args.book-heads.now s.args.book-rows.now s.args.book-next.now s.args.windows.now
 
-lengths : (c : tie.After-exchange-arg) → Cut (stateAt (entry c)) (tablesAt (entry c))
-lengths c = let s : tie.Start = entry c in cut (stateAt s) (tablesAt s) s.pre.can-use.usable.long
+lengths : (c : tie.After-exchange-arg) → Cut (state_at (entry c)) (tables_at (entry c))
+lengths c = let s : tie.Start = entry c in cut (state_at s) (tables_at s) s.pre.can-use.usable.long
 
-long : (c : tie.After-exchange-arg) → Long (stateAt (entry c)).sizes (tablesAt (entry c))
-long c = let s : tie.Start = entry c in change-long s.args.factor (tablesAt s) s.pre
+long : (c : tie.After-exchange-arg) → Long (state_at (entry c)).sizes (tables_at (entry c))
+long c = let s : tie.Start = entry c in change-long s.args.factor (tables_at s) s.pre
 
 -- the exchange leaves lengths
 kept : (k : tie.After-exchange) →
     let s = lent k.before in
     let x = k.exchange.new in
-    SameLengths (cutTables (stateAt s).sizes (tablesAt s)) (written (cutTables (stateAt s).sizes (tablesAt s)) x.1.0 x.1.1.0 x.1.1.1.0 x.1.1.1.1.0)
+    SameLengths (cut_tables (state_at s).sizes (tables_at s)) (written (cut_tables (state_at s).sizes (tables_at s)) x.1.0 x.1.1.0 x.1.1.1.0 x.1.1.1.1.0)
 kept k =
     let h = k.exchange.auto in
     record { parents = h.1.0; rows = h.1.1.0; counts = h.1.1.1.0; next = h.1.1.1.1.0 }
@@ -102,13 +102,13 @@ slice-aggregate-exchange-5 : tie.Need-slice-aggregate-exchange-5
 slice-aggregate-exchange-5 c = sym (lengths c.before.before.before.before).next
 
 slice-aggregate-exchange-6 : tie.Need-slice-aggregate-exchange-6
-slice-aggregate-exchange-6 c = sym (lengths c.before.before.before.before.before).bookHeads
+slice-aggregate-exchange-6 c = sym (lengths c.before.before.before.before.before).book_heads
 
 slice-aggregate-exchange-7 : tie.Need-slice-aggregate-exchange-7
-slice-aggregate-exchange-7 c = sym (lengths c.before.before.before.before.before.before).bookRows
+slice-aggregate-exchange-7 c = sym (lengths c.before.before.before.before.before.before).book_rows
 
 slice-aggregate-exchange-8 : tie.Need-slice-aggregate-exchange-8
-slice-aggregate-exchange-8 c = sym (lengths c.before.before.before.before.before.before.before).bookNext
+slice-aggregate-exchange-8 c = sym (lengths c.before.before.before.before.before.before.before).book_next
 
 mul-exchange : tie.Need-overflow-mul-exchange
 mul-exchange c = search rules
@@ -117,7 +117,7 @@ slice-aggregate-exchange-9 : tie.Need-slice-aggregate-exchange-9
 slice-aggregate-exchange-9 c = sym (lengths c.before.before.before.before.before.before.before.before).windows
 
 exchange-requires : tie.Need-exchange-requires
-exchange-requires c κs = let s = lent c in can-exchange (change-can s.args.factor (tablesAt s) s.pre).find
+exchange-requires c κs = let s = lent c in can-exchange (change-can s.args.factor (tables_at s) s.pre).find
 
 -- ---- it does not fit
 
@@ -125,7 +125,7 @@ clear-requires : tie.Need-clear-requires
 clear-requires c κs =
     let k = moved c.before.before in
     let s = lent k.before in
-    clock-clear s.args.factor (tablesAt s) s.pre s.args.minute (kept k) k.exchange.ensures
+    clock-clear s.args.factor (tables_at s) s.pre s.args.minute (kept k) k.exchange.ensures
 
 refused-requires : tie.Need-refused-requires
 refused-requires c κs = tt
@@ -154,7 +154,7 @@ returns c =
     let t = h.before.before in
     let k = stopped c in
     let s = lent k.before in
-    clock-refused s.args.factor (tablesAt s) s.pre s.args.minute (kept k) k.exchange.ensures (not-true _ t.if1.taken) h.clear.ensures c.refused.ensures
+    clock-refused s.args.factor (tables_at s) s.pre s.args.minute (kept k) k.exchange.ensures (not-true _ t.if1.taken) h.clear.ensures c.refused.ensures
 
 -- ---- it fits
 
@@ -165,7 +165,7 @@ slice-reshare-prefix-report : tie.Need-slice-reshare-prefix-report
 slice-reshare-prefix-report c =
     let k = fitting c.before in
     let s = lent k.before in
-    next-long s.args.factor (tablesAt s) s.pre s.args.minute (kept k) k.exchange.ensures
+    next-long s.args.factor (tables_at s) s.pre s.args.minute (kept k) k.exchange.ensures
 
 slice-aggregate-report-2 : tie.Need-slice-aggregate-report-2
 slice-aggregate-report-2 c = sym (length-take-le _ _ (slice-reshare-prefix-report c.before))
@@ -175,7 +175,7 @@ report-requires c κs =
     let e = c.before.before.before.before.before in
     let k = fitting e in
     let s = lent k.before in
-    clock-some s.args.factor (tablesAt s) s.pre s.args.minute (kept k) k.exchange.ensures (not-false _ e.if1.false)
+    clock-some s.args.factor (tables_at s) s.pre s.args.minute (kept k) k.exchange.ensures (not-false _ e.if1.false)
 
 -- where it fits, the place after the test
 abbrev taken : tie.After-clear-arg2 → tie.Else1
@@ -185,7 +185,7 @@ clear-requires-2 : tie.Need-clear-requires-2
 clear-requires-2 c κs =
     let k = fitting (taken c) in
     let s = lent k.before in
-    clock-clear s.args.factor (tablesAt s) s.pre s.args.minute (kept k) k.exchange.ensures
+    clock-clear s.args.factor (tables_at s) s.pre s.args.minute (kept k) k.exchange.ensures
 
 clocked-requires : tie.Need-clocked-requires
 clocked-requires c κs = tt
@@ -221,8 +221,8 @@ returns-2 c =
     let e = taken g.before in
     let k = fitting e in
     let s = lent k.before in
-    let x = clock-report s.args.factor (tablesAt s) s.pre s.args.minute (kept k) k.exchange.ensures (not-false _ e.if1.left) in
-    clock-taken s.args.factor (tablesAt s) s.pre s.args.minute (kept k) k.exchange.ensures (not-false _ e.if1.left) (r.report.ensures _ _ _ _ _ _ _ x) g.clear2.ensures c.clocked.ensures
+    let x = clock-report s.args.factor (tables_at s) s.pre s.args.minute (kept k) k.exchange.ensures (not-false _ e.if1.left) in
+    clock-taken s.args.factor (tables_at s) s.pre s.args.minute (kept k) k.exchange.ensures (not-false _ e.if1.left) (r.report.ensures _ _ _ _ _ _ _ x) g.clear2.ensures c.clocked.ensures
 
 pub set-clock-unchecked-spec : {M : Type 1} → statement M
 set-clock-unchecked-spec =

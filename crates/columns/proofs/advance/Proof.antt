@@ -5,13 +5,13 @@ use Prim.Native.Nat.{◌-◌}
 use native.Mathlib.Omega.{arith}
 use lib.ListN.{length}
 use Rattle.pool.specs.Chains.{chain, Linked}
-use Rattle.columns.specs.Search.{lastBelow}
+use Rattle.columns.specs.Search.{last_below}
 use Rattle.columns.proofs.Search.{Here, here, last_none, last_found, last-further}
 use Rattle.columns.proofs.advance.Statement.{statement}
 use Rattle.columns.proofs.advance.Tie as tie
 
 abbrev invariant-loop : tie.invariant-loop
-invariant-loop rows next least r₀ q₀ r q = Linked next q (chain next q) × (lastBelow rows r (chain next q) least ≡ lastBelow rows r₀ (chain next q₀) least)
+invariant-loop rows next least r₀ q₀ r q = Linked next q (chain next q) × (last_below rows r (chain next q) least ≡ last_below rows r₀ (chain next q₀) least)
 
 abbrev decreases-loop : tie.decreases-loop
 decreases-loop rows next least r₀ q₀ r q = length (chain next q)

@@ -6,11 +6,11 @@ use Prim.Native.Nat.{ℕ, ◌≤◌}
 use native.Mathlib.Omega.{arith}
 use lib.ListN.{length, length-set}
 use Rattle.lists.specs.Lists.{at, put}
-use Rattle.workspace.specs.Planned.{rowOf, multiplicityOf, kind_of}
+use Rattle.workspace.specs.Planned.{row_of, multiplicity_of, kind_of}
 use Rattle.pool.specs.Chains.{chain}
-use Rattle.pool.specs.Changes.{Has, insertAfter, unlinkAfter}
-use Rattle.columns.specs.Search.{lastBelow}
-use Rattle.columns.specs.Apply.{recordBefore, recordAfter, recounted, inserted, unlinked}
+use Rattle.pool.specs.Changes.{Has, insert_after, unlink_after}
+use Rattle.columns.specs.Search.{last_below}
+use Rattle.columns.specs.Apply.{record_before, record_after, recounted, inserted, unlinked}
 use Rattle.columns.proofs.Search.{Here, here, last_has}
 use Rattle.columns.proofs.apply_entry.Statement.{statement}
 use Rattle.columns.proofs.apply_entry.Tie as tie
@@ -37,11 +37,11 @@ free c = (start c).args.free.0
 
 -- the last record below the entry's row
 abbrev spot : tie.After-advance → ℕ
-spot c = recordBefore (rows c) (next c) (start c).args.p.0 (entry c)
+spot c = record_before (rows c) (next c) (start c).args.p.0 (entry c)
 
 record Facts (c : tie.After-advance) : Type 0 where
-  pub row : c.before.before.before.before.before.row_of.result ≡ rowOf (entry c)
-  pub count : c.before.before.before.before.multiplicity-of.result ≡ multiplicityOf (entry c)
+  pub row : c.before.before.before.before.before.row_of.result ≡ row_of (entry c)
+  pub count : c.before.before.before.before.multiplicity-of.result ≡ multiplicity_of (entry c)
   pub kind : c.before.before.before.kind-of.result ≡ kind_of (entry c)
   pub at-spot : c.advance.result.0 ≡ spot c
   pub low : 1 ≤ c.advance.result.0
@@ -53,10 +53,10 @@ facts : (c : tie.After-advance) → Facts c
 facts c =
     let p = (start c).requires in
     let h : Here (next c) (start c).args.p.0 = here _ _ (λ z. omega (arith, p.some)) p.linked in
-    let has : Has (next c) (spot c) = last_has (rows c) (next c) (start c).args.p.0 (at (next c) (start c).args.p.0) (chain (next c) (at (next c) (start c).args.p.0)) (rowOf (entry c)) (record { low = h.low; high = h.high }) h.linked in
-    let row : c.before.before.before.before.before.row_of.result ≡ rowOf (entry c) = c.before.before.before.before.before.row_of.ensures in
+    let has : Has (next c) (spot c) = last_has (rows c) (next c) (start c).args.p.0 (at (next c) (start c).args.p.0) (chain (next c) (at (next c) (start c).args.p.0)) (row_of (entry c)) (record { low = h.low; high = h.high }) h.linked in
+    let row : c.before.before.before.before.before.row_of.result ≡ row_of (entry c) = c.before.before.before.before.before.row_of.ensures in
     let there : c.advance.result.0 ≡ spot c =
-    c.advance.ensures ∙ ap (λ (i : ℕ). lastBelow (rows c) (start c).args.p.0 (chain (next c) (at (next c) (start c).args.p.0)) i) row in
+    c.advance.ensures ∙ ap (λ (i : ℕ). last_below (rows c) (start c).args.p.0 (chain (next c) (at (next c) (start c).args.p.0)) i) row in
     record {
       row = row;
       count = c.before.before.before.before.multiplicity-of.ensures;
@@ -75,7 +75,7 @@ takes c = (start c.before).requires.takes (sym (facts c.before).kind ∙ c.if1.t
 -- another entry: there is a record after the place
 record After (c : tie.Else1) : Type 0 where
   pub known : Facts c.before
-  pub here-is : at (next c.before) c.before.advance.result.0 ≡ recordAfter (rows c.before) (next c.before) (start c.before).args.p.0 (entry c.before)
+  pub here-is : at (next c.before) c.before.advance.result.0 ≡ record_after (rows c.before) (next c.before) (start c.before).args.p.0 (entry c.before)
   pub low : 1 ≤ at (next c.before) c.before.advance.result.0
   pub high : at (next c.before) c.before.advance.result.0 ≤ length (next c.before)
 
@@ -144,7 +144,7 @@ returns c =
     let f = facts d in
     let i = c.before.before.insert-after.ensures in
     inserted (sym f.kind ∙ c.before.before.before.before.if1.true) (ap (put (rows d) (free d)) f.row) (ap (put (counts d) (free d)) f.count)
-    (i.1 ∙ ap (λ (x : ℕ). insertAfter (next d) x (free d)) f.at-spot) refl i.0
+    (i.1 ∙ ap (λ (x : ℕ). insert_after (next d) x (free d)) f.at-spot) refl i.0
 
 -- ---- an entry that is there
 
@@ -220,7 +220,7 @@ returns-3 c =
     let d = b.before.before.before in
     let a = after b.before.before in
     unlinked (λ e. b.if2.false (a.known.kind ∙ e)) (λ e. b.before.before.if1.false (a.known.kind ∙ e)) (ap (λ (x : ℕ). put (rows d) x 0) a.here-is) (ap (λ (x : ℕ). put (counts d) x 0) a.here-is)
-    (c.before.before.unlink-after.ensures ∙ ap (λ (x : ℕ). unlinkAfter (next d) x (at (next d) x) (free d)) a.known.at-spot) a.known.at-spot a.here-is
+    (c.before.before.unlink-after.ensures ∙ ap (λ (x : ℕ). unlink_after (next d) x (at (next d) x) (free d)) a.known.at-spot) a.known.at-spot a.here-is
 
 pub apply-entry-spec : {M : Type 1} → statement M
 apply-entry-spec =

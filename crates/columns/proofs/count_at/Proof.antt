@@ -6,7 +6,7 @@ use borrow.Author.Rules.{rules}
 use lib.ListN.{length}
 use Rattle.pool.specs.Chains.{chain}
 use Rattle.columns.specs.Search.{count_of}
-use Rattle.columns.proofs.Search.{countAt, count_none, count-other, count-found, can-count, first-high}
+use Rattle.columns.proofs.Search.{count_at, count_none, count-other, count-found, can-count, first-high}
 use Rattle.columns.proofs.count_at.Statement.{statement}
 use Rattle.columns.proofs.count_at.Tie as tie
 
@@ -14,7 +14,7 @@ abbrev start : tie.After-first-at → tie.Start
 start c = c.before.before.before.before
 
 record Facts (c : tie.After-first-at) : Type 0 where
-  pub decides : countAt (start c).args.rows.now (start c).args.counts.now c.first-at.result.0 (start c).args.i.0 ≡
+  pub decides : count_at (start c).args.rows.now (start c).args.counts.now c.first-at.result.0 (start c).args.i.0 ≡
       count_of (start c).args.rows.now (start c).args.counts.now (chain (start c).args.next.now (start c).args.head.0) (start c).args.i.0
   pub high : c.first-at.result.0 ≤ length (start c).args.next.now
   pub rows_long : length (start c).args.rows.now ≡ length (start c).args.next.now
@@ -25,7 +25,7 @@ facts c =
     let a = (start c).args in
     let p = (start c).requires in
     record {
-      decides = ap (λ (r : ℕ). countAt a.rows.now a.counts.now r a.i.0) c.first-at.ensures ∙ can-count a.i.0 p;
+      decides = ap (λ (r : ℕ). count_at a.rows.now a.counts.now r a.i.0) c.first-at.ensures ∙ can-count a.i.0 p;
       high = omega (arith, c.first-at.ensures, first-high a.rows.now a.next.now a.head.0 (chain a.next.now a.head.0) a.i.0 p.read.linked);
       rows_long = p.read.rows_long;
       counts-long = p.read.counts-long;

@@ -4,13 +4,13 @@ use Prim.Native.Nat.{◌-◌}
 use native.Mathlib.Omega.{arith}
 use lib.ListN.{length}
 use Rattle.lists.proofs.Over.{Filling, filling-start, filling-long, filling-next, filling-end}
-use Rattle.columns.specs.Opened.{openedRows}
+use Rattle.columns.specs.Opened.{opened_rows}
 use Rattle.columns.proofs.Opened.{rows-length, rows-front, rows_back}
 use Rattle.columns.proofs.number_rows.Statement.{statement}
 use Rattle.columns.proofs.number_rows.Tie as tie
 
 abbrev invariant-loop : tie.invariant-loop
-invariant-loop rows₀ m i₀ rows i = Filling (openedRows m (length rows₀)) rows₀ rows i
+invariant-loop rows₀ m i₀ rows i = Filling (opened_rows m (length rows₀)) rows₀ rows i
 
 abbrev decreases-loop : tie.decreases-loop
 decreases-loop rows₀ m i₀ rows i = length rows₀ - i

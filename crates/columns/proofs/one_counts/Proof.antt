@@ -4,13 +4,13 @@ use Prim.Native.Nat.{◌-◌}
 use native.Mathlib.Omega.{arith}
 use lib.ListN.{length}
 use Rattle.lists.proofs.Over.{Filling, filling-start, filling-long, filling-next, filling-end}
-use Rattle.columns.specs.Opened.{openedCounts}
+use Rattle.columns.specs.Opened.{opened_counts}
 use Rattle.columns.proofs.Opened.{counts-length, counts-front, counts-back}
 use Rattle.columns.proofs.one_counts.Statement.{statement}
 use Rattle.columns.proofs.one_counts.Tie as tie
 
 abbrev invariant-loop : tie.invariant-loop
-invariant-loop counts₀ m i₀ counts i = Filling (openedCounts m (length counts₀)) counts₀ counts i
+invariant-loop counts₀ m i₀ counts i = Filling (opened_counts m (length counts₀)) counts₀ counts i
 
 abbrev decreases-loop : tie.decreases-loop
 decreases-loop counts₀ m i₀ counts i = length counts₀ - i

@@ -3,7 +3,7 @@ use mathlib.Core.Path.{ap, ◌∙◌}
 use Prim.Native.Nat.{ℕ}
 use borrow.Author.Rules.{rules}
 use lib.ListN.{length, replicate}
-use Rattle.columns.specs.Opened.{openedRows, openedCounts}
+use Rattle.columns.specs.Opened.{opened_rows, opened_counts}
 use Rattle.columns.proofs.open.Statement.{statement}
 use Rattle.columns.proofs.open.Tie as tie
 
@@ -71,8 +71,8 @@ returns c =
     record {
       heads-are = k.number-heads.ensures;
       parents-are = h.zero-parents.ensures ∙ ap (λ (n : ℕ). replicate n 0) s.pre.parents-long;
-      rows_are = g.number-rows.ensures ∙ ap (λ (n : ℕ). openedRows m n) s.pre.rows_long;
-      counts-are = e.one-counts.ensures ∙ ap (λ (n : ℕ). openedCounts m n) s.pre.counts-long;
+      rows_are = g.number-rows.ensures ∙ ap (λ (n : ℕ). opened_rows m n) s.pre.rows_long;
+      counts-are = e.one-counts.ensures ∙ ap (λ (n : ℕ). opened_counts m n) s.pre.counts-long;
       next-is = d.link-free.ensures.1;
       free-is = d.link-free.ensures.0;
     }

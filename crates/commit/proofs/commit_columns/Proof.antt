@@ -6,7 +6,7 @@ use Prim.Native.Nat.{ℕ}
 use native.Mathlib.Omega.{arith}
 use lib.ListN.{length}
 use Rattle.symbolic.specs.Factor.{FactorColumn}
-use Rattle.tables.specs.Stored.{storedOf}
+use Rattle.tables.specs.Stored.{stored_of}
 use Rattle.commit.specs.Passes.{CanCommitPlans}
 use Rattle.commit.proofs.Standing.{left, left_less}
 use Rattle.commit.proofs.Committing.{Committing, AtColumn, committing-start, committing-long, committing-counts, committing-end, at-column, committing-ready, committing-turn}
@@ -16,8 +16,8 @@ use Rattle.commit.proofs.commit_columns.Tie as tie
 abbrev invariant-loop : tie.invariant-loop
 invariant-loop heads rows₀ counts₀ next₀ work used m j₀ z₀ rows counts next j z =
     (ps : List ℕ) (L L' : List FactorColumn) (label : ℕ → ℕ) (columns : List ℕ) →
-    CanCommitPlans (storedOf heads ps rows₀ counts₀ next₀ z₀.0) L L' label columns work j₀.0 used →
-    Committing (storedOf heads ps rows₀ counts₀ next₀ z₀.0) L L' label columns work used (storedOf heads ps rows counts next z.0) j.0
+    CanCommitPlans (stored_of heads ps rows₀ counts₀ next₀ z₀.0) L L' label columns work j₀.0 used →
+    Committing (stored_of heads ps rows₀ counts₀ next₀ z₀.0) L L' label columns work used (stored_of heads ps rows counts next z.0) j.0
 
 abbrev decreases-loop : tie.decreases-loop
 decreases-loop heads rows₀ counts₀ next₀ work used m j₀ z₀ rows counts next j z = left (length heads) j.0
@@ -38,7 +38,7 @@ at_call c = c.before.before.before.before.before.before
 
 -- the invariant for what the premise gives
 now-is : (c : tie.At-loop invariant-loop decreases-loop) →
-    Committing (storedOf (entry c).args.heads.now (entry c).requires.parents (entry c).args.rows.now (entry c).args.counts.now (entry c).args.next.now (entry c).args.free.0) (entry c).requires.L (entry c).requires.L' (entry c).requires.label (entry c).requires.columns (entry c).args.work.now (entry c).args.used (storedOf (entry c).args.heads.now (entry c).requires.parents c.loop.rows c.loop.counts c.loop.next c.loop.z.0) c.loop.j.0
+    Committing (stored_of (entry c).args.heads.now (entry c).requires.parents (entry c).args.rows.now (entry c).args.counts.now (entry c).args.next.now (entry c).args.free.0) (entry c).requires.L (entry c).requires.L' (entry c).requires.label (entry c).requires.columns (entry c).args.work.now (entry c).args.used (stored_of (entry c).args.heads.now (entry c).requires.parents c.loop.rows c.loop.counts c.loop.next c.loop.z.0) c.loop.j.0
 now-is c = let p = (entry c).requires in c.loop.invariant p.parents p.L p.L' p.label p.columns p.can
 
 facts : (c : tie.Then1 invariant-loop decreases-loop) →

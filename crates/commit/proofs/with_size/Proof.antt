@@ -5,7 +5,7 @@ use Prim.Native.Nat.{ℕ, ◌+◌, ◌*◌}
 use native.Mathlib.Omega.{arith}
 use borrow.Author.Rules.{rules}
 use lib.ListN.{length}
-use Rattle.workspace.specs.Parts.{upperWeight}
+use Rattle.workspace.specs.Parts.{upper_weight}
 use Rattle.pool.specs.Chains.{chain}
 use Rattle.commit.proofs.Gathering.{size-added, size-stays}
 use Rattle.commit.proofs.with_size.Statement.{statement}
@@ -31,7 +31,7 @@ returns-2 c =
     let s = c.before.before.before in
     let n : ℕ = length (chain s.args.next.now s.args.head.0) in
     let e : c.count.result ≡ n = omega (arith, c.count.ensures, s.requires.short) in
-    ap (λ (x : ℕ). s.args.place + upperWeight * (1 + x)) e ∙ sym (size-added s.args.place n c.before.if1.false)
+    ap (λ (x : ℕ). s.args.place + upper_weight * (1 + x)) e ∙ sym (size-added s.args.place n c.before.if1.false)
 
 pub with-size-spec : {M : Type 1} → statement M
 with-size-spec = tie.close (tie.spec returns count-requires add-result mul-result add-result-2 returns-2)

@@ -3,7 +3,7 @@ use Prim.Native.Nat.{ℕ}
 use native.Mathlib.Omega.{arith}
 use borrow.Author.Rules.{rules}
 use lib.ListN.{length}
-use Rattle.symbolic.specs.Factor.{factorOf}
+use Rattle.symbolic.specs.Factor.{factor_of}
 use Rattle.commit.proofs.Written.{can-commits, can-parents, clear-fits, written}
 use Rattle.commit.proofs.write_plan.Statement.{statement}
 use Rattle.commit.proofs.write_plan.Tie as tie
@@ -28,8 +28,8 @@ commit-columns-requires c κs =
     let p = s.pre in
     record {
       parents = s.args.parents.now;
-      L = factorOf (length s.args.heads.now) p.cs;
-      L' = factorOf (length s.args.heads.now) p.ds;
+      L = factor_of (length s.args.heads.now) p.cs;
+      L' = factor_of (length s.args.heads.now) p.ds;
       label = p.label;
       columns = p.columns;
       can = can-commits p.can;
@@ -40,8 +40,8 @@ write-parents-requires c κs =
     let s = entry (committed c).before in
     let p = s.pre in
     record {
-      L = factorOf (length s.args.heads.now) p.cs;
-      L' = factorOf (length s.args.heads.now) p.ds;
+      L = factor_of (length s.args.heads.now) p.cs;
+      L' = factor_of (length s.args.heads.now) p.ds;
       label = p.label;
       columns = p.columns;
       used = s.args.used;
@@ -78,8 +78,8 @@ returns c =
     let s = entry y.before in
     let m : ℕ = length s.args.heads.now in
     λ cs ds label columns before count entries can.
-    let r = x.write-parents.ensures (factorOf m cs) (factorOf m ds) label columns s.args.used (can-parents can) in
-    written can (y.commit-columns.ensures s.args.parents.now (factorOf m cs) (factorOf m ds) label columns (can-commits can)) r.parents-are r (cleared c).clear.ensures
+    let r = x.write-parents.ensures (factor_of m cs) (factor_of m ds) label columns s.args.used (can-parents can) in
+    written can (y.commit-columns.ensures s.args.parents.now (factor_of m cs) (factor_of m ds) label columns (can-commits can)) r.parents-are r (cleared c).clear.ensures
 
 pub write-plan-spec : {M : Type 1} → statement M
 write-plan-spec =

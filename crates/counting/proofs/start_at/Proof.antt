@@ -3,7 +3,7 @@ use mathlib.Core.Path.{◌≡◌, refl, sym, ◌∙◌}
 use mathlib.Core.Bool.{true, false}
 use lib.ListN.{length}
 use borrow.Author.Rules.{rules}
-use Rattle.windows.specs.Windows.{countsAt}
+use Rattle.windows.specs.Windows.{counts_at}
 use Rattle.counting.proofs.start_at.Statement.{statement}
 use Rattle.counting.proofs.start_at.Tie as tie
 
@@ -16,13 +16,13 @@ counts-at-requires c κs = search rules
 returns : tie.Need-returns
 returns c next e =
     let s = c.before.before.before.before.before.before.args in
-    let z : countsAt s.windows.now (length s.book-heads.now) s.minute s.id.0 ≡ true = sym c.before.counts-at.ensures ∙ c.if1.true in
+    let z : counts_at s.windows.now (length s.book-heads.now) s.minute s.id.0 ≡ true = sym c.before.counts-at.ensures ∙ c.if1.true in
     rw z (c.before.before.smallest-row.ensures next e)
 
 returns-2 : tie.Need-returns-2
 returns-2 c next e =
     let s = c.before.before.before.before.before.before.args in
-    let z : countsAt s.windows.now (length s.book-heads.now) s.minute s.id.0 ≡ false = sym c.before.counts-at.ensures ∙ c.if1.false in
+    let z : counts_at s.windows.now (length s.book-heads.now) s.minute s.id.0 ≡ false = sym c.before.counts-at.ensures ∙ c.if1.false in
     rw z refl
 
 pub start-at-spec : {M : Type 1} → statement M

@@ -3,7 +3,7 @@
 use mathlib.Core.Path.{refl}
 use native.Mathlib.Omega.{arith}
 use lib.ListN.{length}
-use Rattle.workspace.specs.Layout.{childNext}
+use Rattle.workspace.specs.Layout.{child_next}
 use Rattle.workspace.specs.Regions.{region}
 use Rattle.pool.specs.Chains.{chain}
 use Rattle.counting.proofs.Gathering.{gathering-start, gathering-length, gathering-few, gathering-next, gathering-less, gathering-end}
@@ -15,7 +15,7 @@ abbrev invariant-loop : tie.invariant-loop
 invariant-loop work₀ m f column stash size₀ c₀ work size c = Children work₀ m f column work size c
 
 abbrev decreases-loop : tie.decreases-loop
-decreases-loop work₀ m f column stash size₀ c₀ work size c = length (chain (region work₀ (childNext m) m) c)
+decreases-loop work₀ m f column stash size₀ c₀ work size c = length (chain (region work₀ (child_next m) m) c)
 
 abbrev start : tie.In-loop invariant-loop decreases-loop → tie.Start invariant-loop decreases-loop
 start c = c.before.before.before.before

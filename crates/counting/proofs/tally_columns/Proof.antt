@@ -2,7 +2,7 @@
 -- (Starting of proofs/Starting.antt). The measure is the length of the chain that is left. Assumes nothing.
 use native.Mathlib.Omega.{arith}
 use lib.ListN.{length}
-use Rattle.workspace.specs.Layout.{columnNext}
+use Rattle.workspace.specs.Layout.{column_next}
 use Rattle.workspace.specs.Regions.{region}
 use Rattle.pool.specs.Chains.{chain}
 use Rattle.book.proofs.Tally.{tally-of}
@@ -15,7 +15,7 @@ abbrev invariant-loop : tie.invariant-loop
 invariant-loop book-heads book-rows book-next work₀ m f column nexts size₀ i₀ work size i = Starting book-heads book-rows book-next work₀ m f column work size i
 
 abbrev decreases-loop : tie.decreases-loop
-decreases-loop book-heads book-rows book-next work₀ m f column nexts size₀ i₀ work size i = length (chain (region work₀ (columnNext m f (length book-next)) (length book-heads)) i)
+decreases-loop book-heads book-rows book-next work₀ m f column nexts size₀ i₀ work size i = length (chain (region work₀ (column_next m f (length book-next)) (length book-heads)) i)
 
 abbrev start : tie.In-loop invariant-loop decreases-loop → tie.Start invariant-loop decreases-loop
 start c = c.before.before.before.before.before.before.before

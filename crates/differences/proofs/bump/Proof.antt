@@ -4,7 +4,7 @@ use Prim.Native.Nat.{ℕ, ◌-◌, ◌*◌, ◌^◌, ◌≤◌, ◌<◌}
 use native.Mathlib.Omega.{arith}
 use lib.ListN.{length, length-set}
 use Rattle.workspace.specs.Regions.{cell}
-use Rattle.differences.specs.Tally.{differenceAt}
+use Rattle.differences.specs.Tally.{difference_at}
 use Rattle.differences.proofs.Bumping.{Bumping, bumping-start, bumping-length, row_low, row-high, bumping-range, bumping-keep, bumping-new, bumping-done}
 use Rattle.differences.proofs.bump.Statement.{statement}
 use Rattle.differences.proofs.bump.Tie as tie
@@ -36,7 +36,7 @@ pub record Facts (c : tie.In-loop invariant-loop decreases-loop) : Type 0 where
   pub good : length c.before.loop.work * 4 < 2 ^ 63
   pub row-some : 1 ≤ row_at c
   pub row_within : row_at c ≤ (start c).args.m
-  pub range : (2 ≤ differenceAt c.before.loop.work (row_at c)) × (differenceAt c.before.loop.work (row_at c) < 2147483647)
+  pub range : (2 ≤ difference_at c.before.loop.work (row_at c)) × (difference_at c.before.loop.work (row_at c) < 2147483647)
 
 facts : (c : tie.In-loop invariant-loop decreases-loop) → Facts c
 facts c =

@@ -6,7 +6,7 @@ use native.Mathlib.Omega.{arith}
 use borrow.Author.Rules.{rules}
 use lib.ListN.{length}
 use Rattle.workspace.specs.Regions.{cell}
-use Rattle.workspace.specs.Planned.{rowOf, kind_of}
+use Rattle.workspace.specs.Planned.{row_of, kind_of}
 use Rattle.differences.proofs.Passing.{Reaching, reaching-start, reaching-cell, reaching-length, reaching-room, reaching-take, reaching-skip, reached-stop, reached-end}
 use Rattle.differences.proofs.gather_below.Statement.{statement}
 use Rattle.differences.proofs.gather_below.Tie as tie
@@ -46,8 +46,8 @@ facts c =
 abbrev entry_at : tie.In-loop invariant-loop decreases-loop → ℕ
 entry_at c = cell (start c).args.work.now (8 * (start c).args.m) c.before.loop.a
 
-row_is : (c : tie.After-row-of invariant-loop decreases-loop) → c.row_of.result ≡ rowOf (entry_at c.before.before)
-row_is c = let d = c.before.before in c.row_of.ensures ∙ ap rowOf (reaching-cell (start d).requires d.before.loop.invariant)
+row_is : (c : tie.After-row-of invariant-loop decreases-loop) → c.row_of.result ≡ row_of (entry_at c.before.before)
+row_is c = let d = c.before.before in c.row_of.ensures ∙ ap row_of (reaching-cell (start d).requires d.before.loop.invariant)
 
 kind-is : (c : tie.After-kind-of invariant-loop decreases-loop) → c.kind-of.result ≡ kind_of (entry_at (in-kind c))
 kind-is c = let d = in-kind c in c.kind-of.ensures ∙ ap kind_of (reaching-cell (start d).pre d.before.loop.inv)

@@ -5,7 +5,7 @@ use native.Mathlib.Omega.{arith}
 use borrow.Author.Rules.{rules}
 use borrow.Author.Tests.{lt-ltb, le-ltb, eq-eqb, ne_eqb}
 use Rattle.workspace.specs.Regions.{cell}
-use Rattle.workspace.specs.Planned.{rowOf}
+use Rattle.workspace.specs.Planned.{row_of}
 use Rattle.differences.proofs.is_gone.Statement.{statement}
 use Rattle.differences.proofs.is_gone.Tie as tie
 
@@ -31,7 +31,7 @@ returns-2 : tie.Need-returns-2
 returns-2 c =
     let s = c.before.before.before.before.before.args in
     let h : s.a < s.to = omega arith in
-    rw (lt-ltb s.a s.to h, ne_eqb (rowOf (cell s.work.now (8 * s.m) s.a)) s.row.0 (λ e. c.if2.true (c.before.row_of.ensures ∙ e))) refl
+    rw (lt-ltb s.a s.to h, ne_eqb (row_of (cell s.work.now (8 * s.m) s.a)) s.row.0 (λ e. c.if2.true (c.before.row_of.ensures ∙ e))) refl
 
 kind-of-requires : tie.Need-kind-of-requires
 kind-of-requires c κs = search rules
@@ -40,8 +40,8 @@ returns-3 : tie.Need-returns-3
 returns-3 c =
     let s = c.before.before.before.before.before.before.args in
     let h : s.a < s.to = omega arith in
-    let e : rowOf (cell s.work.now (8 * s.m) s.a) ≡ s.row.0 = omega (arith, c.before.before.row_of.ensures) in
-    rw (c.kind-of.ensures, lt-ltb s.a s.to h, eq-eqb (rowOf (cell s.work.now (8 * s.m) s.a)) s.row.0 e) refl
+    let e : row_of (cell s.work.now (8 * s.m) s.a) ≡ s.row.0 = omega (arith, c.before.before.row_of.ensures) in
+    rw (c.kind-of.ensures, lt-ltb s.a s.to h, eq-eqb (row_of (cell s.work.now (8 * s.m) s.a)) s.row.0 e) refl
 
 pub is-gone-spec : {M : Type 1} → statement M
 is-gone-spec =

@@ -6,8 +6,8 @@ use Rattle.early_refusals.proofs.Early.{sizes-first, sizes-second, sizes-third, 
 use Rattle.early_refusals.proofs.sizes.Statement.{statement}
 use Rattle.early_refusals.proofs.sizes.Tie as tie
 
-abbrev boundsAt : tie.Start → Bounds
-boundsAt s = largest s.args.most-rows s.args.most-ids s.args.most-records s.args.most-booked
+abbrev bounds_at : tie.Start → Bounds
+bounds_at s = largest s.args.most-rows s.args.most-ids s.args.most-records s.args.most-booked
 
 outside-requires : tie.Need-outside-requires
 outside-requires c κs = search rules
@@ -15,7 +15,7 @@ outside-requires c κs = search rules
 returns : tie.Need-returns
 returns c =
     let s : tie.Start = c.before.before in
-    sizes-first (boundsAt s) s.args.m s.args.n s.args.f s.args.c c.before.outside.ensures c.if1.true
+    sizes-first (bounds_at s) s.args.m s.args.n s.args.f s.args.c c.before.outside.ensures c.if1.true
 
 outside-requires-2 : tie.Need-outside-requires-2
 outside-requires-2 c κs = search rules
@@ -24,7 +24,7 @@ returns-2 : tie.Need-returns-2
 returns-2 c =
     let one : tie.After-outside = c.before.before.before in
     let s : tie.Start = one.before in
-    sizes-second (boundsAt s) s.args.m s.args.n s.args.f s.args.c one.outside.ensures c.before.before.if1.false c.before.outside2.ensures c.if2.true
+    sizes-second (bounds_at s) s.args.m s.args.n s.args.f s.args.c one.outside.ensures c.before.before.if1.false c.before.outside2.ensures c.if2.true
 
 outside-requires-3 : tie.Need-outside-requires-3
 outside-requires-3 c κs = search rules
@@ -34,7 +34,7 @@ returns-3 c =
     let two : tie.After-outside2 = c.before.before.before in
     let one : tie.After-outside = two.before.before in
     let s : tie.Start = one.before in
-    sizes-third (boundsAt s) s.args.m s.args.n s.args.f s.args.c one.outside.ensures two.before.if1.false two.outside2.ensures c.before.before.if2.false c.before.outside3.ensures c.if3.true
+    sizes-third (bounds_at s) s.args.m s.args.n s.args.f s.args.c one.outside.ensures two.before.if1.false two.outside2.ensures c.before.before.if2.false c.before.outside3.ensures c.if3.true
 
 outside-requires-4 : tie.Need-outside-requires-4
 outside-requires-4 c κs = search rules
@@ -45,7 +45,7 @@ returns-4 c =
     let two : tie.After-outside2 = three.before.before in
     let one : tie.After-outside = two.before.before in
     let s : tie.Start = one.before in
-    sizes-fourth (boundsAt s) s.args.m s.args.n s.args.f s.args.c one.outside.ensures two.before.if1.false two.outside2.ensures three.before.if2.false three.outside3.ensures c.before.before.if3.false c.before.outside4.ensures c.if4.true
+    sizes-fourth (bounds_at s) s.args.m s.args.n s.args.f s.args.c one.outside.ensures two.before.if1.false two.outside2.ensures three.before.if2.false three.outside3.ensures c.before.before.if3.false c.before.outside4.ensures c.if4.true
 
 returns-5 : tie.Need-returns-5
 returns-5 c =
@@ -53,7 +53,7 @@ returns-5 c =
     let two : tie.After-outside2 = three.before.before in
     let one : tie.After-outside = two.before.before in
     let s : tie.Start = one.before in
-    sizes-none (boundsAt s) s.args.m s.args.n s.args.f s.args.c one.outside.ensures two.before.if1.false two.outside2.ensures three.before.if2.false three.outside3.ensures c.before.before.if3.false c.before.outside4.ensures c.if4.false
+    sizes-none (bounds_at s) s.args.m s.args.n s.args.f s.args.c one.outside.ensures two.before.if1.false two.outside2.ensures three.before.if2.false three.outside3.ensures c.before.before.if3.false c.before.outside4.ensures c.if4.false
 
 pub sizes-spec : {M : Type 1} → statement M
 sizes-spec =

@@ -4,7 +4,7 @@ use mathlib.Core.Path.{sym, ◌∙◌}
 use Prim.Native.Nat.{ℕ, ◌-◌}
 use native.Mathlib.Omega.{arith}
 use lib.ListN.{length}
-use Rattle.book.specs.Book.{bookOf}
+use Rattle.book.specs.Book.{book_of}
 use Rattle.entering.specs.Entering.{CanEnter}
 use Rattle.entering.proofs.Entering.{Entering, entering-start, entering-end, entering-paired, entering-fits, entering-can, entering-turn}
 use Rattle.entering.proofs.enter_columns.Statement.{statement}
@@ -12,8 +12,8 @@ use Rattle.entering.proofs.enter_columns.Tie as tie
 
 abbrev invariant-loop : tie.invariant-loop
 invariant-loop book-heads₀ book-rows₀ book-next₀ ids row_counts row_list z₀ k₀ a₀ book-heads book-rows book-next z k a =
-    (m : ℕ) → CanEnter m (bookOf book-heads₀ book-rows₀ book-next₀ z₀.0) ids row_counts row_list →
-    Entering m (bookOf book-heads₀ book-rows₀ book-next₀ z₀.0) ids row_counts row_list (bookOf book-heads book-rows book-next z.0) k a
+    (m : ℕ) → CanEnter m (book_of book-heads₀ book-rows₀ book-next₀ z₀.0) ids row_counts row_list →
+    Entering m (book_of book-heads₀ book-rows₀ book-next₀ z₀.0) ids row_counts row_list (book_of book-heads book-rows book-next z.0) k a
 
 abbrev decreases-loop : tie.decreases-loop
 decreases-loop book-heads₀ book-rows₀ book-next₀ ids row_counts row_list z₀ k₀ a₀ book-heads book-rows book-next z k a = length ids - k
@@ -34,7 +34,7 @@ at_call c = c.before.before.before.before.before.before
 
 -- the invariant for what the premise gives
 now-is : (c : tie.At-loop invariant-loop decreases-loop) →
-    Entering (entry c).requires.m (bookOf (entry c).args.book-heads.now (entry c).args.book-rows.now (entry c).args.book-next.now (entry c).args.free.0) (entry c).args.ids.now (entry c).args.row_counts.now (entry c).args.row_list.now (bookOf c.loop.book-heads c.loop.book-rows c.loop.book-next c.loop.z.0) c.loop.k c.loop.a
+    Entering (entry c).requires.m (book_of (entry c).args.book-heads.now (entry c).args.book-rows.now (entry c).args.book-next.now (entry c).args.free.0) (entry c).args.ids.now (entry c).args.row_counts.now (entry c).args.row_list.now (book_of c.loop.book-heads c.loop.book-rows c.loop.book-next c.loop.z.0) c.loop.k c.loop.a
 now-is c = c.loop.invariant (entry c).requires.m (entry c).requires.can
 
 loop-holds : tie.Need-loop-init invariant-loop decreases-loop

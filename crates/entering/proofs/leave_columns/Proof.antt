@@ -4,7 +4,7 @@ use mathlib.Core.Path.{sym, ◌∙◌}
 use Prim.Native.Nat.{ℕ, ◌-◌}
 use native.Mathlib.Omega.{arith}
 use lib.ListN.{length}
-use Rattle.book.specs.Book.{bookOf}
+use Rattle.book.specs.Book.{book_of}
 use Rattle.entering.specs.Entering.{CanLeave}
 use Rattle.entering.proofs.Leaving.{Leaving, leaving-start, leaving-end, leaving-can, leaving-turn}
 use Rattle.entering.proofs.leave_columns.Statement.{statement}
@@ -12,8 +12,8 @@ use Rattle.entering.proofs.leave_columns.Tie as tie
 
 abbrev invariant-loop : tie.invariant-loop
 invariant-loop book-heads₀ book-rows₀ book-next₀ ids z₀ i₀ book-heads book-rows book-next z i =
-    (m : ℕ) → CanLeave m (bookOf book-heads₀ book-rows₀ book-next₀ z₀.0) ids →
-    Leaving m (bookOf book-heads₀ book-rows₀ book-next₀ z₀.0) ids (bookOf book-heads book-rows book-next z.0) i
+    (m : ℕ) → CanLeave m (book_of book-heads₀ book-rows₀ book-next₀ z₀.0) ids →
+    Leaving m (book_of book-heads₀ book-rows₀ book-next₀ z₀.0) ids (book_of book-heads book-rows book-next z.0) i
 
 abbrev decreases-loop : tie.decreases-loop
 decreases-loop book-heads₀ book-rows₀ book-next₀ ids z₀ i₀ book-heads book-rows book-next z i = length ids - i
@@ -31,7 +31,7 @@ at_call c = c.before.before.before.before.before.before
 
 -- the invariant for what the premise gives
 now-is : (c : tie.At-loop invariant-loop decreases-loop) →
-    Leaving (entry c).requires.m (bookOf (entry c).args.book-heads.now (entry c).args.book-rows.now (entry c).args.book-next.now (entry c).args.free.0) (entry c).args.ids.now (bookOf c.loop.book-heads c.loop.book-rows c.loop.book-next c.loop.z.0) c.loop.i
+    Leaving (entry c).requires.m (book_of (entry c).args.book-heads.now (entry c).args.book-rows.now (entry c).args.book-next.now (entry c).args.free.0) (entry c).args.ids.now (book_of c.loop.book-heads c.loop.book-rows c.loop.book-next c.loop.z.0) c.loop.i
 now-is c = c.loop.invariant (entry c).requires.m (entry c).requires.can
 
 loop-holds : tie.Need-loop-init invariant-loop decreases-loop

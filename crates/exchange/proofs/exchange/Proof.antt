@@ -6,9 +6,9 @@ use native.Mathlib.Omega.{arith}
 use lib.ListN.{get_or}
 use borrow.Author.Tests.{eqb-true}
 use Rattle.book.specs.Book.{tables_of}
-use Rattle.tables.specs.Stored.{storedOf}
+use Rattle.tables.specs.Stored.{stored_of}
 use Rattle.exchange.specs.Exchange.{staying, leaving, entering}
-use Rattle.exchange.specs.Stages.{movingIds, CanSwap}
+use Rattle.exchange.specs.Stages.{moving_ids, CanSwap}
 use Rattle.exchange.proofs.Choosing.{can-scan, can-swap}
 use Rattle.exchange.proofs.Swapping.{can-leave-all, some-leave-all}
 use Rattle.exchange.proofs.Finishing.{can-save-parents, can-save-records, can-after, parents-only, some-swap, finished-leaving, finished-both}
@@ -43,8 +43,8 @@ abbrev Asked : tie.After-save-parents-arg2 → Type 0
 Asked c =
     let a = (start c).args in
     let b = tables_of a.book-heads.now a.book-rows.now a.book-next.now in
-    CanSwap (storedOf a.heads.now a.parents.now a.rows.now a.counts.now a.next.now a.free.0) b
-    (movingIds a.book-heads.now a.windows.now a.before a.after) (movingIds a.book-heads.now a.windows.now a.after a.before) a.work.now
+    CanSwap (stored_of a.heads.now a.parents.now a.rows.now a.counts.now a.next.now a.free.0) b
+    (moving_ids a.book-heads.now a.windows.now a.before a.after) (moving_ids a.book-heads.now a.windows.now a.after a.before) a.work.now
     (staying b a.windows.now a.before a.after) (leaving b a.windows.now a.before a.after) (entering b a.windows.now a.before a.after)
 
 asked : (c : tie.After-save-parents-arg2) → Asked c

@@ -11,16 +11,16 @@ use lib.Seq.{length-take-le, take_at}
 use Rattle.lists.specs.Lists.{sum_of}
 use Rattle.symbolic.specs.Grades.{Limits}
 use Rattle.tables.specs.Tables.{Tables, tables_of}
-use Rattle.calls.specs.Refusals.{isAccepted}
+use Rattle.calls.specs.Refusals.{is_accepted}
 use Rattle.calls.specs.Calls.{Change, adding}
 use Rattle.calls.specs.Changes.{effect}
-use Rattle.calls.specs.Steps.{bookedIn}
-use Rattle.windows.specs.Windowed.{listedInside}
-use Rattle.refusals.specs.Found.{addFound}
-use Rattle.updown.specs.Entries.{listedStarts}
+use Rattle.calls.specs.Steps.{booked_in}
+use Rattle.windows.specs.Windowed.{listed_inside}
+use Rattle.refusals.specs.Found.{add_found}
+use Rattle.updown.specs.Entries.{listed_starts}
 use Rattle.updown.proofs.Filled.{filled_within}
-use Rattle.steps.specs.Outcome.{cutWorld, bookWhole, CanFind}
-use Rattle.judging.specs.Judging.{verdictNumber}
+use Rattle.steps.specs.Outcome.{cut_world, book_whole, CanFind}
+use Rattle.judging.specs.Judging.{verdict_number}
 use Rattle.judging.specs.declared.Verdict.{Verdict}
 use Rattle.steps.proofs.Cut.{sizes-are, book-sound}
 use Rattle.judging.proofs.Adding.{add-refused, add-few, add-can, add-planned, add-full}
@@ -45,22 +45,22 @@ abbrev at-plan : tie.Else1 → tie.Start
 at-plan c = entry (searched c.before).before
 
 -- the tables, with given rows of the book and given windows
-abbrev tablesAt : tie.Start → (bookRows windows : List ℕ) → Tables
-tablesAt s br ws =
+abbrev tables_at : tie.Start → (book_rows windows : List ℕ) → Tables
+tables_at s br ws =
     tables_of s.args.heads.now s.args.parents.now s.args.rows.now s.args.counts.now s.args.next.now s.args.book-heads.now br s.args.book-next.now ws
 
 -- the change
-abbrev changeAt : tie.Start → Change
-changeAt s = adding s.args.ids.now s.args.row_counts.now s.args.row_list.now s.args.firsts.now s.args.seconds.now
+abbrev change_at : tie.Start → Change
+change_at s = adding s.args.ids.now s.args.row_counts.now s.args.row_list.now s.args.firsts.now s.args.seconds.now
 
 -- 7 to 15 and 21 did not apply
 accepted-at : (c : tie.Else1) (lim : Limits) (br ws : List ℕ) →
-    CanFind (cutWorld (tablesAt (at-plan c) br ws) lim (at-plan c).args.clock (at-plan c).args.free.0 (at-plan c).args.book-free.0) (at-plan c).args.work.now →
-    isAccepted (addFound (length (at-plan c).args.heads.now) (bookWhole (tablesAt (at-plan c) br ws) (at-plan c).args.book-free.0) (at-plan c).args.ids.now
+    CanFind (cut_world (tables_at (at-plan c) br ws) lim (at-plan c).args.clock (at-plan c).args.free.0 (at-plan c).args.book-free.0) (at-plan c).args.work.now →
+    is_accepted (add_found (length (at-plan c).args.heads.now) (book_whole (tables_at (at-plan c) br ws) (at-plan c).args.book-free.0) (at-plan c).args.ids.now
     (at-plan c).args.row_counts.now (at-plan c).args.row_list.now (at-plan c).args.firsts.now (at-plan c).args.seconds.now) ≡ true
 accepted-at c lim br ws can =
     let x = searched c.before in
-    ap isAccepted (sym (x.find-add.ensures br (book-sound can))) ∙ eq-eqb x.find-add.result.number 0 c.if1.false
+    ap is_accepted (sym (x.find-add.ensures br (book-sound can))) ∙ eq-eqb x.find-add.result.number 0 c.if1.false
 
 cast-find-add : tie.Need-overflow-cast-find-add
 cast-find-add c = let s = entry c in omega (arith, (sizes-are s.pre.can).m-high)
@@ -76,8 +76,8 @@ returns c lim br ws can =
     let x = searched c.before.before in
     let s = entry x.before in
     add-refused can s.args.ids.now s.args.row_counts.now s.args.row_list.now s.args.firsts.now s.args.seconds.now
-    (ap verdictNumber c.refused.ensures ∙ x.find-add.ensures br (book-sound can))
-    (ap (λ (v : Verdict). isAccepted (verdictNumber v)) c.refused.ensures ∙ ne_eqb x.find-add.result.number 0 c.before.if1.true)
+    (ap verdict_number c.refused.ensures ∙ x.find-add.ensures br (book-sound can))
+    (ap (λ (v : Verdict). is_accepted (verdict_number v)) c.refused.ensures ∙ ne_eqb x.find-add.result.number 0 c.before.if1.true)
 
 -- ---- the starts, filled in and hidden
 
@@ -119,11 +119,11 @@ hidden c = c.hide-listed.auto.1.1.1.0 ∙ length-take-le _ _ (array-borrow-prefi
 
 hidden-are : (c : tie.After-hide-listed) →
     c.hide-listed.new.1.1.1.0 ≡
-    (let s = at-plan (listing c.before).before.before in listedInside s.args.clock s.args.firsts.now s.args.seconds.now (listedStarts s.args.row_counts.now s.args.row_list.now))
+    (let s = at-plan (listing c.before).before.before in listed_inside s.args.clock s.args.firsts.now s.args.seconds.now (listed_starts s.args.row_counts.now s.args.row_list.now))
 hidden-are c =
     let l = listing c.before in
     let s = at-plan l.before.before in
-    c.hide-listed.ensures ∙ ap (listedInside s.args.clock s.args.firsts.now s.args.seconds.now) (take_at _ _ _ (filled l) ∙ l.listed-starts.ensures)
+    c.hide-listed.ensures ∙ ap (listed_inside s.args.clock s.args.firsts.now s.args.seconds.now) (take_at _ _ _ (filled l) ∙ l.listed-starts.ensures)
 
 array-share-prefix-starts : tie.Need-array-share-prefix-starts
 array-share-prefix-starts c =
@@ -139,7 +139,7 @@ plan-add-requires c κs =
     let d = c.before.before.before in
     let no = (listing d.before).before.before in
     let s = at-plan no in
-    let x = effect (bookedIn (cutWorld (tablesAt s s.pre.book-rows s.pre.windows) s.pre.limits s.args.clock s.args.free.0 s.args.book-free.0)) (changeAt s) in
+    let x = effect (booked_in (cut_world (tables_at s s.pre.book-rows s.pre.windows) s.pre.limits s.args.clock s.args.free.0 s.args.book-free.0)) (change_at s) in
     record {
       R = x.stay;
       W = x.enter;
@@ -160,11 +160,11 @@ returns-2 c lim br ws can =
     let no = (listing d.before).before.before in
     let s = at-plan no in
     let ok = accepted-at no lim br ws can in
-    let x = effect (bookedIn (cutWorld (tablesAt s br ws) lim s.args.clock s.args.free.0 s.args.book-free.0)) (changeAt s) in
+    let x = effect (booked_in (cut_world (tables_at s br ws) lim s.args.clock s.args.free.0 s.args.book-free.0)) (change_at s) in
     let e = c.planned.ensures in
     add-planned can s.args.ids.now s.args.row_counts.now s.args.row_list.now s.args.firsts.now s.args.seconds.now ok
     (p.plan-add.ensures x.stay x.enter (add-can can s.args.ids.now s.args.row_counts.now s.args.row_list.now s.args.firsts.now s.args.seconds.now ok (take_at _ _ _ (hidden d) ∙ hidden-are d)))
-    c.before.if2.true (ap verdictNumber e) (ap (λ (v : Verdict). v.plan.first.0) e) (ap (λ (v : Verdict). v.plan.count) e) (ap (λ (v : Verdict). v.plan.entries) e)
+    c.before.if2.true (ap verdict_number e) (ap (λ (v : Verdict). v.plan.first.0) e) (ap (λ (v : Verdict). v.plan.count) e) (ap (λ (v : Verdict). v.plan.entries) e)
     (ap (λ (v : Verdict). v.plan.used) e)
 
 refused-requires-2 : tie.Need-refused-requires-2
@@ -180,10 +180,10 @@ returns-3 c lim br ws can =
     let no = (listing d.before).before.before in
     let s = at-plan no in
     let ok = accepted-at no lim br ws can in
-    let x = effect (bookedIn (cutWorld (tablesAt s br ws) lim s.args.clock s.args.free.0 s.args.book-free.0)) (changeAt s) in
+    let x = effect (booked_in (cut_world (tables_at s br ws) lim s.args.clock s.args.free.0 s.args.book-free.0)) (change_at s) in
     add-full can s.args.ids.now s.args.row_counts.now s.args.row_list.now s.args.firsts.now s.args.seconds.now ok
     (p.plan-add.ensures x.stay x.enter (add-can can s.args.ids.now s.args.row_counts.now s.args.row_list.now s.args.firsts.now s.args.seconds.now ok (take_at _ _ _ (hidden d) ∙ hidden-are d)))
-    c.before.if2.false (ap verdictNumber c.refused2.ensures)
+    c.before.if2.false (ap verdict_number c.refused2.ensures)
 
 pub judge-add-spec : {M : Type 1} → statement M
 judge-add-spec =

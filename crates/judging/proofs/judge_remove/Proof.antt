@@ -7,16 +7,16 @@ use borrow.Author.Tests.{eq-eqb, ne_eqb}
 use lib.ListN.{length, drop, replicate}
 use lib.Seq.{length-take-le, take_at}
 use Rattle.tables.specs.Tables.{Tables, tables_of}
-use Rattle.calls.specs.Refusals.{isAccepted}
+use Rattle.calls.specs.Refusals.{is_accepted}
 use Rattle.calls.specs.Calls.{removing}
 use Rattle.calls.specs.Changes.{effect}
-use Rattle.calls.specs.Steps.{bookedIn}
-use Rattle.windows.specs.Windowed.{bookedInside}
-use Rattle.refusals.specs.Found.{removeFound}
-use Rattle.updown.specs.Entries.{bookedStarts}
+use Rattle.calls.specs.Steps.{booked_in}
+use Rattle.windows.specs.Windowed.{booked_inside}
+use Rattle.refusals.specs.Found.{remove_found}
+use Rattle.updown.specs.Entries.{booked_starts}
 use Rattle.updown.proofs.Filled.{filled_within}
-use Rattle.steps.specs.Outcome.{cutWorld, bookWhole}
-use Rattle.judging.specs.Judging.{verdictNumber}
+use Rattle.steps.specs.Outcome.{cut_world, book_whole}
+use Rattle.judging.specs.Judging.{verdict_number}
 use Rattle.judging.specs.declared.Verdict.{Verdict}
 use Rattle.judging.proofs.Removing.{remove-refused, remove-few, remove-can, remove-planned}
 use Rattle.judging.proofs.judge_remove.Statement.{statement}
@@ -36,17 +36,17 @@ listing c = c.before.before
 abbrev plans : tie.After-planned → tie.After-plan-remove
 plans c = c.before.before.before
 
-abbrev tablesAt : tie.Start → Tables
-tablesAt s =
+abbrev tables_at : tie.Start → Tables
+tables_at s =
     tables_of s.args.heads.now s.args.parents.now s.args.rows.now s.args.counts.now s.args.next.now s.args.book-heads.now s.args.book-rows.now s.args.book-next.now
     s.args.windows.now
 
 -- no refusal applied
-accepted-at : (c : tie.Else1) (g : ℕ) → isAccepted (removeFound (length (at-plan c).args.heads.now) (bookWhole (tablesAt (at-plan c)) g) (at-plan c).args.ids.now) ≡ true
+accepted-at : (c : tie.Else1) (g : ℕ) → is_accepted (remove_found (length (at-plan c).args.heads.now) (book_whole (tables_at (at-plan c)) g) (at-plan c).args.ids.now) ≡ true
 accepted-at c g =
     let x = c.before.before in
     let s = at-plan c in
-    ap isAccepted (sym (x.find-remove.ensures (length s.args.heads.now) s.args.book-rows.now s.args.book-next.now g)) ∙ eq-eqb x.find-remove.result.number 0 c.if1.false
+    ap is_accepted (sym (x.find-remove.ensures (length s.args.heads.now) s.args.book-rows.now s.args.book-next.now g)) ∙ eq-eqb x.find-remove.result.number 0 c.if1.false
 
 find-remove-requires : tie.Need-find-remove-requires
 find-remove-requires c κs = search rules
@@ -59,8 +59,8 @@ returns c lim f g can =
     let x = c.before.before.before in
     let s = entry x in
     remove-refused can s.args.ids.now
-    (ap verdictNumber c.refused.ensures ∙ x.find-remove.ensures (length s.args.heads.now) s.args.book-rows.now s.args.book-next.now g)
-    (ap (λ (v : Verdict). isAccepted (verdictNumber v)) c.refused.ensures ∙ ne_eqb x.find-remove.result.number 0 c.before.if1.true)
+    (ap verdict_number c.refused.ensures ∙ x.find-remove.ensures (length s.args.heads.now) s.args.book-rows.now s.args.book-next.now g)
+    (ap (λ (v : Verdict). is_accepted (verdict_number v)) c.refused.ensures ∙ ne_eqb x.find-remove.result.number 0 c.before.if1.true)
 
 -- ---- the starts, filled in and hidden
 
@@ -101,12 +101,12 @@ hidden c = c.hide-booked.auto.1.1.1.1.0 ∙ length-take-le _ _ (array-borrow-pre
 hidden-are : (c : tie.After-hide-booked) →
     (let s = at-plan (listing c.before).before.before in length s.args.book-rows.now ≡ length s.args.book-next.now →
     c.hide-booked.new.1.1.1.1.0 ≡
-    bookedInside s.args.clock s.args.windows.now (length s.args.book-heads.now) s.args.ids.now (bookedStarts (bookWhole (tablesAt s) 0) s.args.ids.now))
+    booked_inside s.args.clock s.args.windows.now (length s.args.book-heads.now) s.args.ids.now (booked_starts (book_whole (tables_at s) 0) s.args.ids.now))
 hidden-are c e =
     let l = listing c.before in
     let s = at-plan l.before.before in
     c.hide-booked.ensures ∙
-    ap (bookedInside s.args.clock s.args.windows.now (length s.args.book-heads.now) s.args.ids.now) (take_at _ _ _ (filled l) ∙ l.booked-starts.ensures s.args.book-next.now e)
+    ap (booked_inside s.args.clock s.args.windows.now (length s.args.book-heads.now) s.args.ids.now) (take_at _ _ _ (filled l) ∙ l.booked-starts.ensures s.args.book-next.now e)
 
 array-share-prefix-starts : tie.Need-array-share-prefix-starts
 array-share-prefix-starts c =
@@ -122,7 +122,7 @@ plan-remove-requires c κs =
     let d = c.before.before.before in
     let no = (listing d.before).before.before in
     let s = at-plan no in
-    let x = effect (bookedIn (cutWorld (tablesAt s) s.pre.limits s.args.clock s.pre.free s.pre.book-free)) (removing s.args.ids.now) in
+    let x = effect (booked_in (cut_world (tables_at s) s.pre.limits s.args.clock s.pre.free s.pre.book-free)) (removing s.args.ids.now) in
     record {
       R = x.stay;
       W = x.leave;
@@ -143,10 +143,10 @@ returns-2 c lim f g can =
     let s = at-plan no in
     let ids = s.args.ids.now in
     let ok = accepted-at no g in
-    let x = effect (bookedIn (cutWorld (tablesAt s) lim s.args.clock f g)) (removing ids) in
+    let x = effect (booked_in (cut_world (tables_at s) lim s.args.clock f g)) (removing ids) in
     let e = c.planned.ensures in
     remove-planned can ids ok (p.plan-remove.ensures x.stay x.leave (remove-can can ids ok 0 0 (take_at _ _ _ (hidden d) ∙ hidden-are d can.book-rows)))
-    (ap verdictNumber e) (ap (λ (v : Verdict). v.plan.first.0) e) (ap (λ (v : Verdict). v.plan.count) e) (ap (λ (v : Verdict). v.plan.entries) e) (ap (λ (v : Verdict). v.plan.used) e)
+    (ap verdict_number e) (ap (λ (v : Verdict). v.plan.first.0) e) (ap (λ (v : Verdict). v.plan.count) e) (ap (λ (v : Verdict). v.plan.entries) e) (ap (λ (v : Verdict). v.plan.used) e)
 
 pub judge-remove-spec : {M : Type 1} → statement M
 judge-remove-spec =

@@ -5,11 +5,11 @@ use mathlib.Core.Path.{◌≡◌, refl, sym, ◌∙◌}
 use native.Mathlib.Omega.{arith}
 use borrow.Author.Rules.{rules}
 use lib.ListN.{take}
-use Rattle.tables.specs.Tables.{Tables, sizesOf, tables_of}
-use Rattle.listing_text.specs.Command.{commandOf}
+use Rattle.tables.specs.Tables.{Tables, sizes_of, tables_of}
+use Rattle.listing_text.specs.Command.{command_of}
 use Rattle.listing_text.specs.declared.command.Command.TheVariants.{Open, Add, Drop, Show, Unknown}
 use Rattle.listing_show.proofs.Showing.{no-fits}
-use Rattle.listing_memory.specs.Memory.{Memory, memoryOf}
+use Rattle.listing_memory.specs.Memory.{Memory, memory_of}
 use Rattle.listing_answers.proofs.Lines.{rows_fit, rows-listed}
 use Rattle.listing_answers.proofs.Answering.{by-command, unknown, shows, can-show, adds, opens}
 use Rattle.listing_answers.proofs.answer.Statement.{statement}
@@ -71,23 +71,23 @@ tables s =
     tables_of a.heads.now a.parents.now a.rows.now a.counts.now a.next.now a.book-heads.now a.book-rows.now a.book-next.now a.windows.now
 
 abbrev memory : tie.Start → Memory
-memory s = memoryOf s.args.factor (tables s) s.args.work.now s.args.touched.now s.args.labels.now
+memory s = memory_of s.args.factor (tables s) s.args.work.now s.args.touched.now s.args.labels.now
 
 -- the command of the line
 
-is_open : (c : tie.After-asked) → commandOf (entry (parsed-open c)).args.line.now ≡ Open c.asked.given.0.0 c.asked.given.0.1.0 c.asked.given.0.1.1.0 c.asked.given.0.1.1.1.0
+is_open : (c : tie.After-asked) → command_of (entry (parsed-open c)).args.line.now ≡ Open c.asked.given.0.0 c.asked.given.0.1.0 c.asked.given.0.1.1.0 c.asked.given.0.1.1.1.0
 is_open c = sym (parsed-open c).parse.ensures.command ∙ c.asked.given.1
 
-is-add : (c : tie.After-asked2) → commandOf (entry (parsed-add c)).args.line.now ≡ Add c.asked2.given.0.0 c.asked2.given.0.1.0
+is-add : (c : tie.After-asked2) → command_of (entry (parsed-add c)).args.line.now ≡ Add c.asked2.given.0.0 c.asked2.given.0.1.0
 is-add c = sym (parsed-add c).parse.ensures.command ∙ c.asked2.given.1
 
-is-drop : (c : tie.After-asked3) → commandOf (entry (parsed-drop c)).args.line.now ≡ Drop c.asked3.given.0.0
+is-drop : (c : tie.After-asked3) → command_of (entry (parsed-drop c)).args.line.now ≡ Drop c.asked3.given.0.0
 is-drop c = sym (parsed-drop c).parse.ensures.command ∙ c.asked3.given.1
 
-is-show : (c : tie.After-enum-told) → commandOf (entry (parsed-show c)).args.line.now ≡ Show
+is-show : (c : tie.After-enum-told) → command_of (entry (parsed-show c)).args.line.now ≡ Show
 is-show c = sym (parsed-show c).parse.ensures.command ∙ c.enum_told.given.1
 
-is-unknown : (c : tie.After-enum-told2) → commandOf (entry (parsed-other c)).args.line.now ≡ Unknown
+is-unknown : (c : tie.After-enum-told2) → command_of (entry (parsed-other c)).args.line.now ≡ Unknown
 is-unknown c = sym (parsed-other c).parse.ensures.command ∙ c.enum-told2.given.1
 
 parse-requires : tie.Need-parse-requires
@@ -146,7 +146,7 @@ returns c =
     let l = o.open-line.last in
     let g = s.pre.1.1.lengths in
     let a =
-    opens (sizesOf v.0 v.1.0 v.1.1.0 v.1.1.1.0) (tables s) s.args.work.now s.args.factor s.args.touched.now s.args.labels.now s.args.out.now
+    opens (sizes_of v.0 v.1.0 v.1.1.0 v.1.1.1.0) (tables s) s.args.work.now s.args.factor s.args.touched.now s.args.labels.now s.args.out.now
     (tables_of l.1.0 l.1.1.0 l.1.1.1.0 l.1.1.1.1.0 l.1.1.1.1.1.0 l.1.1.1.1.1.1.0 l.1.1.1.1.1.1.1.0 l.1.1.1.1.1.1.1.1.0 l.1.1.1.1.1.1.1.1.1.0) l.1.1.1.1.1.1.1.1.1.1.0 l.1.1.1.1.1.1.1.1.1.1.1.0 s.pre.1.1 s.args.line.now o.open-line.result o.open-line.ensures (is_open q) in (
       a,
       record {

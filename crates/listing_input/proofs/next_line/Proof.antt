@@ -4,7 +4,7 @@ use mathlib.Core.Path.{sym, ap, ◌∙◌}
 use Prim.Native.Nat.{◌+◌}
 use native.Mathlib.Omega.{arith}
 use Rattle.lists.specs.Lists.{one}
-use Rattle.streams.specs.Passing.{readsLeft}
+use Rattle.streams.specs.Passing.{reads_left}
 use Rattle.listing_input.proofs.Taking.{Taking, piece-less, taking-start, count_long, taking-piece, taking-line, taking-end}
 use Rattle.listing_input.proofs.next_line.Statement.{statement}
 use Rattle.listing_input.proofs.next_line.Tie as tie
@@ -14,7 +14,7 @@ invariant-loop piece₀ line₀ out added passed₀ place₀ count₀ waiting₀
     Taking piece₀ out passed₀ place₀ count₀ waiting₀ piece line passed place count waiting filled more
 
 abbrev decreases-loop : tie.decreases-loop
-decreases-loop piece₀ line₀ out added passed₀ place₀ count₀ waiting₀ filled₀ more₀ piece line passed place count waiting filled more = readsLeft passed + one more
+decreases-loop piece₀ line₀ out added passed₀ place₀ count₀ waiting₀ filled₀ more₀ piece line passed place count waiting filled more = reads_left passed + one more
 
 abbrev entry : tie.At-loop invariant-loop decreases-loop → tie.Start invariant-loop decreases-loop
 entry c = c.before.before.before.before.before.before

@@ -6,13 +6,13 @@ use borrow.Author.Rules.{rules}
 use lib.ListN.{replicate, length-replicate}
 use Rattle.tables.specs.Tables.{tables_of}
 use Rattle.factor.specs.declared.Factor.{Factor}
-use Rattle.listing_memory.specs.Memory.{Lengths, memoryOf}
+use Rattle.listing_memory.specs.Memory.{Lengths, memory_of}
 use Rattle.listing_loop.proofs.Running.{listed}
 use Rattle.listing_loop.proofs.run.Statement.{statement}
 use Rattle.listing_loop.proofs.run.Tie as tie
 
 -- tables of zeros with the listing's lengths
-zero-lengths : (x : Factor) → Lengths (memoryOf x (tables_of (replicate 64 0) (replicate 64 0) (replicate 2048 0) (replicate 2048 0) (replicate 2048 0) (replicate 256 0) (replicate 2048 0) (replicate 2048 0) (replicate 512 0)) (replicate 12032 0) (replicate 64 0) (replicate 64 0))
+zero-lengths : (x : Factor) → Lengths (memory_of x (tables_of (replicate 64 0) (replicate 64 0) (replicate 2048 0) (replicate 2048 0) (replicate 2048 0) (replicate 256 0) (replicate 2048 0) (replicate 2048 0) (replicate 512 0)) (replicate 12032 0) (replicate 64 0) (replicate 64 0))
 zero-lengths x =
     record {
       heads = length-replicate {A = ℕ} 64 0;

@@ -6,7 +6,7 @@ use native.Mathlib.Omega.{arith}
 use borrow.Author.Rules.{rules}
 use Rattle.lists.specs.Lists.{one}
 use Rattle.tables.specs.Tables.{tables_of}
-use Rattle.listing_memory.specs.Memory.{Memory, memoryOf}
+use Rattle.listing_memory.specs.Memory.{Memory, memory_of}
 use Rattle.listing_input.specs.Input.{ahead}
 use Rattle.listing_loop.proofs.Running.{Keeping, Found, given-start, given-next, found-fits, found-long, found-waits, found-room, found-same, found-given, found_between, found-end}
 use Rattle.listing_loop.proofs.serve.Statement.{statement}
@@ -14,15 +14,15 @@ use Rattle.listing_loop.proofs.serve.Tie as tie
 
 abbrev invariant-loop : tie.invariant-loop
 invariant-loop heads₀ parents₀ rows₀ counts₀ next₀ book-heads₀ book-rows₀ book-next₀ windows₀ work₀ touched₀ labels₀ list₀ out₀ line₀ piece₀ current₀ input₀ heads parents rows counts next book-heads book-rows book-next windows work touched labels list out line piece current input =
-    Keeping (memoryOf current (tables_of heads parents rows counts next book-heads book-rows book-next windows) work touched labels) list₀ out₀ list out line piece ×
-    Found (memoryOf current₀ (tables_of heads₀ parents₀ rows₀ counts₀ next₀ book-heads₀ book-rows₀ book-next₀ windows₀) work₀ touched₀ labels₀) piece line out input (memoryOf current (tables_of heads parents rows counts next book-heads book-rows book-next windows) work touched labels)
+    Keeping (memory_of current (tables_of heads parents rows counts next book-heads book-rows book-next windows) work touched labels) list₀ out₀ list out line piece ×
+    Found (memory_of current₀ (tables_of heads₀ parents₀ rows₀ counts₀ next₀ book-heads₀ book-rows₀ book-next₀ windows₀) work₀ touched₀ labels₀) piece line out input (memory_of current (tables_of heads parents rows counts next book-heads book-rows book-next windows) work touched labels)
 
 abbrev decreases-loop : tie.decreases-loop
 decreases-loop heads₀ parents₀ rows₀ counts₀ next₀ book-heads₀ book-rows₀ book-next₀ windows₀ work₀ touched₀ labels₀ list₀ out₀ line₀ piece₀ current₀ input₀ heads parents rows counts next book-heads book-rows book-next windows work touched labels list out line piece current input = ahead input.streams input.place input.count + one input.found
 
-abbrev memoryAt : tie.Start invariant-loop decreases-loop → Memory
-memoryAt s =
-    memoryOf s.args.factor (tables_of s.args.heads.now s.args.parents.now s.args.rows.now s.args.counts.now s.args.next.now s.args.book-heads.now s.args.book-rows.now s.args.book-next.now s.args.windows.now)
+abbrev memory_at : tie.Start invariant-loop decreases-loop → Memory
+memory_at s =
+    memory_of s.args.factor (tables_of s.args.heads.now s.args.parents.now s.args.rows.now s.args.counts.now s.args.next.now s.args.book-heads.now s.args.book-rows.now s.args.book-next.now s.args.windows.now)
     s.args.work.now s.args.touched.now s.args.labels.now
 
 abbrev begun : tie.After-next-line invariant-loop decreases-loop → tie.Start invariant-loop decreases-loop
@@ -53,7 +53,7 @@ loop-holds c =
         line-long = n.next-line.auto.1.0 ∙ s.pre.1.1.1.0;
         piece-long = n.next-line.auto.0 ∙ s.pre.1.1.1.1.0;
       },
-      given-next (given-start s.pre.1.1.1.1.1 s.args.piece.now s.args.out.now (memoryAt s)) n.next-line.ensures,
+      given-next (given-start s.pre.1.1.1.1.1 s.args.piece.now s.args.out.now (memory_at s)) n.next-line.ensures,
     )
 
 sub-answer : tie.Need-overflow-sub-answer invariant-loop decreases-loop

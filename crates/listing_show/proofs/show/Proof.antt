@@ -4,17 +4,17 @@ use mathlib.Core.List.{List}
 use Prim.Native.Nat.{ℕ, ◌+◌, ◌-◌, ◌≤◌, ◌<◌}
 use native.Mathlib.Omega.{arith}
 use lib.ListN.{length}
-use Rattle.tables.specs.Tables.{Tables, registerOf, tables_of}
+use Rattle.tables.specs.Tables.{Tables, register_of, tables_of}
 use Rattle.factor.specs.Entries.{state_of}
 use Rattle.listing_text.specs.Text.{Written}
-use Rattle.listing_show.specs.Showing.{shownTo}
+use Rattle.listing_show.specs.Showing.{shown_to}
 use Rattle.listing_show.proofs.Showing.{no-fits, Lines, lines_start, lines_keep, shown-closed, usable-shown, shows-none, shows-some}
 use Rattle.listing_show.proofs.show.Statement.{statement}
 use Rattle.listing_show.proofs.show.Tie as tie
 
 abbrev invariant-loop : tie.invariant-loop
 invariant-loop factor heads parents rows counts next book-heads book-rows book-next windows list₀ out₀ m end₀ j₀ list out end j =
-    Lines (registerOf (state_of factor) (tables_of heads parents rows counts next book-heads book-rows book-next windows)) out₀ out end j × (j ≤ m) × (length list ≡ length list₀)
+    Lines (register_of (state_of factor) (tables_of heads parents rows counts next book-heads book-rows book-next windows)) out₀ out end j × (j ≤ m) × (length list ≡ length list₀)
 
 abbrev decreases-loop : tie.decreases-loop
 decreases-loop factor heads parents rows counts next book-heads book-rows book-next windows list₀ out₀ m end₀ j₀ list out end j = m - j
@@ -109,7 +109,7 @@ returns-2 c =
     let i = c.before.loop.invariant in
     let q : c.before.loop.j ≡ s.args.factor.m = omega arith in
     subst (λ (bs : List ℕ). Written s.args.out.now 0 bs c.before.loop.out c.before.loop.end)
-    (ap (λ (j : ℕ). shownTo (registerOf (state_of s.args.factor) (tables s)) j) q ∙ usable-shown (shows-some s.pre e.if1.false)) i.0.done
+    (ap (λ (j : ℕ). shown_to (register_of (state_of s.args.factor) (tables s)) j) q ∙ usable-shown (shows-some s.pre e.if1.false)) i.0.done
 
 pub show-spec : {M : Type 1} → statement M
 show-spec =

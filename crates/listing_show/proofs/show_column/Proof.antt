@@ -6,11 +6,11 @@ use native.Mathlib.Omega.{arith}
 use borrow.Author.Rules.{rules}
 use lib.ListN.{length, take}
 use Rattle.symbolic.specs.Columns.{Register}
-use Rattle.symbolic.specs.Factor.{factorFor, columnAt, parent_of, size_of}
-use Rattle.tables.specs.Tables.{registerOf, tables_of}
-use Rattle.calls.specs.Questions.{columnList}
+use Rattle.symbolic.specs.Factor.{factor_for, column_at, parent_of, size_of}
+use Rattle.tables.specs.Tables.{register_of, tables_of}
+use Rattle.calls.specs.Questions.{column_list}
 use Rattle.factor.specs.Entries.{state_of}
-use Rattle.listing_text.specs.Text.{showHead, showPairs, Written}
+use Rattle.listing_text.specs.Text.{show_head, show_pairs, Written}
 use Rattle.listing_show.proofs.Asking.{entries-places, entries-most, parent-answered, column-answered, column-listed}
 use Rattle.listing_show.proofs.Showing.{head-fits, head-within, line-whole}
 use Rattle.listing_show.proofs.show_column.Statement.{statement}
@@ -34,10 +34,10 @@ paired c = c.before.before.before.before
 abbrev register : tie.Start → Register
 register s =
     let a = s.args in
-    registerOf (state_of a.factor) (tables_of a.heads.now a.parents.now a.rows.now a.counts.now a.next.now a.book-heads.now a.book-rows.now a.book-next.now a.windows.now)
+    register_of (state_of a.factor) (tables_of a.heads.now a.parents.now a.rows.now a.counts.now a.next.now a.book-heads.now a.book-rows.now a.book-next.now a.windows.now)
 
 -- the parent that was asked for
-parent_is : (c : tie.After-parent-unchecked) → c.parent-unchecked.result.value ≡ parent_of (factorFor (register (start c))) (start c).args.j
+parent_is : (c : tie.After-parent-unchecked) → c.parent-unchecked.result.value ≡ parent_of (factor_for (register (start c))) (start c).args.j
 parent_is c =
     let s = start c in
     parent-answered (register s) s.args.j s.pre.low s.pre.high c.parent-unchecked.result c.parent-unchecked.ensures
@@ -46,18 +46,18 @@ parent-known : (c : tie.After-parent-unchecked) → c.parent-unchecked.result.va
 parent-known c = omega (arith, c.parent-unchecked.type-inv)
 
 record Column (c : tie.After-column-unchecked) : Type 0 where
-  pub value : c.column-unchecked.result.value ≡ size_of (columnAt (factorFor (register (start (parented c)))) (start (parented c)).args.j)
+  pub value : c.column-unchecked.result.value ≡ size_of (column_at (factor_for (register (start (parented c)))) (start (parented c)).args.j)
   pub few : c.column-unchecked.result.value ≤ 64
-  pub listed : take (2 * c.column-unchecked.result.value) c.column-unchecked.new.1.1.1.1.1.1.1.1.1.1.0 ≡ columnList (register (start (parented c))) (start (parented c)).args.j
+  pub listed : take (2 * c.column-unchecked.result.value) c.column-unchecked.new.1.1.1.1.1.1.1.1.1.1.0 ≡ column_list (register (start (parented c))) (start (parented c)).args.j
 
 column : (c : tie.After-column-unchecked) → Column c
 column c =
     let s = start (parented c) in
     let r = register s in
     let j = s.args.j in
-    let room : length (columnList r j) ≤ length s.args.list.now =
+    let room : length (column_list r j) ≤ length s.args.list.now =
     omega (arith, entries-places r j s.pre.low s.pre.high, entries-most r j s.pre.low s.pre.high, s.pre.few, s.pre.entries) in
-    let v : c.column-unchecked.result.value ≡ size_of (columnAt (factorFor r) j) =
+    let v : c.column-unchecked.result.value ≡ size_of (column_at (factor_for r) j) =
     column-answered r j s.pre.low s.pre.high c.column-unchecked.result s.args.list.now room c.column-unchecked.ensures.0 in
     record {
       value = v;
@@ -129,9 +129,9 @@ returns c =
     let s = start (parented x) in
     record {
       line =
-          line-whole s.args.j (parent_of (factorFor (register s)) s.args.j) (columnList (register s) s.args.j)
-          (subst (λ (n : ℕ). Written s.args.out.now s.args.at (showHead s.args.j n) h.show-head.last.0 h.show-head.result) (parent_is (parented x)) h.show-head.ensures)
-          (subst (λ (es : List ℕ). Written h.show-head.last.0 h.show-head.result (showPairs es) p.show-pairs.last.0 p.show-pairs.result) (column x).listed p.show-pairs.ensures.pairs)
+          line-whole s.args.j (parent_of (factor_for (register s)) s.args.j) (column_list (register s) s.args.j)
+          (subst (λ (n : ℕ). Written s.args.out.now s.args.at (show_head s.args.j n) h.show-head.last.0 h.show-head.result) (parent_is (parented x)) h.show-head.ensures)
+          (subst (λ (es : List ℕ). Written h.show-head.last.0 h.show-head.result (show_pairs es) p.show-pairs.last.0 p.show-pairs.result) (column x).listed p.show-pairs.ensures.pairs)
           e.line-end.ensures (omega (arith, pairs-most p)) h.show-head.kept.0;
       short = omega (arith, e.line-end.ensures.next-is, pairs-most p);
     }

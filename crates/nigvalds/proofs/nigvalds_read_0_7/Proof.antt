@@ -2,7 +2,7 @@
 -- Assumes nothing.
 use mathlib.Core.Path.{ap, ◌∙◌}
 use borrow.Author.Rules.{rules}
-use Rattle.crossing.specs.Crossing.{readFrom}
+use Rattle.crossing.specs.Crossing.{read_from}
 use Rattle.nigvalds.proofs.nigvalds_read_0_7.Statement.{statement}
 use Rattle.nigvalds.proofs.nigvalds_read_0_7.Tie as tie
 
@@ -13,7 +13,7 @@ read-from-requires : tie.Need-read-from-requires
 read-from-requires c κs = search rules
 
 returns : tie.Need-returns
-returns c = c.read-from.ensures ∙ ap readFrom c.before.entry_at.ensures
+returns c = c.read-from.ensures ∙ ap read_from c.before.entry_at.ensures
 
 pub nigvalds-read-0-7-spec : {M : Type 1} → statement M
 nigvalds-read-0-7-spec = tie.close (tie.spec entry-at-requires read-from-requires returns)

@@ -1,7 +1,7 @@
 -- `write` meets its contract: the tables of L, those of the book, and the windows and the work table cleared. Assumes nothing.
 use native.Mathlib.Omega.{arith}
 use borrow.Author.Rules.{rules}
-use Rattle.tables.specs.Tables.{sizesOf}
+use Rattle.tables.specs.Tables.{sizes_of}
 use Rattle.admission.proofs.Cutting.{in-range}
 use Rattle.opening.proofs.Writing.{hold-columns, hold-book, hold-windows, all-written}
 use Rattle.opening.proofs.write.Statement.{statement}
@@ -30,7 +30,7 @@ write-book-requires : tie.Need-write-book-requires
 write-book-requires c κs = hold-book (entry c.before.before.before.before.before.before.before.before.before.before.before.before.before).requires
 
 mul-clear : tie.Need-overflow-mul-clear
-mul-clear c = let s = entry (columns (listed c)) in omega (arith, (in-range (sizesOf s.args.m s.args.n s.args.f s.args.c) s.pre.sizes).n-high)
+mul-clear c = let s = entry (columns (listed c)) in omega (arith, (in-range (sizes_of s.args.m s.args.n s.args.f s.args.c) s.pre.sizes).n-high)
 
 clear-requires : tie.Need-clear-requires
 clear-requires c κs = hold-windows (entry (columns (listed c))).requires

@@ -6,13 +6,13 @@ use native.Mathlib.Omega.{arith}
 use lib.ListN.{length}
 use borrow.Author.Tests.{lt-ltb, le-ltb}
 use Rattle.lists.proofs.Over.{Filling, filling-start, filling-long, filling-next, filling-end}
-use Rattle.pool.specs.Opening.{openedNexts}
+use Rattle.pool.specs.Opening.{opened_nexts}
 use Rattle.pool.proofs.Opening.{opened-length, opened-used, opened-free, opened-last}
 use Rattle.pool.proofs.link_free.Statement.{statement}
 use Rattle.pool.proofs.link_free.Tie as tie
 
 abbrev invariant-loop : tie.invariant-loop
-invariant-loop next₀ used k a i₀ next i = Filling (openedNexts used (length next₀)) next₀ next i
+invariant-loop next₀ used k a i₀ next i = Filling (opened_nexts used (length next₀)) next₀ next i
 
 abbrev decreases-loop : tie.decreases-loop
 decreases-loop next₀ used k a i₀ next i = length next₀ - i

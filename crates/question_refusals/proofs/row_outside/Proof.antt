@@ -2,7 +2,7 @@
 use mathlib.Core.Path.{refl, sym, ap, ◌∙◌}
 use mathlib.Core.Bool.{not}
 use borrow.Author.Rules.{rules}
-use Rattle.lists.specs.Lists.{isIn}
+use Rattle.lists.specs.Lists.{is_in}
 use Rattle.early_refusals.proofs.Tests.{unless-accepted}
 use Rattle.question_refusals.proofs.row_outside.Statement.{statement}
 use Rattle.question_refusals.proofs.row_outside.Tie as tie
@@ -11,7 +11,7 @@ outside-requires : tie.Need-outside-requires
 outside-requires c κs = search rules
 
 returns : tie.Need-returns
-returns c = c.outside.ensures ∙ ap not (sym (unless-accepted (isIn 1 c.before.args.m c.before.args.row) 17 0 refl))
+returns c = c.outside.ensures ∙ ap not (sym (unless-accepted (is_in 1 c.before.args.m c.before.args.row) 17 0 refl))
 
 pub row-outside-spec : {M : Type 1} → statement M
 row-outside-spec = tie.close (tie.spec outside-requires returns)

@@ -9,8 +9,8 @@ use lib.ListN.{length, take, drop, length-drop}
 use borrow.Author.Rules.{part_to_end}
 use Rattle.lists.specs.Lists.{at, over}
 use Rattle.pool.specs.Chains.{chain}
-use Rattle.calls.specs.Refusals.{accepted, rowRefusal, room_for}
-use Rattle.calls.specs.Questions.{columnList}
+use Rattle.calls.specs.Refusals.{accepted, row_refusal, room_for}
+use Rattle.calls.specs.Questions.{column_list}
 use Rattle.questions.proofs.Replies.{row_out, row_in, room_out, room_in, part-written}
 use Rattle.questions.proofs.Reading.{read-size, read-entries, read-places, chain-short, can-copy}
 use Rattle.questions.proofs.Answers.{column-row, column-room, column-answer}
@@ -32,7 +32,7 @@ entry c = start (outside c).before
 
 -- column j is one of 1 to m, and its records were counted
 record Facts (c : tie.After-count) : Type 0 where
-  pub passed : rowRefusal (length (entry c).args.heads.now) (entry c).args.j.0 ≡ accepted
+  pub passed : row_refusal (length (entry c).args.heads.now) (entry c).args.j.0 ≡ accepted
   pub low : 1 ≤ (entry c).args.j.0
   pub high : (entry c).args.j.0 ≤ length (entry c).args.heads.now
   pub number : c.count.result ≡ length (chain (entry c).args.next.now (at (entry c).args.heads.now (entry c).args.j.0))
@@ -146,7 +146,7 @@ returns-3 c =
     column-answer a.heads.now a.rows.now a.counts.now a.next.now a.j.0 a.place a.list.now f.passed (2 * d.count.result)
     (λ r h. ap (λ (n : ℕ). 2 * n) f.number ∙ read-places h a.j.0 f.low f.high) d.count.result _ (room e).0
     (λ r h. f.number ∙ read-size h a.j.0 f.low f.high)
-    (λ r h. part-written a.list.now _ (columnList r a.j.0) a.place
+    (λ r h. part-written a.list.now _ (column_list r a.j.0) a.place
     (omega (arith, fits e, f.number, read-places h a.j.0 f.low f.high))
     (w.copy-column.ensures.1 ∙ ap (λ (l : List ℕ). over l (take (length a.list.now - a.place) (drop a.place a.list.now)))
     (read-entries h a.j.0 f.low f.high)))

@@ -8,7 +8,7 @@ use lib.ListN.{length}
 use Rattle.lists.specs.Lists.{at}
 use Rattle.pool.specs.Chains.{chain}
 use Rattle.columns.proofs.Search.{first-high}
-use Rattle.calls.specs.Refusals.{accepted, rowRefusal}
+use Rattle.calls.specs.Refusals.{accepted, row_refusal}
 use Rattle.questions.proofs.Replies.{row_out, row_in}
 use Rattle.questions.proofs.Finding.{ends-before, goes_on}
 use Rattle.questions.proofs.Answers.{next_row, next-column, next-answer}
@@ -30,8 +30,8 @@ entry c = start (first (inside c).before)
 
 -- row and column are of 1 to m, the record found is of the pool or 0
 record Facts (c : tie.After-first-at) : Type 0 where
-  pub row : rowRefusal (length (entry c).args.heads.now) (entry c).args.i.0 ≡ accepted
-  pub column : (rowRefusal (length (entry c).args.heads.now) (entry c).args.j.0 ≡ accepted) × (1 ≤ (entry c).args.j.0) × ((entry c).args.j.0 ≤ length (entry c).args.heads.now)
+  pub row : row_refusal (length (entry c).args.heads.now) (entry c).args.i.0 ≡ accepted
+  pub column : (row_refusal (length (entry c).args.heads.now) (entry c).args.j.0 ≡ accepted) × (1 ≤ (entry c).args.j.0) × ((entry c).args.j.0 ≤ length (entry c).args.heads.now)
   pub high : c.first-at.result.0 ≤ length (entry c).args.next.now
 
 facts : (c : tie.After-first-at) → Facts c

@@ -5,8 +5,8 @@ use native.Mathlib.Omega.{arith}
 use borrow.Author.Rules.{rules}
 use borrow.Author.Rules.{part_to_end}
 use lib.ListN.{length, length-drop}
-use Rattle.calls.specs.Refusals.{accepted, rowRefusal, room_for}
-use Rattle.calls.specs.Questions.{pathList}
+use Rattle.calls.specs.Refusals.{accepted, row_refusal, room_for}
+use Rattle.calls.specs.Questions.{path_list}
 use Rattle.questions.proofs.Replies.{row_out, row_in, room_out, room_in, part-written}
 use Rattle.questions.proofs.Following.{path-short}
 use Rattle.questions.proofs.Answers.{path-row, path_room, path-answer}
@@ -25,7 +25,7 @@ measured c = c.before.before
 
 -- row j is one of 1 to m, and its path was measured
 record Facts (c : tie.After-path-length) : Type 0 where
-  pub passed : rowRefusal (length (entry c).args.parents.now) (entry c).args.j.0 ≡ accepted
+  pub passed : row_refusal (length (entry c).args.parents.now) (entry c).args.j.0 ≡ accepted
   pub low : 1 ≤ (entry c).args.j.0
   pub high : (entry c).args.j.0 ≤ length (entry c).args.parents.now
   pub short : c.path-length.result ≤ 4096
@@ -116,7 +116,7 @@ returns-3 c =
     let d = measured e in
     let a = (entry d).args in
     path-answer a.parents.now a.j.0 a.place a.list.now (facts d).passed d.path-length.result d.path-length.ensures _ (room e).0
-    (λ r h. part-written a.list.now _ (pathList r a.j.0) a.place (omega (arith, fits e, d.path-length.ensures r h)) (w.copy-path.ensures r h))
+    (λ r h. part-written a.list.now _ (path_list r a.j.0) a.place (omega (arith, fits e, d.path-length.ensures r h)) (w.copy-path.ensures r h))
 
 pub path-spec : {M : Type 1} → statement M
 path-spec =

@@ -5,11 +5,11 @@ use Prim.Native.Nat.{ℕ, ◌*◌, ◌≤◌}
 use native.Mathlib.Omega.{arith}
 use borrow.Author.Rules.{rules}
 use lib.ListN.{length}
-use Rattle.book.specs.Book.{Book, bookOf}
+use Rattle.book.specs.Book.{Book, book_of}
 use Rattle.book.proofs.Sound.{free-linked}
-use Rattle.calls.specs.Refusals.{isAccepted, keepStep}
+use Rattle.calls.specs.Refusals.{is_accepted, keep_step}
 use Rattle.calls.proofs.Refusals.{InStep, step-facts}
-use Rattle.refusals.specs.Found.{bareIn}
+use Rattle.refusals.specs.Found.{bare_in}
 use Rattle.early_refusals.proofs.Tests.{is-in}
 use Rattle.refusals.proofs.Finding.{found-accepted, rows_few, add_step, add-positions, add-fits, add-full}
 use Rattle.refusals.proofs.find_add.Statement.{statement}
@@ -19,8 +19,8 @@ abbrev entry : tie.After-out-of-step → tie.Start
 entry c = c.before.before.before.before.before.before.before.before
 
 -- the book with given rows
-abbrev bookAt : tie.Start → List ℕ → Book
-bookAt s rows = bookOf s.args.book-heads.now rows s.args.book-next.now s.args.book-free.0
+abbrev book_at : tie.Start → List ℕ → Book
+book_at s rows = book_of s.args.book-heads.now rows s.args.book-next.now s.args.book-free.0
 
 -- the lists are in step
 in_step : (c : tie.Else1) →
@@ -28,7 +28,7 @@ in_step : (c : tie.Else1) →
 in_step c =
     let s : tie.Start = entry c.before in
     step-facts s.args.ids.now s.args.row_counts.now s.args.firsts.now s.args.seconds.now
-    (is-in (keepStep s.args.ids.now s.args.row_counts.now s.args.firsts.now s.args.seconds.now) c.before.out-of-step.ensures c.if1.false)
+    (is-in (keep_step s.args.ids.now s.args.row_counts.now s.args.firsts.now s.args.seconds.now) c.before.out-of-step.ensures c.if1.false)
 
 out-of-step-requires : tie.Need-out-of-step-requires
 out-of-step-requires c κs = search rules
@@ -41,7 +41,7 @@ returns c rows sound =
     let one : tie.Then1 = c.before in
     let s : tie.Start = entry one.before in
     c.refused.ensures ∙
-    add_step s.args.m (bookAt s rows) s.args.ids.now s.args.row_counts.now s.args.row_list.now s.args.firsts.now s.args.seconds.now
+    add_step s.args.m (book_at s rows) s.args.ids.now s.args.row_counts.now s.args.row_list.now s.args.firsts.now s.args.seconds.now
     one.before.out-of-step.ensures one.if1.true
 
 columns-refusal-requires : tie.Need-columns-refusal-requires
@@ -54,7 +54,7 @@ returns-2 c rows sound =
     let f : tie.After-columns-refusal = c.before.before in
     let one : tie.Else1 = f.before in
     let s : tie.Start = entry one.before in
-    add-positions s.args.m (bookAt s rows) s.args.ids.now s.args.row_counts.now s.args.row_list.now s.args.firsts.now s.args.seconds.now
+    add-positions s.args.m (book_at s rows) s.args.ids.now s.args.row_counts.now s.args.row_list.now s.args.firsts.now s.args.seconds.now
     one.before.out-of-step.ensures one.if1.false (f.columns-refusal.ensures rows s.args.book-next.now s.args.book-free.0) c.if2.true
 
 cast_fits : tie.Need-overflow-cast-fits
@@ -62,16 +62,16 @@ cast_fits c =
     let f : tie.After-columns-refusal = c.before.before in
     let one : tie.Else1 = f.before in
     let s : tie.Start = entry one.before in
-    let b : Book = bookAt s s.pre.rows in
+    let b : Book = book_at s s.pre.rows in
     let l : length s.args.row_list.now ≤ 256 * length s.args.ids.now =
-    rows_few (bareIn s.args.m b) (length s.args.book-heads.now) s.args.ids.now s.args.row_counts.now s.args.row_list.now s.args.firsts.now s.args.seconds.now
-    (ap isAccepted (sym (f.columns-refusal.ensures s.pre.rows s.args.book-next.now s.args.book-free.0)) ∙ found-accepted f.columns-refusal.result c.if2.false) in
+    rows_few (bare_in s.args.m b) (length s.args.book-heads.now) s.args.ids.now s.args.row_counts.now s.args.row_list.now s.args.firsts.now s.args.seconds.now
+    (ap is_accepted (sym (f.columns-refusal.ensures s.pre.rows s.args.book-next.now s.args.book-free.0)) ∙ found-accepted f.columns-refusal.result c.if2.false) in
     omega (arith, (in_step one).few)
 
 fits-requires : tie.Need-fits-requires
 fits-requires c κs =
     let s : tie.Start = entry c.before.before.before.before in
-    free-linked s.args.m (bookAt s s.pre.rows) s.pre.sound
+    free-linked s.args.m (book_at s s.pre.rows) s.pre.sound
 
 refused-requires-2 : tie.Need-refused-requires-2
 refused-requires-2 c κs = search rules
@@ -84,7 +84,7 @@ returns-3 c rows sound =
     let one : tie.Else1 = f.before in
     let s : tie.Start = entry one.before in
     c.refused2.ensures ∙
-    add-fits s.args.m (bookAt s rows) s.args.ids.now s.args.row_counts.now s.args.row_list.now s.args.firsts.now s.args.seconds.now
+    add-fits s.args.m (book_at s rows) s.args.ids.now s.args.row_counts.now s.args.row_list.now s.args.firsts.now s.args.seconds.now
     one.before.out-of-step.ensures one.if1.false (f.columns-refusal.ensures rows s.args.book-next.now s.args.book-free.0) two.if2.false
     sound three.before.fits2.ensures three.if3.true
 
@@ -99,7 +99,7 @@ returns-4 c rows sound =
     let one : tie.Else1 = f.before in
     let s : tie.Start = entry one.before in
     c.refused3.ensures ∙
-    add-full s.args.m (bookAt s rows) s.args.ids.now s.args.row_counts.now s.args.row_list.now s.args.firsts.now s.args.seconds.now
+    add-full s.args.m (book_at s rows) s.args.ids.now s.args.row_counts.now s.args.row_list.now s.args.firsts.now s.args.seconds.now
     one.before.out-of-step.ensures one.if1.false (f.columns-refusal.ensures rows s.args.book-next.now s.args.book-free.0) two.if2.false
     sound three.before.fits2.ensures three.if3.false
 

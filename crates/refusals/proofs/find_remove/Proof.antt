@@ -3,9 +3,9 @@ use mathlib.Core.Path.{◌∙◌}
 use Prim.Native.Nat.{ℕ}
 use borrow.Author.Rules.{rules}
 use lib.ListN.{length}
-use Rattle.lists.specs.Lists.{isIn}
+use Rattle.lists.specs.Lists.{is_in}
 use Rattle.lists.proofs.Tests.{in-range}
-use Rattle.book.specs.Book.{bookOf}
+use Rattle.book.specs.Book.{book_of}
 use Rattle.early_refusals.proofs.Tests.{is-in}
 use Rattle.refusals.proofs.Finding.{remove-shape, remove-positions}
 use Rattle.refusals.proofs.find_remove.Statement.{statement}
@@ -24,18 +24,18 @@ returns : tie.Need-returns
 returns c m rows next free =
     let one : tie.Then1 = c.before in
     let s : tie.Start = entry one.before in
-    c.refused.ensures ∙ remove-shape m (bookOf s.args.book-heads.now rows next free) s.args.ids.now one.before.shape-outside.ensures one.if1.true
+    c.refused.ensures ∙ remove-shape m (book_of s.args.book-heads.now rows next free) s.args.ids.now one.before.shape-outside.ensures one.if1.true
 
 ids-refusal-requires : tie.Need-ids-refusal-requires
 ids-refusal-requires c κs =
     let n : ℕ = length (entry c.before).args.ids.now in
-    (in-range 1 64 n (is-in (isIn 1 64 n) c.before.shape-outside.ensures c.if1.false)).1
+    (in-range 1 64 n (is-in (is_in 1 64 n) c.before.shape-outside.ensures c.if1.false)).1
 
 returns-2 : tie.Need-returns-2
 returns-2 c m rows next free =
     let one : tie.Else1 = c.before in
     let s : tie.Start = entry one.before in
-    remove-positions m (bookOf s.args.book-heads.now rows next free) s.args.ids.now one.before.shape-outside.ensures one.if1.false (c.ids-refusal.ensures m rows next free)
+    remove-positions m (book_of s.args.book-heads.now rows next free) s.args.ids.now one.before.shape-outside.ensures one.if1.false (c.ids-refusal.ensures m rows next free)
 
 pub find-remove-spec : {M : Type 1} → statement M
 find-remove-spec =

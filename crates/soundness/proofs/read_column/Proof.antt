@@ -6,8 +6,8 @@ use mathlib.Core.List.{List}
 use Prim.Native.Nat.{ℕ, ◌+◌, ◌*◌, ◌-◌}
 use native.Mathlib.Omega.{arith}
 use lib.ListN.{length, length-set}
-use Rattle.book.specs.Book.{Book, bookOf}
-use Rattle.tables.specs.Stored.{Stored, storedOf}
+use Rattle.book.specs.Book.{Book, book_of}
+use Rattle.tables.specs.Stored.{Stored, stored_of}
 use Rattle.soundness.specs.State.{State, SomeState}
 use Rattle.soundness.proofs.Ready.{ready-tally, ready-check}
 use Rattle.soundness.proofs.Column.{Found, column-cut, column-ended}
@@ -37,10 +37,10 @@ abbrev linking : tie.After-slice-known4 → tie.After-shared-slice-known10
 linking c = c.before.before.before.before.before
 
 abbrev stored : tie.Start → Stored
-stored e = storedOf e.args.heads.now e.args.parents.now e.args.rows.now e.args.counts.now e.args.next.now e.args.free.0
+stored e = stored_of e.args.heads.now e.args.parents.now e.args.rows.now e.args.counts.now e.args.next.now e.args.free.0
 
 abbrev booked : tie.Start → Book
-booked e = bookOf e.args.book-heads.now e.args.book-rows.now e.args.book-next.now e.args.book-free.0
+booked e = book_of e.args.book-heads.now e.args.book-rows.now e.args.book-next.now e.args.book-free.0
 
 -- what was known before column j
 abbrev known : (e : tie.Start) → SomeState (stored e) (booked e) e.args.work.now e.args.j.0 e.args.met

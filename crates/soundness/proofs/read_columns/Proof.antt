@@ -3,15 +3,15 @@
 use Prim.Native.Nat.{◌-◌}
 use native.Mathlib.Omega.{arith}
 use lib.ListN.{length}
-use Rattle.book.specs.Book.{bookOf}
-use Rattle.tables.specs.Stored.{storedOf}
+use Rattle.book.specs.Book.{book_of}
+use Rattle.tables.specs.Stored.{stored_of}
 use Rattle.soundness.proofs.Columns.{ColumnsReading, columns-start, columns-can, columns-cut, columns-next, columns-end}
 use borrow.Author.Rules.{rules}
 use Rattle.soundness.proofs.read_columns.Statement.{statement}
 use Rattle.soundness.proofs.read_columns.Tie as tie
 
 abbrev invariant-loop : tie.invariant-loop
-invariant-loop heads parents rows counts next book-heads book-rows book-next work₀ free book-free n₀ i₀ work n i = ColumnsReading (storedOf heads parents rows counts next free.0) (bookOf book-heads book-rows book-next book-free.0) work₀ work n i
+invariant-loop heads parents rows counts next book-heads book-rows book-next work₀ free book-free n₀ i₀ work n i = ColumnsReading (stored_of heads parents rows counts next free.0) (book_of book-heads book-rows book-next book-free.0) work₀ work n i
 
 abbrev decreases-loop : tie.decreases-loop
 decreases-loop heads parents rows counts next book-heads book-rows book-next work₀ free book-free n₀ i₀ work n i = length heads - i

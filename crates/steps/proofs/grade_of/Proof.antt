@@ -5,7 +5,7 @@ use Prim.Native.Nat.{ℕ, suc, ◌+◌, ◌≤◌}
 use native.Mathlib.Omega.{arith}
 use borrow.Author.Rules.{rules}
 use borrow.Author.Tests.{eq-eqb}
-use Rattle.symbolic.specs.Grades.{Limits, limitsOf, gradeOf}
+use Rattle.symbolic.specs.Grades.{Limits, limits_of, grade_of}
 use Rattle.steps.proofs.Grading.{count_most, grade-counted}
 use Rattle.steps.proofs.grade_of.Statement.{statement}
 use Rattle.steps.proofs.grade_of.Tie as tie
@@ -13,18 +13,18 @@ use Rattle.steps.proofs.grade_of.Tie as tie
 abbrev entry : tie.After-reaches3 → tie.Start
 entry c = c.before.before.before.before
 
-abbrev limitsAt : tie.After-reaches3 → Limits
-limitsAt c = let s = entry c in limitsOf s.args.grade2 s.args.grade3 s.args.grade4
+abbrev limits_at : tie.After-reaches3 → Limits
+limits_at c = let s = entry c in limits_of s.args.grade2 s.args.grade3 s.args.grade4
 
 -- each limit is reached once or not at all
 most : (c : tie.After-reaches3) → (c.before.before.reaches.result ≤ 1) × (c.before.reaches2.result ≤ 1) × (c.reaches3.result ≤ 1)
-most c = count_most (limitsAt c) (entry c).args.entries c.before.before.reaches.ensures c.before.reaches2.ensures c.reaches3.ensures
+most c = count_most (limits_at c) (entry c).args.entries c.before.before.reaches.ensures c.before.reaches2.ensures c.reaches3.ensures
 
 -- one more than the limits that are reached is the grade
 graded : (c : tie.After-reaches3) {k : ℕ} → c.before.before.reaches.result + c.before.reaches2.result + c.reaches3.result ≡ k →
-    suc k ≡ gradeOf (limitsAt c) (entry c).args.entries
+    suc k ≡ grade_of (limits_at c) (entry c).args.entries
 graded c e =
-    grade-counted (limitsAt c) (entry c).args.entries c.before.before.reaches.ensures c.before.reaches2.ensures c.reaches3.ensures
+    grade-counted (limits_at c) (entry c).args.entries c.before.before.reaches.ensures c.before.reaches2.ensures c.reaches3.ensures
     c.before.before.before.if1.false e
 
 returns : tie.Need-returns

@@ -4,13 +4,13 @@ use mathlib.Core.Path.{◌≡◌, sym, ◌∙◌}
 use Prim.Native.Nat.{◌+◌, ◌-◌, ◌*◌, ◌^◌, ◌≤◌, ◌<◌}
 use native.Mathlib.Omega.{arith}
 use lib.ListN.{length}
-use Rattle.windows.specs.Windows.{movesFrom}
+use Rattle.windows.specs.Windows.{moves_from}
 use Rattle.windows.proofs.Collecting.{Collecting, collecting-start, collecting-took, collecting-passed, collecting-full, collecting-end}
 use Rattle.windows.proofs.collect.Statement.{statement}
 use Rattle.windows.proofs.collect.Tie as tie
 
 abbrev invariant-loop : tie.invariant-loop
-invariant-loop book-heads windows minute other list₀ n k₀ i₀ list k i = Collecting book-heads (movesFrom windows (length book-heads) minute other) i₀ list₀ list k i
+invariant-loop book-heads windows minute other list₀ n k₀ i₀ list k i = Collecting book-heads (moves_from windows (length book-heads) minute other) i₀ list₀ list k i
 
 abbrev decreases-loop : tie.decreases-loop
 decreases-loop book-heads windows minute other list₀ n k₀ i₀ list k i = length book-heads + 1 - i

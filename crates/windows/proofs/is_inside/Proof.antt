@@ -6,12 +6,12 @@ use native.Mathlib.Omega.{arith}
 use lib.Dec.{ltb, eqb}
 use borrow.Author.Tests.{lt-leb, le-leb, eq-eqb, ne_eqb}
 use Rattle.lists.proofs.Tests.{and-false}
-use Rattle.symbolic.specs.Columns.{isInside}
+use Rattle.symbolic.specs.Columns.{is_inside}
 use Rattle.windows.proofs.is_inside.Statement.{statement}
 use Rattle.windows.proofs.is_inside.Tie as tie
 
 -- a window with a minute that is not 0, not before its first minute
-inside-from : (a b t : ℕ) → (a ≢ 0) ⊎ (b ≢ 0) → a ≤ t → ltb t b ≡ isInside a b t
+inside-from : (a b t : ℕ) → (a ≢ 0) ⊎ (b ≢ 0) → a ≤ t → ltb t b ≡ is_inside a b t
 inside-from a b t (inl n) h = rw (ne_eqb a 0 n, le-leb a t h) refl
 inside-from a b t (inr n) h = rw (ne_eqb b 0 n, and-false (eqb a 0), le-leb a t h) refl
 

@@ -6,11 +6,11 @@ use lib.ListN.{length}
 use Rattle.tables.specs.Tables.{tables_of}
 use Rattle.symbolic.specs.Grades.{Limits}
 use Rattle.symbolic.specs.Columns.{Register, live}
-use Rattle.symbolic.specs.Factor.{factorOf}
+use Rattle.symbolic.specs.Factor.{factor_of}
 use Rattle.calls.specs.Calls.{Change, adding}
-use Rattle.calls.specs.Changes.{effect, touchedBy}
-use Rattle.calls.specs.Steps.{World, bookedIn}
-use Rattle.steps.specs.Outcome.{cutWorld}
+use Rattle.calls.specs.Changes.{effect, touched_by}
+use Rattle.calls.specs.Steps.{World, booked_in}
+use Rattle.steps.specs.Outcome.{cut_world}
 use Rattle.writing.proofs.Exchanging.{report-can, write-can, batch-written}
 use Rattle.writing.proofs.Booking.{enter-can, enter-minutes, entered-after}
 use Rattle.writing.proofs.write_add.Statement.{statement}
@@ -35,25 +35,25 @@ minuted c = c.before.before
 
 -- ---- the world and the change
 
-abbrev worldAt : tie.Start → Limits → ℕ → World
-worldAt s lim o =
-    cutWorld (tables_of s.args.heads.now s.args.parents.now s.args.rows.now s.args.counts.now s.args.next.now s.args.book-heads.now s.args.book-rows.now s.args.book-next.now
+abbrev world_at : tie.Start → Limits → ℕ → World
+world_at s lim o =
+    cut_world (tables_of s.args.heads.now s.args.parents.now s.args.rows.now s.args.counts.now s.args.next.now s.args.book-heads.now s.args.book-rows.now s.args.book-next.now
     s.args.windows.now)
     lim o s.args.free.0 s.args.book-free.0
 
-abbrev changeAt : tie.Start → Change
-changeAt s = adding s.args.ids.now s.args.row_counts.now s.args.row_list.now s.args.firsts.now s.args.seconds.now
+abbrev change_at : tie.Start → Change
+change_at s = adding s.args.ids.now s.args.row_counts.now s.args.row_list.now s.args.firsts.now s.args.seconds.now
 
 report-requires : tie.Need-report-requires
 report-requires c κs =
     let s = entry c in
-    let r : Register = bookedIn (worldAt s s.pre.limits s.pre.clock) in
-    let k : Change = changeAt s in
+    let r : Register = booked_in (world_at s s.pre.limits s.pre.clock) in
+    let k : Change = change_at s in
     record {
-      L = factorOf (length s.args.heads.now) (live r);
-      L' = factorOf (length s.args.heads.now) (live (effect r k).register);
+      L = factor_of (length s.args.heads.now) (live r);
+      L' = factor_of (length s.args.heads.now) (live (effect r k).register);
       label = (effect r k).label;
-      columns = touchedBy r k;
+      columns = touched_by r k;
       used = s.args.plan.used;
       can = report-can s.pre.can;
     }
@@ -61,13 +61,13 @@ report-requires c κs =
 write-plan-requires : tie.Need-write-plan-requires
 write-plan-requires c κs =
     let s = entry (reported c).before in
-    let r : Register = bookedIn (worldAt s s.pre.limits s.pre.clock) in
-    let k : Change = changeAt s in
+    let r : Register = booked_in (world_at s s.pre.limits s.pre.clock) in
+    let k : Change = change_at s in
     record {
       cs = live r;
       ds = live (effect r k).register;
       label = (effect r k).label;
-      columns = touchedBy r k;
+      columns = touched_by r k;
       before = s.pre.before;
       count = s.args.plan.count;
       entries = s.args.plan.entries;
@@ -127,12 +127,12 @@ returns c lim o w can =
     let x = wrote y.before in
     let p = reported x.before in
     let s = entry p.before in
-    let r : Register = bookedIn (worldAt s lim o) in
-    let k : Change = changeAt s in
+    let r : Register = booked_in (world_at s lim o) in
+    let k : Change = change_at s in
     let m : ℕ = length s.args.heads.now in
     batch-written can refl x.write-plan.kept.1.1.1.1.0
-    (p.report.ensures (factorOf m (live r)) (factorOf m (live (effect r k).register)) (effect r k).label (touchedBy r k) s.args.plan.used (report-can can))
-    (x.write-plan.ensures (live r) (live (effect r k).register) (effect r k).label (touchedBy r k) w s.args.plan.count s.args.plan.entries (write-can can))
+    (p.report.ensures (factor_of m (live r)) (factor_of m (live (effect r k).register)) (effect r k).label (touched_by r k) s.args.plan.used (report-can can))
+    (x.write-plan.ensures (live r) (live (effect r k).register) (effect r k).label (touched_by r k) w s.args.plan.count s.args.plan.entries (write-can can))
     (entered-after can.can.find s.args.ids.now s.args.row_counts.now s.args.row_list.now s.args.firsts.now s.args.seconds.now can.accepted
     (y.enter-columns.ensures (length s.args.heads.now) (enter-can can.can.find s.args.ids.now s.args.row_counts.now s.args.row_list.now s.args.firsts.now s.args.seconds.now can.accepted))
     y.enter-columns.kept.0 z.enter.ensures)

@@ -3,7 +3,7 @@ use mathlib.Core.Path.{◌≡◌, ◌∙◌}
 use Prim.Native.Nat.{ℕ}
 use native.Mathlib.Omega.{arith}
 use borrow.Author.Rules.{rules}
-use Rattle.questions.specs.Asked.{replyOf}
+use Rattle.questions.specs.Asked.{reply_of}
 use Rattle.tables.specs.Tables.{Tables, State, tables_of}
 use Rattle.factor.specs.Entries.{state_of}
 use Rattle.continuing.proofs.Checked.{checked-use}
@@ -24,11 +24,11 @@ lent c = c.before.before
 abbrev ran : tie.After-slice-known5 → tie.After-meets-each
 ran c = c.before.before.before.before
 
-abbrev stateAt : tie.Start → State
-stateAt s = state_of s.args.factor
+abbrev state_at : tie.Start → State
+state_at s = state_of s.args.factor
 
-abbrev tablesAt : tie.Start → Tables
-tablesAt s = tables_of s.args.heads.now s.args.parents.now s.args.rows.now s.args.counts.now s.args.next.now s.args.book-heads.now s.args.book-rows.now s.args.book-next.now s.args.windows.now
+abbrev tables_at : tie.Start → Tables
+tables_at s = tables_of s.args.heads.now s.args.parents.now s.args.rows.now s.args.counts.now s.args.next.now s.args.book-heads.now s.args.book-rows.now s.args.book-next.now s.args.windows.now
 
 seven-some : ◌≡◌ {A = ℕ} 7 0 → ⊥
 seven-some e = omega arith
@@ -53,7 +53,7 @@ meets-each-requires c κs =
     let d : tie.Else1 = (lent c).before in
     let k : tie.After-check = checked d in
     let s : tie.Start = entry k in
-    (checked-use (stateAt s) (tablesAt s) s.args.work.now (replyOf k.check.result) k.check.last.1.1.1.1.1.1.1.1.1.1.0 k.check.ensures d.if1.left, (lent c).if2.false)
+    (checked-use (state_at s) (tables_at s) s.args.work.now (reply_of k.check.result) k.check.last.1.1.1.1.1.1.1.1.1.1.0 k.check.ensures d.if1.left, (lent c).if2.false)
 
 same-length-3 : tie.Need-same-length-3
 same-length-3 c = (ran c).meets-each.auto.1.1.1.1.1.1.1.1.1.1.0 ∙ (checked (lent (ran c).before).before).check.auto.1.1.1.1.1.1.1.1.1.1.0

@@ -3,7 +3,7 @@ use mathlib.Core.Path.{◌≡◌, refl, ◌∙◌}
 use Prim.Native.Nat.{ℕ}
 use native.Mathlib.Omega.{arith}
 use borrow.Author.Rules.{rules}
-use Rattle.questions.specs.Asked.{replyOf}
+use Rattle.questions.specs.Asked.{reply_of}
 use Rattle.tables.specs.Tables.{Tables, State, tables_of}
 use Rattle.factor.specs.Entries.{state_of}
 use Rattle.continuing.proofs.Checked.{lists-fit, checked-can}
@@ -27,11 +27,11 @@ ran c = c.before.before.before.before.before.before.before.before.before.before.
 abbrev lent : tie.After-clock-each-arg7 → tie.Else3
 lent c = c.before.before.before.before.before.before.before
 
-abbrev stateAt : tie.Start → State
-stateAt s = state_of s.args.factor
+abbrev state_at : tie.Start → State
+state_at s = state_of s.args.factor
 
-abbrev tablesAt : tie.Start → Tables
-tablesAt s = tables_of s.args.heads.now s.args.parents.now s.args.rows.now s.args.counts.now s.args.next.now s.args.book-heads.now s.args.book-rows.now s.args.book-next.now s.args.windows.now
+abbrev tables_at : tie.Start → Tables
+tables_at s = tables_of s.args.heads.now s.args.parents.now s.args.rows.now s.args.counts.now s.args.next.now s.args.book-heads.now s.args.book-rows.now s.args.book-next.now s.args.windows.now
 
 five-some : ◌≡◌ {A = ℕ} 5 0 → ⊥
 five-some e = omega arith
@@ -120,7 +120,7 @@ clock-each-requires c κs =
     let k : tie.After-check = checked d in
     let s : tie.Start = entry k in
     let x = lists-fit s.args.factor.m s.args.touched.now s.args.labels.now h.short-lists.ensures e.if2.left in
-    (checked-can (stateAt s) (tablesAt s) s.args.work.now (replyOf k.check.result) k.check.last.1.1.1.1.1.1.1.1.1.1.0 k.check.ensures d.if1.left s.args.touched.now s.args.labels.now x.0 x.1, omega (arith, g.if3.left))
+    (checked-can (state_at s) (tables_at s) s.args.work.now (reply_of k.check.result) k.check.last.1.1.1.1.1.1.1.1.1.1.0 k.check.ensures d.if1.left s.args.touched.now s.args.labels.now x.0 x.1, omega (arith, g.if3.left))
 
 same-length-20 : tie.Need-same-length-20
 same-length-20 c = (ran c).clock-each.auto.1.1.0

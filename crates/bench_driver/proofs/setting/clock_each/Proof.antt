@@ -5,8 +5,8 @@ use native.Mathlib.Omega.{arith}
 use lib.ListN.{length, get_or}
 use Rattle.tables.specs.Tables.{Tables, tables_of}
 use Rattle.calls.specs.Calls.{setting}
-use Rattle.factor.specs.Entries.{state_of, worldOf}
-use Rattle.answers.specs.Answers.{changedAnswer}
+use Rattle.factor.specs.Entries.{state_of, world_of}
+use Rattle.answers.specs.Answers.{changed_answer}
 use Rattle.continuing.proofs.Continuing.{change-can}
 use Rattle.bench_driver.proofs.Running.{Running}
 use Rattle.bench_driver.proofs.setting.clock_each.Statement.{statement}
@@ -42,8 +42,8 @@ turned c =
     let i = (at c).loop.invariant.0 in
     let t : Tables = tables_of s.args.heads.now u.set-clock-unchecked.last.1.1.0 u.set-clock-unchecked.last.1.1.1.0 u.set-clock-unchecked.last.1.1.1.1.0 u.set-clock-unchecked.last.1.1.1.1.1.0 s.args.book-heads.now s.args.book-rows.now s.args.book-next.now s.args.windows.now in
     record {
-      can = change-can i.can u.set-clock-unchecked.last.1.1.1.1.1.1.1.1.1.1.0 u.set-clock-unchecked.last.1.1.1.1.1.1.1.1.1.1.1.0 u.set-clock-unchecked.last.1.1.1.1.1.1.1.1.1.1.1.1.0 (worldOf u.set-clock-unchecked.result.factor t)
-          u.set-clock-unchecked.kept.1.1.1.1.1.1.1.1.1.1.1.0 u.set-clock-unchecked.kept.1.1.1.1.1.1.1.1.1.1.1.1.0 (setting (get_or s.args.minutes.now (at c).loop.done 0)) (changedAnswer u.set-clock-unchecked.result) u.set-clock-unchecked.ensures;
+      can = change-can i.can u.set-clock-unchecked.last.1.1.1.1.1.1.1.1.1.1.0 u.set-clock-unchecked.last.1.1.1.1.1.1.1.1.1.1.1.0 u.set-clock-unchecked.last.1.1.1.1.1.1.1.1.1.1.1.1.0 (world_of u.set-clock-unchecked.result.factor t)
+          u.set-clock-unchecked.kept.1.1.1.1.1.1.1.1.1.1.1.0 u.set-clock-unchecked.kept.1.1.1.1.1.1.1.1.1.1.1.1.0 (setting (get_or s.args.minutes.now (at c).loop.done 0)) (changed_answer u.set-clock-unchecked.result) u.set-clock-unchecked.ensures;
       same-parents = u.set-clock-unchecked.kept.1.1.0 ∙ i.same-parents;
       same_rows = u.set-clock-unchecked.kept.1.1.1.0 ∙ i.same_rows;
       same-counts = u.set-clock-unchecked.kept.1.1.1.1.0 ∙ i.same-counts;

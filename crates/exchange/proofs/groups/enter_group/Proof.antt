@@ -6,7 +6,7 @@ use Prim.Native.Nat.{ℕ}
 use lib.ListN.{length, take, drop, replicate}
 use lib.Seq.{length-take-le, take_at}
 use Rattle.book.specs.Book.{tables_of}
-use Rattle.updown.specs.Entries.{bookedStarts}
+use Rattle.updown.specs.Entries.{booked_starts}
 use Rattle.updown.proofs.Filled.{filled_within, whole-enter}
 use Rattle.exchange.proofs.Grouped.{enter-few, enter-gather, enter-write, group-entered, group-halted}
 use Rattle.exchange.proofs.groups.enter_group.Statement.{statement}
@@ -62,7 +62,7 @@ slice-aggregate-plan-enter c = sym (length-take-le _ _ (array-share-prefix-start
 abbrev lent : tie.After-booked-starts → List ℕ
 lent c = let n = length (first c).args.ids.now in take n (c.booked-starts.new.1.1.1.0 ++ drop n (replicate {A = ℕ} 64 0))
 
-lent_is : (c : tie.After-booked-starts) → lent c ≡ bookedStarts (tables_of (first c).args.book-heads.now (first c).args.book-rows.now (first c).args.book-next.now) (first c).args.ids.now
+lent_is : (c : tie.After-booked-starts) → lent c ≡ booked_starts (tables_of (first c).args.book-heads.now (first c).args.book-rows.now (first c).args.book-next.now) (first c).args.ids.now
 lent_is c = take_at _ _ _ (filled-long c) ∙ c.booked-starts.ensures (first c).args.book-next.now (first c).requires.can.book-sized
 
 plan-enter-requires : tie.Need-plan-enter-requires

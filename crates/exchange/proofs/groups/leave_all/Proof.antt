@@ -6,10 +6,10 @@ use native.Mathlib.Omega.{arith}
 use lib.ListN.{length}
 use Rattle.symbolic.specs.Columns.{Column}
 use Rattle.book.specs.Book.{tables_of}
-use Rattle.tables.specs.Stored.{storedOf}
-use Rattle.windows.specs.Windows.{movesFrom}
-use Rattle.windows.specs.Chosen.{idsOn}
-use Rattle.exchange.specs.Stages.{movingIds, CanLeaveAll}
+use Rattle.tables.specs.Stored.{stored_of}
+use Rattle.windows.specs.Windows.{moves_from}
+use Rattle.windows.specs.Chosen.{ids_on}
+use Rattle.exchange.specs.Stages.{moving_ids, CanLeaveAll}
 use Rattle.exchange.proofs.Stages.{moved-parents, moved-rows, moved-counts}
 use Rattle.exchange.proofs.Scanning.{gone, Scanned, scanned-start, none-gone, can-go-on, part_length, scanned-next, collected-is, collected-ends, scanned-less, scanned-end}
 use Rattle.exchange.proofs.Leaving.{Leaving, leaving-start, leaving-some, leaving-turn, leaving-end}
@@ -18,15 +18,15 @@ use Rattle.exchange.proofs.groups.leave_all.Tie as tie
 
 abbrev invariant-loop : tie.invariant-loop
 invariant-loop heads parents₀ rows₀ counts₀ next₀ book-heads book-rows book-next windows work₀ minute other i₀ z₀ parents rows counts next work i z =
-    Scanned book-heads (movesFrom windows (length book-heads) minute other) i.0 ×
+    Scanned book-heads (moves_from windows (length book-heads) minute other) i.0 ×
     ((R A : List Column) →
-    CanLeaveAll (storedOf heads parents₀ rows₀ counts₀ next₀ z₀.0) (tables_of book-heads book-rows book-next) (movingIds book-heads windows minute other) work₀ R A →
-    Leaving R A (storedOf heads parents₀ rows₀ counts₀ next₀ z₀.0) (storedOf heads parents rows counts next z.0) work₀ work
-    (gone book-heads (movesFrom windows (length book-heads) minute other) i.0))
+    CanLeaveAll (stored_of heads parents₀ rows₀ counts₀ next₀ z₀.0) (tables_of book-heads book-rows book-next) (moving_ids book-heads windows minute other) work₀ R A →
+    Leaving R A (stored_of heads parents₀ rows₀ counts₀ next₀ z₀.0) (stored_of heads parents rows counts next z.0) work₀ work
+    (gone book-heads (moves_from windows (length book-heads) minute other) i.0))
 
 abbrev decreases-loop : tie.decreases-loop
 decreases-loop heads parents₀ rows₀ counts₀ next₀ book-heads book-rows book-next windows work₀ minute other i₀ z₀ parents rows counts next work i z =
-    length (idsOn book-heads (movesFrom windows (length book-heads) minute other) i.0)
+    length (ids_on book-heads (moves_from windows (length book-heads) minute other) i.0)
 
 -- ---- the places, named
 

@@ -5,7 +5,7 @@ use Prim.Native.Nat.{ℕ, ◌-◌, ◌≤◌}
 use native.Mathlib.Omega.{arith}
 use lib.ListN.{length}
 use Rattle.symbolic.specs.Columns.{Column}
-use Rattle.tables.specs.Stored.{storedOf}
+use Rattle.tables.specs.Stored.{stored_of}
 use Rattle.exchange.specs.Exchange.{CanReport}
 use Rattle.exchange.proofs.Reports.{Reports, Turn, reporting-count, reporting-touched, reporting-labels, report-head, reports-start, reports-turn, reports-small, reports-hit, reports-miss, reports-end}
 use Rattle.exchange.proofs.reporting.report.Statement.{statement}
@@ -13,7 +13,7 @@ use Rattle.exchange.proofs.reporting.report.Tie as tie
 
 abbrev invariant-loop : tie.invariant-loop
 invariant-loop heads next work touched₀ labels₀ m f a j₀ t₀ entries₀ touched labels j t entries =
-    (ps xs ns : List ℕ) (z : ℕ) (R A B : List Column) (c : CanReport (storedOf heads ps xs ns next z) R A B work touched₀ labels₀) →
+    (ps xs ns : List ℕ) (z : ℕ) (R A B : List Column) (c : CanReport (stored_of heads ps xs ns next z) R A B work touched₀ labels₀) →
     Reports c touched labels j t entries
 
 abbrev decreases-loop : tie.decreases-loop

@@ -9,11 +9,11 @@ use Rattle.factor.proofs.Factor.check.Tie as tie
 abbrev entry : tie.After-admit → tie.Start
 entry c = c.before.before.before.before.before.before.before.before.before.before.before.before
 
-abbrev stateAt : tie.Start → State
-stateAt s = state_of s.args.self
+abbrev state_at : tie.Start → State
+state_at s = state_of s.args.self
 
-abbrev tablesAt : tie.Start → Tables
-tablesAt s = tables_of s.args.heads.now s.args.parents.now s.args.rows.now s.args.counts.now s.args.next.now s.args.book-heads.now s.args.book-rows.now s.args.book-next.now s.args.windows.now
+abbrev tables_at : tie.Start → Tables
+tables_at s = tables_of s.args.heads.now s.args.parents.now s.args.rows.now s.args.counts.now s.args.next.now s.args.book-heads.now s.args.book-rows.now s.args.book-next.now s.args.windows.now
 
 admit-requires : tie.Need-admit-requires
 admit-requires c κs = search rules
@@ -25,7 +25,7 @@ returns : tie.Need-returns
 returns c =
     let d : tie.After-admit = c.before.before in
     let s : tie.Start = entry d in
-    check-step (stateAt s) (tablesAt s) s.args.work.now d.admit.ensures
+    check-step (state_at s) (tables_at s) s.args.work.now d.admit.ensures
 
 pub check-spec : {M : Type 1} → statement M
 check-spec =

@@ -1,7 +1,7 @@
 -- `next_row_unchecked` meets its contract: within their sizes usable tables can be asked, and are those of the register that the book holds. Assumes nothing.
 use mathlib.Core.Path.{sym}
 use borrow.Author.Rules.{rules}
-use Rattle.tables.specs.Tables.{Tables, State, registerOf, tables_of}
+use Rattle.tables.specs.Tables.{Tables, State, register_of, tables_of}
 use Rattle.factor.specs.Entries.{state_of}
 use Rattle.admission.proofs.Cutting.{Cut, cut}
 use Rattle.factor.proofs.Using.{usable-ask, usable-columns}
@@ -11,14 +11,14 @@ use Rattle.factor.proofs.Factor.next_row_unchecked.Tie as tie
 abbrev entry : tie.After-next-row-arg → tie.Start
 entry c = c.before.before.before.before.before.before.before.before.before.before.before.before
 
-abbrev stateAt : tie.Start → State
-stateAt s = state_of s.args.self
+abbrev state_at : tie.Start → State
+state_at s = state_of s.args.self
 
-abbrev tablesAt : tie.Start → Tables
-tablesAt s = tables_of s.args.heads.now s.args.parents.now s.args.rows.now s.args.counts.now s.args.next.now s.args.book-heads.now s.args.book-rows.now s.args.book-next.now s.args.windows.now
+abbrev tables_at : tie.Start → Tables
+tables_at s = tables_of s.args.heads.now s.args.parents.now s.args.rows.now s.args.counts.now s.args.next.now s.args.book-heads.now s.args.book-rows.now s.args.book-next.now s.args.windows.now
 
-lengths : (c : tie.After-next-row-arg) → Cut (stateAt (entry c)) (tablesAt (entry c))
-lengths c = let s : tie.Start = entry c in cut (stateAt s) (tablesAt s) s.pre.long
+lengths : (c : tie.After-next-row-arg) → Cut (state_at (entry c)) (tables_at (entry c))
+lengths c = let s : tie.Start = entry c in cut (state_at s) (tables_at s) s.pre.long
 
 cast-m : tie.Need-overflow-cast-m
 cast-m c = search rules
@@ -44,7 +44,7 @@ next-row-requires c κs = usable-ask (entry c.before.before.before).requires
 returns : tie.Need-returns
 returns c =
     let s : tie.Start = entry c.before.before.before.before in
-    c.next_row.ensures (registerOf (stateAt s) (tablesAt s)) (usable-columns s.pre)
+    c.next_row.ensures (register_of (state_at s) (tables_at s)) (usable-columns s.pre)
 
 pub next-row-unchecked-spec : {M : Type 1} → statement M
 next-row-unchecked-spec =

@@ -1,7 +1,7 @@
 -- `Factor::open` meets its contract: refused by 1 to 5 or 20 with everything as lent, or all tables are written. Assumes nothing.
 use mathlib.Core.Path.{refl}
 use borrow.Author.Rules.{rules}
-use Rattle.symbolic.specs.Grades.{Limits, limitsOf}
+use Rattle.symbolic.specs.Grades.{Limits, limits_of}
 use Rattle.tables.specs.Tables.{Tables, tables_of}
 use Rattle.factor.proofs.Openings.{open-refused, open-writes, open_done}
 use Rattle.factor.proofs.Factor.open.Statement.{statement}
@@ -20,11 +20,11 @@ sized c = (limited (ruled c)).before
 abbrev entry : tie.After-default-records → tie.Start
 entry c = c.before.before.before.before.before.before.before.before.before.before.before
 
-abbrev tablesAt : tie.Start → Tables
-tablesAt s = tables_of s.args.heads.now s.args.parents.now s.args.rows.now s.args.counts.now s.args.next.now s.args.book-heads.now s.args.book-rows.now s.args.book-next.now s.args.windows.now
+abbrev tables_at : tie.Start → Tables
+tables_at s = tables_of s.args.heads.now s.args.parents.now s.args.rows.now s.args.counts.now s.args.next.now s.args.book-heads.now s.args.book-rows.now s.args.book-next.now s.args.windows.now
 
-abbrev limitsAt : tie.Start → Limits
-limitsAt s = limitsOf s.args.grade2 s.args.grade3 s.args.grade4
+abbrev limits_at : tie.Start → Limits
+limits_at s = limits_of s.args.grade2 s.args.grade3 s.args.grade4
 
 default-records-requires : tie.Need-default-records-requires
 default-records-requires c κs = search rules
@@ -72,7 +72,7 @@ returns : tie.Need-returns
 returns c =
     let e : tie.After-early = c.before in
     let s : tie.Start = entry (sized e) in
-    open-refused s.args.m s.args.n s.args.f s.args.c (limitsAt s) (tablesAt s) s.args.work.now (sized e).default-records.ensures
+    open-refused s.args.m s.args.n s.args.f s.args.c (limits_at s) (tables_at s) s.args.work.now (sized e).default-records.ensures
     (limited (ruled e)).default-limits.ensures (ruled e).are-limits.ensures e.early.ensures c.if1.true
 
 write-requires : tie.Need-write-requires
@@ -80,7 +80,7 @@ write-requires c κs =
     let x : tie.Else1 = c.before.before.before.before.before.before.before.before.before.before in
     let e : tie.After-early = x.before in
     let s : tie.Start = entry (sized e) in
-    open-writes s.args.m s.args.n s.args.f s.args.c (limitsAt s) (tablesAt s) s.args.work.now (sized e).default-records.ensures
+    open-writes s.args.m s.args.n s.args.f s.args.c (limits_at s) (tables_at s) s.args.work.now (sized e).default-records.ensures
     (limited (ruled e)).default-limits.ensures (ruled e).are-limits.ensures e.early.ensures x.if1.false
 
 abbrev written : tie.After-slice-known20 → tie.After-write
@@ -122,7 +122,7 @@ returns-2 c =
     let x : tie.Else1 = d.before.before.before.before.before.before.before.before.before.before.before in
     let e : tie.After-early = x.before in
     let s : tie.Start = entry (sized e) in
-    open_done s.args.m s.args.n s.args.f s.args.c (limitsAt s) (tablesAt s) s.args.work.now (sized e).default-records.ensures
+    open_done s.args.m s.args.n s.args.f s.args.c (limits_at s) (tables_at s) s.args.work.now (sized e).default-records.ensures
     (limited (ruled e)).default-limits.ensures (ruled e).are-limits.ensures e.early.ensures x.if1.left d.write.ensures
 
 pub open_spec : {M : Type 1} → statement M

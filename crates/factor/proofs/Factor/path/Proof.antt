@@ -2,7 +2,7 @@
 use mathlib.Core.Path.{refl}
 use borrow.Author.Rules.{rules}
 use Rattle.tables.specs.Tables.{Tables, State, tables_of}
-use Rattle.calls.specs.Calls.{askPath, workAndList}
+use Rattle.calls.specs.Calls.{ask_path, work_and_list}
 use Rattle.factor.specs.Entries.{state_of}
 use Rattle.admission.proofs.Admitting.{admitted-usable}
 use Rattle.factor.proofs.Asking.{admits-ask, refused-early, list-step}
@@ -16,11 +16,11 @@ entry c = c.before.before.before.before.before.before.before.before.before.befor
 abbrev passed : tie.Else1 → tie.After-admit
 passed c = c.before.before.before
 
-abbrev stateAt : tie.Start → State
-stateAt s = state_of s.args.self
+abbrev state_at : tie.Start → State
+state_at s = state_of s.args.self
 
-abbrev tablesAt : tie.Start → Tables
-tablesAt s = tables_of s.args.heads.now s.args.parents.now s.args.rows.now s.args.counts.now s.args.next.now s.args.book-heads.now s.args.book-rows.now s.args.book-next.now s.args.windows.now
+abbrev tables_at : tie.Start → Tables
+tables_at s = tables_of s.args.heads.now s.args.parents.now s.args.rows.now s.args.counts.now s.args.next.now s.args.book-heads.now s.args.book-rows.now s.args.book-next.now s.args.windows.now
 
 admit-requires : tie.Need-admit-requires
 admit-requires c κs = search rules
@@ -32,7 +32,7 @@ returns : tie.Need-returns
 returns c =
     let d : tie.After-admit = c.before.before.before in
     let s : tie.Start = entry d in
-    refused-early (admits-ask (stateAt s) (tablesAt s) (askPath s.args.j.0) s.args.place (workAndList s.args.work.now s.args.list.now)) d.admit.ensures c.if1.true refl
+    refused-early (admits-ask (state_at s) (tables_at s) (ask_path s.args.j.0) s.args.place (work_and_list s.args.work.now s.args.list.now)) d.admit.ensures c.if1.true refl
 
 path-unchecked-requires : tie.Need-path-unchecked-requires
 path-unchecked-requires c κs = admitted-usable (passed c.before).admit.ensures c.before.if1.false
@@ -48,7 +48,7 @@ returns-2 c =
     let u : tie.After-path-unchecked = c.before.before in
     let e : tie.Else1 = u.before.before in
     let s : tie.Start = entry (passed e) in
-    list-step (stateAt s) (tablesAt s) s.args.work.now (passed e).admit.ensures e.if1.false (askPath s.args.j.0) s.args.place s.args.list.now u.path-unchecked.ensures.0 u.path-unchecked.ensures.1
+    list-step (state_at s) (tables_at s) s.args.work.now (passed e).admit.ensures e.if1.false (ask_path s.args.j.0) s.args.place s.args.list.now u.path-unchecked.ensures.0 u.path-unchecked.ensures.1
 
 pub path-spec : {M : Type 1} → statement M
 path-spec =

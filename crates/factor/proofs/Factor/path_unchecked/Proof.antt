@@ -1,7 +1,7 @@
 -- `path_unchecked` meets its contract: within their sizes usable tables can be followed, and are those of the register that the book holds. Assumes nothing.
 use mathlib.Core.Path.{sym}
 use borrow.Author.Rules.{rules}
-use Rattle.tables.specs.Tables.{Tables, State, registerOf, tables_of}
+use Rattle.tables.specs.Tables.{Tables, State, register_of, tables_of}
 use Rattle.factor.specs.Entries.{state_of}
 use Rattle.admission.proofs.Cutting.{Cut, cut}
 use Rattle.factor.proofs.Using.{usable-follow, usable-parents}
@@ -11,14 +11,14 @@ use Rattle.factor.proofs.Factor.path_unchecked.Tie as tie
 abbrev entry : tie.After-path-arg → tie.Start
 entry c = c.before.before.before.before.before.before.before.before.before.before.before.before
 
-abbrev stateAt : tie.Start → State
-stateAt s = state_of s.args.self
+abbrev state_at : tie.Start → State
+state_at s = state_of s.args.self
 
-abbrev tablesAt : tie.Start → Tables
-tablesAt s = tables_of s.args.heads.now s.args.parents.now s.args.rows.now s.args.counts.now s.args.next.now s.args.book-heads.now s.args.book-rows.now s.args.book-next.now s.args.windows.now
+abbrev tables_at : tie.Start → Tables
+tables_at s = tables_of s.args.heads.now s.args.parents.now s.args.rows.now s.args.counts.now s.args.next.now s.args.book-heads.now s.args.book-rows.now s.args.book-next.now s.args.windows.now
 
-lengths : (c : tie.After-path-arg) → Cut (stateAt (entry c)) (tablesAt (entry c))
-lengths c = let s : tie.Start = entry c in cut (stateAt s) (tablesAt s) s.pre.long
+lengths : (c : tie.After-path-arg) → Cut (state_at (entry c)) (tables_at (entry c))
+lengths c = let s : tie.Start = entry c in cut (state_at s) (tables_at s) s.pre.long
 
 cast-m : tie.Need-overflow-cast-m
 cast-m c = search rules
@@ -37,7 +37,7 @@ returns c =
     let d : tie.After-path = c.before.before in
     let s : tie.Start = entry d.before.before in
     let u = usable-parents s.pre in
-    (d.path.ensures.0 (registerOf (stateAt s) (tablesAt s)) u, d.path.ensures.1 (registerOf (stateAt s) (tablesAt s)) u)
+    (d.path.ensures.0 (register_of (state_at s) (tables_at s)) u, d.path.ensures.1 (register_of (state_at s) (tables_at s)) u)
 
 pub path-unchecked-spec : {M : Type 1} → statement M
 path-unchecked-spec =

@@ -3,7 +3,7 @@ use mathlib.Core.Path.{subst}
 use mathlib.Core.List.{List}
 use Prim.Native.Nat.{ℕ, ◌^◌, ◌<◌}
 use native.Mathlib.Omega.{arith}
-use Rattle.answers.specs.Answers.{changedAnswer}
+use Rattle.answers.specs.Answers.{changed_answer}
 use Rattle.listing_text.specs.Text.{Written}
 use Rattle.listing_text.proofs.Printing.{ok-room, no_room}
 use Rattle.listing_answers.proofs.Changes.{ok-answer, no_answer}
@@ -37,7 +37,7 @@ returns c =
     let o = c.before.before in
     let t = o.before.before in
     let s = t.before.before.before in
-    subst (λ (bs : List ℕ). Written s.args.out.now 0 bs o.ok-line.new.0 o.ok-line.result) (ok-answer (changedAnswer s.args.x) t.if1.true) o.ok-line.ensures
+    subst (λ (bs : List ℕ). Written s.args.out.now 0 bs o.ok-line.new.0 o.ok-line.result) (ok-answer (changed_answer s.args.x) t.if1.true) o.ok-line.ensures
 
 no-line-requires : tie.Need-no-line-requires
 no-line-requires c κs =
@@ -54,7 +54,7 @@ returns-2 c =
     let o = c.before.before in
     let t = o.before.before in
     let s = t.before.before.before in
-    subst (λ (bs : List ℕ). Written s.args.out.now 0 bs o.no_line.new.0 o.no_line.result) (no_answer (changedAnswer s.args.x) t.if1.false) o.no_line.ensures
+    subst (λ (bs : List ℕ). Written s.args.out.now 0 bs o.no_line.new.0 o.no_line.result) (no_answer (changed_answer s.args.x) t.if1.false) o.no_line.ensures
 
 pub changed-line-spec : {M : Type 1} → statement M
 changed-line-spec =

@@ -6,7 +6,7 @@ use Rattle.tables.specs.Tables.{Tables, tables_of}
 use Rattle.factor.specs.Entries.{state_of}
 use Rattle.answers.specs.Answers.{CanChange}
 use Rattle.listing_text.proofs.Printing.{no_room}
-use Rattle.listing_memory.specs.Memory.{Memory, memoryOf}
+use Rattle.listing_memory.specs.Memory.{Memory, memory_of}
 use Rattle.calls.specs.Calls.{removing}
 use Rattle.listing_answers.proofs.Changes.{ready-none, ready-some, closed-changes, open-changes}
 use Rattle.listing_answers.proofs.changing.drop_line.Statement.{statement}
@@ -30,7 +30,7 @@ tables s =
     tables_of a.heads.now a.parents.now a.rows.now a.counts.now a.next.now a.book-heads.now a.book-rows.now a.book-next.now a.windows.now
 
 abbrev memory : tie.Start → Memory
-memory s = memoryOf s.args.factor (tables s) s.args.work.now s.args.touched.now s.args.labels.now
+memory s = memory_of s.args.factor (tables s) s.args.work.now s.args.touched.now s.args.labels.now
 
 can : (c : tie.Else1) → CanChange (state_of (entry c).args.factor) (tables (entry c)) (entry c).args.work.now (entry c).args.touched.now (entry c).args.labels.now
 can c = ready-some (memory (entry c)) (entry c).requires.1 c.if1.false

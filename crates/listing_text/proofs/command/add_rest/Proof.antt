@@ -1,7 +1,7 @@
 -- `add_rest` meets its contract: two numbers or more, an id and rows. Assumes nothing.
 use native.Mathlib.Omega.{arith}
 use lib.ListN.{drop}
-use Rattle.listing_text.specs.Command.{numbersOf}
+use Rattle.listing_text.specs.Command.{numbers_of}
 use Rattle.listing_text.proofs.Reading.{First, first_below, first-number}
 use Rattle.listing_text.proofs.Commands.{add-few, add-rows, add-more}
 use borrow.Author.Rules.{rules}
@@ -21,7 +21,7 @@ numbers-count-requires c κs = search rules
 returns : tie.Need-returns
 returns c =
     let s = c.before.before.before.before in
-    add-few (numbersOf (drop s.args.at s.args.line.now)) s.args.rows.now c.before.numbers-count.result c.before.numbers-count.ensures (omega arith)
+    add-few (numbers_of (drop s.args.at s.args.line.now)) s.args.rows.now c.before.numbers-count.result c.before.numbers-count.ensures (omega arith)
 
 add_start : tie.Need-overflow-add-start
 add_start c = search rules

@@ -3,7 +3,7 @@ use mathlib.Core.Path.{ap, ◌∙◌}
 use native.Mathlib.Omega.{arith}
 use lib.ListN.{drop}
 use Rattle.listing_text.specs.declared.command.Command.TheVariants.{Drop}
-use Rattle.listing_text.specs.Command.{numbersOf}
+use Rattle.listing_text.specs.Command.{numbers_of}
 use Rattle.listing_text.proofs.Reading.{First, first_below, first-number}
 use Rattle.listing_text.proofs.Commands.{drop-other, drop-one}
 use borrow.Author.Rules.{rules}
@@ -23,7 +23,7 @@ numbers-count-requires : tie.Need-numbers-count-requires
 numbers-count-requires c κs = search rules
 
 returns : tie.Need-returns
-returns c = drop-other (numbersOf (drop (entry c).args.at (entry c).args.line.now)) c.before.numbers-count.result c.before.numbers-count.ensures c.if1.true
+returns c = drop-other (numbers_of (drop (entry c).args.at (entry c).args.line.now)) c.before.numbers-count.result c.before.numbers-count.ensures c.if1.true
 
 add_start : tie.Need-overflow-add-start
 add_start c = search rules

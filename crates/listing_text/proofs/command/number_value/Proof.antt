@@ -5,13 +5,13 @@ use mathlib.Core.Bool.{true}
 use Prim.Native.Nat.{◌-◌, ◌≤◌}
 use native.Mathlib.Omega.{arith}
 use lib.ListN.{length, drop}
-use Rattle.listing_text.specs.Command.{valueAfter, value_of}
+use Rattle.listing_text.specs.Command.{value_after, value_of}
 use Rattle.listing_text.proofs.Numbers.{is_rest, Digit, rest-digit, number-is-rest, value-end}
 use Rattle.listing_text.proofs.command.number_value.Statement.{statement}
 use Rattle.listing_text.proofs.command.number_value.Tie as tie
 
 abbrev invariant-loop : tie.invariant-loop
-invariant-loop word value₀ i₀ value i = (i ≤ length word) × (is_rest value (drop i word) ≡ true) × (valueAfter value (drop i word) ≡ value_of word)
+invariant-loop word value₀ i₀ value i = (i ≤ length word) × (is_rest value (drop i word) ≡ true) × (value_after value (drop i word) ≡ value_of word)
 
 abbrev decreases-loop : tie.decreases-loop
 decreases-loop word value₀ i₀ value i = length word - i

@@ -1,7 +1,7 @@
 -- `open_rest` meets its contract: four numbers, the sizes. Assumes nothing.
 use native.Mathlib.Omega.{arith}
 use lib.ListN.{drop}
-use Rattle.listing_text.specs.Command.{numbersOf}
+use Rattle.listing_text.specs.Command.{numbers_of}
 use Rattle.listing_text.proofs.Commands.{open-other, open-four, open-room}
 use borrow.Author.Rules.{rules}
 use Rattle.listing_text.proofs.command.open_rest.Statement.{statement}
@@ -13,7 +13,7 @@ numbers-count-requires c κs = search rules
 returns : tie.Need-returns
 returns c =
     let s = c.before.before.before in
-    open-other (numbersOf (drop s.args.at s.args.line.now)) c.before.numbers-count.result c.before.numbers-count.ensures c.if1.true
+    open-other (numbers_of (drop s.args.at s.args.line.now)) c.before.numbers-count.result c.before.numbers-count.ensures c.if1.true
 
 slice-aggregate-numbers-write : tie.Need-slice-aggregate-numbers-write
 slice-aggregate-numbers-write c = search rules
@@ -39,7 +39,7 @@ returns-2 : tie.Need-returns-2
 returns-2 c =
     let n = c.before.before.before.before in
     let s = n.before.before in
-    open-four (numbersOf (drop s.args.at s.args.line.now)) _ c.before.numbers-write.new.1.0 (omega arith) c.before.numbers-write.ensures
+    open-four (numbers_of (drop s.args.at s.args.line.now)) _ c.before.numbers-write.new.1.0 (omega arith) c.before.numbers-write.ensures
 
 pub open-rest-spec : {M : Type 1} → statement M
 open-rest-spec =

@@ -8,7 +8,7 @@ use native.Mathlib.Omega.{arith}
 use lib.ListN.{length, take}
 use lib.Seq.{length-take-le}
 use Rattle.lists.specs.Lists.{same}
-use Rattle.listing_text.specs.Command.{openWord, addWord, dropWord}
+use Rattle.listing_text.specs.Command.{open_word, add_word, drop_word}
 use Rattle.listing_text.proofs.Words.{Front, word-front}
 use Rattle.listing_text.proofs.Commands.{parsed-long, parsed-open, parsed-add, parsed-drop, parsed-show, parsed-more, parsed-other}
 use borrow.Author.Rules.{rules}
@@ -45,13 +45,13 @@ part : (c : tie.After-word-end) → c.word-end.result ≡ length (take c.word-en
 part c = sym (length-take-le c.word-end.result (entry c).args.line.now (front c).ends.within)
 
 -- the names that the first word is not
-no-open : (c : tie.After-word-is2) → same (word (at_open (at-add c))) openWord ≡ false
+no-open : (c : tie.After-word-is2) → same (word (at_open (at-add c))) open_word ≡ false
 no-open c = sym (at-add c).word-is.ensures ∙ c.before.before.before.if2.false
 
-no_add : (c : tie.After-word-is3) → same (word (at_open (at-add (at_drop c)))) addWord ≡ false
+no_add : (c : tie.After-word-is3) → same (word (at_open (at-add (at_drop c)))) add_word ≡ false
 no_add c = sym (at_drop c).word-is2.ensures ∙ c.before.before.before.if3.false
 
-no_drop : (c : tie.After-word-is4) → same (word (at_open (at-add (at_drop (at-show c))))) dropWord ≡ false
+no_drop : (c : tie.After-word-is4) → same (word (at_open (at-add (at_drop (at-show c))))) drop_word ≡ false
 no_drop c = sym (at-show c).word-is3.ensures ∙ c.before.before.before.if4.false
 
 returns : tie.Need-returns

@@ -1,6 +1,6 @@
 -- `no_line` meets its contract: its parts one after another. Assumes nothing.
 use native.Mathlib.Omega.{arith}
-use Rattle.listing_text.specs.Text.{noLine}
+use Rattle.listing_text.specs.Text.{no_line}
 use Rattle.listing_text.proofs.Printing.{written-join, no_length}
 use borrow.Author.Rules.{rules}
 use Rattle.listing_text.proofs.text.no_line.Statement.{statement}
@@ -30,7 +30,7 @@ same_length : tie.Need-same-length
 same_length c = search rules
 
 returns : tie.Need-returns
-unfolding noLine
+unfolding no_line
 returns c =
     let l4 = c.before.before in
     let l3 = l4.before.before.before.before in

@@ -1,6 +1,6 @@
 -- `ok_line` meets its contract: its parts one after another. Assumes nothing.
 use native.Mathlib.Omega.{arith}
-use Rattle.listing_text.specs.Text.{okLine}
+use Rattle.listing_text.specs.Text.{ok_line}
 use Rattle.listing_text.proofs.Printing.{written-join, ok-length}
 use borrow.Author.Rules.{rules}
 use Rattle.listing_text.proofs.text.ok_line.Statement.{statement}
@@ -35,7 +35,7 @@ same_length : tie.Need-same-length
 same_length c = search rules
 
 returns : tie.Need-returns
-unfolding okLine
+unfolding ok_line
 returns c =
     let l5 = c.before.before in
     let l4 = l5.before.before.before.before in

@@ -1,6 +1,6 @@
 -- `show_head` meets its contract: its parts one after another. Assumes nothing.
 use native.Mathlib.Omega.{arith}
-use Rattle.listing_text.specs.Text.{showHead}
+use Rattle.listing_text.specs.Text.{show_head}
 use Rattle.listing_text.proofs.Printing.{written-join, head-length}
 use borrow.Author.Rules.{rules}
 use Rattle.listing_text.proofs.text.show_head.Statement.{statement}
@@ -20,7 +20,7 @@ same_length : tie.Need-same-length
 same_length c = search rules
 
 returns : tie.Need-returns
-unfolding showHead
+unfolding show_head
 returns c =
     let s = c.before.before.before.before.before.before.before.before.before in
     written-join (omega (arith, head-length s.args.column s.args.parent)) c.before.before.before.before.before.before.number.ensures c.before.before.marked.ensures

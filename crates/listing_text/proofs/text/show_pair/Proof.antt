@@ -1,6 +1,6 @@
 -- `show_pair` meets its contract: its parts one after another. Assumes nothing.
 use native.Mathlib.Omega.{arith}
-use Rattle.listing_text.specs.Text.{showPair}
+use Rattle.listing_text.specs.Text.{show_pair}
 use Rattle.listing_text.proofs.Printing.{written-join, pair-length}
 use borrow.Author.Rules.{rules}
 use Rattle.listing_text.proofs.text.show_pair.Statement.{statement}
@@ -20,7 +20,7 @@ same_length : tie.Need-same-length
 same_length c = search rules
 
 returns : tie.Need-returns
-unfolding showPair
+unfolding show_pair
 returns c =
     let s = c.before.before.before.before.before.before.before.before.before in
     written-join (omega (arith, pair-length s.args.row s.args.multiplicity)) c.before.before.before.before.before.before.marked.ensures c.before.before.marked2.ensures

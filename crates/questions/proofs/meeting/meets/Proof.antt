@@ -9,8 +9,8 @@ use borrow.Author.Rules.{part_to_end}
 use lib.ListN.{length, take, drop, length-drop}
 use Rattle.lists.specs.Lists.{over}
 use Rattle.symbolic.specs.Columns.{Register}
-use Rattle.calls.specs.Refusals.{accepted, rowRefusal, room_for}
-use Rattle.calls.specs.Questions.{meetsList}
+use Rattle.calls.specs.Refusals.{accepted, row_refusal, room_for}
+use Rattle.calls.specs.Questions.{meets_list}
 use Rattle.questions.specs.Meeting.{TreeFor}
 use Rattle.questions.proofs.Replies.{row_out, row_in, room_out, room_in, part-written}
 use Rattle.questions.proofs.Marking.{climb-tree, marked-meets, meets-few, marks-cleared}
@@ -32,17 +32,17 @@ abbrev measured : tie.After-room-outside → tie.After-mark
 measured c = c.before.before.before
 
 -- row i is one of 1 to m
-inside : (c : tie.After-mark) → (rowRefusal (length (entry c).args.heads.now) (entry c).args.i.0 ≡ accepted) × (1 ≤ (entry c).args.i.0) × ((entry c).args.i.0 ≤ length (entry c).args.heads.now)
+inside : (c : tie.After-mark) → (row_refusal (length (entry c).args.heads.now) (entry c).args.i.0 ≡ accepted) × (1 ≤ (entry c).args.i.0) × ((entry c).args.i.0 ≤ length (entry c).args.heads.now)
 inside c = row_in (length (entry c).args.heads.now) (entry c).args.i.0 (passed c).before.row-outside.ensures (passed c).if1.false
 
 -- the number of columns, by every register
 number : (c : tie.After-mark) → (r : Register) → TreeFor (entry c).args.heads.now (entry c).args.parents.now (entry c).args.rows.now (entry c).args.counts.now (entry c).args.next.now r →
-    c.mark.result ≡ length (meetsList r (entry c).args.i.0)
+    c.mark.result ≡ length (meets_list r (entry c).args.i.0)
 number c r t = c.mark.ensures.0 ∙ ap length (marked-meets (entry c).args.i.0 t (inside c).1 (inside c).2 (c.mark.ensures.1.0 r t))
 
 -- the same with the lengths, and so many columns were marked
 record Facts (c : tie.After-mark) : Type 0 where
-  pub passes : rowRefusal (length (entry c).args.heads.now) (entry c).args.i.0 ≡ accepted
+  pub passes : row_refusal (length (entry c).args.heads.now) (entry c).args.i.0 ≡ accepted
   pub low : 1 ≤ (entry c).args.i.0
   pub high : (entry c).args.i.0 ≤ length (entry c).args.heads.now
   pub narrow : length (entry c).args.heads.now ≤ 4096
@@ -166,7 +166,7 @@ returns-3 c =
     let f = facts d in
     let a = s.args in
     let t = meets-answer a.heads.now a.parents.now a.rows.now a.counts.now a.next.now a.i.0 a.place a.list.now f.passes d.mark.result (number d) _ (room e).0
-    (λ r h. part-written a.list.now _ (meetsList r a.i.0) a.place (omega (arith, (room e).1, number d r h))
+    (λ r h. part-written a.list.now _ (meets_list r a.i.0) a.place (omega (arith, (room e).1, number d r h))
     ((copied c).copy-marked.ensures ∙ ap (λ (l : List ℕ). over l (take (length a.list.now - a.place) (drop a.place a.list.now))) (marked-meets a.i.0 h f.low f.high (d.mark.ensures.1.0 r h)))) in
     (t.0, (t.1, c.before.before.clear2.ensures ∙ marks-cleared a.i.0 (length a.heads.now) f.high f.room s.pre.zero d.mark.ensures.1.1))
 

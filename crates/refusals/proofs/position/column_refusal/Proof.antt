@@ -3,7 +3,7 @@ use mathlib.Core.Bool.{Bool}
 use native.Mathlib.Omega.{arith}
 use borrow.Author.Rules.{rules}
 use lib.ListN.{length, get_or, drop}
-use Rattle.book.specs.Book.{isBooked}
+use Rattle.book.specs.Book.{is_booked}
 use Rattle.refusals.proofs.Parts.{id_range, column-id, column-live, column-count, column-window, column-late}
 use Rattle.refusals.proofs.position.column_refusal.Statement.{statement}
 use Rattle.refusals.proofs.position.column_refusal.Tie as tie
@@ -11,8 +11,8 @@ use Rattle.refusals.proofs.position.column_refusal.Tie as tie
 abbrev entry : tie.After-id-refusal → tie.Start
 entry c = c.before.before.before.before.before.before.before
 
-abbrev idBooked : tie.Start → Bool
-idBooked s = isBooked s.args.book-heads.now (get_or s.args.ids.now s.args.k 0)
+abbrev id_booked : tie.Start → Bool
+id_booked s = is_booked s.args.book-heads.now (get_or s.args.ids.now s.args.k 0)
 
 id-refusal-requires : tie.Need-id-refusal-requires
 id-refusal-requires c κs = search rules
@@ -21,7 +21,7 @@ returns : tie.Need-returns
 returns c =
     let i : tie.After-id-refusal = c.before in
     let s : tie.Start = entry i in
-    column-id (length s.args.book-heads.now) (idBooked s) s.args.ids.now s.args.k i.id-refusal.ensures s.args.m s.args.row_counts.now
+    column-id (length s.args.book-heads.now) (id_booked s) s.args.ids.now s.args.k i.id-refusal.ensures s.args.m s.args.row_counts.now
     (drop s.args.from s.args.row_list.now) s.args.firsts.now s.args.seconds.now (λ e. omega (arith, c.if1.true, e))
 
 mul-id : tie.Need-overflow-mul-id
@@ -40,7 +40,7 @@ returns-2 : tie.Need-returns-2
 returns-2 c =
     let i : tie.After-id-refusal = c.before.before.before.before in
     let s : tie.Start = entry i in
-    column-live (length s.args.book-heads.now) (idBooked s) s.args.ids.now s.args.k i.id-refusal.ensures s.args.m s.args.row_counts.now
+    column-live (length s.args.book-heads.now) (id_booked s) s.args.ids.now s.args.k i.id-refusal.ensures s.args.m s.args.row_counts.now
     (drop s.args.from s.args.row_list.now) s.args.firsts.now s.args.seconds.now c.before.before.before.if1.false c.before.is-booked.ensures c.if2.true
 
 mul-count : tie.Need-overflow-mul-count
@@ -57,7 +57,7 @@ returns-3 c =
     let two : tie.Else2 = c.before.before.before in
     let i : tie.After-id-refusal = two.before.before.before.before in
     let s : tie.Start = entry i in
-    column-count (length s.args.book-heads.now) (idBooked s) s.args.ids.now s.args.k i.id-refusal.ensures s.args.m s.args.row_counts.now
+    column-count (length s.args.book-heads.now) (id_booked s) s.args.ids.now s.args.k i.id-refusal.ensures s.args.m s.args.row_counts.now
     (drop s.args.from s.args.row_list.now) s.args.firsts.now s.args.seconds.now two.before.before.before.if1.false two.before.is-booked.ensures two.if2.false
     c.before.count-refusal.ensures c.if3.true
 
@@ -83,7 +83,7 @@ returns-4 c =
     let two : tie.Else2 = three.before.before.before in
     let i : tie.After-id-refusal = two.before.before.before.before in
     let s : tie.Start = entry i in
-    column-window (length s.args.book-heads.now) (idBooked s) s.args.ids.now s.args.k i.id-refusal.ensures s.args.m s.args.row_counts.now
+    column-window (length s.args.book-heads.now) (id_booked s) s.args.ids.now s.args.k i.id-refusal.ensures s.args.m s.args.row_counts.now
     (drop s.args.from s.args.row_list.now) s.args.firsts.now s.args.seconds.now two.before.before.before.if1.false two.before.is-booked.ensures two.if2.false
     three.before.count-refusal.ensures three.if3.false w.is-window.ensures c.if4.true
 
@@ -94,7 +94,7 @@ returns-5 c =
     let two : tie.Else2 = three.before.before.before in
     let i : tie.After-id-refusal = two.before.before.before.before in
     let s : tie.Start = entry i in
-    column-late (length s.args.book-heads.now) (idBooked s) s.args.ids.now s.args.k i.id-refusal.ensures s.args.m s.args.row_counts.now
+    column-late (length s.args.book-heads.now) (id_booked s) s.args.ids.now s.args.k i.id-refusal.ensures s.args.m s.args.row_counts.now
     (drop s.args.from s.args.row_list.now) s.args.firsts.now s.args.seconds.now two.before.before.before.if1.false two.before.is-booked.ensures two.if2.false
     three.before.count-refusal.ensures three.if3.false w.is-window.ensures c.if4.false
 

@@ -5,7 +5,7 @@ use Prim.Native.Nat.{ℕ, ◌+◌, ◌-◌, ◌≤◌, ◌<◌}
 use native.Mathlib.Omega.{arith}
 use borrow.Author.Rules.{rules}
 use lib.ListN.{length, take, drop, length-drop}
-use Rattle.refusals.specs.Parts.{IsNumber, rowsPart}
+use Rattle.refusals.specs.Parts.{IsNumber, rows_part}
 use Rattle.refusals.proofs.Parts.{count-outside, count-many, count-rows}
 use Rattle.refusals.proofs.position.count_refusal.Statement.{statement}
 use Rattle.refusals.proofs.position.count_refusal.Tie as tie
@@ -53,7 +53,7 @@ returns-3 c =
     let h : s.args.count ≤ length rest = omega (arith, length-drop s.args.from s.args.row_list.now, two.if2.false) in
     let e : (s.args.from + s.args.count) - s.args.from ≡ s.args.count = omega arith in
     count-rows s.args.m s.args.count rest two.before.before.outside.ensures two.before.if1.false h
-    (subst (λ (n : ℕ). IsNumber c.rows-refusal.result (rowsPart s.args.m (take n rest))) e c.rows-refusal.ensures)
+    (subst (λ (n : ℕ). IsNumber c.rows-refusal.result (rows_part s.args.m (take n rest))) e c.rows-refusal.ensures)
 
 pub count-refusal-spec : {M : Type 1} → statement M
 count-refusal-spec =

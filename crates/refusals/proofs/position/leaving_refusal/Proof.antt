@@ -2,7 +2,7 @@
 use mathlib.Core.Bool.{Bool}
 use borrow.Author.Rules.{rules}
 use lib.ListN.{length, get_or}
-use Rattle.book.specs.Book.{isBooked}
+use Rattle.book.specs.Book.{is_booked}
 use Rattle.refusals.proofs.Parts.{id_range, leaving-id, leaving-live, leaving-absent}
 use Rattle.refusals.proofs.position.leaving_refusal.Statement.{statement}
 use Rattle.refusals.proofs.position.leaving_refusal.Tie as tie
@@ -10,8 +10,8 @@ use Rattle.refusals.proofs.position.leaving_refusal.Tie as tie
 abbrev entry : tie.After-id-refusal → tie.Start
 entry c = c.before.before.before
 
-abbrev idBooked : tie.Start → Bool
-idBooked s = isBooked s.args.book-heads.now (get_or s.args.ids.now s.args.k 0)
+abbrev id_booked : tie.Start → Bool
+id_booked s = is_booked s.args.book-heads.now (get_or s.args.ids.now s.args.k 0)
 
 id-refusal-requires : tie.Need-id-refusal-requires
 id-refusal-requires c κs = search rules
@@ -20,7 +20,7 @@ returns : tie.Need-returns
 returns c =
     let i : tie.After-id-refusal = c.before in
     let s : tie.Start = entry i in
-    leaving-id (length s.args.book-heads.now) (idBooked s) s.args.ids.now s.args.k i.id-refusal.ensures c.if1.true
+    leaving-id (length s.args.book-heads.now) (id_booked s) s.args.ids.now s.args.k i.id-refusal.ensures c.if1.true
 
 mul-id : tie.Need-overflow-mul-id
 mul-id c = search rules
@@ -38,13 +38,13 @@ returns-2 : tie.Need-returns-2
 returns-2 c =
     let one : tie.Else1 = c.before.before.before in
     let s : tie.Start = entry one.before in
-    leaving-live (length s.args.book-heads.now) (idBooked s) s.args.ids.now s.args.k one.before.id-refusal.ensures one.if1.false c.before.is-booked.ensures c.if2.true
+    leaving-live (length s.args.book-heads.now) (id_booked s) s.args.ids.now s.args.k one.before.id-refusal.ensures one.if1.false c.before.is-booked.ensures c.if2.true
 
 returns-3 : tie.Need-returns-3
 returns-3 c =
     let one : tie.Else1 = c.before.before.before in
     let s : tie.Start = entry one.before in
-    leaving-absent (length s.args.book-heads.now) (idBooked s) s.args.ids.now s.args.k one.before.id-refusal.ensures one.if1.false c.before.is-booked.ensures c.if2.false
+    leaving-absent (length s.args.book-heads.now) (id_booked s) s.args.ids.now s.args.k one.before.id-refusal.ensures one.if1.false c.before.is-booked.ensures c.if2.false
 
 pub leaving-refusal-spec : {M : Type 1} → statement M
 leaving-refusal-spec =

@@ -1,7 +1,7 @@
 -- `updown::filling::booked_starts` meets its contract: the loop's invariant is `Filling`, for all nexts that suit; the measure is the ids left. Assumes nothing.
 use Rattle.lists.proofs.Over.{Filling}
 use Rattle.updown.proofs.Filled.{booked-filling, booked-filling-next, booked-filled}
-use Rattle.updown.specs.Entries.{bookedStarts}
+use Rattle.updown.specs.Entries.{booked_starts}
 use Rattle.book.specs.Book.{tables_of}
 use lib.ListN.{length, length-set}
 use Prim.Native.Nat.{ℕ, ◌-◌, ◌≤◌}
@@ -14,7 +14,7 @@ use Rattle.updown.proofs.filling.booked_starts.Tie as tie
 abbrev invariant-loop : tie.invariant-loop
 invariant-loop book-heads book-rows ids starts₀ k₀ starts k =
     (k ≤ length ids) × (length starts ≡ length starts₀) ×
-    ((next : List ℕ) → length book-rows ≡ length next → Filling (bookedStarts (tables_of book-heads book-rows next) ids) starts₀ starts k)
+    ((next : List ℕ) → length book-rows ≡ length next → Filling (booked_starts (tables_of book-heads book-rows next) ids) starts₀ starts k)
 
 abbrev decreases-loop : tie.decreases-loop
 decreases-loop book-heads book-rows ids starts₀ k₀ starts k = length ids - k

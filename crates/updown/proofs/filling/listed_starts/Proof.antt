@@ -1,7 +1,7 @@
 -- `updown::filling::listed_starts` meets its contract: the loop's invariant is `Summing` and `Filling`; the measure is the columns left. Assumes nothing.
 use Rattle.lists.proofs.Over.{Filling}
 use Rattle.updown.proofs.Filled.{Summing, summing_start, summing-end, summing-next, listed-filling, listed-filling-next, listed-filled}
-use Rattle.updown.specs.Entries.{listedStarts}
+use Rattle.updown.specs.Entries.{listed_starts}
 use lib.ListN.{length, length-set}
 use Prim.Native.Nat.{◌-◌, ◌≤◌}
 use mathlib.Core.Path.{◌≡◌, refl, ◌∙◌}
@@ -11,7 +11,7 @@ use Rattle.updown.proofs.filling.listed_starts.Tie as tie
 
 abbrev invariant-loop : tie.invariant-loop
 invariant-loop row_counts row_list starts₀ k₀ at₀ starts k at =
-    (k ≤ length row_counts) × (length starts ≡ length starts₀) × Summing row_counts row_list k at × Filling (listedStarts row_counts row_list) starts₀ starts k
+    (k ≤ length row_counts) × (length starts ≡ length starts₀) × Summing row_counts row_list k at × Filling (listed_starts row_counts row_list) starts₀ starts k
 
 abbrev decreases-loop : tie.decreases-loop
 decreases-loop row_counts row_list starts₀ k₀ at₀ starts k at = length row_counts - k

@@ -2,7 +2,7 @@
 use mathlib.Core.Bool.{true≢false}
 use mathlib.Core.Path.{refl, sym, ap, ◌∙◌}
 use native.Mathlib.Omega.{arith}
-use Rattle.updown.specs.Marks.{steppedUp}
+use Rattle.updown.specs.Marks.{stepped_up}
 use borrow.Author.Rules.{rules}
 use Rattle.updown.proofs.turns.step_up.Statement.{statement}
 use Rattle.updown.proofs.turns.step_up.Tie as tie
@@ -33,7 +33,7 @@ returns c =
     record {
       fits-is = e.0;
       used-is = e.5;
-      stored = λ _. c.before.before.before.place-marker.ensures ∙ ap (steppedUp s.m s.flags s.work.now s.j.0 s.e.parent.0) up;
+      stored = λ _. c.before.before.before.place-marker.ensures ∙ ap (stepped_up s.m s.flags s.work.now s.j.0 s.e.parent.0) up;
       first-is = λ _. e.1;
       last-is = λ _. e.2;
       count-is = λ _. e.3;

@@ -2,7 +2,7 @@
 -- suit; the measure is the rows left. Assumes nothing.
 use Rattle.updown.proofs.Looping.{Looping, loop-begins, loop-stops, loop-ends, loop-on, listed_start, listed-turning}
 use Rattle.updown.proofs.Turned.{Turning, turning-ready, family-ready, plan-ready, step-ready, turned}
-use Rattle.updown.proofs.Seeking.{rowsLeft, rows-fewer, seeking-take}
+use Rattle.updown.proofs.Seeking.{rows_left, rows-fewer, seeking-take}
 use Rattle.updown.specs.Starts.{CanWalkListed}
 use Rattle.pool.specs.Chains.{chain}
 use Rattle.symbolic.specs.Columns.{Column}
@@ -21,7 +21,7 @@ invariant-loop heads parents rows counts next work₀ row_counts row_list starts
     Looping next lent work m flags (length (chain next free)) R W true walk.fits walk.first.0 walk.last.0 walk.count walk.entries walk.used walk.avail.0
 
 abbrev decreases-loop : tie.decreases-loop
-decreases-loop heads parents rows counts next work₀ row_counts row_list starts m flags walk₀ work walk = rowsLeft m walk.fits walk.last.0
+decreases-loop heads parents rows counts next work₀ row_counts row_list starts m flags walk₀ work walk = rows_left m walk.fits walk.last.0
 
 -- ---- places: the start, the loop's test, and before each call the call before it
 

@@ -4,13 +4,13 @@ use Prim.Native.Nat.{◌-◌, ◌<◌}
 use native.Mathlib.Omega.{arith}
 use lib.ListN.{length}
 use Rattle.lists.proofs.Over.{Filling, filling-long, filling-end}
-use Rattle.windows.specs.Windowed.{bookedInside}
+use Rattle.windows.specs.Windowed.{booked_inside}
 use Rattle.windows.proofs.Hiding.{booked-start, booked-shown, booked-hidden}
 use Rattle.windows.proofs.minutes.hide_booked.Statement.{statement}
 use Rattle.windows.proofs.minutes.hide_booked.Tie as tie
 
 abbrev invariant-loop : tie.invariant-loop
-invariant-loop windows n ids minute starts₀ k₀ starts k = Filling (bookedInside minute windows n ids starts₀) starts₀ starts k
+invariant-loop windows n ids minute starts₀ k₀ starts k = Filling (booked_inside minute windows n ids starts₀) starts₀ starts k
 
 abbrev decreases-loop : tie.decreases-loop
 decreases-loop windows n ids minute starts₀ k₀ starts k = length starts₀ - k

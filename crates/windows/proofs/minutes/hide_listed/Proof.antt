@@ -5,13 +5,13 @@ use native.Mathlib.Omega.{arith}
 use lib.ListN.{length}
 use borrow.Author.Rules.{rules}
 use Rattle.lists.proofs.Over.{Filling, filling-long, filling-end}
-use Rattle.windows.specs.Windowed.{listedInside}
+use Rattle.windows.specs.Windowed.{listed_inside}
 use Rattle.windows.proofs.Hiding.{listed_start, listed-shown, listed-hidden}
 use Rattle.windows.proofs.minutes.hide_listed.Statement.{statement}
 use Rattle.windows.proofs.minutes.hide_listed.Tie as tie
 
 abbrev invariant-loop : tie.invariant-loop
-invariant-loop firsts seconds minute starts₀ k₀ starts k = Filling (listedInside minute firsts seconds starts₀) starts₀ starts k
+invariant-loop firsts seconds minute starts₀ k₀ starts k = Filling (listed_inside minute firsts seconds starts₀) starts₀ starts k
 
 abbrev decreases-loop : tie.decreases-loop
 decreases-loop firsts seconds minute starts₀ k₀ starts k = length starts₀ - k

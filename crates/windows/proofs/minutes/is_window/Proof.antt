@@ -6,14 +6,14 @@ use native.Mathlib.Omega.{arith}
 use lib.Dec.{ltb, eqb}
 use borrow.Author.Tests.{le-ltb, eq-eqb, ne_eqb}
 use Rattle.lists.proofs.Tests.{and-false, and-true, or-false}
-use Rattle.symbolic.specs.Columns.{isWindow}
+use Rattle.symbolic.specs.Columns.{is_window}
 use Rattle.windows.proofs.minutes.is_window.Statement.{statement}
 use Rattle.windows.proofs.minutes.is_window.Tie as tie
 
-none : (a b : ℕ) → b ≡ 0 → eqb a 0 ≡ isWindow a b
+none : (a b : ℕ) → b ≡ 0 → eqb a 0 ≡ is_window a b
 none a b e = rw (eq-eqb b 0 e, and-true (eqb a 0), le-ltb a b (omega arith), or-false (eqb a 0)) refl
 
-ordered : (a b : ℕ) → b ≢ 0 → ltb a b ≡ isWindow a b
+ordered : (a b : ℕ) → b ≢ 0 → ltb a b ≡ is_window a b
 ordered a b e = rw (ne_eqb b 0 e, and-false (eqb a 0)) refl
 
 returns : tie.Need-returns

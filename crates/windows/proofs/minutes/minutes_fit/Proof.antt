@@ -2,7 +2,7 @@
 use mathlib.Core.Path.{◌≡◌, refl, sym, ◌∙◌}
 use mathlib.Core.Bool.{true, false}
 use borrow.Author.Tests.{eq-eqb, ne_eqb}
-use Rattle.book.specs.Book.{isBooked}
+use Rattle.book.specs.Book.{is_booked}
 use borrow.Author.Rules.{rules}
 use Rattle.windows.proofs.minutes.minutes_fit.Statement.{statement}
 use Rattle.windows.proofs.minutes.minutes_fit.Tie as tie
@@ -40,19 +40,19 @@ is-window-requires c κs = search rules
 returns : tie.Need-returns
 returns c =
     let s = c.before.before.before.before.before.before.before.before.args in
-    let e : isBooked s.book-heads.now s.id.0 ≡ true = sym c.before.before.is-booked.ensures ∙ c.before.if1.true in
+    let e : is_booked s.book-heads.now s.id.0 ≡ true = sym c.before.before.is-booked.ensures ∙ c.before.if1.true in
     rw e c.is-window.ensures
 
 returns-2 : tie.Need-returns-2
 returns-2 c =
     let s = c.before.before.before.before.before.before.before.before.args in
-    let e : isBooked s.book-heads.now s.id.0 ≡ false = sym c.before.before.is-booked.ensures ∙ c.before.if1.false in
+    let e : is_booked s.book-heads.now s.id.0 ≡ false = sym c.before.before.is-booked.ensures ∙ c.before.if1.false in
     rw (e, ne_eqb _ 0 c.if2.true) refl
 
 returns-3 : tie.Need-returns-3
 returns-3 c =
     let s = c.before.before.before.before.before.before.before.before.args in
-    let e : isBooked s.book-heads.now s.id.0 ≡ false = sym c.before.before.is-booked.ensures ∙ c.before.if1.false in
+    let e : is_booked s.book-heads.now s.id.0 ≡ false = sym c.before.before.is-booked.ensures ∙ c.before.if1.false in
     rw (e, eq-eqb _ 0 c.if2.false) refl
 
 pub minutes-fit-spec : {M : Type 1} → statement M
