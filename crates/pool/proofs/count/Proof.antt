@@ -7,48 +7,48 @@ use Rattle.pool.proofs.Counting.{Counting, counting-start, counting-step, counti
 use Rattle.pool.proofs.count.Statement.{statement}
 use Rattle.pool.proofs.count.Tie as tie
 
-abbrev invariant-loop : tie.invariant-loop
-invariant-loop next bound r₀ n₀ r n = Counting next r₀ bound r n
+abbrev invariant-loop-n : tie.invariant-loop-n
+invariant-loop-n next bound r₀ n₀ r n = Counting next r₀ bound r n
 
-abbrev decreases-loop : tie.decreases-loop
-decreases-loop next bound r₀ n₀ r n = bound - n
+abbrev decreases-loop-n : tie.decreases-loop-n
+decreases-loop-n next bound r₀ n₀ r n = bound - n
 
-loop-holds : tie.Need-loop-init invariant-loop decreases-loop
+loop-holds : tie.Need-loop-n-init invariant-loop-n decreases-loop-n
 loop-holds c = counting-start c.requires
 
-returns : tie.Need-returns invariant-loop decreases-loop
-returns c = counting-ended c.before.before.loop.invariant c.if1.true
+returns : tie.Need-returns-then-r-eq0 invariant-loop-n decreases-loop-n
+returns c = counting-ended c.before.before.loop-n.invariant c.if-r-eq0.true
 
-sub-r : tie.Need-overflow-sub-r invariant-loop decreases-loop
+sub-r : tie.Need-overflow_sub-r invariant-loop-n decreases-loop-n
 sub-r c = omega arith
 
-cast-r : tie.Need-overflow-cast-r invariant-loop decreases-loop
-cast-r c = let s = counting-step c.before.before.loop.invariant c.if1.false in omega arith
+cast-r : tie.Need-overflow_cast-r invariant-loop-n decreases-loop-n
+cast-r c = let s = counting-step c.before.before.loop-n.invariant c.if-r-eq0.false in omega arith
 
-mul-r : tie.Need-overflow-mul-r invariant-loop decreases-loop
-mul-r c = let s = counting-step c.before.before.loop.invariant c.if1.false in omega arith
+mul-r : tie.Need-offset_bounds-next-r invariant-loop-n decreases-loop-n
+mul-r c = let s = counting-step c.before.before.loop-n.invariant c.if-r-eq0.false in omega arith
 
-shared-slice-read-r : tie.Need-shared-slice-read-r invariant-loop decreases-loop
-shared-slice-read-r c = let s = counting-step c.before.before.before.loop.invariant c.before.if1.false in omega arith
+shared-slice-read-r : tie.Need-bounds-next-r invariant-loop-n decreases-loop-n
+shared-slice-read-r c = let s = counting-step c.before.before.before.loop-n.invariant c.before.if-r-eq0.false in omega arith
 
-add-n : tie.Need-overflow-add-n invariant-loop decreases-loop
+add-n : tie.Need-overflow_add-n invariant-loop-n decreases-loop-n
 add-n c = omega arith
 
-loop-less : tie.Need-loop-smaller invariant-loop decreases-loop
+loop-less : tie.Need-loop-n-smaller invariant-loop-n decreases-loop-n
 loop-less c = omega arith
 
-loop-again : tie.Need-loop-preserved invariant-loop decreases-loop
-loop-again c = counting-next c.before.before.before.loop.invariant c.before.if1.false c.before.before.loop-test.true
+loop-again : tie.Need-loop-n-preserved invariant-loop-n decreases-loop-n
+loop-again c = counting-next c.before.before.before.loop-n.invariant c.before.if-r-eq0.false c.before.before.loop-n-test.true
 
-returns-2 : tie.Need-returns-2 invariant-loop decreases-loop
-returns-2 c = counting-full c.before.loop.invariant c.loop-test.false
+returns-2 : tie.Need-returns invariant-loop-n decreases-loop-n
+returns-2 c = counting-full c.before.loop-n.invariant c.loop-n-test.false
 
 pub count_spec : {M : Type 1} → statement M
 count_spec =
     tie.close
     (tie.spec
-    invariant-loop
-    decreases-loop
+    invariant-loop-n
+    decreases-loop-n
     loop-holds
     returns
     sub-r

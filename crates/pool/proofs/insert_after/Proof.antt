@@ -7,50 +7,50 @@ use lib.ListN.{length-set}
 use Rattle.pool.proofs.insert_after.Statement.{statement}
 use Rattle.pool.proofs.insert_after.Tie as tie
 
-sub-i : tie.Need-overflow-sub-i
+sub-i : tie.Need-overflow_sub-i
 sub-i c = search rules
 
-cast-i : tie.Need-overflow-cast-i
+cast-i : tie.Need-overflow_cast-i
 cast-i c = search rules
 
-sub-j : tie.Need-overflow-sub-j
+sub-j : tie.Need-overflow_sub-j
 sub-j c = search rules
 
-cast-j : tie.Need-overflow-cast-j
+cast-j : tie.Need-overflow_cast-j
 cast-j c = search rules
 
-mul-free : tie.Need-overflow-mul-free
+mul-free : tie.Need-offset_bounds-next-j
 mul-free c = search rules
 
-slice-read-free : tie.Need-slice-read-free
+slice-read-free : tie.Need-bounds-next-j
 slice-read-free c = search rules
 
-mul_next : tie.Need-overflow-mul-next
+mul_next : tie.Need-offset_bounds-next-i
 mul_next c = search rules
 
-slice-read-next : tie.Need-slice-read-next
+slice-read-next : tie.Need-bounds-next-i
 slice-read-next c = search rules
 
-mul-next-2 : tie.Need-overflow-mul-next-2
+mul-next-2 : tie.Need-offset_bounds-next-j-2
 mul-next-2 c = search rules
 
-slice-write-next : tie.Need-slice-write-next
+slice-write-next : tie.Need-bounds-next-j-2
 slice-write-next c = search rules
 
-mul-next-3 : tie.Need-overflow-mul-next-3
+mul-next-3 : tie.Need-offset_bounds-next-i-2
 mul-next-3 c = search rules
 
-slice-write-next-2 : tie.Need-slice-write-next-2
+slice-write-next-2 : tie.Need-bounds-next-i-2
 slice-write-next-2 c = simp length-set (omega arith)
 
-same_length : tie.Need-same-length
+same_length : tie.Need-shape_of-next
 same_length c = search rules
 
 returns : tie.Need-returns
 returns c = search rules
 
-pub insert-after-spec : {M : Type 1} → statement M
-insert-after-spec =
+pub insert_after_spec : {M : Type 1} → statement M
+insert_after_spec =
     tie.close
     (tie.spec
     sub-i
