@@ -5,57 +5,57 @@ use borrow.Author.Rules.{rules}
 use Rattle.script.proofs.word_of.Statement.{statement}
 use Rattle.script.proofs.word_of.Tie as tie
 
-abbrev invariant-loop : tie.invariant-loop
-invariant-loop line words at₀ k₀ at k = k ≤ at
+abbrev invariant-loop-at : tie.invariant-loop-at
+invariant-loop-at line words at₀ k₀ at k = k ≤ at
 
-abbrev decreases-loop : tie.decreases-loop
-decreases-loop line words at₀ k₀ at k = length words - at
+abbrev decreases-loop-at : tie.decreases-loop-at
+decreases-loop-at line words at₀ k₀ at k = length words - at
 
-loop-holds : tie.Need-loop-init invariant-loop decreases-loop
+loop-holds : tie.Need-loop-at-init invariant-loop-at decreases-loop-at
 loop-holds c = search rules
 
-sub-is-first : tie.Need-overflow-sub-is-first invariant-loop decreases-loop
+sub-is-first : tie.Need-slice_bounds-is_first-count invariant-loop-at decreases-loop-at
 sub-is-first c = search rules
 
-part-is-first-start : tie.Need-slice-bounds-is-first-start invariant-loop decreases-loop
+part-is-first-start : tie.Need-slice_bounds-is_first-start invariant-loop-at decreases-loop-at
 part-is-first-start c = search rules
 
-part-is-first-end : tie.Need-slice-bounds-is-first-end invariant-loop decreases-loop
+part-is-first-end : tie.Need-slice_bounds-is_first-end invariant-loop-at decreases-loop-at
 part-is-first-end c = search rules
 
-is-first-requires : tie.Need-is-first-requires invariant-loop decreases-loop
+is-first-requires : tie.Need-is_first-requires invariant-loop-at decreases-loop-at
 is-first-requires c κs = search rules
 
-returns : tie.Need-returns invariant-loop decreases-loop
+returns : tie.Need-returns-then-is_first invariant-loop-at decreases-loop-at
 returns c = search rules
 
-place-of-requires : tie.Need-place-of-requires invariant-loop decreases-loop
+place-of-requires : tie.Need-place_of-end-requires invariant-loop-at decreases-loop-at
 place-of-requires c κs = search rules
 
-returns-2 : tie.Need-returns-2 invariant-loop decreases-loop
+returns-2 : tie.Need-returns-then-end-at invariant-loop-at decreases-loop-at
 returns-2 c = search rules
 
-add_at : tie.Need-overflow-add-at invariant-loop decreases-loop
+add_at : tie.Need-overflow_add-at invariant-loop-at decreases-loop-at
 add_at c = search rules
 
-add-k : tie.Need-overflow-add-k invariant-loop decreases-loop
+add-k : tie.Need-overflow_add-k invariant-loop-at decreases-loop-at
 add-k c = search rules
 
-loop-less : tie.Need-loop-smaller invariant-loop decreases-loop
+loop-less : tie.Need-loop-at-smaller invariant-loop-at decreases-loop-at
 loop-less c = search rules
 
-loop-again : tie.Need-loop-preserved invariant-loop decreases-loop
+loop-again : tie.Need-loop-at-preserved invariant-loop-at decreases-loop-at
 loop-again c = search rules
 
-returns-3 : tie.Need-returns-3 invariant-loop decreases-loop
+returns-3 : tie.Need-returns invariant-loop-at decreases-loop-at
 returns-3 c = search rules
 
-pub word-of-spec : {M : Type 1} → statement M
-word-of-spec =
+pub word_of_spec : {M : Type 1} → statement M
+word_of_spec =
     tie.close
     (tie.spec
-    invariant-loop
-    decreases-loop
+    invariant-loop-at
+    decreases-loop-at
     loop-holds
     sub-is-first
     part-is-first-start

@@ -12,69 +12,69 @@ abbrev entry : tie.After-word-end → tie.Start
 entry c = c.before.before.before.before.before
 
 -- the id after the word's end
-first : (c : tie.After-word-end) → First (entry c).args.line.now (entry c).args.at c.word-end.result
-first c = first-number (entry c).args.line.now (entry c).args.at c.word-end.result (entry c).requires.ends (omega arith) c.word-end.ensures
+first : (c : tie.After-word-end) → First (entry c).args.line.now (entry c).args.at c.word_end-end.result
+first c = first-number (entry c).args.line.now (entry c).args.at c.word_end-end.result (entry c).requires.ends (omega arith) c.word_end-end.ensures
 
-numbers-count-requires : tie.Need-numbers-count-requires
+numbers-count-requires : tie.Need-numbers_count-count-requires
 numbers-count-requires c κs = search rules
 
-returns : tie.Need-returns
+returns : tie.Need-returns-then-count-lt2
 returns c =
     let s = c.before.before.before.before in
-    add-few (numbers_of (drop s.args.at s.args.line.now)) s.args.rows.now c.before.numbers-count.result c.before.numbers-count.ensures (omega arith)
+    add-few (numbers_of (drop s.args.at s.args.line.now)) s.args.rows-1.now c.before.numbers_count-count.result c.before.numbers_count-count.ensures (omega arith)
 
-add_start : tie.Need-overflow-add-start
+add_start : tie.Need-overflow_add-start
 add_start c = search rules
 
-word-end-requires : tie.Need-word-end-requires
+word-end-requires : tie.Need-word_end-end-requires
 word-end-requires c κs = let s = c.before.before.before.before in let h = first_below s.args.line.now s.args.at (omega arith) in omega arith
 
-sub-number-value : tie.Need-overflow-sub-number-value
+sub-number-value : tie.Need-slice_bounds-number_value-count
 sub-number-value c = search rules
 
-part-number-value-start : tie.Need-slice-bounds-number-value-start
+part-number-value-start : tie.Need-slice_bounds-number_value-start
 part-number-value-start c = search rules
 
-part-number-value-end : tie.Need-slice-bounds-number-value-end
+part-number-value-end : tie.Need-slice_bounds-number_value-end
 part-number-value-end c = (first c).next.ends.within
 
-number-value-requires : tie.Need-number-value-requires
+number-value-requires : tie.Need-number_value-id-requires
 number-value-requires c κs = (first c.before).number
 
-numbers-write-requires : tie.Need-numbers-write-requires
+numbers-write-requires : tie.Need-numbers_write-requires
 numbers-write-requires c κs =
     let w = c.before.before.before in
     (add-rows (entry w).requires (first w) (omega arith)).numbers
 
-sub-others : tie.Need-overflow-sub-others
+sub-others : tie.Need-overflow_sub-others
 sub-others c = search rules
 
-cast-others : tie.Need-overflow-cast-others
+cast-others : tie.Need-overflow_cast-others
 cast-others c =
     let w = c.before.before.before.before.before.before in
     let r = add-rows (entry w).requires (first w) (omega arith) in
     omega arith
 
-same_length : tie.Need-same-length
+same_length : tie.Need-shape_of-rows
 same_length c = search rules
 
-returns-2 : tie.Need-returns-2
+returns-2 : tie.Need-returns
 returns-2 c =
     let w = c.before.before.before.before.before.before in
     let n = w.before.before in
     add-more
-    (entry w).args.rows.now
+    (entry w).args.rows-1.now
     c.before.before.numbers-write.new.1.0
-    n.numbers-count.result
-    c.before.before.before.before.number-value.result
+    n.numbers_count-count.result
+    c.before.before.before.before.number_value-id.result
     (first w)
-    n.numbers-count.ensures
+    n.numbers_count-count.ensures
     (omega arith)
-    c.before.before.before.before.number-value.ensures
+    c.before.before.before.before.number_value-id.ensures
     c.before.before.numbers-write.ensures
 
-pub add-rest-spec : {M : Type 1} → statement M
-add-rest-spec =
+pub add_rest_spec : {M : Type 1} → statement M
+add_rest_spec =
     tie.close
     (tie.spec
     numbers-count-requires

@@ -10,75 +10,75 @@ use Rattle.listing_text.proofs.Numbers.{is_rest, rest-step, rest-low, rest-high,
 use Rattle.listing_text.proofs.command.is_number.Statement.{statement}
 use Rattle.listing_text.proofs.command.is_number.Tie as tie
 
-abbrev invariant-loop : tie.invariant-loop
-invariant-loop word value₀ i₀ value i = (i ≤ length word) × (value < 2 ^ 32) × (is_rest value (drop i word) ≡ is_number word)
+abbrev invariant-loop-i : tie.invariant-loop-i
+invariant-loop-i word value₀ i₀ value i = (i ≤ length word) × (value < 2 ^ 32) × (is_rest value (drop i word) ≡ is_number word)
 
-abbrev decreases-loop : tie.decreases-loop
-decreases-loop word value₀ i₀ value i = length word - i
+abbrev decreases-loop-i : tie.decreases-loop-i
+decreases-loop-i word value₀ i₀ value i = length word - i
 
-abbrev at-loop : tie.In-loop invariant-loop decreases-loop → tie.At-loop invariant-loop decreases-loop
+abbrev at-loop : tie.In-loop-i invariant-loop-i decreases-loop-i → tie.At-loop-i invariant-loop-i decreases-loop-i
 at-loop c = c.before
 
-abbrev text : tie.At-loop invariant-loop decreases-loop → List ℕ
+abbrev text : tie.At-loop-i invariant-loop-i decreases-loop-i → List ℕ
 text l = l.before.before.args.word.now
 
-returns : tie.Need-returns invariant-loop decreases-loop
-returns c = sym (number-none c.before.args.word.now c.if1.true)
+returns : tie.Need-returns-then-word-eq0 invariant-loop-i decreases-loop-i
+returns c = sym (number-none c.before.args.word.now c.if-word-eq0.true)
 
-loop-holds : tie.Need-loop-init invariant-loop decreases-loop
+loop-holds : tie.Need-loop-i-init invariant-loop-i decreases-loop-i
 loop-holds c = (omega arith, omega arith, sym (number-rest c.before.args.word.now (omega arith)))
 
-shared-slice-read-digit : tie.Need-shared-slice-read-digit invariant-loop decreases-loop
+shared-slice-read-digit : tie.Need-bounds-word-i invariant-loop-i decreases-loop-i
 shared-slice-read-digit c = omega arith
 
-returns-2 : tie.Need-returns-2 invariant-loop decreases-loop
+returns-2 : tie.Need-returns-then-digit-lt48 invariant-loop-i decreases-loop-i
 returns-2 c =
     let l = at-loop c.before.before in
-    sym (rest-low (text l) l.loop.value l.loop.i c.before.before.loop-test.true (omega arith)) ∙ l.loop.inv.2
+    sym (rest-low (text l) l.loop-i.value l.loop-i.i c.before.before.loop-i-test.true (omega arith)) ∙ l.loop-i.inv.2
 
-returns-3 : tie.Need-returns-3 invariant-loop decreases-loop
+returns-3 : tie.Need-returns-then-digit-gt57 invariant-loop-i decreases-loop-i
 returns-3 c =
     let l = at-loop c.before.before.before in
-    sym (rest-high (text l) l.loop.value l.loop.i c.before.before.before.loop-test.true (omega arith) (omega arith)) ∙ l.loop.inv.2
+    sym (rest-high (text l) l.loop-i.value l.loop-i.i c.before.before.before.loop-i-test.true (omega arith) (omega arith)) ∙ l.loop-i.inv.2
 
-mul-value : tie.Need-overflow-mul-value invariant-loop decreases-loop
+mul-value : tie.Need-overflow_mul-value invariant-loop-i decreases-loop-i
 mul-value c = omega arith
 
-cast-value : tie.Need-overflow-cast-value invariant-loop decreases-loop
-cast-value c = omega (arith, c.before.before.shared-slice-known.given (at-loop c.before.before.before).loop.i)
+cast-value : tie.Need-overflow_cast-value invariant-loop-i decreases-loop-i
+cast-value c = omega (arith, c.before.before.shared_slice_known-1.given (at-loop c.before.before.before).loop-i.i)
 
-add-value : tie.Need-overflow-add-value invariant-loop decreases-loop
-add-value c = omega (arith, c.before.before.shared-slice-known.given (at-loop c.before.before.before).loop.i)
+add-value : tie.Need-overflow_add-value invariant-loop-i decreases-loop-i
+add-value c = omega (arith, c.before.before.shared_slice_known-1.given (at-loop c.before.before.before).loop-i.i)
 
-returns-4 : tie.Need-returns-4 invariant-loop decreases-loop
+returns-4 : tie.Need-returns-then-value-ge-LIMIT invariant-loop-i decreases-loop-i
 returns-4 c =
     let t = c.before.before.before.before in
     let l = at-loop t in
-    sym (rest-large (drop (l.loop.i + 1) (text l)) (10 * l.loop.value + (get_or (text l) l.loop.i 0 - 48)) (omega arith)) ∙ rest-step (text l) l.loop.value l.loop.i t.loop-test.true (omega arith) (omega arith) ∙ l.loop.inv.2
+    sym (rest-large (drop (l.loop-i.i + 1) (text l)) (10 * l.loop-i.value + (get_or (text l) l.loop-i.i 0 - 48)) (omega arith)) ∙ rest-step (text l) l.loop-i.value l.loop-i.i t.loop-i-test.true (omega arith) (omega arith) ∙ l.loop-i.inv.2
 
-add-i : tie.Need-overflow-add-i invariant-loop decreases-loop
+add-i : tie.Need-overflow_add-i invariant-loop-i decreases-loop-i
 add-i c = omega arith
 
-loop-less : tie.Need-loop-smaller invariant-loop decreases-loop
+loop-less : tie.Need-loop-i-smaller invariant-loop-i decreases-loop-i
 loop-less c = omega arith
 
-loop-again : tie.Need-loop-preserved invariant-loop decreases-loop
+loop-again : tie.Need-loop-i-preserved invariant-loop-i decreases-loop-i
 loop-again c =
     let t = c.before.before.before.before in
     let l = at-loop t in
-    (omega arith, omega arith, rest-step (text l) l.loop.value l.loop.i t.loop-test.true (omega arith) (omega arith) ∙ l.loop.inv.2)
+    (omega arith, omega arith, rest-step (text l) l.loop-i.value l.loop-i.i t.loop-i-test.true (omega arith) (omega arith) ∙ l.loop-i.inv.2)
 
-returns-5 : tie.Need-returns-5 invariant-loop decreases-loop
+returns-5 : tie.Need-returns invariant-loop-i decreases-loop-i
 returns-5 c =
     let l = c.before in
-    sym (rest_end (text l) l.loop.value l.loop.i c.loop-test.false l.loop.invariant.1) ∙ l.loop.invariant.2
+    sym (rest_end (text l) l.loop-i.value l.loop-i.i c.loop-i-test.false l.loop-i.invariant.1) ∙ l.loop-i.invariant.2
 
-pub is-number-spec : {M : Type 1} → statement M
-is-number-spec =
+pub is_number_spec : {M : Type 1} → statement M
+is_number_spec =
     tie.close
     (tie.spec
-    invariant-loop
-    decreases-loop
+    invariant-loop-i
+    decreases-loop-i
     returns
     loop-holds
     shared-slice-read-digit

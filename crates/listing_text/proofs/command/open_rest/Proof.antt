@@ -7,42 +7,42 @@ use borrow.Author.Rules.{rules}
 use Rattle.listing_text.proofs.command.open_rest.Statement.{statement}
 use Rattle.listing_text.proofs.command.open_rest.Tie as tie
 
-numbers-count-requires : tie.Need-numbers-count-requires
+numbers-count-requires : tie.Need-numbers_count-requires
 numbers-count-requires c κs = search rules
 
-returns : tie.Need-returns
+returns : tie.Need-returns-then-numbers_count-ne4
 returns c =
     let s = c.before.before.before in
-    open-other (numbers_of (drop s.args.at s.args.line.now)) c.before.numbers-count.result c.before.numbers-count.ensures c.if1.true
+    open-other (numbers_of (drop s.args.at s.args.line.now)) c.before.numbers-count.result c.before.numbers-count.ensures c.if-numbers_count-ne4.true
 
-slice-aggregate-numbers-write : tie.Need-slice-aggregate-numbers-write
+slice-aggregate-numbers-write : tie.Need-slice_bounds-numbers_write-end
 slice-aggregate-numbers-write c = search rules
 
-numbers-write-requires : tie.Need-numbers-write-requires
+numbers-write-requires : tie.Need-numbers_write-requires
 numbers-write-requires c κs =
     let s = c.before.before.before.before in
     open-room s.args.line.now s.args.at s.requires (omega arith)
 
-array-read-t11 : tie.Need-array-read-t11
+array-read-t11 : tie.Need-bounds-sizes-0
 array-read-t11 c = search rules
 
-array-read-t14 : tie.Need-array-read-t14
+array-read-t14 : tie.Need-bounds-sizes-1
 array-read-t14 c = search rules
 
-array-read-t17 : tie.Need-array-read-t17
+array-read-t17 : tie.Need-bounds-sizes-2
 array-read-t17 c = search rules
 
-array-read-t20 : tie.Need-array-read-t20
+array-read-t20 : tie.Need-bounds-sizes-3
 array-read-t20 c = search rules
 
-returns-2 : tie.Need-returns-2
+returns-2 : tie.Need-returns
 returns-2 c =
     let n = c.before.before.before.before in
     let s = n.before.before in
     open-four (numbers_of (drop s.args.at s.args.line.now)) _ c.before.numbers-write.new.1.0 (omega arith) c.before.numbers-write.ensures
 
-pub open-rest-spec : {M : Type 1} → statement M
-open-rest-spec =
+pub open_rest_spec : {M : Type 1} → statement M
+open_rest_spec =
     tie.close
     (tie.spec
     numbers-count-requires

@@ -9,45 +9,45 @@ use Rattle.listing_text.proofs.Words.{word-at-end, word-at-space, word-at-other}
 use Rattle.listing_text.proofs.command.word_end.Statement.{statement}
 use Rattle.listing_text.proofs.command.word_end.Tie as tie
 
-abbrev invariant-loop : tie.invariant-loop
-invariant-loop line at end₀ end = (end ≤ length line) × (end + length (first_word (drop end line)) ≡ at + length (first_word (drop at line)))
+abbrev invariant-loop-end : tie.invariant-loop-end
+invariant-loop-end line at end₀ end = (end ≤ length line) × (end + length (first_word (drop end line)) ≡ at + length (first_word (drop at line)))
 
-abbrev decreases-loop : tie.decreases-loop
-decreases-loop line at end₀ end = length line - end
+abbrev decreases-loop-end : tie.decreases-loop-end
+decreases-loop-end line at end₀ end = length line - end
 
-loop-holds : tie.Need-loop-init invariant-loop decreases-loop
+loop-holds : tie.Need-loop-end-init invariant-loop-end decreases-loop-end
 loop-holds c = omega arith
 
-shared-slice-read-if1 : tie.Need-shared-slice-read-if1 invariant-loop decreases-loop
+shared-slice-read-if1 : tie.Need-bounds-line-end invariant-loop-end decreases-loop-end
 shared-slice-read-if1 c = omega arith
 
-returns : tie.Need-returns invariant-loop decreases-loop
+returns : tie.Need-returns-then-line-end-eq32 invariant-loop-end decreases-loop-end
 returns c =
     let l = c.before.before.before in
-    omega (arith, ap length (word-at-space l.before.args.line.now l.loop.end c.before.before.loop-test.true c.if1.true))
+    omega (arith, ap length (word-at-space l.before.args.line.now l.loop-end.end c.before.before.loop-end-test.true c.if-line-end-eq32.true))
 
-add-end : tie.Need-overflow-add-end invariant-loop decreases-loop
+add-end : tie.Need-overflow_add-end invariant-loop-end decreases-loop-end
 add-end c = omega arith
 
-loop-less : tie.Need-loop-smaller invariant-loop decreases-loop
+loop-less : tie.Need-loop-end-smaller invariant-loop-end decreases-loop-end
 loop-less c = omega arith
 
-loop-again : tie.Need-loop-preserved invariant-loop decreases-loop
+loop-again : tie.Need-loop-end-preserved invariant-loop-end decreases-loop-end
 loop-again c =
     let l = c.before.before.before in
-    omega (arith, word-at-other l.before.args.line.now l.loop.end c.before.before.loop-test.true c.if1.false)
+    omega (arith, word-at-other l.before.args.line.now l.loop-end.end c.before.before.loop-end-test.true c.if-line-end-eq32.false)
 
-returns-2 : tie.Need-returns-2 invariant-loop decreases-loop
+returns-2 : tie.Need-returns invariant-loop-end decreases-loop-end
 returns-2 c =
     let l = c.before in
-    omega (arith, ap length (word-at-end l.before.args.line.now l.loop.end c.loop-test.false))
+    omega (arith, ap length (word-at-end l.before.args.line.now l.loop-end.end c.loop-end-test.false))
 
-pub word-end-spec : {M : Type 1} → statement M
-word-end-spec =
+pub word_end_spec : {M : Type 1} → statement M
+word_end_spec =
     tie.close
     (tie.spec
-    invariant-loop
-    decreases-loop
+    invariant-loop-end
+    decreases-loop-end
     loop-holds
     shared-slice-read-if1
     returns

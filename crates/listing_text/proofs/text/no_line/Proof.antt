@@ -6,27 +6,27 @@ use borrow.Author.Rules.{rules}
 use Rattle.listing_text.proofs.text.no_line.Statement.{statement}
 use Rattle.listing_text.proofs.text.no_line.Tie as tie
 
-letters-requires : tie.Need-letters-requires
+letters-requires : tie.Need-letters-a-requires
 letters-requires c κs =
     let s = c.before.before in
     record { room = omega (arith, no_length s.args.refusal s.args.position) }
 
-marked-requires : tie.Need-marked-requires
+marked-requires : tie.Need-marked-b-requires
 marked-requires c κs =
     let s = c.before.before.before.before.before.before in
     record { room = omega (arith, no_length s.args.refusal s.args.position) }
 
-marked-requires-2 : tie.Need-marked-requires-2
+marked-requires-2 : tie.Need-marked-d-requires
 marked-requires-2 c κs =
     let s = c.before.before.before.before.before.before.before.before.before.before in
     record { room = omega (arith, no_length s.args.refusal s.args.position) }
 
-line-end-requires : tie.Need-line-end-requires
+line-end-requires : tie.Need-line_end-requires
 line-end-requires c κs =
     let s = c.before.before.before.before.before.before.before.before.before.before.before.before.before.before in
     record { room = omega (arith, no_length s.args.refusal s.args.position) }
 
-same_length : tie.Need-same-length
+same_length : tie.Need-shape_of-out
 same_length c = search rules
 
 returns : tie.Need-returns
@@ -38,12 +38,12 @@ returns c =
     let l1 = l2.before.before.before.before in
     let s = l1.before.before.before in
     let long = no_length s.args.refusal s.args.position in
-    let w2 = written-join (omega arith) l1.letters.ensures l2.marked.ensures in
-    let w3 = written-join (omega arith) w2 l3.marked2.ensures in
+    let w2 = written-join (omega arith) l1.letters-a.ensures l2.marked-b.ensures in
+    let w3 = written-join (omega arith) w2 l3.marked-d.ensures in
     written-join (omega arith) w3 l4.line-end.ensures
 
-pub no-line-spec : {M : Type 1} → statement M
-no-line-spec =
+pub no_line_spec : {M : Type 1} → statement M
+no_line_spec =
     tie.close
     (tie.spec
     letters-requires

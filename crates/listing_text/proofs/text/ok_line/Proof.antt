@@ -6,32 +6,32 @@ use borrow.Author.Rules.{rules}
 use Rattle.listing_text.proofs.text.ok_line.Statement.{statement}
 use Rattle.listing_text.proofs.text.ok_line.Tie as tie
 
-letters-requires : tie.Need-letters-requires
+letters-requires : tie.Need-letters-a-requires
 letters-requires c κs =
     let s = c.before.before in
     record { room = omega (arith, ok-length s.args.touched s.args.entries s.args.grade) }
 
-marked-requires : tie.Need-marked-requires
+marked-requires : tie.Need-marked-b-requires
 marked-requires c κs =
     let s = c.before.before.before.before.before.before in
     record { room = omega (arith, ok-length s.args.touched s.args.entries s.args.grade) }
 
-marked-requires-2 : tie.Need-marked-requires-2
+marked-requires-2 : tie.Need-marked-d-requires
 marked-requires-2 c κs =
     let s = c.before.before.before.before.before.before.before.before.before.before in
     record { room = omega (arith, ok-length s.args.touched s.args.entries s.args.grade) }
 
-marked-requires-3 : tie.Need-marked-requires-3
+marked-requires-3 : tie.Need-marked-e-requires
 marked-requires-3 c κs =
     let s = c.before.before.before.before.before.before.before.before.before.before.before.before.before.before in
     record { room = omega (arith, ok-length s.args.touched s.args.entries s.args.grade) }
 
-line-end-requires : tie.Need-line-end-requires
+line-end-requires : tie.Need-line_end-requires
 line-end-requires c κs =
     let s = c.before.before.before.before.before.before.before.before.before.before.before.before.before.before.before.before.before.before in
     record { room = omega (arith, ok-length s.args.touched s.args.entries s.args.grade) }
 
-same_length : tie.Need-same-length
+same_length : tie.Need-shape_of-out
 same_length c = search rules
 
 returns : tie.Need-returns
@@ -44,13 +44,13 @@ returns c =
     let l1 = l2.before.before.before.before in
     let s = l1.before.before.before in
     let long = ok-length s.args.touched s.args.entries s.args.grade in
-    let w2 = written-join (omega arith) l1.letters.ensures l2.marked.ensures in
-    let w3 = written-join (omega arith) w2 l3.marked2.ensures in
-    let w4 = written-join (omega arith) w3 l4.marked3.ensures in
+    let w2 = written-join (omega arith) l1.letters-a.ensures l2.marked-b.ensures in
+    let w3 = written-join (omega arith) w2 l3.marked-d.ensures in
+    let w4 = written-join (omega arith) w3 l4.marked-e.ensures in
     written-join (omega arith) w4 l5.line-end.ensures
 
-pub ok-line-spec : {M : Type 1} → statement M
-ok-line-spec =
+pub ok_line_spec : {M : Type 1} → statement M
+ok_line_spec =
     tie.close
     (tie.spec
     letters-requires

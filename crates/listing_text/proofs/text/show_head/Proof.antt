@@ -6,7 +6,7 @@ use borrow.Author.Rules.{rules}
 use Rattle.listing_text.proofs.text.show_head.Statement.{statement}
 use Rattle.listing_text.proofs.text.show_head.Tie as tie
 
-number-requires : tie.Need-number-requires
+number-requires : tie.Need-number-a-requires
 number-requires c κs =
     let s = c.before.before in
     record { room = omega (arith, head-length s.args.column s.args.parent) }
@@ -16,14 +16,14 @@ marked-requires c κs =
     let s = c.before.before.before.before.before.before in
     record { room = omega (arith, head-length s.args.column s.args.parent) }
 
-same_length : tie.Need-same-length
+same_length : tie.Need-shape_of-out
 same_length c = search rules
 
 returns : tie.Need-returns
 unfolding show_head
 returns c =
     let s = c.before.before.before.before.before.before.before.before.before in
-    written-join (omega (arith, head-length s.args.column s.args.parent)) c.before.before.before.before.before.before.number.ensures c.before.before.marked.ensures
+    written-join (omega (arith, head-length s.args.column s.args.parent)) c.before.before.before.before.before.before.number-a.ensures c.before.before.marked.ensures
 
-pub show-head-spec : {M : Type 1} → statement M
-show-head-spec = tie.close (tie.spec number-requires marked-requires same_length returns)
+pub show_head_spec : {M : Type 1} → statement M
+show_head_spec = tie.close (tie.spec number-requires marked-requires same_length returns)
