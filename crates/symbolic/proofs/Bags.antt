@@ -104,6 +104,7 @@ id-mem (later m) = later (id-mem m)
 
 pub column-of : (cs : List Column) {c : Column} → no_repeats (ids_of cs) ≡ true → Mem c cs → column_of c.id cs ≡ c
 unfolding no_repeats ids_of column_of
+column-of [] {c = c} h x'' = elim x'' [ ]
 column-of (d ∷ cs) {c} h first = rw (eq-eqb c.id c.id refl)
 column-of (d ∷ cs) {c} h (later m) =
     let t : (not (among d.id (ids_of cs)) ≡ true) × (no_repeats (ids_of cs) ≡ true) =

@@ -88,6 +88,16 @@ data First (j i : ℕ) (ns : List ℕ) (p : ℕ) : Type 0 where
   nothing : p ≡ 0 → ((k : ℕ) → k < length ns → j < i + k → get_or ns k 0 ≡ 0) → First j i ns p
   found : (k : ℕ) → k < length ns → p ≡ i + k → j < i + k → 0 < get_or ns k 0 → ((l : ℕ) → l < k → j < i + l → get_or ns l 0 ≡ 0) → First j i ns p
 
+-- one more place before those of ns
+places : (i j n : ℕ) (ns : List ℕ) (e : ℕ) → n ≡ 0 → ((k : ℕ) → k < e → j < suc i + k → get_or ns k 0 ≡ 0) → (k : ℕ) → k < suc e → j < i + k → get_or (n ∷ ns) k 0 ≡ 0
+places i j n ns e b h zero u v = b
+places i j n ns e b h (suc k) u v = h k (omega arith) (omega arith)
+
+-- the same from a row on that is not above j
+places-up : (i j n : ℕ) (ns : List ℕ) (e : ℕ) → i ≤ j → ((k : ℕ) → k < e → j < suc i + k → get_or ns k 0 ≡ 0) → (k : ℕ) → k < suc e → j < i + k → get_or (n ∷ ns) k 0 ≡ 0
+places-up i j n ns e a h zero u v = absurd (omega (arith, add-zero i))
+places-up i j n ns e a h (suc k) u v = h k (omega arith) (omega arith)
+
 first-is : (j i : ℕ) (ns : List ℕ) → First j i ns (first_above j i ns)
 unfolding first_above
 first-is j i [] = nothing refl (λ k a b. absurd (omega arith))
@@ -95,20 +105,17 @@ first-is j i (n ∷ ns) = go (first_above j (suc i) ns) (first-is j (suc i) ns) 
   where
     go : (p : ℕ) → First j (suc i) ns p → (j < i) ⊎ (i ≤ j) → (n ≡ 0) ⊎ (0 < n) → First j i (n ∷ ns) (pick (ltb j i && not (eqb n 0)) i p)
     go p (nothing z h) (inr a) b =
-        rw (le-ltb j i a) (nothing z (λ k. elim k [
-          | zero ↦ λ x y. absurd (omega (arith, add-zero i))
-          | suc k ↦ λ x y. h k (omega arith) (omega arith)
-        ]))
+        rw (le-ltb j i a) (nothing z (places-up i j n ns (length ns) a h))
     go p (nothing z h) (inl a) (inl b) =
-        rw (lt-ltb j i a, eq-eqb n 0 b) (nothing z (λ k. elim k [ zero ↦ λ x y. b | suc k ↦ λ x y. h k (omega arith) (omega arith) ]))
+        rw (lt-ltb j i a, eq-eqb n 0 b) (nothing z (places i j n ns (length ns) b h))
     go p (nothing z h) (inl a) (inr b) =
         rw (lt-ltb j i a, ne_eqb n 0 (omega arith)) (found 0 (omega arith) (omega arith) (omega arith) b (λ l x y. absurd (omega arith)))
     go p (found k x e y z h) (inr a) b =
         rw (le-ltb j i a) (found (suc k) (omega arith) (omega arith) (omega arith) z
-        (λ l. elim l [ zero ↦ λ u v. absurd (omega arith) | suc l ↦ λ u v. h l (omega arith) (omega arith) ]))
+        (places-up i j n ns k a h))
     go p (found k x e y z h) (inl a) (inl b) =
         rw (lt-ltb j i a, eq-eqb n 0 b) (found (suc k) (omega arith) (omega arith) (omega arith) z
-        (λ l. elim l [ zero ↦ λ u v. b | suc l ↦ λ u v. h l (omega arith) (omega arith) ]))
+        (places i j n ns k b h))
     go p (found k x e y z h) (inl a) (inr b) =
         rw (lt-ltb j i a, ne_eqb n 0 (omega arith)) (found 0 (omega arith) (omega arith) (omega arith) b (λ l x y. absurd (omega arith)))
 

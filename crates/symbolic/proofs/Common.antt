@@ -81,7 +81,7 @@ path-moves : {m : ℕ} {S M : ℕ → ℕ → ℕ} {P Q : ℕ → ℕ} → IsFac
     {i k : ℕ} → 1 ≤ i → i ≤ m → OnPath P i k → OnPath Q i k
 path-moves L e a b here = here
 path-moves {M = M} {P = P} {Q = Q} L e a b (up {j = i} {k = k} p u) =
-    let v : (i < P i) × (P i ≤ _) × (0 < M (P i) i) = L.parent_in_lem i a b p in
+    let v : (i < P i) × (P i ≤ _) × (0 < M (P i) i) = L.parent_in i a b p in
     let q : 0 < Q i = omega (arith, e i a b) in
     up q (subst (λ (x : ℕ). OnPath Q x k) (e i a b) (path-moves L e (omega arith) v.1 u))
 

@@ -87,7 +87,7 @@ module _ {m : ℕ} {S M : ℕ → ℕ → ℕ} {P : ℕ → ℕ} (L : IsFactor m
               let z : (c : ℕ) × (1 ≤ c) × (c ≤ m) × (child_with M P j i c ≡ true) =
               count-find (child_with M P j i) m (omega (arith, L.counted i j a b d, ap one (ne_eqb i j e))) in
               let w : (P z.0 ≡ j) × (0 < M i z.0) = child-inv M P j i z.0 z.3 in
-              let v : (z.0 < P z.0) × (P z.0 ≤ m) × (0 < M (P z.0) z.0) = L.parent_in_lem z.0 z.1 z.2 (omega arith) in
+              let v : (z.0 < P z.0) × (P z.0 ≤ m) × (0 < M (P z.0) z.0) = L.parent_in z.0 z.1 z.2 (omega arith) in
               inr (inl (z.0, z.1, omega arith, w.0, w.1))
         ]
       ]
@@ -105,7 +105,7 @@ module _ {m : ℕ} {S M : ℕ → ℕ → ℕ} {P : ℕ → ℕ} (L : IsFactor m
         | inl z ↦ absurd (omega (arith, L.root i j a b d z))
         | inr p ↦ elim (lt-or-le i (P j)) [
           | inl q ↦ absurd (omega (arith, L.parent-least i j a b d q))
-          | inr q ↦ (p, (L.parent_in_lem j a (omega arith) p).0, q)
+          | inr q ↦ (p, (L.parent_in j a (omega arith) p).0, q)
         ]
       ]
 
@@ -142,7 +142,7 @@ module _ {m : ℕ} {S M : ℕ → ℕ → ℕ} {P : ℕ → ℕ} (L : IsFactor m
   pub path-within : {s j : ℕ} → 1 ≤ s → s ≤ m → OnPath P s j → (s ≤ j) × (j ≤ m)
   path-within a b here = (omega arith, b)
   path-within a b (up {j = s} {k = j} p u) =
-      let v : (s < P s) × (P s ≤ m) × (0 < M (P s) s) = L.parent_in_lem s a b p in
+      let v : (s < P s) × (P s ≤ m) × (0 < M (P s) s) = L.parent_in s a b p in
       let w : (P s ≤ j) × (j ≤ m) = path-within (omega arith) v.1 u in
       (omega arith, w.1)
 
@@ -160,7 +160,7 @@ module _ {m : ℕ} {S M : ℕ → ℕ → ℕ} {P : ℕ → ℕ} (L : IsFactor m
   pub child-below : (j i c : ℕ) → 1 ≤ j → 1 ≤ c → c ≤ m → child_with M P j i c ≡ true → c < j
   child-below j i c o a b h =
       let w : (P c ≡ j) × (0 < M i c) = child-inv M P j i c h in
-      let v : (c < P c) × (P c ≤ m) × (0 < M (P c) c) = L.parent_in_lem c a b (omega arith) in
+      let v : (c < P c) × (P c ≤ m) × (0 < M (P c) c) = L.parent_in c a b (omega arith) in
       omega arith
 
   -- no column from j on is a child of j

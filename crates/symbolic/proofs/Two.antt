@@ -23,15 +23,15 @@ module _ {m : ℕ} {S M : ℕ → ℕ → ℕ} {P : ℕ → ℕ} (L : IsFactor m
         | inl z ↦ elim (zero-or-pos (P' j)) [
           | inl y ↦ omega arith
           | inr y ↦
-              let v : (j < P' j) × (P' j ≤ m) × (0 < M' (P' j) j) = L'.parent_in_lem j a b y in
+              let v : (j < P' j) × (P' j ≤ m) × (0 < M' (P' j) j) = L'.parent_in j a b y in
               absurd (omega (arith, h (P' j) (omega arith) v.1, L.root (P' j) j a v.0 v.1 z))
         ]
         | inr z ↦
-            let u : (j < P j) × (P j ≤ m) × (0 < M (P j) j) = L.parent_in_lem j a b z in
+            let u : (j < P j) × (P j ≤ m) × (0 < M (P j) j) = L.parent_in j a b z in
             elim (zero-or-pos (P' j)) [
               | inl y ↦ absurd (omega (arith, h (P j) (omega arith) u.1, L'.root (P j) j a u.0 u.1 y))
               | inr y ↦
-                  let v : (j < P' j) × (P' j ≤ m) × (0 < M' (P' j) j) = L'.parent_in_lem j a b y in
+                  let v : (j < P' j) × (P' j ≤ m) × (0 < M' (P' j) j) = L'.parent_in j a b y in
                   elim (lt-or-le (P j) (P' j)) [
                     | inl q ↦ absurd (omega (arith, h (P j) (omega arith) u.1, L'.parent-least (P j) j a u.0 u.1 q))
                     | inr q ↦ elim (lt-or-le (P' j) (P j)) [
@@ -71,7 +71,7 @@ module _ {m : ℕ} {S M : ℕ → ℕ → ℕ} {P : ℕ → ℕ} (L : IsFactor m
         | inl e ↦ rw e (diagonal-in L' j a (omega arith))
         | inr (inr s) ↦ start-in L' j i a b d (w j i s)
         | inr (inl z) ↦
-            let v : (z.0 < P z.0) × (P z.0 ≤ m) × (0 < M (P z.0) z.0) = L.parent_in_lem z.0 z.1 (omega arith) (omega arith) in
+            let v : (z.0 < P z.0) × (P z.0 ≤ m) × (0 < M (P z.0) z.0) = L.parent_in z.0 z.1 (omega arith) (omega arith) in
             pattern-fill L' z.0 i j z.1 (omega arith) b d
             (grows-by w n j z.0 (omega arith) z.1 (omega arith) (omega arith) (subst (λ (x : ℕ). 0 < M x z.0) z.3 v.2))
             (grows-by w n i z.0 (omega arith) z.1 (omega arith) d z.4)
@@ -83,7 +83,7 @@ module _ {m : ℕ} {S M : ℕ → ℕ → ℕ} {P : ℕ → ℕ} (L : IsFactor m
   -- with more starts a parent stays or falls
   pub parent-falls : ((j i : ℕ) → 0 < S j i → 0 < S' j i) → (j : ℕ) → 1 ≤ j → j ≤ m → 0 < P j → (0 < P' j) × (P' j ≤ P j)
   parent-falls w j a b p =
-      let v : (j < P j) × (P j ≤ m) × (0 < M (P j) j) = L.parent_in_lem j a b p in
+      let v : (j < P j) × (P j ≤ m) × (0 < M (P j) j) = L.parent_in j a b p in
       let t : (0 < P' j) × (j < P' j) × (P' j ≤ P j) =
       parent-reaches L' (P j) j a v.0 v.1 (pattern-grows w (P j) j a (omega arith) v.1 v.2) in
       (t.0, t.2)
@@ -91,7 +91,7 @@ module _ {m : ℕ} {S M : ℕ → ℕ → ℕ} {P : ℕ → ℕ} (L : IsFactor m
   -- the smaller factor's parent is on the larger factor's path
   pub parent-on-path : ((j i : ℕ) → 0 < S j i → 0 < S' j i) → (j : ℕ) → 1 ≤ j → j ≤ m → 0 < P j → OnPath P' j (P j)
   parent-on-path w j a b p =
-      let v : (j < P j) × (P j ≤ m) × (0 < M (P j) j) = L.parent_in_lem j a b p in
+      let v : (j < P j) × (P j ≤ m) × (0 < M (P j) j) = L.parent_in j a b p in
       pattern-on-path L' j (P j) a (omega arith) v.1 (pattern-grows w (P j) j a (omega arith) v.1 v.2)
 
 module _ {m : ℕ} {S M : ℕ → ℕ → ℕ} {P : ℕ → ℕ} (L : IsFactor m S M P) {S' M' : ℕ → ℕ → ℕ} {P' : ℕ → ℕ} (L' : IsFactor m S' M' P') where
@@ -114,7 +114,7 @@ module _ {m : ℕ} {S M : ℕ → ℕ → ℕ} {P : ℕ → ℕ} (L : IsFactor m
     pub path-closed : {c j : ℕ} → 1 ≤ c → c ≤ m → OnPath P' c j → T c → T j
     path-closed a b here t = t
     path-closed a b (up {j = c} {k = j} p u) t =
-        let v : (c < P' c) × (P' c ≤ m) × (0 < M' (P' c) c) = L'.parent_in_lem c a b p in
+        let v : (c < P' c) × (P' c ≤ m) × (0 < M' (P' c) c) = L'.parent_in c a b p in
         path-closed (omega arith) v.1 u (closed c a b t p)
 
     module _ (w : (j i : ℕ) → 0 < S j i → 0 < S' j i) (off : (j i : ℕ) → 1 ≤ j → j ≤ m → (T j → ⊥) → S j i ≡ S' j i) where

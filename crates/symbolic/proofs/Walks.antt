@@ -56,7 +56,7 @@ module _ {m : ℕ} {S M : ℕ → ℕ → ℕ} {P : ℕ → ℕ} (L : IsFactor m
         | inr (inr s) ↦ edge (G.from_start j i a b s)
         | inr (inl z) ↦
             let c : ℕ = z.0 in
-            let v : (c < P c) × (P c ≤ m) × (0 < M (P c) c) = L.parent_in_lem c z.1 (omega arith) (omega arith) in
+            let v : (c < P c) × (P c ≤ m) × (0 < M (P c) c) = L.parent_in c z.1 (omega arith) (omega arith) in
             let p : 0 < M j c = subst (λ (x : ℕ). 0 < M x c) z.3 v.2 in
             walk-joins (walk-wider (omega arith) (walk-back G.swap (walk-by n j c (omega arith) z.1 (omega arith) (omega arith) p))) z.2
             (walk-wider (omega arith) (walk-by n i c (omega arith) z.1 (omega arith) d z.4))
@@ -105,7 +105,7 @@ module _ {m : ℕ} {S M : ℕ → ℕ → ℕ} {P : ℕ → ℕ} (L : IsFactor m
           | inl e ↦ absurd (q e)
           | inr (inr s) ↦ start i j a (omega arith) d s
           | inr (inl z) ↦
-              let v : (z.0 < P z.0) × (P z.0 ≤ m) × (0 < M (P z.0) z.0) = L.parent_in_lem z.0 z.1 (omega arith) (omega arith) in
+              let v : (z.0 < P z.0) × (P z.0 ≤ m) × (0 < M (P z.0) z.0) = L.parent_in z.0 z.1 (omega arith) (omega arith) in
               fill i j z.0 z.1 z.2 (omega arith) d (least_by n i z.0 (omega arith) z.1 (omega arith) d z.4)
               (least_by n j z.0 (omega arith) z.1 (omega arith) (omega arith) (subst (λ (x : ℕ). 0 < M x z.0) z.3 v.2))
         ]

@@ -8,11 +8,11 @@ use borrow.Author.Rules.{rules}
 use Rattle.listing_text.proofs.command.add_rest.Statement.{statement}
 use Rattle.listing_text.proofs.command.add_rest.Tie as tie
 
-abbrev entry : tie.After-word-end → tie.Start
+abbrev entry : tie.After-word_end-end → tie.Start
 entry c = c.before.before.before.before.before
 
 -- the id after the word's end
-first : (c : tie.After-word-end) → First (entry c).args.line.now (entry c).args.at c.word_end-end.result
+first : (c : tie.After-word_end-end) → First (entry c).args.line.now (entry c).args.at c.word_end-end.result
 first c = first-number (entry c).args.line.now (entry c).args.at c.word_end-end.result (entry c).requires.ends (omega arith) c.word_end-end.ensures
 
 numbers-count-requires : tie.Need-numbers_count-count-requires
@@ -21,7 +21,7 @@ numbers-count-requires c κs = search rules
 returns : tie.Need-returns-then-count-lt2
 returns c =
     let s = c.before.before.before.before in
-    add-few (numbers_of (drop s.args.at s.args.line.now)) s.args.rows-1.now c.before.numbers_count-count.result c.before.numbers_count-count.ensures (omega arith)
+    add-few (numbers_of (drop s.args.at s.args.line.now)) s.args.rows.now c.before.numbers_count-count.result c.before.numbers_count-count.ensures (omega arith)
 
 add_start : tie.Need-overflow_add-start
 add_start c = search rules
@@ -63,15 +63,15 @@ returns-2 c =
     let w = c.before.before.before.before.before.before in
     let n = w.before.before in
     add-more
-    (entry w).args.rows-1.now
-    c.before.before.numbers-write.new.1.0
+    (entry w).args.rows.now
+    c.before.before.numbers_write.new.1.0
     n.numbers_count-count.result
     c.before.before.before.before.number_value-id.result
     (first w)
     n.numbers_count-count.ensures
     (omega arith)
     c.before.before.before.before.number_value-id.ensures
-    c.before.before.numbers-write.ensures
+    c.before.before.numbers_write.ensures
 
 pub add_rest_spec : {M : Type 1} → statement M
 add_rest_spec =

@@ -14,7 +14,7 @@ abbrev entry : tie.Then-numbers_count-ne1 → tie.Start
 entry c = c.before.before.before
 
 -- the number after the word's end
-first : (c : tie.After-word-end) → First c.before.before.before.before.args.line.now c.before.before.before.before.args.at c.word_end-end.result
+first : (c : tie.After-word_end-end) → First c.before.before.before.before.args.line.now c.before.before.before.before.args.at c.word_end-end.result
 first c =
     let s = c.before.before.before.before in
     first-number s.args.line.now s.args.at c.word_end-end.result s.requires (omega arith) c.word_end-end.ensures
@@ -23,7 +23,7 @@ numbers-count-requires : tie.Need-numbers_count-requires
 numbers-count-requires c κs = search rules
 
 returns : tie.Need-returns-then-numbers_count-ne1
-returns c = drop-other (numbers_of (drop (entry c).args.at (entry c).args.line.now)) c.before.numbers-count.result c.before.numbers-count.ensures c.if-numbers_count-ne1.true
+returns c = drop-other (numbers_of (drop (entry c).args.at (entry c).args.line.now)) c.before.numbers_count.result c.before.numbers_count.ensures c.if-numbers_count-ne1.true
 
 add_start : tie.Need-overflow_add-start
 add_start c = search rules
@@ -46,7 +46,7 @@ number-value-requires c κs = (first c.before).number
 returns-2 : tie.Need-returns
 returns-2 c =
     let n = c.before.before.before.before in
-    ap Drop c.number-value.ensures ∙ drop-one n.numbers-count.result (first c.before.before) n.numbers-count.ensures c.before.before.before.if-numbers_count-ne1.false
+    ap Drop c.number_value.ensures ∙ drop-one n.numbers_count.result (first c.before.before) n.numbers_count.ensures c.before.before.before.if-numbers_count-ne1.false
 
 pub drop_rest_spec : {M : Type 1} → statement M
 drop_rest_spec =

@@ -34,12 +34,12 @@ shared-slice-read-digit c = omega arith
 returns-2 : tie.Need-returns-then-digit-lt48 invariant-loop-i decreases-loop-i
 returns-2 c =
     let l = at-loop c.before.before in
-    sym (rest-low (text l) l.loop-i.value l.loop-i.i c.before.before.loop-i-test.true (omega arith)) ∙ l.loop-i.inv.2
+    sym (rest-low (text l) l.loop-i.value l.loop-i.i c.before.before.loop-i-test.true (omega arith)) ∙ l.loop-i.invariant.2
 
 returns-3 : tie.Need-returns-then-digit-gt57 invariant-loop-i decreases-loop-i
 returns-3 c =
     let l = at-loop c.before.before.before in
-    sym (rest-high (text l) l.loop-i.value l.loop-i.i c.before.before.before.loop-i-test.true (omega arith) (omega arith)) ∙ l.loop-i.inv.2
+    sym (rest-high (text l) l.loop-i.value l.loop-i.i c.before.before.before.loop-i-test.true (omega arith) (omega arith)) ∙ l.loop-i.invariant.2
 
 mul-value : tie.Need-overflow_mul-value invariant-loop-i decreases-loop-i
 mul-value c = omega arith
@@ -54,7 +54,7 @@ returns-4 : tie.Need-returns-then-value-ge-LIMIT invariant-loop-i decreases-loop
 returns-4 c =
     let t = c.before.before.before.before in
     let l = at-loop t in
-    sym (rest-large (drop (l.loop-i.i + 1) (text l)) (10 * l.loop-i.value + (get_or (text l) l.loop-i.i 0 - 48)) (omega arith)) ∙ rest-step (text l) l.loop-i.value l.loop-i.i t.loop-i-test.true (omega arith) (omega arith) ∙ l.loop-i.inv.2
+    sym (rest-large (drop (l.loop-i.i + 1) (text l)) (10 * l.loop-i.value + (get_or (text l) l.loop-i.i 0 - 48)) (omega arith)) ∙ rest-step (text l) l.loop-i.value l.loop-i.i t.loop-i-test.true (omega arith) (omega arith) ∙ l.loop-i.invariant.2
 
 add-i : tie.Need-overflow_add-i invariant-loop-i decreases-loop-i
 add-i c = omega arith
@@ -66,7 +66,7 @@ loop-again : tie.Need-loop-i-preserved invariant-loop-i decreases-loop-i
 loop-again c =
     let t = c.before.before.before.before in
     let l = at-loop t in
-    (omega arith, omega arith, rest-step (text l) l.loop-i.value l.loop-i.i t.loop-i-test.true (omega arith) (omega arith) ∙ l.loop-i.inv.2)
+    (omega arith, omega arith, rest-step (text l) l.loop-i.value l.loop-i.i t.loop-i-test.true (omega arith) (omega arith) ∙ l.loop-i.invariant.2)
 
 returns-5 : tie.Need-returns invariant-loop-i decreases-loop-i
 returns-5 c =

@@ -16,7 +16,7 @@ abbrev decreases-loop-end : tie.decreases-loop-end
 decreases-loop-end line at end₀ count₀ end count = length line - end
 
 -- the word that a turn finds
-next : (c : tie.After-word-end invariant-loop-end decreases-loop-end) → Next c.before.before.before.before.args.line.now c.before.before.loop-end.end c.word_end-end.result
+next : (c : tie.After-word_end-end invariant-loop-end decreases-loop-end) → Next c.before.before.before.before.args.line.now c.before.before.loop-end.end c.word_end-end.result
 next c =
     let l = c.before.before in
     word_next l.before.before.args.line.now l.loop-end.end c.word_end-end.result l.loop-end.invariant.ends c.before.loop-end-test.true c.word_end-end.ensures

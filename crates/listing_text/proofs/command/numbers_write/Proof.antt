@@ -19,22 +19,22 @@ abbrev entry : tie.In-loop-end invariant-loop-end decreases-loop-end → tie.Sta
 entry c = c.before.before.before.before
 
 -- the word that a turn finds
-next : (c : tie.After-word-end invariant-loop-end decreases-loop-end) → Next (entry c.before).args.line.now c.before.before.loop-end.end c.word_end-end.result
+next : (c : tie.After-word_end-end invariant-loop-end decreases-loop-end) → Next (entry c.before).args.line.now c.before.before.loop-end.end c.word_end-end.result
 next c =
     let l = c.before.before in
     word_next (entry c.before).args.line.now l.loop-end.end c.word_end-end.result l.loop-end.invariant.ends c.before.loop-end-test.true c.word_end-end.ensures
 
 -- the place that it writes
-pub record Place (c : tie.After-word-end invariant-loop-end decreases-loop-end) : Type 0 where
+pub record Place (c : tie.After-word_end-end invariant-loop-end decreases-loop-end) : Type 0 where
   pub below : c.before.before.loop-end.count < length (entry c.before).args.values.now
   pub long : length c.before.before.loop-end.values ≡ length (entry c.before).args.values.now
   pub room : length (entry c.before).args.values.now * 4 < 2 ^ 63
 
-place : (c : tie.After-word-end invariant-loop-end decreases-loop-end) → Place c
+place : (c : tie.After-word_end-end invariant-loop-end decreases-loop-end) → Place c
 place c =
     let i = c.before.before.loop-end.invariant in
     let s = entry c.before in
-    record { below = writing-below s.pre i (next c); long = writing-length s.pre i; room = s.good.1.0.1 }
+    record { below = writing-below s.requires i (next c); long = writing-length s.requires i; room = s.good.1.0.1 }
 
 loop-holds : tie.Need-loop-end-init invariant-loop-end decreases-loop-end
 loop-holds c = writing_start c.before.before.requires
@@ -55,7 +55,7 @@ part-number-value-end : tie.Need-slice_bounds-number_value-end invariant-loop-en
 part-number-value-end c = (next c).ends.within
 
 number-value-requires : tie.Need-number_value-requires invariant-loop-end decreases-loop-end
-number-value-requires c κs = writing-number (entry c.before.before).pre c.before.before.before.loop-end.invariant (next c.before)
+number-value-requires c κs = writing-number (entry c.before.before).requires c.before.before.before.loop-end.invariant (next c.before)
 
 mul-values : tie.Need-offset_bounds-values-count invariant-loop-end decreases-loop-end
 mul-values c = let p = place c.before.before in omega arith
@@ -72,7 +72,7 @@ loop-less c = let n = next c.before.before in omega arith
 loop-again : tie.Need-loop-end-preserved invariant-loop-end decreases-loop-end
 loop-again c =
     let t = c.before.before in
-    rw c.number-value.ensures (writing-keep (entry t.before).pre t.before.before.loop-end.invariant (next t))
+    rw c.number_value.ensures (writing-keep (entry t.before).requires t.before.before.loop-end.invariant (next t))
 
 same_length : tie.Need-shape_of-values invariant-loop-end decreases-loop-end
 same_length c = writing-length c.before.before.before.before.requires c.before.loop-end.invariant

@@ -13,7 +13,7 @@ numbers-count-requires c κs = search rules
 returns : tie.Need-returns-then-numbers_count-ne4
 returns c =
     let s = c.before.before.before in
-    open-other (numbers_of (drop s.args.at s.args.line.now)) c.before.numbers-count.result c.before.numbers-count.ensures c.if-numbers_count-ne4.true
+    open-other (numbers_of (drop s.args.at s.args.line.now)) c.before.numbers_count.result c.before.numbers_count.ensures c.if-numbers_count-ne4.true
 
 slice-aggregate-numbers-write : tie.Need-slice_bounds-numbers_write-end
 slice-aggregate-numbers-write c = search rules
@@ -39,7 +39,7 @@ returns-2 : tie.Need-returns
 returns-2 c =
     let n = c.before.before.before.before in
     let s = n.before.before in
-    open-four (numbers_of (drop s.args.at s.args.line.now)) _ c.before.numbers-write.new.1.0 (omega arith) c.before.numbers-write.ensures
+    open-four (numbers_of (drop s.args.at s.args.line.now)) _ c.before.numbers_write.new.1.0 (omega arith) c.before.numbers_write.ensures
 
 pub open_rest_spec : {M : Type 1} → statement M
 open_rest_spec =

@@ -22,7 +22,7 @@ same_length c = c.before.before.number.auto.0 ∙ simp length-set refl
 returns : tie.Need-returns
 returns c =
     let s = c.before.before.before.before.before in
-    written-join (omega arith) (written_byte s.args.out-1.now s.args.at s.args.mark (omega arith)) c.before.before.number.ensures
+    written-join (omega arith) (written_byte s.args.out.now s.args.at s.args.mark (omega arith)) c.before.before.number.ensures
 
 pub marked_spec : {M : Type 1} → statement M
 marked_spec = tie.close (tie.spec slice-write-out add-number number-requires same_length returns)

@@ -40,7 +40,7 @@ returns c =
     let long = no_length s.args.refusal s.args.position in
     let w2 = written-join (omega arith) l1.letters-a.ensures l2.marked-b.ensures in
     let w3 = written-join (omega arith) w2 l3.marked-d.ensures in
-    written-join (omega arith) w3 l4.line-end.ensures
+    written-join (omega arith) w3 l4.line_end.ensures
 
 pub no_line_spec : {M : Type 1} → statement M
 no_line_spec =

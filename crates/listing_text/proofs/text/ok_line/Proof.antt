@@ -47,7 +47,7 @@ returns c =
     let w2 = written-join (omega arith) l1.letters-a.ensures l2.marked-b.ensures in
     let w3 = written-join (omega arith) w2 l3.marked-d.ensures in
     let w4 = written-join (omega arith) w3 l4.marked-e.ensures in
-    written-join (omega arith) w4 l5.line-end.ensures
+    written-join (omega arith) w4 l5.line_end.ensures
 
 pub ok_line_spec : {M : Type 1} → statement M
 ok_line_spec =
