@@ -64,7 +64,7 @@ returns-2 c =
     let n = w.before.before in
     add-more
     (entry w).args.rows.now
-    c.before.before.numbers_write.new.1.0
+    c.before.before.numbers_write.new.values
     n.numbers_count-count.result
     c.before.before.before.before.number_value-id.result
     (first w)

@@ -34,7 +34,7 @@ place : (c : tie.After-word_end-end invariant-loop-end decreases-loop-end) → P
 place c =
     let i = c.before.before.loop-end.invariant in
     let s = entry c.before in
-    record { below = writing-below s.requires i (next c); long = writing-length s.requires i; room = s.good.1.0.1 }
+    record { below = writing-below s.requires i (next c); long = writing-length s.requires i; room = s.well_formed.1.0.1 }
 
 loop-holds : tie.Need-loop-end-init invariant-loop-end decreases-loop-end
 loop-holds c = writing_start c.before.before.requires

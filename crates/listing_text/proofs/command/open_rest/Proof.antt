@@ -39,7 +39,7 @@ returns-2 : tie.Need-returns
 returns-2 c =
     let n = c.before.before.before.before in
     let s = n.before.before in
-    open-four (numbers_of (drop s.args.at s.args.line.now)) _ c.before.numbers_write.new.1.0 (omega arith) c.before.numbers_write.ensures
+    open-four (numbers_of (drop s.args.at s.args.line.now)) _ c.before.numbers_write.new.values (omega arith) c.before.numbers_write.ensures
 
 pub open_rest_spec : {M : Type 1} → statement M
 open_rest_spec =

@@ -98,7 +98,7 @@ returns-3 : tie.Need-returns-then-word_is-2
 returns-3 c =
     let w = c.before.before.before.before.before in
     let e = at_open (at-add w) in
-    parsed-add (short e) (front e) (no-open w) (entry e).args.rows.now c.before.before.add_rest.new.1.0 c.before.before.add_rest.result (sym w.word_is-2.ensures ∙ c.before.before.before.before.if-word_is-2.true) c.before.before.add_rest.ensures
+    parsed-add (short e) (front e) (no-open w) (entry e).args.rows.now c.before.before.add_rest.new.rows c.before.before.add_rest.result (sym w.word_is-2.ensures ∙ c.before.before.before.before.if-word_is-2.true) c.before.before.add_rest.ensures
 
 slice-aggregate-word-is-5 : tie.Need-slice-aggregate-word-is-5
 slice-aggregate-word-is-5 c = part (at_open (at-add c.before.before))
