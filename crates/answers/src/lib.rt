@@ -11,7 +11,7 @@ use pool::Rec;
 
 // What a change answers, with the record after it. The entries are the sum of the touched columns' sizes, of each the larger of before and after.
 #[repr(C)]
-#[derive(Drop)]
+#[derive(Clone, Copy)]
 pub struct Changed {
     pub number: u32,
     pub position: u32,

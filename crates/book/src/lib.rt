@@ -13,11 +13,11 @@ ghost use Rattle.book.specs.Tally.{tallied, filled, booked_rows, CanCount};
 use pool::{Chain, Rec, Walk};
 
 // A row number, from 1.
-#[derive(Drop)]
+#[derive(Clone, Copy)]
 pub struct Row(pub u32);
 
 // A column's id, from 1.
-#[derive(Drop)]
+#[derive(Clone, Copy)]
 pub struct Id(pub u32);
 
 // Writes a book with no column, and gives the free head.

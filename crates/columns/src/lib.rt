@@ -12,7 +12,7 @@ use book::Row;
 use pool::Rec;
 
 // Where a commit stands: the last record that is done, then the free chain's head.
-#[derive(Drop)]
+#[derive(Clone, Copy)]
 struct Spot(Rec, Rec);
 
 // Writes fresh columns: column j is record j alone, the other records are free. Gives the free head.

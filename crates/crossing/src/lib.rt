@@ -7,7 +7,7 @@ use reader::Entry;
 
 // What an opening answers: number 0 and the record, or the number of the refusal and a record of zeros.
 #[repr(C)]
-#[derive(Drop)]
+#[derive(Clone, Copy)]
 pub struct Opened {
     pub number: u32,
     pub factor: Factor,
@@ -15,7 +15,7 @@ pub struct Opened {
 
 // What is read at a record: row, multiplicity and the record after it, 0 if there is none. At the end all are 0.
 #[repr(C)]
-#[derive(Drop)]
+#[derive(Clone, Copy)]
 pub struct Read {
     pub row: u32,
     pub multiplicity: u32,

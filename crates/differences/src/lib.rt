@@ -19,7 +19,7 @@ use workspace::{BUFFER, PLAN};
 pub const BASE: u32 = 1073741824;
 
 // How far a gathering came: the rows in the buffer, and the first entry of the plan that it did not pass.
-#[derive(Drop)]
+#[derive(Clone, Copy)]
 pub struct Reach {
     pub rows: usize,
     pub stop: usize,

@@ -4,7 +4,7 @@ ghost use Rattle.symbolic.specs.Grades.{limits_of, are_limits, limits_for};
 ghost use Rattle.early_refusals.specs.Early.{limits_in};
 
 // The limits of the grades: from so many entries on a grade is 2, 3 and 4.
-#[derive(Drop)]
+#[derive(Clone, Copy)]
 pub struct Limits {
     pub grade2: u32,
     pub grade3: u32,

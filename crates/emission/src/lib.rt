@@ -14,7 +14,7 @@ use pool::Rec;
 
 // A walk of a chain: the record at hand and how many are behind it, the plan's end, the rows counted and the first above the diagonal, the next free record,
 // and whether there was one for each new row.
-#[derive(Drop)]
+#[derive(Clone, Copy)]
 pub struct Walk {
     pub at: Rec,
     pub behind: usize,
@@ -27,7 +27,7 @@ pub struct Walk {
 
 // A column planned: whether there are free records for its new rows, the plan's end, the larger of the column's sizes before and after, which is what it
 // counts for in the batch's entries, its parent after, and the free records left.
-#[derive(Drop)]
+#[derive(Clone, Copy)]
 pub struct Emission {
     pub fits: bool,
     pub used: usize,

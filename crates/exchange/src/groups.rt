@@ -16,7 +16,7 @@ use updown::filling;
 use workspace::PLAN;
 
 // Whether what was to enter fits, and the free head after it.
-#[derive(Drop)]
+#[derive(Clone, Copy)]
 pub struct Entered {
     pub fits: bool,
     pub free: Rec,

@@ -16,7 +16,7 @@ use pool::Rec;
 use workspace::PLAN;
 
 // Whether an exchange fits, the free head after it, and whether records were saved, as they are where somebody enters.
-#[derive(Drop)]
+#[derive(Clone, Copy)]
 pub struct Outcome {
     pub fits: bool,
     pub free: Rec,

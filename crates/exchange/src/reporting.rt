@@ -13,7 +13,7 @@ use workspace::{PLAN, UPPER_WEIGHT};
 const LONGEST: u32 = 4096;
 
 // How many columns lie on the paths, and the entries of the exchange.
-#[derive(Drop)]
+#[derive(Clone, Copy)]
 pub struct Summary {
     pub count: u32,
     pub entries: u32,

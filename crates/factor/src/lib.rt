@@ -22,7 +22,7 @@ use state::State;
 
 // The record of sizes, free heads, limits and clock: from so many entries on a grade is 2, 3 and 4; the clock is the minute at which the factor stands.
 #[repr(C)]
-#[derive(Drop)]
+#[derive(Clone, Copy)]
 pub struct Factor {
     pub m: u32,
     pub n: u32,
@@ -37,7 +37,7 @@ pub struct Factor {
 }
 
 // What an opening answers.
-#[derive(Drop)]
+#[derive(Clone, Copy)]
 pub enum Opening {
     Opened(Factor),
     Refused(u32),

@@ -17,7 +17,7 @@ const PIECE: usize = 1024;
 const FEW: usize = 2048;
 
 // After a round: the pieces still queued, and how many records may still be walked.
-#[derive(Drop)]
+#[derive(Clone, Copy)]
 struct Remaining {
     queued: usize,
     left: usize,

@@ -11,7 +11,7 @@ use refusals::Refusal;
 use updown::{Plan, filling};
 
 // What is found before anything is written: the refusal; where its number is 0, the plan.
-#[derive(Drop)]
+#[derive(Clone, Copy)]
 pub struct Verdict {
     pub refusal: Refusal,
     pub plan: Plan,

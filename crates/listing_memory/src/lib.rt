@@ -9,7 +9,7 @@ use factor::{Factor, Opening};
 use listing_text::text;
 
 // The factor after a line, and the end of the bytes written.
-#[derive(Drop)]
+#[derive(Clone, Copy)]
 pub struct Printed {
     pub factor: Factor,
     pub end: usize,

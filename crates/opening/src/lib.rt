@@ -8,7 +8,7 @@ ghost use Rattle.opening.specs.Written.{HoldColumns, ColumnsWritten, HoldBook, B
 use pool::Rec;
 
 // The free head of L, then that of the book.
-#[derive(Drop)]
+#[derive(Clone, Copy)]
 pub struct Heads(pub Rec, pub Rec);
 
 // Writes all tables of a fresh factor, and gives the free heads.

@@ -7,18 +7,18 @@ ghost use Rattle.pool.specs.Changes.{Has, insert_after, unlink_after};
 ghost use Rattle.pool.specs.Opening.{free_head, opened_nexts};
 
 // A record number, from 1; 0 is none.
-#[derive(Drop)]
+#[derive(Clone, Copy)]
 pub struct Rec(pub u32);
 
 // What a walk of chains finds: their end, with the number of records met, or a chain that does not hold what it should.
-#[derive(Drop)]
+#[derive(Clone, Copy)]
 pub enum Walk {
     Ended(usize),
     Cut,
 }
 
 // The same of one chain, with its last record.
-#[derive(Drop)]
+#[derive(Clone, Copy)]
 pub enum Chain {
     Ended(usize, Rec),
     Cut,

@@ -15,7 +15,7 @@ use pool::Rec;
 
 // What a question answers: its number, 0 when accepted, and its value, 0 when refused.
 #[repr(C)]
-#[derive(Drop)]
+#[derive(Clone, Copy)]
 pub struct Reply {
     pub number: u32,
     pub value: u32,
@@ -24,7 +24,7 @@ pub struct Reply {
 // What the question for the next row answers: its number, 0 when accepted; row and multiplicity, both 0 when refused or when the column ends before;
 // the number tells these apart.
 #[repr(C)]
-#[derive(Drop)]
+#[derive(Clone, Copy)]
 pub struct Found {
     pub number: u32,
     pub row: u32,

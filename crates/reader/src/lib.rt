@@ -9,7 +9,7 @@ ghost use Rattle.reader.specs.Reader.{begun, entry_of, moved};
 use pool::Rec;
 
 // What is read at a record: row and multiplicity, and the record after it, 0 if there is none; or the end.
-#[derive(Drop)]
+#[derive(Clone, Copy)]
 pub enum Entry {
     Of { row: u16, count: u16, after: Rec },
     End,

@@ -13,7 +13,7 @@ use pool::Rec;
 pub const MOST_COUNT: u32 = 256;
 
 // A refusal: its number, 0 for none, and its position, 0 where it has none.
-#[derive(Drop)]
+#[derive(Clone, Copy)]
 pub struct Refusal {
     pub number: u32,
     pub position: u32,

@@ -3,7 +3,7 @@
 ghost use Rattle.std.specs.Prelude.{◌≤◌, length};
 
 // What was read of one list: how many numbers, and where the next list begins.
-#[derive(Drop)]
+#[derive(Clone, Copy)]
 pub struct Part {
     pub count: usize,
     pub end: usize,
@@ -64,7 +64,7 @@ pub fn word_of(line: &[u8], words: &[u8]) -> usize {
 // ---- lists
 
 // The numbers so far, and the digits of the one at hand.
-#[derive(Drop)]
+#[derive(Clone, Copy)]
 struct Held {
     count: usize,
     value: u64,

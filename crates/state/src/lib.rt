@@ -2,7 +2,7 @@
 use pool::Rec;
 
 // Sizes m, n, F and C; the free heads of L and of the book; from so many entries on a grade is 2, 3 and 4; the minute at which the clock stands.
-#[derive(Drop)]
+#[derive(Clone, Copy)]
 pub struct State {
     pub m: u32,
     pub n: u32,

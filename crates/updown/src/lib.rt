@@ -29,7 +29,7 @@ pub const LABEL_WEIGHT: u32 = 4;
 pub const PARENT_WEIGHT: u32 = 262144;
 
 // What was planned: whether it fits, the first touched column, their number, the batch's entries, and the places of the plan.
-#[derive(Drop)]
+#[derive(Clone, Copy)]
 pub struct Plan {
     pub fits: bool,
     pub first: Row,

@@ -18,7 +18,7 @@ use pool::Rec;
 use workspace::{CHILDREN, LINKS, MARKS, NEXT, STARTS};
 
 // How far a walk came: whether all fits, the first and the last touched column, their number, the entries, the places of the plan, the free records left.
-#[derive(Drop)]
+#[derive(Clone, Copy)]
 pub struct Walk {
     pub fits: bool,
     pub first: Row,

@@ -11,7 +11,7 @@ pub mod minutes;
 use book::Id;
 
 // A group of ids: how many were collected, and the id to go on from.
-#[derive(Drop)]
+#[derive(Clone, Copy)]
 pub struct Group {
     pub count: usize,
     pub next: Id,

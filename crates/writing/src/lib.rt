@@ -8,7 +8,7 @@ use pool::Rec;
 use updown::Plan;
 
 // The free heads after a batch is written.
-#[derive(Drop)]
+#[derive(Clone, Copy)]
 pub struct FreeHeads {
     pub free: Rec,
     pub book_free: Rec,

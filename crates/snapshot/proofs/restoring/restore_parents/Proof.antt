@@ -6,54 +6,54 @@ use Rattle.snapshot.proofs.Returning.{Taking, taking-start, taking-long, taking-
 use Rattle.snapshot.proofs.restoring.restore_parents.Statement.{statement}
 use Rattle.snapshot.proofs.restoring.restore_parents.Tie as tie
 
-abbrev invariant-loop : tie.invariant-loop
-invariant-loop parents₀ work a m j₀ parents j = Taking parents₀ work a parents j
+abbrev invariant-loop-j : tie.invariant-loop-j
+invariant-loop-j parents₀ work a m j₀ parents j = Taking parents₀ work a parents j
 
-abbrev decreases-loop : tie.decreases-loop
-decreases-loop parents₀ work a m j₀ parents j = m - j
+abbrev decreases-loop-j : tie.decreases-loop-j
+decreases-loop-j parents₀ work a m j₀ parents j = m - j
 
-loop-holds : tie.Need-loop-init invariant-loop decreases-loop
+loop-holds : tie.Need-loop-j-init invariant-loop-j decreases-loop-j
 loop-holds c = taking-start c.requires
 
-add-parents : tie.Need-overflow-add-parents invariant-loop decreases-loop
+add-parents : tie.Need-overflow_add-parents invariant-loop-j decreases-loop-j
 add-parents c = omega arith
 
-mul-parents : tie.Need-overflow-mul-parents invariant-loop decreases-loop
+mul-parents : tie.Need-offset_bounds-work-a invariant-loop-j decreases-loop-j
 mul-parents c = omega arith
 
-shared-slice-read-parents : tie.Need-shared-slice-read-parents invariant-loop decreases-loop
+shared-slice-read-parents : tie.Need-bounds-work-a invariant-loop-j decreases-loop-j
 shared-slice-read-parents c = omega arith
 
-cast-parents : tie.Need-overflow-cast-parents invariant-loop decreases-loop
+cast-parents : tie.Need-overflow_cast-parents invariant-loop-j decreases-loop-j
 cast-parents c = omega arith
 
-mul-parents-2 : tie.Need-overflow-mul-parents-2 invariant-loop decreases-loop
+mul-parents-2 : tie.Need-offset_bounds-parents-j invariant-loop-j decreases-loop-j
 mul-parents-2 c = omega arith
 
-slice-write-parents : tie.Need-slice-write-parents invariant-loop decreases-loop
-slice-write-parents c = omega (arith, taking-long c.before.before.loop.invariant)
+slice-write-parents : tie.Need-bounds-parents-j invariant-loop-j decreases-loop-j
+slice-write-parents c = omega (arith, taking-long c.before.before.loop-j.invariant)
 
-add-j : tie.Need-overflow-add-j invariant-loop decreases-loop
+add-j : tie.Need-overflow_add-j invariant-loop-j decreases-loop-j
 add-j c = omega arith
 
-loop-less : tie.Need-loop-smaller invariant-loop decreases-loop
+loop-less : tie.Need-loop-j-smaller invariant-loop-j decreases-loop-j
 loop-less c = omega arith
 
-loop-again : tie.Need-loop-preserved invariant-loop decreases-loop
-loop-again c = taking-next c.before.before.loop.invariant c.before.loop-test.true
+loop-again : tie.Need-loop-j-preserved invariant-loop-j decreases-loop-j
+loop-again c = taking-next c.before.before.loop-j.invariant c.before.loop-j-test.true
 
-same_length : tie.Need-same-length invariant-loop decreases-loop
-same_length c = taking-long c.before.loop.invariant
+same_length : tie.Need-shape_of-parents invariant-loop-j decreases-loop-j
+same_length c = taking-long c.before.loop-j.invariant
 
-returns : tie.Need-returns invariant-loop decreases-loop
-returns c = taking-end c.before.loop.invariant c.loop-test.false
+returns : tie.Need-returns invariant-loop-j decreases-loop-j
+returns c = taking-end c.before.loop-j.invariant c.loop-j-test.false
 
-pub restore-parents-spec : {M : Type 1} → statement M
-restore-parents-spec =
+pub restore_parents_spec : {M : Type 1} → statement M
+restore_parents_spec =
     tie.close
     (tie.spec
-    invariant-loop
-    decreases-loop
+    invariant-loop-j
+    decreases-loop-j
     loop-holds
     add-parents
     mul-parents

@@ -7,91 +7,91 @@ use Rattle.snapshot.proofs.Returning.{Unpairing, unpairing-start, UnpairingTurn,
 use Rattle.snapshot.proofs.restoring.restore_records.Statement.{statement}
 use Rattle.snapshot.proofs.restoring.restore_records.Tie as tie
 
-abbrev invariant-loop : tie.invariant-loop
-invariant-loop rows₀ counts₀ next₀ work a f k₀ rows counts next k = Unpairing rows₀ counts₀ next₀ work a rows counts next k
+abbrev invariant-loop-k : tie.invariant-loop-k
+invariant-loop-k rows₀ counts₀ next₀ work a f k₀ rows counts next k = Unpairing rows₀ counts₀ next₀ work a rows counts next k
 
-abbrev decreases-loop : tie.decreases-loop
-decreases-loop rows₀ counts₀ next₀ work a f k₀ rows counts next k = f - k
+abbrev decreases-loop-k : tie.decreases-loop-k
+decreases-loop-k rows₀ counts₀ next₀ work a f k₀ rows counts next k = f - k
 
 -- the record of a turn stands in all tables
-turn : (c : tie.In-loop invariant-loop decreases-loop) → UnpairingTurn c.before.loop.invariant
-turn c = unpairing-turn c.before.loop.invariant c.loop-test.true
+turn : (c : tie.In-loop-k invariant-loop-k decreases-loop-k) → UnpairingTurn c.before.loop-k.invariant
+turn c = unpairing-turn c.before.loop-k.invariant c.loop-k-test.true
 
-loop-holds : tie.Need-loop-init invariant-loop decreases-loop
+loop-holds : tie.Need-loop-k-init invariant-loop-k decreases-loop-k
 loop-holds c = unpairing-start c.requires
 
-add-x : tie.Need-overflow-add-x invariant-loop decreases-loop
+add-x : tie.Need-overflow_add-x invariant-loop-k decreases-loop-k
 add-x c = let t = turn c in omega arith
 
-mul-x : tie.Need-overflow-mul-x invariant-loop decreases-loop
+mul-x : tie.Need-offset_bounds-work-a invariant-loop-k decreases-loop-k
 mul-x c = let t = turn c in omega arith
 
-shared-slice-read-x : tie.Need-shared-slice-read-x invariant-loop decreases-loop
+shared-slice-read-x : tie.Need-bounds-work-a invariant-loop-k decreases-loop-k
 shared-slice-read-x c = let t = turn c.before in omega arith
 
-cast-rows : tie.Need-overflow-cast-rows invariant-loop decreases-loop
+cast-rows : tie.Need-overflow_cast-rows invariant-loop-k decreases-loop-k
 cast-rows c = let t = turn c.before in omega arith
 
-mul-rows : tie.Need-overflow-mul-rows invariant-loop decreases-loop
+mul-rows : tie.Need-offset_bounds-rows-k invariant-loop-k decreases-loop-k
 mul-rows c = let t = turn c.before in omega arith
 
-slice-write-rows : tie.Need-slice-write-rows invariant-loop decreases-loop
+slice-write-rows : tie.Need-bounds-rows-k invariant-loop-k decreases-loop-k
 slice-write-rows c = let t = turn c.before in omega arith
 
-cast-counts : tie.Need-overflow-cast-counts invariant-loop decreases-loop
+cast-counts : tie.Need-overflow_cast-counts invariant-loop-k decreases-loop-k
 cast-counts c = let t = turn c.before in omega arith
 
-mul-counts : tie.Need-overflow-mul-counts invariant-loop decreases-loop
+mul-counts : tie.Need-offset_bounds-counts-k invariant-loop-k decreases-loop-k
 mul-counts c = let t = turn c.before in omega arith
 
-slice-write-counts : tie.Need-slice-write-counts invariant-loop decreases-loop
+slice-write-counts : tie.Need-bounds-counts-k invariant-loop-k decreases-loop-k
 slice-write-counts c = let t = turn c.before in omega arith
 
-add-next : tie.Need-overflow-add-next invariant-loop decreases-loop
+add-next : tie.Need-overflow_add-next invariant-loop-k decreases-loop-k
 add-next c = let t = turn c.before in omega arith
 
-add-next-2 : tie.Need-overflow-add-next-2 invariant-loop decreases-loop
+add-next-2 : tie.Need-overflow_add-next-in-loop-k invariant-loop-k decreases-loop-k
 add-next-2 c = let t = turn c.before in omega arith
 
-mul_next : tie.Need-overflow-mul-next invariant-loop decreases-loop
+mul_next : tie.Need-offset_bounds-work-a-in-loop-k invariant-loop-k decreases-loop-k
 mul_next c = let t = turn c.before in omega arith
 
-shared-slice-read-next : tie.Need-shared-slice-read-next invariant-loop decreases-loop
+shared-slice-read-next : tie.Need-bounds-work-a-in-loop-k invariant-loop-k decreases-loop-k
 shared-slice-read-next c = let t = turn c.before.before in omega arith
 
-mul-next-2 : tie.Need-overflow-mul-next-2 invariant-loop decreases-loop
+mul-next-2 : tie.Need-offset_bounds-next-k invariant-loop-k decreases-loop-k
 mul-next-2 c = let t = turn c.before.before in omega arith
 
-slice-write-next : tie.Need-slice-write-next invariant-loop decreases-loop
+slice-write-next : tie.Need-bounds-next-k invariant-loop-k decreases-loop-k
 slice-write-next c = let t = turn c.before.before in omega arith
 
-add-k : tie.Need-overflow-add-k invariant-loop decreases-loop
+add-k : tie.Need-overflow_add-k invariant-loop-k decreases-loop-k
 add-k c = let t = turn c.before.before in omega arith
 
-loop-less : tie.Need-loop-smaller invariant-loop decreases-loop
+loop-less : tie.Need-loop-k-smaller invariant-loop-k decreases-loop-k
 loop-less c = let t = turn c.before.before in omega arith
 
-loop-again : tie.Need-loop-preserved invariant-loop decreases-loop
-loop-again c = unpairing-next c.before.before.before.loop.invariant c.before.before.loop-test.true
+loop-again : tie.Need-loop-k-preserved invariant-loop-k decreases-loop-k
+loop-again c = unpairing-next c.before.before.before.loop-k.invariant c.before.before.loop-k-test.true
 
-same_length : tie.Need-same-length invariant-loop decreases-loop
-same_length c = filling-long c.before.loop.invariant.rows_back
+same_length : tie.Need-shape_of-rows invariant-loop-k decreases-loop-k
+same_length c = filling-long c.before.loop-k.invariant.rows_back
 
-same-length-2 : tie.Need-same-length-2 invariant-loop decreases-loop
-same-length-2 c = filling-long c.before.loop.invariant.counts-back
+same-length-2 : tie.Need-shape_of-counts invariant-loop-k decreases-loop-k
+same-length-2 c = filling-long c.before.loop-k.invariant.counts-back
 
-same-length-3 : tie.Need-same-length-3 invariant-loop decreases-loop
-same-length-3 c = filling-long c.before.loop.invariant.next-back
+same-length-3 : tie.Need-shape_of-next invariant-loop-k decreases-loop-k
+same-length-3 c = filling-long c.before.loop-k.invariant.next-back
 
-returns : tie.Need-returns invariant-loop decreases-loop
-returns c = unpairing-end c.before.loop.invariant c.loop-test.false
+returns : tie.Need-returns invariant-loop-k decreases-loop-k
+returns c = unpairing-end c.before.loop-k.invariant c.loop-k-test.false
 
-pub restore-records-spec : {M : Type 1} → statement M
-restore-records-spec =
+pub restore_records_spec : {M : Type 1} → statement M
+restore_records_spec =
     tie.close
     (tie.spec
-    invariant-loop
-    decreases-loop
+    invariant-loop-k
+    decreases-loop-k
     loop-holds
     add-x
     mul-x

@@ -7,91 +7,91 @@ use Rattle.snapshot.proofs.Keeping.{RecordsSaving, records-saving-start, SavingT
 use Rattle.snapshot.proofs.saving.save_records.Statement.{statement}
 use Rattle.snapshot.proofs.saving.save_records.Tie as tie
 
-abbrev invariant-loop : tie.invariant-loop
-invariant-loop rows counts next work₀ a f k₀ work k = RecordsSaving rows counts next work₀ a work k
+abbrev invariant-loop-k : tie.invariant-loop-k
+invariant-loop-k rows counts next work₀ a f k₀ work k = RecordsSaving rows counts next work₀ a work k
 
-abbrev decreases-loop : tie.decreases-loop
-decreases-loop rows counts next work₀ a f k₀ work k = f - k
+abbrev decreases-loop-k : tie.decreases-loop-k
+decreases-loop-k rows counts next work₀ a f k₀ work k = f - k
 
 -- the record of a turn stands in all tables
-turn : (c : tie.In-loop invariant-loop decreases-loop) → SavingTurn c.before.loop.invariant
-turn c = records-saving-turn c.before.loop.invariant c.loop-test.true
+turn : (c : tie.In-loop-k invariant-loop-k decreases-loop-k) → SavingTurn c.before.loop-k.invariant
+turn c = records-saving-turn c.before.loop-k.invariant c.loop-k-test.true
 
-loop-holds : tie.Need-loop-init invariant-loop decreases-loop
+loop-holds : tie.Need-loop-k-init invariant-loop-k decreases-loop-k
 loop-holds c = records-saving-start c.requires
 
-mul-work : tie.Need-overflow-mul-work invariant-loop decreases-loop
+mul-work : tie.Need-offset_bounds-rows-k invariant-loop-k decreases-loop-k
 mul-work c = let t = turn c in omega arith
 
-shared-slice-read-work : tie.Need-shared-slice-read-work invariant-loop decreases-loop
+shared-slice-read-work : tie.Need-bounds-rows-k invariant-loop-k decreases-loop-k
 shared-slice-read-work c = let t = turn c.before in omega arith
 
-cast-work : tie.Need-overflow-cast-work invariant-loop decreases-loop
-cast-work c = omega (arith, c.shared-slice-known.given c.before.before.loop.k)
+cast-work : tie.Need-overflow_cast-work invariant-loop-k decreases-loop-k
+cast-work c = omega (arith, c.shared_slice_known-1.given c.before.before.loop-k.k)
 
-mul-work-2 : tie.Need-overflow-mul-work-2 invariant-loop decreases-loop
+mul-work-2 : tie.Need-offset_bounds-counts-k invariant-loop-k decreases-loop-k
 mul-work-2 c = let t = turn c.before in omega arith
 
-shared-slice-read-work-2 : tie.Need-shared-slice-read-work-2 invariant-loop decreases-loop
+shared-slice-read-work-2 : tie.Need-bounds-counts-k invariant-loop-k decreases-loop-k
 shared-slice-read-work-2 c = let t = turn c.before.before in omega arith
 
-cast-work-2 : tie.Need-overflow-cast-work-2 invariant-loop decreases-loop
-cast-work-2 c = omega (arith, c.shared-slice-known2.given c.before.before.before.loop.k)
+cast-work-2 : tie.Need-overflow_cast-work-in-loop-k invariant-loop-k decreases-loop-k
+cast-work-2 c = omega (arith, c.shared_slice_known-in-loop-k-1.given c.before.before.before.loop-k.k)
 
-mul-work-3 : tie.Need-overflow-mul-work-3 invariant-loop decreases-loop
+mul-work-3 : tie.Need-overflow_mul-work invariant-loop-k decreases-loop-k
 mul-work-3 c = let t = turn c.before.before in omega arith
 
-add-work : tie.Need-overflow-add-work invariant-loop decreases-loop
+add-work : tie.Need-overflow_add-work invariant-loop-k decreases-loop-k
 add-work c = let t = turn c.before.before in omega arith
 
-add-work-2 : tie.Need-overflow-add-work-2 invariant-loop decreases-loop
+add-work-2 : tie.Need-overflow_add-work-in-loop-k invariant-loop-k decreases-loop-k
 add-work-2 c = let t = turn c.before.before in omega arith
 
-mul-work-4 : tie.Need-overflow-mul-work-4 invariant-loop decreases-loop
+mul-work-4 : tie.Need-offset_bounds-work-a invariant-loop-k decreases-loop-k
 mul-work-4 c = let t = turn c.before.before in omega arith
 
-slice-write-work : tie.Need-slice-write-work invariant-loop decreases-loop
+slice-write-work : tie.Need-bounds-work-a invariant-loop-k decreases-loop-k
 slice-write-work c = let t = turn c.before.before in omega arith
 
-mul-work-5 : tie.Need-overflow-mul-work-5 invariant-loop decreases-loop
+mul-work-5 : tie.Need-offset_bounds-next-k invariant-loop-k decreases-loop-k
 mul-work-5 c = let t = turn c.before.before in omega arith
 
-shared-slice-read-work-3 : tie.Need-shared-slice-read-work-3 invariant-loop decreases-loop
+shared-slice-read-work-3 : tie.Need-bounds-next-k invariant-loop-k decreases-loop-k
 shared-slice-read-work-3 c = let t = turn c.before.before.before in omega arith
 
-add-work-3 : tie.Need-overflow-add-work-3 invariant-loop decreases-loop
+add-work-3 : tie.Need-overflow_add-work-in-loop-k-2 invariant-loop-k decreases-loop-k
 add-work-3 c = let t = turn c.before.before.before in omega arith
 
-add-work-4 : tie.Need-overflow-add-work-4 invariant-loop decreases-loop
+add-work-4 : tie.Need-overflow_add-work-in-loop-k-3 invariant-loop-k decreases-loop-k
 add-work-4 c = let t = turn c.before.before.before in omega arith
 
-mul-work-6 : tie.Need-overflow-mul-work-6 invariant-loop decreases-loop
+mul-work-6 : tie.Need-offset_bounds-work-a-in-loop-k invariant-loop-k decreases-loop-k
 mul-work-6 c = let t = turn c.before.before.before in omega arith
 
-slice-write-work-2 : tie.Need-slice-write-work-2 invariant-loop decreases-loop
+slice-write-work-2 : tie.Need-bounds-work-a-in-loop-k invariant-loop-k decreases-loop-k
 slice-write-work-2 c = let t = turn c.before.before.before in simp length-set (omega (arith, t.row))
 
-add-k : tie.Need-overflow-add-k invariant-loop decreases-loop
+add-k : tie.Need-overflow_add-k invariant-loop-k decreases-loop-k
 add-k c = let t = turn c.before.before.before in omega arith
 
-loop-less : tie.Need-loop-smaller invariant-loop decreases-loop
+loop-less : tie.Need-loop-k-smaller invariant-loop-k decreases-loop-k
 loop-less c = let t = turn c.before.before.before in omega arith
 
-loop-again : tie.Need-loop-preserved invariant-loop decreases-loop
-loop-again c = records-saving-next c.before.before.before.before.loop.invariant c.before.before.before.loop-test.true
+loop-again : tie.Need-loop-k-preserved invariant-loop-k decreases-loop-k
+loop-again c = records-saving-next c.before.before.before.before.loop-k.invariant c.before.before.before.loop-k-test.true
 
-same_length : tie.Need-same-length invariant-loop decreases-loop
-same_length c = c.before.loop.invariant.only.same_length
+same_length : tie.Need-shape_of-work invariant-loop-k decreases-loop-k
+same_length c = c.before.loop-k.invariant.only.same_length
 
-returns : tie.Need-returns invariant-loop decreases-loop
-returns c = records-saving-end c.before.loop.invariant c.loop-test.false
+returns : tie.Need-returns invariant-loop-k decreases-loop-k
+returns c = records-saving-end c.before.loop-k.invariant c.loop-k-test.false
 
-pub save-records-spec : {M : Type 1} → statement M
-save-records-spec =
+pub save_records_spec : {M : Type 1} → statement M
+save_records_spec =
     tie.close
     (tie.spec
-    invariant-loop
-    decreases-loop
+    invariant-loop-k
+    decreases-loop-k
     loop-holds
     mul-work
     shared-slice-read-work
