@@ -6,81 +6,81 @@ use Rattle.free_chain.proofs.Walking.{Walking, walking_start, walking-next, walk
 use Rattle.free_chain.proofs.walk.Statement.{statement}
 use Rattle.free_chain.proofs.walk.Tie as tie
 
-abbrev invariant-loop : tie.invariant-loop
-invariant-loop rows next k r₀ last₀ n₀ r last n = Walking rows next k r₀ r last n
+abbrev invariant-loop-n : tie.invariant-loop-n
+invariant-loop-n rows next k r₀ last₀ n₀ r last n = Walking rows next k r₀ r last n
 
-abbrev decreases-loop : tie.decreases-loop
-decreases-loop rows next k r₀ last₀ n₀ r last n = k - n
+abbrev decreases-loop-n : tie.decreases-loop-n
+decreases-loop-n rows next k r₀ last₀ n₀ r last n = k - n
 
-loop-holds : tie.Need-loop-init invariant-loop decreases-loop
+loop-holds : tie.Need-loop-n-init invariant-loop-n decreases-loop-n
 loop-holds c = walking_start _ _ _ _ (omega arith)
 
-returns : tie.Need-returns invariant-loop decreases-loop
-returns c = decides-no (walking-short c.before.before.loop.invariant c.before.loop-test.true c.if1.true)
+returns : tie.Need-returns-then-r-eq0 invariant-loop-n decreases-loop-n
+returns c = decides-no (walking-short c.before.before.loop-n.invariant c.before.loop-n-test.true c.if-r-eq0.true)
 
-cast-if2 : tie.Need-overflow-cast-if2 invariant-loop decreases-loop
+cast-if2 : tie.Need-overflow_cast-r invariant-loop-n decreases-loop-n
 cast-if2 c = omega arith
 
-returns-2 : tie.Need-returns-2 invariant-loop decreases-loop
-returns-2 c = decides-no (walking-out c.before.before.before.loop.invariant c.if2.true)
+returns-2 : tie.Need-returns-then-next-r invariant-loop-n decreases-loop-n
+returns-2 c = decides-no (walking-out c.before.before.before.loop-n.invariant c.if-next-r.true)
 
-sub-r : tie.Need-overflow-sub-r invariant-loop decreases-loop
+sub-r : tie.Need-overflow_sub-r invariant-loop-n decreases-loop-n
 sub-r c = omega arith
 
-cast-r : tie.Need-overflow-cast-r invariant-loop decreases-loop
+cast-r : tie.Need-overflow_cast-r-in-loop-n invariant-loop-n decreases-loop-n
 cast-r c = omega arith
 
-mul-r : tie.Need-overflow-mul-r invariant-loop decreases-loop
+mul-r : tie.Need-offset_bounds-next-r invariant-loop-n decreases-loop-n
 mul-r c = omega arith
 
-shared-slice-read-r : tie.Need-shared-slice-read-r invariant-loop decreases-loop
+shared-slice-read-r : tie.Need-bounds-next-r invariant-loop-n decreases-loop-n
 shared-slice-read-r c = omega arith
 
-add-n : tie.Need-overflow-add-n invariant-loop decreases-loop
+add-n : tie.Need-overflow_add-n invariant-loop-n decreases-loop-n
 add-n c = omega arith
 
-loop-less : tie.Need-loop-smaller invariant-loop decreases-loop
+loop-less : tie.Need-loop-n-smaller invariant-loop-n decreases-loop-n
 loop-less c = omega arith
 
-loop-again : tie.Need-loop-preserved invariant-loop decreases-loop
+loop-again : tie.Need-loop-n-preserved invariant-loop-n decreases-loop-n
 loop-again c =
     let t = c.before.before.before in
     walking-next
-    t.before.loop.invariant
-    t.loop-test.true
-    c.before.before.if1.false
-    c.before.if2.false
-    (omega (arith, c.shared-slice-known.given (t.before.loop.r - 1)))
+    t.before.loop-n.invariant
+    t.loop-n-test.true
+    c.before.before.if-r-eq0.false
+    c.before.if-next-r.false
+    (omega (arith, c.shared_slice_known-1.given (t.before.loop-n.r - 1)))
 
-returns-3 : tie.Need-returns-3 invariant-loop decreases-loop
-returns-3 c = decides-no (walking-long c.before.before.loop.invariant c.before.loop-test.false c.if3.true)
+returns-3 : tie.Need-returns-then-r-ne0 invariant-loop-n decreases-loop-n
+returns-3 c = decides-no (walking-long c.before.before.loop-n.invariant c.before.loop-n-test.false c.if-r-ne0.true)
 
-returns-4 : tie.Need-returns-4 invariant-loop decreases-loop
-returns-4 c = walking-empty c.before.before.before.loop.invariant c.before.before.loop-test.false c.before.if3.false c.if4.true
+returns-4 : tie.Need-returns-then-last-eq0 invariant-loop-n decreases-loop-n
+returns-4 c = walking-empty c.before.before.before.loop-n.invariant c.before.before.loop-n-test.false c.before.if-r-ne0.false c.if-last-eq0.true
 
-sub-result : tie.Need-overflow-sub-result invariant-loop decreases-loop
+sub-result : tie.Need-overflow_sub-result invariant-loop-n decreases-loop-n
 sub-result c = omega arith
 
-cast-result : tie.Need-overflow-cast-result invariant-loop decreases-loop
+cast-result : tie.Need-overflow_cast-result invariant-loop-n decreases-loop-n
 cast-result c = omega arith
 
-mul-result : tie.Need-overflow-mul-result invariant-loop decreases-loop
+mul-result : tie.Need-offset_bounds-rows-last invariant-loop-n decreases-loop-n
 mul-result c = omega arith
 
-shared-slice-read-result : tie.Need-shared-slice-read-result invariant-loop decreases-loop
+shared-slice-read-result : tie.Need-bounds-rows-last invariant-loop-n decreases-loop-n
 shared-slice-read-result c = omega arith
 
-returns-5 : tie.Need-returns-5 invariant-loop decreases-loop
+returns-5 : tie.Need-returns invariant-loop-n decreases-loop-n
 returns-5 c =
     let t = c.before.before.before in
-    walking-ended t.before.loop.invariant t.loop-test.false c.before.before.if3.false c.before.if4.false
+    walking-ended t.before.loop-n.invariant t.loop-n-test.false c.before.before.if-r-ne0.false c.before.if-last-eq0.false
 
-pub walk-spec : {M : Type 1} → statement M
-walk-spec =
+pub walk_spec : {M : Type 1} → statement M
+walk_spec =
     tie.close
     (tie.spec
-    invariant-loop
-    decreases-loop
+    invariant-loop-n
+    decreases-loop-n
     loop-holds
     returns
     cast-if2

@@ -6,61 +6,61 @@ use Rattle.free_chain.proofs.Counted.{PairsTo, pairs-none, pairs-hit, pairs-miss
 use Rattle.free_chain.proofs.zero_pairs_of.Statement.{statement}
 use Rattle.free_chain.proofs.zero_pairs_of.Tie as tie
 
-abbrev invariant-loop : tie.invariant-loop
-invariant-loop rows counts pairs₀ i₀ pairs i = PairsTo rows counts i pairs
+abbrev invariant-loop-i : tie.invariant-loop-i
+invariant-loop-i rows counts pairs₀ i₀ pairs i = PairsTo rows counts i pairs
 
-abbrev decreases-loop : tie.decreases-loop
-decreases-loop rows counts pairs₀ i₀ pairs i = length rows - i
+abbrev decreases-loop-i : tie.decreases-loop-i
+decreases-loop-i rows counts pairs₀ i₀ pairs i = length rows - i
 
-loop-holds : tie.Need-loop-init invariant-loop decreases-loop
+loop-holds : tie.Need-loop-i-init invariant-loop-i decreases-loop-i
 loop-holds c = pairs-none _ _
 
-mul-if1 : tie.Need-overflow-mul-if1 invariant-loop decreases-loop
+mul-if1 : tie.Need-offset_bounds-rows-i invariant-loop-i decreases-loop-i
 mul-if1 c = omega arith
 
-shared-slice-read-if1 : tie.Need-shared-slice-read-if1 invariant-loop decreases-loop
+shared-slice-read-if1 : tie.Need-bounds-rows-i invariant-loop-i decreases-loop-i
 shared-slice-read-if1 c = omega arith
 
-mul-if1-2 : tie.Need-overflow-mul-if1-2 invariant-loop decreases-loop
+mul-if1-2 : tie.Need-offset_bounds-counts-i invariant-loop-i decreases-loop-i
 mul-if1-2 c = omega arith
 
-shared-slice-read-if1-2 : tie.Need-shared-slice-read-if1-2 invariant-loop decreases-loop
+shared-slice-read-if1-2 : tie.Need-bounds-counts-i invariant-loop-i decreases-loop-i
 shared-slice-read-if1-2 c = omega arith
 
-add-pairs : tie.Need-overflow-add-pairs invariant-loop decreases-loop
+add-pairs : tie.Need-overflow_add-pairs invariant-loop-i decreases-loop-i
 add-pairs c = omega arith
 
-add-i : tie.Need-overflow-add-i invariant-loop decreases-loop
+add-i : tie.Need-overflow_add-i invariant-loop-i decreases-loop-i
 add-i c = omega arith
 
-loop-less : tie.Need-loop-smaller invariant-loop decreases-loop
+loop-less : tie.Need-loop-i-smaller-then-rows-i invariant-loop-i decreases-loop-i
 loop-less c = omega arith
 
-loop-again : tie.Need-loop-preserved invariant-loop decreases-loop
+loop-again : tie.Need-loop-i-preserved-then-rows-i invariant-loop-i decreases-loop-i
 loop-again c =
     let t = c.before.before.before in
-    pairs-hit t.before.loop.invariant t.before.before.requires.1 t.loop-test.true c.if1.true
+    pairs-hit t.before.loop-i.invariant t.before.before.requires.1 t.loop-i-test.true c.if-rows-i.true
 
-add-i-2 : tie.Need-overflow-add-i-2 invariant-loop decreases-loop
+add-i-2 : tie.Need-overflow_add-i-else-rows-i invariant-loop-i decreases-loop-i
 add-i-2 c = omega arith
 
-loop-less-2 : tie.Need-loop-smaller-2 invariant-loop decreases-loop
+loop-less-2 : tie.Need-loop-i-smaller invariant-loop-i decreases-loop-i
 loop-less-2 c = omega arith
 
-loop-again-2 : tie.Need-loop-preserved-2 invariant-loop decreases-loop
+loop-again-2 : tie.Need-loop-i-preserved invariant-loop-i decreases-loop-i
 loop-again-2 c =
     let t = c.before.before.before in
-    pairs-miss t.before.loop.invariant t.before.before.requires.1 t.loop-test.true c.if1.false
+    pairs-miss t.before.loop-i.invariant t.before.before.requires.1 t.loop-i-test.true c.if-rows-i.false
 
-returns : tie.Need-returns invariant-loop decreases-loop
-returns c = pairs_end c.before.loop.invariant c.before.before.requires.1 c.loop-test.false
+returns : tie.Need-returns invariant-loop-i decreases-loop-i
+returns c = pairs_end c.before.loop-i.invariant c.before.before.requires.1 c.loop-i-test.false
 
-pub zero-pairs-of-spec : {M : Type 1} → statement M
-zero-pairs-of-spec =
+pub zero_pairs_of_spec : {M : Type 1} → statement M
+zero_pairs_of_spec =
     tie.close
     (tie.spec
-    invariant-loop
-    decreases-loop
+    invariant-loop-i
+    decreases-loop-i
     loop-holds
     mul-if1
     shared-slice-read-if1

@@ -6,87 +6,87 @@ use Rattle.free_chain.proofs.Counted.{ZerosTo, zeros-none, zeros-end, zeros-bloc
 use Rattle.free_chain.proofs.zeros.Statement.{statement}
 use Rattle.free_chain.proofs.zeros.Tie as tie
 
-abbrev invariant-loop : tie.invariant-loop
-invariant-loop rows n₀ a₀ n a = ZerosTo rows a n
+abbrev invariant-loop-a : tie.invariant-loop-a
+invariant-loop-a rows n₀ a₀ n a = ZerosTo rows a n
 
-abbrev decreases-loop : tie.decreases-loop
-decreases-loop rows n₀ a₀ n a = length rows - a
+abbrev decreases-loop-a : tie.decreases-loop-a
+decreases-loop-a rows n₀ a₀ n a = length rows - a
 
 -- after a block, and after the rest
-block : (c : tie.After-zeros-of invariant-loop decreases-loop) → ZerosTo c.before.before.before.before.before.args.rows.now (c.before.before.before.loop.a + 4096) (c.before.before.before.loop.n + c.zeros_of.result)
-block c = zeros-block c.before.before.before.loop.invariant (c.before.before.before.loop.a + 4096) _ (omega arith) (omega arith) c.zeros_of.ensures
+block : (c : tie.After-zeros_of invariant-loop-a decreases-loop-a) → ZerosTo c.before.before.before.before.before.args.rows.now (c.before.before.before.loop-a.a + 4096) (c.before.before.before.loop-a.n + c.zeros_of.result)
+block c = zeros-block c.before.before.before.loop-a.invariant (c.before.before.before.loop-a.a + 4096) _ (omega arith) (omega arith) c.zeros_of.ensures
 
-rest : (c : tie.After-zeros-of2 invariant-loop decreases-loop) → ZerosTo c.before.before.before.before.before.args.rows.now (length c.before.before.before.before.before.args.rows.now) (c.before.before.before.loop.n + c.zeros-of2.result)
-rest c = zeros-rest c.before.before.before.loop.invariant _ c.zeros-of2.ensures
+rest : (c : tie.After-zeros_of-2 invariant-loop-a decreases-loop-a) → ZerosTo c.before.before.before.before.before.args.rows.now (length c.before.before.before.before.before.args.rows.now) (c.before.before.before.loop-a.n + c.zeros_of-2.result)
+rest c = zeros-rest c.before.before.before.loop-a.invariant _ c.zeros_of-2.ensures
 
-loop-holds : tie.Need-loop-init invariant-loop decreases-loop
+loop-holds : tie.Need-loop-a-init invariant-loop-a decreases-loop-a
 loop-holds c = zeros-none _
 
-sub-loop : tie.Need-overflow-sub-loop invariant-loop decreases-loop
+sub-loop : tie.Need-overflow_sub-rows invariant-loop-a decreases-loop-a
 sub-loop c = omega arith
 
-add-e : tie.Need-overflow-add-e invariant-loop decreases-loop
+add-e : tie.Need-overflow_add-e invariant-loop-a decreases-loop-a
 add-e c = omega arith
 
-mul-zeros-of : tie.Need-overflow-mul-zeros-of invariant-loop decreases-loop
+mul-zeros-of : tie.Need-offset_bounds-rows-a invariant-loop-a decreases-loop-a
 mul-zeros-of c = omega arith
 
-sub-zeros-of : tie.Need-overflow-sub-zeros-of invariant-loop decreases-loop
+sub-zeros-of : tie.Need-slice_bounds-zeros_of-count invariant-loop-a decreases-loop-a
 sub-zeros-of c = omega arith
 
-part-zeros-of-start : tie.Need-slice-bounds-zeros-of-start invariant-loop decreases-loop
+part-zeros-of-start : tie.Need-slice_bounds-zeros_of-start invariant-loop-a decreases-loop-a
 part-zeros-of-start c = omega arith
 
-part-zeros-of-end : tie.Need-slice-bounds-zeros-of-end invariant-loop decreases-loop
+part-zeros-of-end : tie.Need-slice_bounds-zeros_of-end invariant-loop-a decreases-loop-a
 part-zeros-of-end c = omega arith
 
-zeros-of-requires : tie.Need-zeros-of-requires invariant-loop decreases-loop
-zeros-of-requires c κs = omega (arith, part_length c.before.before.before.before.args.rows.now c.before.before.loop.a (c.before.before.loop.a + 4096) (omega arith) (omega arith))
+zeros-of-requires : tie.Need-zeros_of-requires invariant-loop-a decreases-loop-a
+zeros-of-requires c κs = omega (arith, part_length c.before.before.before.before.args.rows.now c.before.before.loop-a.a (c.before.before.loop-a.a + 4096) (omega arith) (omega arith))
 
-cast-n : tie.Need-overflow-cast-n invariant-loop decreases-loop
+cast-n : tie.Need-overflow_cast-n invariant-loop-a decreases-loop-a
 cast-n c = omega arith
 
-add-n : tie.Need-overflow-add-n invariant-loop decreases-loop
+add-n : tie.Need-overflow_add-n invariant-loop-a decreases-loop-a
 add-n c = omega (arith, (block c).within, (block c).few)
 
-loop-less : tie.Need-loop-smaller invariant-loop decreases-loop
+loop-less : tie.Need-loop-a-smaller invariant-loop-a decreases-loop-a
 loop-less c = omega arith
 
-loop-again : tie.Need-loop-preserved invariant-loop decreases-loop
+loop-again : tie.Need-loop-a-preserved invariant-loop-a decreases-loop-a
 loop-again c = block c
 
-mul-zeros-of-2 : tie.Need-overflow-mul-zeros-of-2 invariant-loop decreases-loop
+mul-zeros-of-2 : tie.Need-offset_bounds-rows-a-2 invariant-loop-a decreases-loop-a
 mul-zeros-of-2 c = omega arith
 
-sub-zeros-of-2 : tie.Need-overflow-sub-zeros-of-2 invariant-loop decreases-loop
+sub-zeros-of-2 : tie.Need-slice_bounds-zeros_of-count-2 invariant-loop-a decreases-loop-a
 sub-zeros-of-2 c = omega arith
 
-part-zeros-of-start-2 : tie.Need-slice-bounds-zeros-of-start-2 invariant-loop decreases-loop
+part-zeros-of-start-2 : tie.Need-slice_bounds-zeros_of-start-2 invariant-loop-a decreases-loop-a
 part-zeros-of-start-2 c = omega arith
 
-part-zeros-of-end-2 : tie.Need-slice-bounds-zeros-of-end-2 invariant-loop decreases-loop
+part-zeros-of-end-2 : tie.Need-slice_bounds-zeros_of-end-2 invariant-loop-a decreases-loop-a
 part-zeros-of-end-2 c = omega arith
 
-zeros-of-requires-2 : tie.Need-zeros-of-requires-2 invariant-loop decreases-loop
+zeros-of-requires-2 : tie.Need-zeros_of-requires-2 invariant-loop-a decreases-loop-a
 zeros-of-requires-2 c κs =
     let rows = c.before.before.before.before.args.rows.now in
-    omega (arith, part_length rows c.before.before.loop.a (length rows) (omega arith) (omega arith))
+    omega (arith, part_length rows c.before.before.loop-a.a (length rows) (omega arith) (omega arith))
 
-cast-result : tie.Need-overflow-cast-result invariant-loop decreases-loop
+cast-result : tie.Need-overflow_cast-result invariant-loop-a decreases-loop-a
 cast-result c = omega arith
 
-add-result : tie.Need-overflow-add-result invariant-loop decreases-loop
+add-result : tie.Need-overflow_add-result invariant-loop-a decreases-loop-a
 add-result c = omega (arith, (rest c).few)
 
-returns : tie.Need-returns invariant-loop decreases-loop
+returns : tie.Need-returns invariant-loop-a decreases-loop-a
 returns c = zeros-end (rest c) (omega arith)
 
-pub zeros-spec : {M : Type 1} → statement M
-zeros-spec =
+pub zeros_spec : {M : Type 1} → statement M
+zeros_spec =
     tie.close
     (tie.spec
-    invariant-loop
-    decreases-loop
+    invariant-loop-a
+    decreases-loop-a
     loop-holds
     sub-loop
     add-e

@@ -6,51 +6,51 @@ use Rattle.free_chain.proofs.Counted.{ZerosTo, zeros-none, zeros-hit, zeros-miss
 use Rattle.free_chain.proofs.zeros_of.Statement.{statement}
 use Rattle.free_chain.proofs.zeros_of.Tie as tie
 
-abbrev invariant-loop : tie.invariant-loop
-invariant-loop rows n₀ i₀ n i = ZerosTo rows i n
+abbrev invariant-loop-i : tie.invariant-loop-i
+invariant-loop-i rows n₀ i₀ n i = ZerosTo rows i n
 
-abbrev decreases-loop : tie.decreases-loop
-decreases-loop rows n₀ i₀ n i = length rows - i
+abbrev decreases-loop-i : tie.decreases-loop-i
+decreases-loop-i rows n₀ i₀ n i = length rows - i
 
-loop-holds : tie.Need-loop-init invariant-loop decreases-loop
+loop-holds : tie.Need-loop-i-init invariant-loop-i decreases-loop-i
 loop-holds c = zeros-none _
 
-mul-if1 : tie.Need-overflow-mul-if1 invariant-loop decreases-loop
+mul-if1 : tie.Need-offset_bounds-rows-i invariant-loop-i decreases-loop-i
 mul-if1 c = omega arith
 
-shared-slice-read-if1 : tie.Need-shared-slice-read-if1 invariant-loop decreases-loop
+shared-slice-read-if1 : tie.Need-bounds-rows-i invariant-loop-i decreases-loop-i
 shared-slice-read-if1 c = omega arith
 
-add-n : tie.Need-overflow-add-n invariant-loop decreases-loop
+add-n : tie.Need-overflow_add-n invariant-loop-i decreases-loop-i
 add-n c = omega arith
 
-add-i : tie.Need-overflow-add-i invariant-loop decreases-loop
+add-i : tie.Need-overflow_add-i invariant-loop-i decreases-loop-i
 add-i c = omega arith
 
-loop-less : tie.Need-loop-smaller invariant-loop decreases-loop
+loop-less : tie.Need-loop-i-smaller-then-rows-i-eq0 invariant-loop-i decreases-loop-i
 loop-less c = omega arith
 
-loop-again : tie.Need-loop-preserved invariant-loop decreases-loop
-loop-again c = zeros-hit c.before.before.before.loop.invariant c.before.before.loop-test.true c.if1.true
+loop-again : tie.Need-loop-i-preserved-then-rows-i-eq0 invariant-loop-i decreases-loop-i
+loop-again c = zeros-hit c.before.before.before.loop-i.invariant c.before.before.loop-i-test.true c.if-rows-i-eq0.true
 
-add-i-2 : tie.Need-overflow-add-i-2 invariant-loop decreases-loop
+add-i-2 : tie.Need-overflow_add-i-else-rows-i-eq0 invariant-loop-i decreases-loop-i
 add-i-2 c = omega arith
 
-loop-less-2 : tie.Need-loop-smaller-2 invariant-loop decreases-loop
+loop-less-2 : tie.Need-loop-i-smaller invariant-loop-i decreases-loop-i
 loop-less-2 c = omega arith
 
-loop-again-2 : tie.Need-loop-preserved-2 invariant-loop decreases-loop
-loop-again-2 c = zeros-miss c.before.before.before.loop.invariant c.before.before.loop-test.true c.if1.false
+loop-again-2 : tie.Need-loop-i-preserved invariant-loop-i decreases-loop-i
+loop-again-2 c = zeros-miss c.before.before.before.loop-i.invariant c.before.before.loop-i-test.true c.if-rows-i-eq0.false
 
-returns : tie.Need-returns invariant-loop decreases-loop
-returns c = zeros-end c.before.loop.invariant c.loop-test.false
+returns : tie.Need-returns invariant-loop-i decreases-loop-i
+returns c = zeros-end c.before.loop-i.invariant c.loop-i-test.false
 
-pub zeros-of-spec : {M : Type 1} → statement M
-zeros-of-spec =
+pub zeros_of_spec : {M : Type 1} → statement M
+zeros_of_spec =
     tie.close
     (tie.spec
-    invariant-loop
-    decreases-loop
+    invariant-loop-i
+    decreases-loop-i
     loop-holds
     mul-if1
     shared-slice-read-if1

@@ -6,112 +6,111 @@ use Rattle.free_chain.proofs.Adding.{Adding, adding-start, adding-piece, adding-
 use Rattle.free_chain.proofs.pieces.add_up.Statement.{statement}
 use Rattle.free_chain.proofs.pieces.add_up.Tie as tie
 
-abbrev invariant-loop : tie.invariant-loop
-invariant-loop scratch cuts k total₀ r₀ left₀ total r left = Adding scratch cuts total r left
+abbrev invariant-loop-r : tie.invariant-loop-r
+invariant-loop-r scratch cuts k total₀ r₀ left₀ total r left = Adding scratch cuts total r left
 
-abbrev decreases-loop : tie.decreases-loop
-decreases-loop scratch cuts k total₀ r₀ left₀ total r left = left
+abbrev decreases-loop-r : tie.decreases-loop-r
+decreases-loop-r scratch cuts k total₀ r₀ left₀ total r left = left
 
-mul-total : tie.Need-overflow-mul-total invariant-loop decreases-loop
+mul-total : tie.Need-overflow_mul-total invariant-loop-r decreases-loop-r
 mul-total c = omega arith
 
-mul-total-2 : tie.Need-overflow-mul-total-2 invariant-loop decreases-loop
+mul-total-2 : tie.Need-offset_bounds-scratch-cuts invariant-loop-r decreases-loop-r
 mul-total-2 c = omega arith
 
-shared-slice-read-total : tie.Need-shared-slice-read-total invariant-loop decreases-loop
+shared-slice-read-total : tie.Need-bounds-scratch-cuts invariant-loop-r decreases-loop-r
 shared-slice-read-total c = omega arith
 
-cast-total : tie.Need-overflow-cast-total invariant-loop decreases-loop
-cast-total c = omega (arith, c.shared-slice-known.given (2 * c.before.args.cuts))
+cast-total : tie.Need-overflow_cast-total invariant-loop-r decreases-loop-r
+cast-total c = omega (arith, c.shared_slice_known-1.given (2 * c.before.args.cuts))
 
-mul-r : tie.Need-overflow-mul-r invariant-loop decreases-loop
+mul-r : tie.Need-overflow_mul-r invariant-loop-r decreases-loop-r
 mul-r c = omega arith
 
-add_r : tie.Need-overflow-add-r invariant-loop decreases-loop
+add_r : tie.Need-overflow_add-r invariant-loop-r decreases-loop-r
 add_r c = omega arith
 
-mul-r-2 : tie.Need-overflow-mul-r-2 invariant-loop decreases-loop
+mul-r-2 : tie.Need-offset_bounds-scratch-cuts-2 invariant-loop-r decreases-loop-r
 mul-r-2 c = omega arith
 
-shared-slice-read-r : tie.Need-shared-slice-read-r invariant-loop decreases-loop
+shared-slice-read-r : tie.Need-bounds-scratch-cuts-2 invariant-loop-r decreases-loop-r
 shared-slice-read-r c = omega arith
 
-abbrev start : tie.At-loop invariant-loop decreases-loop → tie.Start invariant-loop decreases-loop
+abbrev start : tie.At-loop-r invariant-loop-r decreases-loop-r → tie.Start invariant-loop-r decreases-loop-r
 start c = c.before.before.before
 
-abbrev turn : tie.After-shared-slice-known3 invariant-loop decreases-loop → tie.In-loop invariant-loop decreases-loop
+abbrev turn : tie.After-shared_slice_known-in-loop-r-1 invariant-loop-r decreases-loop-r → tie.In-loop-r invariant-loop-r decreases-loop-r
 turn c = c.before.before.before
 
-loop-holds : tie.Need-loop-init invariant-loop decreases-loop
+loop-holds : tie.Need-loop-r-init invariant-loop-r decreases-loop-r
 loop-holds c = adding-start c.before.before.requires
 
-returns : tie.Need-returns invariant-loop decreases-loop
+returns : tie.Need-returns-then-left-eq0 invariant-loop-r decreases-loop-r
 returns c = adds_none _ _ _
 
-sub-i : tie.Need-overflow-sub-i invariant-loop decreases-loop
+sub-i : tie.Need-overflow_sub-i invariant-loop-r decreases-loop-r
 sub-i c = omega arith
 
-cast-i : tie.Need-overflow-cast-i invariant-loop decreases-loop
+cast-i : tie.Need-overflow_cast-i invariant-loop-r decreases-loop-r
 cast-i c = omega arith
 
-returns-2 : tie.Need-returns-2 invariant-loop decreases-loop
+returns-2 : tie.Need-returns-then-i-ne0 invariant-loop-r decreases-loop-r
 returns-2 c = adds_none _ _ _
 
-mul-total-3 : tie.Need-overflow-mul-total-3 invariant-loop decreases-loop
+mul-total-3 : tie.Need-overflow_mul-total-in-loop-r invariant-loop-r decreases-loop-r
 mul-total-3 c = omega arith
 
-mul-total-4 : tie.Need-overflow-mul-total-4 invariant-loop decreases-loop
+mul-total-4 : tie.Need-offset_bounds-scratch-s invariant-loop-r decreases-loop-r
 mul-total-4 c = omega arith
 
-shared-slice-read-total-2 : tie.Need-shared-slice-read-total-2 invariant-loop decreases-loop
+shared-slice-read-total-2 : tie.Need-bounds-scratch-s invariant-loop-r decreases-loop-r
 shared-slice-read-total-2 c =
-    let t = turn c in
-    omega (arith, adding-piece (start t.before).pre t.before.loop.inv t.loop-test.taken)
+    omega (arith, adding-piece c.requires c.loop-r.invariant c.loop-r-test.true)
 
-cast-total-2 : tie.Need-overflow-cast-total-2 invariant-loop decreases-loop
+cast-total-2 : tie.Need-overflow_cast-total-in-loop-r invariant-loop-r decreases-loop-r
 cast-total-2 c =
     let t = turn c in
-    omega (arith, adding-fits (start t.before).pre t.before.loop.inv t.loop-test.taken)
+    omega (arith, adding-fits (start t.before).requires t.before.loop-r.invariant t.loop-r-test.true)
 
-add_total : tie.Need-overflow-add-total invariant-loop decreases-loop
+add_total : tie.Need-overflow_add-total invariant-loop-r decreases-loop-r
 add_total c =
     let t = turn c in
-    omega (arith, adding-fits (start t.before).pre t.before.loop.inv t.loop-test.taken)
+    omega (arith, adding-fits (start t.before).requires t.before.loop-r.invariant t.loop-r-test.true)
 
-mul-r-3 : tie.Need-overflow-mul-r-3 invariant-loop decreases-loop
+mul-r-3 : tie.Need-overflow_mul-r-in-loop-r invariant-loop-r decreases-loop-r
 mul-r-3 c = omega arith
 
-add-r-2 : tie.Need-overflow-add-r-2 invariant-loop decreases-loop
+add-r-2 : tie.Need-overflow_add-r-in-loop-r invariant-loop-r decreases-loop-r
 add-r-2 c = omega arith
 
-mul-r-4 : tie.Need-overflow-mul-r-4 invariant-loop decreases-loop
+mul-r-4 : tie.Need-offset_bounds-scratch-s-in-loop-r invariant-loop-r decreases-loop-r
 mul-r-4 c = omega arith
 
-shared-slice-read-r-2 : tie.Need-shared-slice-read-r-2 invariant-loop decreases-loop
+shared-slice-read-r-2 : tie.Need-bounds-scratch-s-in-loop-r invariant-loop-r decreases-loop-r
 shared-slice-read-r-2 c =
     let t = turn c.before in
-    omega (arith, adding-piece (start t.before).pre t.before.loop.inv t.loop-test.taken)
+    omega (arith, adding-piece (start t.before).requires t.before.loop-r.invariant t.loop-r-test.true)
 
-sub-left : tie.Need-overflow-sub-left invariant-loop decreases-loop
+sub-left : tie.Need-overflow_sub-left invariant-loop-r decreases-loop-r
 sub-left c = omega arith
 
-loop-less : tie.Need-loop-smaller invariant-loop decreases-loop
+loop-less : tie.Need-loop-r-smaller invariant-loop-r decreases-loop-r
 loop-less c = omega arith
 
-loop-again : tie.Need-loop-preserved invariant-loop decreases-loop
+loop-again : tie.Need-loop-r-preserved invariant-loop-r decreases-loop-r
 loop-again c =
     let t = turn c.before in
-    adding-next (start t.before).pre t.before.loop.inv t.loop-test.taken c.before.before.before.if1.false c.before.before.if2.false
+    adding-next (start t.before).requires t.before.loop-r.invariant t.loop-r-test.true c.before.before.before.if-left-eq0.false c.before.before.if-i-ne0.false
 
-returns-3 : tie.Need-returns-3 invariant-loop decreases-loop
-returns-3 c = adding-end (start c.before).pre c.before.loop.invariant _ c.loop-test.false
+returns-3 : tie.Need-returns invariant-loop-r decreases-loop-r
+returns-3 c = adding-end (start c.before).requires c.before.loop-r.invariant _ c.loop-r-test.false
 
-pub add-up-spec : {M : Type 1} → statement M
-add-up-spec =
+pub add_up_spec : {M : Type 1} → statement M
+add_up_spec =
     tie.close
     (tie.spec
-    invariant-loop
-    decreases-loop
+    invariant-loop-r
+    decreases-loop-r
     mul-total
     mul-total-2
     shared-slice-read-total

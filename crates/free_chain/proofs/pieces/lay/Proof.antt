@@ -9,144 +9,144 @@ use Rattle.free_chain.proofs.Laying.{Laying, laying-start, laying-skip, laying-q
 use Rattle.free_chain.proofs.pieces.lay.Statement.{statement}
 use Rattle.free_chain.proofs.pieces.lay.Tie as tie
 
-abbrev invariant-loop : tie.invariant-loop
-invariant-loop rows scratch₀ cuts head queue n₀ s₀ scratch n s = Laying cuts head scratch₀ scratch n s
+abbrev invariant-loop-s : tie.invariant-loop-s
+invariant-loop-s rows scratch₀ cuts head queue n₀ s₀ scratch n s = Laying cuts head scratch₀ scratch n s
 
-abbrev decreases-loop : tie.decreases-loop
-decreases-loop rows scratch₀ cuts head queue n₀ s₀ scratch n s = cuts - s
+abbrev decreases-loop-s : tie.decreases-loop-s
+decreases-loop-s rows scratch₀ cuts head queue n₀ s₀ scratch n s = cuts - s
 
-add-queue : tie.Need-overflow-add-queue invariant-loop decreases-loop
+add-queue : tie.Need-overflow_add-queue invariant-loop-s decreases-loop-s
 add-queue c = omega arith
 
-mul-queue : tie.Need-overflow-mul-queue invariant-loop decreases-loop
+mul-queue : tie.Need-overflow_mul-queue invariant-loop-s decreases-loop-s
 mul-queue c = omega arith
 
-mul-scratch : tie.Need-overflow-mul-scratch invariant-loop decreases-loop
+mul-scratch : tie.Need-overflow_mul-scratch invariant-loop-s decreases-loop-s
 mul-scratch c = omega arith
 
-mul-scratch-2 : tie.Need-overflow-mul-scratch-2 invariant-loop decreases-loop
+mul-scratch-2 : tie.Need-offset_bounds-scratch-cuts invariant-loop-s decreases-loop-s
 mul-scratch-2 c = omega arith
 
-slice-write-scratch : tie.Need-slice-write-scratch invariant-loop decreases-loop
+slice-write-scratch : tie.Need-bounds-scratch-cuts invariant-loop-s decreases-loop-s
 slice-write-scratch c = omega arith
 
-mul-scratch-3 : tie.Need-overflow-mul-scratch-3 invariant-loop decreases-loop
+mul-scratch-3 : tie.Need-overflow_mul-scratch-2 invariant-loop-s decreases-loop-s
 mul-scratch-3 c = omega arith
 
-add-scratch : tie.Need-overflow-add-scratch invariant-loop decreases-loop
+add-scratch : tie.Need-overflow_add-scratch invariant-loop-s decreases-loop-s
 add-scratch c = omega arith
 
-mul-scratch-4 : tie.Need-overflow-mul-scratch-4 invariant-loop decreases-loop
+mul-scratch-4 : tie.Need-offset_bounds-scratch-cuts-2 invariant-loop-s decreases-loop-s
 mul-scratch-4 c = omega arith
 
-slice-write-scratch-2 : tie.Need-slice-write-scratch-2 invariant-loop decreases-loop
+slice-write-scratch-2 : tie.Need-bounds-scratch-cuts-2 invariant-loop-s decreases-loop-s
 slice-write-scratch-2 c = simp length-set (omega arith)
 
-cast-scratch : tie.Need-overflow-cast-scratch invariant-loop decreases-loop
+cast-scratch : tie.Need-overflow_cast-scratch invariant-loop-s decreases-loop-s
 cast-scratch c = omega arith
 
-mul-scratch-5 : tie.Need-overflow-mul-scratch-5 invariant-loop decreases-loop
+mul-scratch-5 : tie.Need-offset_bounds-scratch-queue invariant-loop-s decreases-loop-s
 mul-scratch-5 c = omega arith
 
-slice-write-scratch-3 : tie.Need-slice-write-scratch-3 invariant-loop decreases-loop
+slice-write-scratch-3 : tie.Need-bounds-scratch-queue invariant-loop-s decreases-loop-s
 slice-write-scratch-3 c = simp length-set (omega arith)
 
-sub-if1 : tie.Need-overflow-sub-if1 invariant-loop decreases-loop
+sub-if1 : tie.Need-overflow_sub-head invariant-loop-s decreases-loop-s
 sub-if1 c = omega arith
 
-cast-if1 : tie.Need-overflow-cast-if1 invariant-loop decreases-loop
+cast-if1 : tie.Need-overflow_cast-head invariant-loop-s decreases-loop-s
 cast-if1 c = omega arith
 
-loop-holds : tie.Need-loop-init invariant-loop decreases-loop
+loop-holds : tie.Need-loop-s-init invariant-loop-s decreases-loop-s
 loop-holds c =
     let a = c.before.args in
-    laying-start a.scratch.now a.cuts a.free.0 c.if1.n c.before.requires.0.long (⊎_elim (λ w. omega arith) (λ w. omega arith) c.if1.branch)
+    laying-start a.scratch.now a.cuts a.free.0 c.if-head-eq0.n c.before.requires.0.long (⊎_elim (λ w. omega arith) (λ w. omega arith) c.if-head-eq0.branch-raw)
 
-mul-i : tie.Need-overflow-mul-i invariant-loop decreases-loop
+mul-i : tie.Need-overflow_mul-i invariant-loop-s decreases-loop-s
 mul-i c = omega arith
 
-mul-scratch-6 : tie.Need-overflow-mul-scratch-6 invariant-loop decreases-loop
+mul-scratch-6 : tie.Need-overflow_mul-scratch-in-loop-s invariant-loop-s decreases-loop-s
 mul-scratch-6 c = omega arith
 
-mul-scratch-7 : tie.Need-overflow-mul-scratch-7 invariant-loop decreases-loop
+mul-scratch-7 : tie.Need-offset_bounds-scratch-s invariant-loop-s decreases-loop-s
 mul-scratch-7 c = omega arith
 
-slice-write-scratch-4 : tie.Need-slice-write-scratch-4 invariant-loop decreases-loop
+slice-write-scratch-4 : tie.Need-bounds-scratch-s invariant-loop-s decreases-loop-s
 slice-write-scratch-4 c = omega arith
 
-add-scratch-2 : tie.Need-overflow-add-scratch-2 invariant-loop decreases-loop
+add-scratch-2 : tie.Need-overflow_add-scratch-in-loop-s invariant-loop-s decreases-loop-s
 add-scratch-2 c = omega arith
 
-cast-scratch-2 : tie.Need-overflow-cast-scratch-2 invariant-loop decreases-loop
+cast-scratch-2 : tie.Need-overflow_cast-scratch-in-loop-s invariant-loop-s decreases-loop-s
 cast-scratch-2 c = omega arith
 
-mul-scratch-8 : tie.Need-overflow-mul-scratch-8 invariant-loop decreases-loop
+mul-scratch-8 : tie.Need-overflow_mul-scratch-in-loop-s-2 invariant-loop-s decreases-loop-s
 mul-scratch-8 c = omega arith
 
-add-scratch-3 : tie.Need-overflow-add-scratch-3 invariant-loop decreases-loop
+add-scratch-3 : tie.Need-overflow_add-scratch-in-loop-s-2 invariant-loop-s decreases-loop-s
 add-scratch-3 c = omega arith
 
-mul-scratch-9 : tie.Need-overflow-mul-scratch-9 invariant-loop decreases-loop
+mul-scratch-9 : tie.Need-offset_bounds-scratch-s-in-loop-s invariant-loop-s decreases-loop-s
 mul-scratch-9 c = omega arith
 
-slice-write-scratch-5 : tie.Need-slice-write-scratch-5 invariant-loop decreases-loop
+slice-write-scratch-5 : tie.Need-bounds-scratch-s-in-loop-s invariant-loop-s decreases-loop-s
 slice-write-scratch-5 c = simp length-set (omega arith)
 
-mul-if2 : tie.Need-overflow-mul-if2 invariant-loop decreases-loop
+mul-if2 : tie.Need-offset_bounds-rows-i invariant-loop-s decreases-loop-s
 mul-if2 c = omega arith
 
-shared-slice-read-if2 : tie.Need-shared-slice-read-if2 invariant-loop decreases-loop
+shared-slice-read-if2 : tie.Need-bounds-rows-i invariant-loop-s decreases-loop-s
 shared-slice-read-if2 c = omega arith
 
-cast-scratch-3 : tie.Need-overflow-cast-scratch-3 invariant-loop decreases-loop
+cast-scratch-3 : tie.Need-overflow_cast-scratch-then-rows-i-eq0 invariant-loop-s decreases-loop-s
 cast-scratch-3 c = omega arith
 
-add-scratch-4 : tie.Need-overflow-add-scratch-4 invariant-loop decreases-loop
+add-scratch-4 : tie.Need-overflow_add-scratch-then-rows-i-eq0 invariant-loop-s decreases-loop-s
 add-scratch-4 c = omega arith
 
-mul-scratch-10 : tie.Need-overflow-mul-scratch-10 invariant-loop decreases-loop
+mul-scratch-10 : tie.Need-offset_bounds-scratch-queue-then-rows-i-eq0 invariant-loop-s decreases-loop-s
 mul-scratch-10 c = omega arith
 
-slice-write-scratch-6 : tie.Need-slice-write-scratch-6 invariant-loop decreases-loop
+slice-write-scratch-6 : tie.Need-bounds-scratch-queue-then-rows-i-eq0 invariant-loop-s decreases-loop-s
 slice-write-scratch-6 c = simp length-set (omega arith)
 
-add-n : tie.Need-overflow-add-n invariant-loop decreases-loop
+add-n : tie.Need-overflow_add-n invariant-loop-s decreases-loop-s
 add-n c = omega arith
 
-add-s : tie.Need-overflow-add-s invariant-loop decreases-loop
+add-s : tie.Need-overflow_add-s invariant-loop-s decreases-loop-s
 add-s c = omega arith
 
-loop-less : tie.Need-loop-smaller invariant-loop decreases-loop
+loop-less : tie.Need-loop-s-smaller-then-rows-i-eq0 invariant-loop-s decreases-loop-s
 loop-less c = omega arith
 
-loop-again : tie.Need-loop-preserved invariant-loop decreases-loop
+loop-again : tie.Need-loop-s-preserved-then-rows-i-eq0 invariant-loop-s decreases-loop-s
 loop-again c =
     let t = c.before.before.before in
-    laying-queue t.before.loop.invariant t.loop-test.true
+    laying-queue t.before.loop-s.invariant t.loop-s-test.true
 
-add-s-2 : tie.Need-overflow-add-s-2 invariant-loop decreases-loop
+add-s-2 : tie.Need-overflow_add-s-else-rows-i-eq0 invariant-loop-s decreases-loop-s
 add-s-2 c = omega arith
 
-loop-less-2 : tie.Need-loop-smaller-2 invariant-loop decreases-loop
+loop-less-2 : tie.Need-loop-s-smaller invariant-loop-s decreases-loop-s
 loop-less-2 c = omega arith
 
-loop-again-2 : tie.Need-loop-preserved-2 invariant-loop decreases-loop
+loop-again-2 : tie.Need-loop-s-preserved invariant-loop-s decreases-loop-s
 loop-again-2 c =
     let t = c.before.before in
-    laying-skip t.before.loop.invariant t.loop-test.true
+    laying-skip t.before.loop-s.invariant t.loop-s-test.true
 
-same_length : tie.Need-same-length invariant-loop decreases-loop
-same_length c = c.before.loop.invariant.same ∙ simp length-set
+same_length : tie.Need-shape_of-scratch invariant-loop-s decreases-loop-s
+same_length c = c.before.loop-s.invariant.same ∙ simp length-set
 
-returns : tie.Need-returns invariant-loop decreases-loop
-returns c = laying-end c.before.loop.invariant c.loop-test.false
+returns : tie.Need-returns invariant-loop-s decreases-loop-s
+returns c = laying-end c.before.loop-s.invariant c.loop-s-test.false
 
-pub lay-spec : {M : Type 1} → statement M
-lay-spec =
+pub lay_spec : {M : Type 1} → statement M
+lay_spec =
     tie.close
     (tie.spec
-    invariant-loop
-    decreases-loop
+    invariant-loop-s
+    decreases-loop-s
     add-queue
     mul-queue
     mul-scratch

@@ -6,40 +6,40 @@ use Rattle.free_chain.proofs.Rounding.{Rounding, rounding-start, rounds-can, rou
 use Rattle.free_chain.proofs.pieces.rounds.Statement.{statement}
 use Rattle.free_chain.proofs.pieces.rounds.Tie as tie
 
-abbrev invariant-loop : tie.invariant-loop
-invariant-loop rows next scratch₀ cuts queued k n₀ left₀ scratch n left = Rounding rows next cuts scratch₀ scratch n 0
+abbrev invariant-loop-n : tie.invariant-loop-n
+invariant-loop-n rows next scratch₀ cuts queued k n₀ left₀ scratch n left = Rounding rows next cuts scratch₀ scratch n 0
 
-abbrev decreases-loop : tie.decreases-loop
-decreases-loop rows next scratch₀ cuts queued k n₀ left₀ scratch n left = n + left
+abbrev decreases-loop-n : tie.decreases-loop-n
+decreases-loop-n rows next scratch₀ cuts queued k n₀ left₀ scratch n left = n + left
 
-loop-holds : tie.Need-loop-init invariant-loop decreases-loop
+loop-holds : tie.Need-loop-n-init invariant-loop-n decreases-loop-n
 loop-holds c = rounding-start c.before.before.before.requires
 
-round-requires : tie.Need-round-requires invariant-loop decreases-loop
+round-requires : tie.Need-round-x-requires invariant-loop-n decreases-loop-n
 round-requires c κs =
     let p = c.before.before in
-    rounds-can p.before.before.before.before.requires p.loop.invariant
+    rounds-can p.before.before.before.before.requires p.loop-n.invariant
 
-loop-less : tie.Need-loop-smaller invariant-loop decreases-loop
+loop-less : tie.Need-loop-n-smaller invariant-loop-n decreases-loop-n
 loop-less c = omega arith
 
-loop-again : tie.Need-loop-preserved invariant-loop decreases-loop
+loop-again : tie.Need-loop-n-preserved invariant-loop-n decreases-loop-n
 loop-again c =
     let d = c.before.before in
-    rounds-next d.before.before.before.loop.invariant d.round.ensures d.round.auto.1.1.0
+    rounds-next d.before.before.before.loop-n.invariant d.round-x.ensures d.round-x.auto.scratch
 
-same_length : tie.Need-same-length invariant-loop decreases-loop
-same_length c = c.before.loop.invariant.same
+same_length : tie.Need-shape_of-scratch invariant-loop-n decreases-loop-n
+same_length c = c.before.loop-n.invariant.same
 
-returns : tie.Need-returns invariant-loop decreases-loop
-returns c = c.before.loop.invariant.kept
+returns : tie.Need-returns invariant-loop-n decreases-loop-n
+returns c = c.before.loop-n.invariant.kept
 
-pub rounds-spec : {M : Type 1} → statement M
-rounds-spec =
+pub rounds_spec : {M : Type 1} → statement M
+rounds_spec =
     tie.close
     (tie.spec
-    invariant-loop
-    decreases-loop
+    invariant-loop-n
+    decreases-loop-n
     loop-holds
     round-requires
     loop-less

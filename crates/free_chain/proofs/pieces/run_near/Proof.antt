@@ -8,48 +8,48 @@ use Rattle.free_chain.proofs.Leading.{run-start, run_more}
 use Rattle.free_chain.proofs.pieces.run_near.Statement.{statement}
 use Rattle.free_chain.proofs.pieces.run_near.Tie as tie
 
-abbrev invariant-loop : tie.invariant-loop
-invariant-loop next i top e₀ e = (top < length next) × RunsTo next i e
+abbrev invariant-loop-e : tie.invariant-loop-e
+invariant-loop-e next i top e₀ e = (top < length next) × RunsTo next i e
 
-abbrev decreases-loop : tie.decreases-loop
-decreases-loop next i top e₀ e = top - e
+abbrev decreases-loop-e : tie.decreases-loop-e
+decreases-loop-e next i top e₀ e = top - e
 
-loop-holds : tie.Need-loop-init invariant-loop decreases-loop
+loop-holds : tie.Need-loop-e-init invariant-loop-e decreases-loop-e
 loop-holds c = (omega arith, run-start _ _ (omega arith))
 
-mul-if1 : tie.Need-overflow-mul-if1 invariant-loop decreases-loop
+mul-if1 : tie.Need-offset_bounds-next-e invariant-loop-e decreases-loop-e
 mul-if1 c = omega arith
 
-shared-slice-read-if1 : tie.Need-shared-slice-read-if1 invariant-loop decreases-loop
+shared-slice-read-if1 : tie.Need-bounds-next-e invariant-loop-e decreases-loop-e
 shared-slice-read-if1 c = omega arith
 
-cast-if1 : tie.Need-overflow-cast-if1 invariant-loop decreases-loop
-cast-if1 c = omega (arith, c.shared-slice-known.given c.before.before.loop.e)
+cast-if1 : tie.Need-overflow_cast-next invariant-loop-e decreases-loop-e
+cast-if1 c = omega (arith, c.shared_slice_known-1.given c.before.before.loop-e.e)
 
-add-if1 : tie.Need-overflow-add-if1 invariant-loop decreases-loop
+add-if1 : tie.Need-overflow_add-e invariant-loop-e decreases-loop-e
 add-if1 c = omega arith
 
-returns : tie.Need-returns invariant-loop decreases-loop
-returns c = c.before.before.before.loop.invariant.1
+returns : tie.Need-returns-then-next-e invariant-loop-e decreases-loop-e
+returns c = c.before.before.before.loop-e.invariant.1
 
-add-e : tie.Need-overflow-add-e invariant-loop decreases-loop
+add-e : tie.Need-overflow_add-e-in-loop-e invariant-loop-e decreases-loop-e
 add-e c = omega arith
 
-loop-less : tie.Need-loop-smaller invariant-loop decreases-loop
+loop-less : tie.Need-loop-e-smaller invariant-loop-e decreases-loop-e
 loop-less c = omega arith
 
-loop-again : tie.Need-loop-preserved invariant-loop decreases-loop
-loop-again c = (omega arith, run_more c.before.before.before.loop.invariant.1 (omega arith) c.if1.false)
+loop-again : tie.Need-loop-e-preserved invariant-loop-e decreases-loop-e
+loop-again c = (omega arith, run_more c.before.before.before.loop-e.invariant.1 (omega arith) c.if-next-e.false)
 
-returns-2 : tie.Need-returns-2 invariant-loop decreases-loop
-returns-2 c = c.before.loop.invariant.1
+returns-2 : tie.Need-returns invariant-loop-e decreases-loop-e
+returns-2 c = c.before.loop-e.invariant.1
 
-pub run-near-spec : {M : Type 1} → statement M
-run-near-spec =
+pub run_near_spec : {M : Type 1} → statement M
+run_near_spec =
     tie.close
     (tie.spec
-    invariant-loop
-    decreases-loop
+    invariant-loop-e
+    decreases-loop-e
     loop-holds
     mul-if1
     shared-slice-read-if1
