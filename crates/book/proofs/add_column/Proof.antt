@@ -10,47 +10,47 @@ use Rattle.book.proofs.add_column.Tie as tie
 abbrev entry : tie.After-write-rows-arg2 → tie.Start
 entry c = c.before.before.before.before.before.before
 
-abbrev written : tie.After-cut-after-arg → tie.After-write-rows
+abbrev written : tie.After-cut_after-arg-1 → tie.After-write_rows-last
 written c = c.before.before.before
 
-abbrev cut : tie.After-slice-known5 → tie.After-cut-after
+abbrev cut : tie.After-slice_known-5-1 → tie.After-cut_after-rest
 cut c = c.before.before
 
-write-rows-requires : tie.Need-write-rows-requires
+write-rows-requires : tie.Need-write_rows-last-requires
 write-rows-requires c κs = add-write (entry c).requires
 
-cut-after-requires : tie.Need-cut-after-requires
-cut-after-requires c κs = let d = written c in add-has (entry d.before).requires d.write-rows.ensures
+cut-after-requires : tie.Need-cut_after-rest-requires
+cut-after-requires c κs = let d = written c in add-has (entry d.before).requires d.write_rows-last.ensures
 
-sub-heads : tie.Need-overflow-sub-heads
+sub-heads : tie.Need-overflow_sub-heads
 sub-heads c = search rules
 
-cast-heads : tie.Need-overflow-cast-heads
+cast-heads : tie.Need-overflow_cast-heads
 cast-heads c = search rules
 
-mul-heads : tie.Need-overflow-mul-heads
+mul-heads : tie.Need-offset_bounds-heads-k
 mul-heads c = search rules
 
-slice-write-heads : tie.Need-slice-write-heads
+slice-write-heads : tie.Need-bounds-heads-k
 slice-write-heads c = search rules
 
-same_length : tie.Need-same-length
+same_length : tie.Need-shape_of-heads
 same_length c = search rules
 
-same-length-2 : tie.Need-same-length-2
+same-length-2 : tie.Need-shape_of-rows
 same-length-2 c = search rules
 
-same-length-3 : tie.Need-same-length-3
+same-length-3 : tie.Need-shape_of-next
 same-length-3 c = search rules
 
 returns : tie.Need-returns
 returns c =
     let e = cut c in
     let d = written e.before in
-    added (entry d.before).requires d.write-rows.ensures e.cut-after.ensures.1 e.cut-after.ensures.0
+    added (entry d.before).requires d.write_rows-last.ensures e.cut_after-rest.ensures.1 e.cut_after-rest.ensures.0
 
-pub add-column-spec : {M : Type 1} → statement M
-add-column-spec =
+pub add_column_spec : {M : Type 1} → statement M
+add_column_spec =
     tie.close
     (tie.spec
     write-rows-requires

@@ -9,66 +9,66 @@ use Rattle.book.proofs.Writing.{Clearing, ClearTurn, clearing-start, clearing-tu
 use Rattle.book.proofs.clear_rows.Statement.{statement}
 use Rattle.book.proofs.clear_rows.Tie as tie
 
-abbrev invariant-loop : tie.invariant-loop
-invariant-loop rows₀ next r₀ last₀ rows r last = Clearing rows₀ next r₀ rows r last
+abbrev invariant-loop-r : tie.invariant-loop-r
+invariant-loop-r rows₀ next r₀ last₀ rows r last = Clearing rows₀ next r₀ rows r last
 
-abbrev decreases-loop : tie.decreases-loop
-decreases-loop rows₀ next r₀ last₀ rows r last = length (chain next r)
+abbrev decreases-loop-r : tie.decreases-loop-r
+decreases-loop-r rows₀ next r₀ last₀ rows r last = length (chain next r)
 
 -- ---- the places, named
-abbrev entry : tie.In-loop invariant-loop decreases-loop → tie.Start invariant-loop decreases-loop
+abbrev entry : tie.In-loop-r invariant-loop-r decreases-loop-r → tie.Start invariant-loop-r decreases-loop-r
 entry c = c.before.before
 
 -- what every need of a turn asks, at the loop's test
-pub record Facts (c : tie.In-loop invariant-loop decreases-loop) : Type 0 where
-  pub turn : ClearTurn (entry c).args.rows.now (entry c).args.next.now (entry c).args.head.0 c.before.loop.rows c.before.loop.r
-  pub in_rows : c.before.loop.r ≤ length c.before.loop.rows
+pub record Facts (c : tie.In-loop-r invariant-loop-r decreases-loop-r) : Type 0 where
+  pub turn : ClearTurn (entry c).args.rows.now (entry c).args.next.now (entry c).args.head.0 c.before.loop-r.rows c.before.loop-r.r
+  pub in_rows : c.before.loop-r.r ≤ length c.before.loop-r.rows
   pub room : length (entry c).args.next.now * 4 < 2 ^ 63
 
-facts : (c : tie.In-loop invariant-loop decreases-loop) → Facts c
+facts : (c : tie.In-loop-r invariant-loop-r decreases-loop-r) → Facts c
 facts c =
-    let t = clearing-turn (entry c).requires.0 c.before.loop.invariant c.loop-test.true in
-    record { turn = t; in_rows = omega (arith, t.high, c.before.loop.invariant.long, (entry c).requires.0.sized); room = omega (arith, (entry c).well-formed) }
+    let t = clearing-turn (entry c).requires.0 c.before.loop-r.invariant c.loop-r-test.true in
+    record { turn = t; in_rows = omega (arith, t.high, c.before.loop-r.invariant.long, (entry c).requires.0.sized); room = omega (arith, (entry c).well_formed) }
 
-loop-holds : tie.Need-loop-init invariant-loop decreases-loop
+loop-holds : tie.Need-loop-r-init invariant-loop-r decreases-loop-r
 loop-holds c = clearing-start c.requires.0
 
-sub-i : tie.Need-overflow-sub-i invariant-loop decreases-loop
+sub-i : tie.Need-overflow_sub-i invariant-loop-r decreases-loop-r
 sub-i c = (facts c).turn.low
 
-cast-i : tie.Need-overflow-cast-i invariant-loop decreases-loop
+cast-i : tie.Need-overflow_cast-i invariant-loop-r decreases-loop-r
 cast-i c = let f = facts c in omega arith
 
-mul-rows : tie.Need-overflow-mul-rows invariant-loop decreases-loop
+mul-rows : tie.Need-offset_bounds-rows-i invariant-loop-r decreases-loop-r
 mul-rows c = let f = facts c in omega arith
 
-slice-write-rows : tie.Need-slice-write-rows invariant-loop decreases-loop
+slice-write-rows : tie.Need-bounds-rows-i invariant-loop-r decreases-loop-r
 slice-write-rows c = let f = facts c in omega arith
 
-mul-r : tie.Need-overflow-mul-r invariant-loop decreases-loop
+mul-r : tie.Need-offset_bounds-next-i invariant-loop-r decreases-loop-r
 mul-r c = let f = facts c in omega arith
 
-shared-slice-read-r : tie.Need-shared-slice-read-r invariant-loop decreases-loop
+shared-slice-read-r : tie.Need-bounds-next-i invariant-loop-r decreases-loop-r
 shared-slice-read-r c = let f = facts c.before in omega arith
 
-loop-less : tie.Need-loop-smaller invariant-loop decreases-loop
+loop-less : tie.Need-loop-r-smaller invariant-loop-r decreases-loop-r
 loop-less c = (facts c.before).turn.less
 
-loop-again : tie.Need-loop-preserved invariant-loop decreases-loop
+loop-again : tie.Need-loop-r-preserved invariant-loop-r decreases-loop-r
 loop-again c = (facts c.before).turn.again
 
-same_length : tie.Need-same-length invariant-loop decreases-loop
-same_length c = c.before.loop.invariant.long
+same_length : tie.Need-shape_of-rows invariant-loop-r decreases-loop-r
+same_length c = c.before.loop-r.invariant.long
 
-returns : tie.Need-returns invariant-loop decreases-loop
-returns c = clearing-end c.before.before.requires.0 c.before.before.requires.1 c.before.loop.invariant c.loop-test.false
+returns : tie.Need-returns invariant-loop-r decreases-loop-r
+returns c = clearing-end c.before.before.requires.0 c.before.before.requires.1 c.before.loop-r.invariant c.loop-r-test.false
 
-pub clear-rows-spec : {M : Type 1} → statement M
-clear-rows-spec =
+pub clear_rows_spec : {M : Type 1} → statement M
+clear_rows_spec =
     tie.close
     (tie.spec
-    invariant-loop
-    decreases-loop
+    invariant-loop-r
+    decreases-loop-r
     loop-holds
     sub-i
     cast-i

@@ -9,96 +9,96 @@ use Rattle.book.proofs.Counting.{Counting, RecordFacts, counting-start, counting
 use Rattle.book.proofs.count_rows.Statement.{statement}
 use Rattle.book.proofs.count_rows.Tie as tie
 
-abbrev invariant-loop : tie.invariant-loop
-invariant-loop heads rows next counters₀ k size₀ r₀ counters size r = Counting rows next counters₀ r₀ counters size r
+abbrev invariant-loop-r : tie.invariant-loop-r
+invariant-loop-r heads rows next counters₀ k size₀ r₀ counters size r = Counting rows next counters₀ r₀ counters size r
 
-abbrev decreases-loop : tie.decreases-loop
-decreases-loop heads rows next counters₀ k size₀ r₀ counters size r = length (chain next r)
+abbrev decreases-loop-r : tie.decreases-loop-r
+decreases-loop-r heads rows next counters₀ k size₀ r₀ counters size r = length (chain next r)
 
-abbrev start : tie.In-loop invariant-loop decreases-loop → tie.Start invariant-loop decreases-loop
+abbrev start : tie.In-loop-r invariant-loop-r decreases-loop-r → tie.Start invariant-loop-r decreases-loop-r
 start c = c.before.before.before
 
-facts : (c : tie.In-loop invariant-loop decreases-loop) →
-    RecordFacts (start c).args.rows.now (start c).args.next.now (start c).requires.m c.before.loop.counters c.before.loop.size c.before.loop.r
-facts c = counting-facts (start c).requires c.before.loop.invariant c.loop-test.true
+facts : (c : tie.In-loop-r invariant-loop-r decreases-loop-r) →
+    RecordFacts (start c).args.rows.now (start c).args.next.now (start c).requires.m c.before.loop-r.counters c.before.loop-r.size c.before.loop-r.r
+facts c = counting-facts (start c).requires c.before.loop-r.invariant c.loop-r-test.true
 
-sub-r : tie.Need-overflow-sub-r invariant-loop decreases-loop
+sub-r : tie.Need-overflow_sub-r invariant-loop-r decreases-loop-r
 sub-r c = c.requires.column.has.low
 
-cast-r : tie.Need-overflow-cast-r invariant-loop decreases-loop
-cast-r c = omega (arith, c.requires.column.has.low, c.requires.column.has.high, c.well-formed)
+cast-r : tie.Need-overflow_cast-r invariant-loop-r decreases-loop-r
+cast-r c = omega (arith, c.requires.column.has.low, c.requires.column.has.high, c.well_formed)
 
-mul-r : tie.Need-overflow-mul-r invariant-loop decreases-loop
-mul-r c = omega (arith, c.requires.column.has.low, c.requires.column.has.high, c.well-formed)
+mul-r : tie.Need-offset_bounds-heads-k invariant-loop-r decreases-loop-r
+mul-r c = omega (arith, c.requires.column.has.low, c.requires.column.has.high, c.well_formed)
 
-shared-slice-read-r : tie.Need-shared-slice-read-r invariant-loop decreases-loop
+shared-slice-read-r : tie.Need-bounds-heads-k invariant-loop-r decreases-loop-r
 shared-slice-read-r c = omega (arith, c.before.requires.column.has.low, c.before.requires.column.has.high)
 
-loop-holds : tie.Need-loop-init invariant-loop decreases-loop
+loop-holds : tie.Need-loop-r-init invariant-loop-r decreases-loop-r
 loop-holds c = counting-start c.before.requires
 
-sub-i : tie.Need-overflow-sub-i invariant-loop decreases-loop
+sub-i : tie.Need-overflow_sub-i invariant-loop-r decreases-loop-r
 sub-i c = let f = facts c in omega arith
 
-cast-i : tie.Need-overflow-cast-i invariant-loop decreases-loop
+cast-i : tie.Need-overflow_cast-i invariant-loop-r decreases-loop-r
 cast-i c = let f = facts c in omega arith
 
-mul-c : tie.Need-overflow-mul-c invariant-loop decreases-loop
+mul-c : tie.Need-offset_bounds-rows-i invariant-loop-r decreases-loop-r
 mul-c c = let f = facts c in omega arith
 
-shared-slice-read-c : tie.Need-shared-slice-read-c invariant-loop decreases-loop
+shared-slice-read-c : tie.Need-bounds-rows-i invariant-loop-r decreases-loop-r
 shared-slice-read-c c = let f = facts c.before in omega arith
 
-sub-c : tie.Need-overflow-sub-c invariant-loop decreases-loop
+sub-c : tie.Need-overflow_sub-c invariant-loop-r decreases-loop-r
 sub-c c = let f = facts c.before in omega arith
 
-cast-c : tie.Need-overflow-cast-c invariant-loop decreases-loop
+cast-c : tie.Need-overflow_cast-c invariant-loop-r decreases-loop-r
 cast-c c = let f = facts c.before in omega arith
 
-mul-v : tie.Need-overflow-mul-v invariant-loop decreases-loop
+mul-v : tie.Need-offset_bounds-counters-c invariant-loop-r decreases-loop-r
 mul-v c = let f = facts c.before in omega arith
 
-slice-read-v : tie.Need-slice-read-v invariant-loop decreases-loop
+slice-read-v : tie.Need-bounds-counters-c invariant-loop-r decreases-loop-r
 slice-read-v c = let f = facts c.before.before in omega arith
 
-add-counters : tie.Need-overflow-add-counters invariant-loop decreases-loop
+add-counters : tie.Need-overflow_add-counters invariant-loop-r decreases-loop-r
 add-counters c = let f = facts c.before.before in omega arith
 
-mul-counters : tie.Need-overflow-mul-counters invariant-loop decreases-loop
+mul-counters : tie.Need-offset_bounds-counters-c-in-loop-r invariant-loop-r decreases-loop-r
 mul-counters c = let f = facts c.before.before in omega arith
 
-slice-write-counters : tie.Need-slice-write-counters invariant-loop decreases-loop
+slice-write-counters : tie.Need-bounds-counters-c-in-loop-r invariant-loop-r decreases-loop-r
 slice-write-counters c = let f = facts c.before.before in omega arith
 
-add-size : tie.Need-overflow-add-size invariant-loop decreases-loop
+add-size : tie.Need-overflow_add-size invariant-loop-r decreases-loop-r
 add-size c = let f = facts c.before.before.before in omega arith
 
-mul-r-2 : tie.Need-overflow-mul-r-2 invariant-loop decreases-loop
+mul-r-2 : tie.Need-offset_bounds-next-i invariant-loop-r decreases-loop-r
 mul-r-2 c = let f = facts c.before.before.before in omega arith
 
-shared-slice-read-r-2 : tie.Need-shared-slice-read-r-2 invariant-loop decreases-loop
+shared-slice-read-r-2 : tie.Need-bounds-next-i invariant-loop-r decreases-loop-r
 shared-slice-read-r-2 c = let f = facts c.before.before.before.before in omega arith
 
-loop-less : tie.Need-loop-smaller invariant-loop decreases-loop
-loop-less c = let d = c.before.before.before.before in counting-less (start d).requires d.before.loop.invariant d.loop-test.true
+loop-less : tie.Need-loop-r-smaller invariant-loop-r decreases-loop-r
+loop-less c = let d = c.before.before.before.before in counting-less (start d).requires d.before.loop-r.invariant d.loop-r-test.true
 
-loop-again : tie.Need-loop-preserved invariant-loop decreases-loop
+loop-again : tie.Need-loop-r-preserved invariant-loop-r decreases-loop-r
 loop-again c =
     let d = c.before.before.before.before in
-    counting_more (start d).requires d.before.loop.invariant d.loop-test.true _ (⊎_elim (λ w. inl (w.0.taken, w.1)) (λ w. inr (w.0.left, w.1)) c.before.if1.branch)
+    counting_more (start d).requires d.before.loop-r.invariant d.loop-r-test.true _ (⊎_elim (λ w. inl (w.0.taken, w.1)) (λ w. inr (w.0.left, w.1)) c.before.if-v-eq0.branch-raw)
 
-same_length : tie.Need-same-length invariant-loop decreases-loop
-same_length c = tally-length c.before.loop.invariant.counted
+same_length : tie.Need-shape_of-counters invariant-loop-r decreases-loop-r
+same_length c = tally-length c.before.loop-r.invariant.counted
 
-returns : tie.Need-returns invariant-loop decreases-loop
-returns c = (counting-end c.before.before.before.requires c.before.loop.invariant c.loop-test.false, c.before.loop.invariant.counted.size_is)
+returns : tie.Need-returns invariant-loop-r decreases-loop-r
+returns c = (counting-end c.before.before.before.requires c.before.loop-r.invariant c.loop-r-test.false, c.before.loop-r.invariant.counted.size_is)
 
-pub count-rows-spec : {M : Type 1} → statement M
-count-rows-spec =
+pub count_rows_spec : {M : Type 1} → statement M
+count_rows_spec =
     tie.close
     (tie.spec
-    invariant-loop
-    decreases-loop
+    invariant-loop-r
+    decreases-loop-r
     sub-r
     cast-r
     mul-r

@@ -12,5 +12,5 @@ count-requires c κs = search rules
 returns : tie.Need-returns
 returns c = count_fits _ _ _ c.count.ensures
 
-pub fits-spec : {M : Type 1} → statement M
-fits-spec = tie.close (tie.spec count-requires returns)
+pub fits_spec : {M : Type 1} → statement M
+fits_spec = tie.close (tie.spec count-requires returns)

@@ -10,53 +10,53 @@ use Rattle.book.proofs.remove_column.Tie as tie
 abbrev entry : tie.After-clear-rows-arg2 → tie.Start
 entry c = c.before.before.before.before.before.before
 
-abbrev cleared : tie.After-join-after-arg → tie.After-clear-rows
+abbrev cleared : tie.After-join_after-arg-1 → tie.After-clear_rows-last
 cleared c = c.before.before.before
 
-abbrev joined : tie.After-slice-known6 → tie.After-join-after
+abbrev joined : tie.After-slice_known-6-1 → tie.After-join_after
 joined c = c.before.before
 
-sub-i : tie.Need-overflow-sub-i
+sub-i : tie.Need-overflow_sub-i
 sub-i c = search rules
 
-cast-i : tie.Need-overflow-cast-i
+cast-i : tie.Need-overflow_cast-i
 cast-i c = search rules
 
-mul-h : tie.Need-overflow-mul-h
+mul-h : tie.Need-offset_bounds-heads-i
 mul-h c = search rules
 
-slice-read-h : tie.Need-slice-read-h
+slice-read-h : tie.Need-bounds-heads-i
 slice-read-h c = search rules
 
-clear-rows-requires : tie.Need-clear-rows-requires
+clear-rows-requires : tie.Need-clear_rows-last-requires
 clear-rows-requires c κs = remove-clear (entry c).requires
 
-join-after-requires : tie.Need-join-after-requires
-join-after-requires c κs = let d = cleared c in remove-has (entry d.before).requires d.clear-rows.ensures
+join-after-requires : tie.Need-join_after-requires
+join-after-requires c κs = let d = cleared c in remove-has (entry d.before).requires d.clear_rows-last.ensures
 
-mul-heads : tie.Need-overflow-mul-heads
+mul-heads : tie.Need-offset_bounds-heads-i-2
 mul-heads c = search rules
 
-slice-write-heads : tie.Need-slice-write-heads
+slice-write-heads : tie.Need-bounds-heads-i-2
 slice-write-heads c = search rules
 
-same_length : tie.Need-same-length
+same_length : tie.Need-shape_of-heads
 same_length c = search rules
 
-same-length-2 : tie.Need-same-length-2
+same-length-2 : tie.Need-shape_of-rows
 same-length-2 c = search rules
 
-same-length-3 : tie.Need-same-length-3
+same-length-3 : tie.Need-shape_of-next
 same-length-3 c = search rules
 
 returns : tie.Need-returns
 returns c =
     let e = joined c in
     let d = cleared e.before in
-    removed (entry d.before).requires d.clear-rows.ensures e.join-after.ensures
+    removed (entry d.before).requires d.clear_rows-last.ensures e.join_after.ensures
 
-pub remove-column-spec : {M : Type 1} → statement M
-remove-column-spec =
+pub remove_column_spec : {M : Type 1} → statement M
+remove_column_spec =
     tie.close
     (tie.spec
     sub-i

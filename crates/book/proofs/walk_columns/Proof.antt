@@ -9,106 +9,106 @@ use Rattle.book.proofs.Through.{Through, naming, last-few, through-start, throug
 use Rattle.book.proofs.walk_columns.Statement.{statement}
 use Rattle.book.proofs.walk_columns.Tie as tie
 
-abbrev invariant-loop : tie.invariant-loop
-invariant-loop heads rows next scratch₀ m c n₀ i₀ scratch n i = Through heads rows next scratch₀ m scratch n i
+abbrev invariant-loop-i : tie.invariant-loop-i
+invariant-loop-i heads rows next scratch₀ m c n₀ i₀ scratch n i = Through heads rows next scratch₀ m scratch n i
 
-abbrev decreases-loop : tie.decreases-loop
-decreases-loop heads rows next scratch₀ m c n₀ i₀ scratch n i = length heads - i
+abbrev decreases-loop-i : tie.decreases-loop-i
+decreases-loop-i heads rows next scratch₀ m c n₀ i₀ scratch n i = length heads - i
 
 -- ---- the places, named: the loop's turn, a walk of a column in it, what was cut and what ended
-abbrev entry : tie.At-loop invariant-loop decreases-loop → tie.Start invariant-loop decreases-loop
+abbrev entry : tie.At-loop-i invariant-loop-i decreases-loop-i → tie.Start invariant-loop-i decreases-loop-i
 entry l = l.before.before.before.before.before
 
-abbrev turn : tie.After-walk-column invariant-loop decreases-loop → tie.In-loop invariant-loop decreases-loop
+abbrev turn : tie.After-walk_column invariant-loop-i decreases-loop-i → tie.In-loop-i invariant-loop-i decreases-loop-i
 turn d = d.before.before.before
 
-abbrev cut : tie.After-enum-told invariant-loop decreases-loop → tie.After-walk-column invariant-loop decreases-loop
+abbrev cut : tie.In-Cut invariant-loop-i decreases-loop-i → tie.After-walk_column invariant-loop-i decreases-loop-i
 cut c = c.before.before
 
-abbrev ended : tie.After-name-arg2 invariant-loop decreases-loop → tie.After-walk-column invariant-loop decreases-loop
+abbrev ended : tie.After-name-arg-in-Ended-1 invariant-loop-i decreases-loop-i → tie.After-walk_column invariant-loop-i decreases-loop-i
 ended c = c.before.before.before.before
 
-loop-holds : tie.Need-loop-init invariant-loop decreases-loop
+loop-holds : tie.Need-loop-i-init invariant-loop-i decreases-loop-i
 loop-holds c = through-start
 
-add-k : tie.Need-overflow-add-k invariant-loop decreases-loop
-add-k c = omega (arith, (entry c.before).pre.few-ids)
+add-k : tie.Need-overflow_add-k invariant-loop-i decreases-loop-i
+add-k c = omega (arith, (entry c.before).requires.few-ids)
 
-cast-k : tie.Need-overflow-cast-k invariant-loop decreases-loop
-cast-k c = omega (arith, c.loop-test.true, (entry c.before).pre.few-ids)
+cast-k : tie.Need-overflow_cast-k invariant-loop-i decreases-loop-i
+cast-k c = omega (arith, c.loop-i-test.true, (entry c.before).requires.few-ids)
 
-mul-if1 : tie.Need-overflow-mul-if1 invariant-loop decreases-loop
-mul-if1 c = omega (arith, c.loop-test.true, (entry c.before).pre.few-ids)
+mul-if1 : tie.Need-offset_bounds-heads-i invariant-loop-i decreases-loop-i
+mul-if1 c = omega (arith, c.loop-i-test.true, (entry c.before).requires.few-ids)
 
-shared-slice-read-if1 : tie.Need-shared-slice-read-if1 invariant-loop decreases-loop
-shared-slice-read-if1 c = c.before.loop-test.true
+shared-slice-read-if1 : tie.Need-bounds-heads-i invariant-loop-i decreases-loop-i
+shared-slice-read-if1 c = c.before.loop-i-test.true
 
-name-requires : tie.Need-name-requires invariant-loop decreases-loop
+name-requires : tie.Need-name-requires invariant-loop-i decreases-loop-i
 name-requires c κs =
     let d = c.before.before.before in
-    naming (entry d.before).pre d.before.loop.invariant d.loop-test.true (omega arith)
+    naming (entry d.before).requires d.before.loop-i.invariant d.loop-i-test.true (omega arith)
 
-add-i : tie.Need-overflow-add-i invariant-loop decreases-loop
-add-i c = let d = c.before.before.before.before.before.before in omega (arith, d.loop-test.true, (entry d.before).pre.few-ids)
+add-i : tie.Need-overflow_add-i invariant-loop-i decreases-loop-i
+add-i c = let d = c.before.before.before.before.before.before in omega (arith, d.loop-i-test.true, (entry d.before).requires.few-ids)
 
-loop-less : tie.Need-loop-smaller invariant-loop decreases-loop
-loop-less c = omega (arith, c.before.before.before.before.before.before.loop-test.true)
+loop-less : tie.Need-loop-i-smaller-then-heads-i-eq0 invariant-loop-i decreases-loop-i
+loop-less c = omega (arith, c.before.before.before.before.before.before.loop-i-test.true)
 
-loop-again : tie.Need-loop-preserved invariant-loop decreases-loop
+loop-again : tie.Need-loop-i-preserved-then-heads-i-eq0 invariant-loop-i decreases-loop-i
 loop-again c =
     let d = c.before.before.before.before.before.before in
-    through-none (entry d.before).pre d.before.loop.invariant d.loop-test.true c.before.before.before.before.if1.true c.before.before.name.ensures
+    through-none (entry d.before).requires d.before.loop-i.invariant d.loop-i-test.true c.before.before.before.before.if-heads-i-eq0.true c.before.before.name.ensures
 
-walk-column-requires : tie.Need-walk-column-requires invariant-loop decreases-loop
+walk-column-requires : tie.Need-walk_column-requires invariant-loop-i decreases-loop-i
 walk-column-requires c κs =
     let d = c.before.before in
-    record { sized = (entry d.before).pre.sized; inside = d.loop-test.true; booked = c.if1.false; within = d.before.loop.invariant.walked.within }
+    record { sized = (entry d.before).requires.sized; inside = d.loop-i-test.true; booked = c.if-heads-i-eq0.false; within = d.before.loop-i.invariant.walked.within }
 
-enum_told : tie.Need-enum-told invariant-loop decreases-loop
+enum_told : tie.Need-enum_told-1 invariant-loop-i decreases-loop-i
 enum_told c = search rules
 
-same_length : tie.Need-same-length invariant-loop decreases-loop
-same_length c = (turn (cut c)).before.loop.inv.long
+same_length : tie.Need-shape_of-scratch-in-Cut invariant-loop-i decreases-loop-i
+same_length c = (turn (cut c)).before.loop-i.invariant.long
 
-returns : tie.Need-returns invariant-loop decreases-loop
+returns : tie.Need-returns-in-Cut invariant-loop-i decreases-loop-i
 returns c =
     let d = cut c in
-    through-cut (turn d).before.loop.inv (turn d).loop-test.taken d.before.if1.left d.walk-column.ensures c.enum_told.given.1
+    through-cut (turn d).before.loop-i.invariant (turn d).loop-i-test.true d.before.if-heads-i-eq0.false d.walk_column.ensures c.enum_told-1.given.1
 
-enum-known-met : tie.Need-enum-known-met invariant-loop decreases-loop
+enum-known-met : tie.Need-enum_known-met invariant-loop-i decreases-loop-i
 enum-known-met c = search rules
 
-name-requires-2 : tie.Need-name-requires-2 invariant-loop decreases-loop
+name-requires-2 : tie.Need-name-requires-in-Ended invariant-loop-i decreases-loop-i
 name-requires-2 c κs =
     let d = turn (ended c) in
-    let q = (entry d.before).pre in
-    let i = d.before.loop.inv in
-    naming q i d.loop-test.taken (omega (arith, last-few q i d.loop-test.taken (ended c).walk-column.ensures c.before.before.met.given.1))
+    let q = (entry d.before).requires in
+    let i = d.before.loop-i.invariant in
+    naming q i d.loop-i-test.true (omega (arith, last-few q i d.loop-i-test.true (ended c).walk_column.ensures c.before.before.met-1.given.1))
 
-add-i-2 : tie.Need-overflow-add-i-2 invariant-loop decreases-loop
-add-i-2 c = let d = turn (ended c.before.before.before) in omega (arith, d.loop-test.taken, (entry d.before).pre.few-ids)
+add-i-2 : tie.Need-overflow_add-i-in-Ended invariant-loop-i decreases-loop-i
+add-i-2 c = let d = turn (ended c.before.before.before) in omega (arith, d.loop-i-test.true, (entry d.before).requires.few-ids)
 
-loop-less-2 : tie.Need-loop-smaller-2 invariant-loop decreases-loop
-loop-less-2 c = omega (arith, (turn (ended c.before.before.before)).loop-test.taken)
+loop-less-2 : tie.Need-loop-i-smaller invariant-loop-i decreases-loop-i
+loop-less-2 c = omega (arith, (turn (ended c.before.before.before)).loop-i-test.true)
 
-loop-again-2 : tie.Need-loop-preserved-2 invariant-loop decreases-loop
+loop-again-2 : tie.Need-loop-i-preserved invariant-loop-i decreases-loop-i
 loop-again-2 c =
     let e = ended c.before.before.before in
     let d = turn e in
-    through-next (entry d.before).pre d.before.loop.inv d.loop-test.taken e.walk-column.ensures c.before.before.before.before.before.met.given.1 c.before.before.name2.ensures
+    through-next (entry d.before).requires d.before.loop-i.invariant d.loop-i-test.true e.walk_column.ensures c.before.before.before.before.before.met-1.given.1 c.before.before.name-in-Ended.ensures
 
-same-length-2 : tie.Need-same-length-2 invariant-loop decreases-loop
-same-length-2 c = c.before.loop.invariant.long
+same-length-2 : tie.Need-shape_of-scratch invariant-loop-i decreases-loop-i
+same-length-2 c = c.before.loop-i.invariant.long
 
-returns-2 : tie.Need-returns-2 invariant-loop decreases-loop
-returns-2 c = through-end c.before.loop.invariant c.loop-test.false
+returns-2 : tie.Need-returns invariant-loop-i decreases-loop-i
+returns-2 c = through-end c.before.loop-i.invariant c.loop-i-test.false
 
-pub walk-columns-spec : {M : Type 1} → statement M
-walk-columns-spec =
+pub walk_columns_spec : {M : Type 1} → statement M
+walk_columns_spec =
     tie.close
     (tie.spec
-    invariant-loop
-    decreases-loop
+    invariant-loop-i
+    decreases-loop-i
     loop-holds
     add-k
     cast-k

@@ -8,79 +8,79 @@ use Rattle.book.proofs.Writing.{Writing, WriteTurn, writing_start, writing-turn,
 use Rattle.book.proofs.write_rows.Statement.{statement}
 use Rattle.book.proofs.write_rows.Tie as tie
 
-abbrev invariant-loop : tie.invariant-loop
-invariant-loop rows₀ next list r₀ last₀ k₀ rows r last k = Writing rows₀ next list r₀ rows r last k
+abbrev invariant-loop-k : tie.invariant-loop-k
+invariant-loop-k rows₀ next list r₀ last₀ k₀ rows r last k = Writing rows₀ next list r₀ rows r last k
 
-abbrev decreases-loop : tie.decreases-loop
-decreases-loop rows₀ next list r₀ last₀ k₀ rows r last k = length list - k
+abbrev decreases-loop-k : tie.decreases-loop-k
+decreases-loop-k rows₀ next list r₀ last₀ k₀ rows r last k = length list - k
 
 -- ---- the places, named
-abbrev entry : tie.In-loop invariant-loop decreases-loop → tie.Start invariant-loop decreases-loop
+abbrev entry : tie.In-loop-k invariant-loop-k decreases-loop-k → tie.Start invariant-loop-k decreases-loop-k
 entry c = c.before.before
 
 -- what every need of a turn asks, at the loop's test
-pub record Facts (c : tie.In-loop invariant-loop decreases-loop) : Type 0 where
-  pub turn : WriteTurn (entry c).args.rows.now (entry c).args.next.now (entry c).args.list.now (entry c).args.head.0 c.before.loop.rows c.before.loop.r c.before.loop.k
-  pub in_rows : c.before.loop.r ≤ length c.before.loop.rows
-  pub more : c.before.loop.k < length (entry c).args.list.now
+pub record Facts (c : tie.In-loop-k invariant-loop-k decreases-loop-k) : Type 0 where
+  pub turn : WriteTurn (entry c).args.rows.now (entry c).args.next.now (entry c).args.list.now (entry c).args.head.0 c.before.loop-k.rows c.before.loop-k.r c.before.loop-k.k
+  pub in_rows : c.before.loop-k.r ≤ length c.before.loop-k.rows
+  pub more : c.before.loop-k.k < length (entry c).args.list.now
   pub room : length (entry c).args.next.now * 4 < 2 ^ 63
 
-facts : (c : tie.In-loop invariant-loop decreases-loop) → Facts c
+facts : (c : tie.In-loop-k invariant-loop-k decreases-loop-k) → Facts c
 facts c =
-    let t = writing-turn (entry c).requires c.before.loop.invariant c.loop-test.true in
-    record { turn = t; in_rows = omega (arith, t.high, c.before.loop.invariant.long, (entry c).requires.has.sized); more = c.loop-test.true; room = omega (arith, (entry c).well-formed) }
+    let t = writing-turn (entry c).requires c.before.loop-k.invariant c.loop-k-test.true in
+    record { turn = t; in_rows = omega (arith, t.high, c.before.loop-k.invariant.long, (entry c).requires.has.sized); more = c.loop-k-test.true; room = omega (arith, (entry c).well_formed) }
 
-loop-holds : tie.Need-loop-init invariant-loop decreases-loop
+loop-holds : tie.Need-loop-k-init invariant-loop-k decreases-loop-k
 loop-holds c = writing_start c.requires
 
-sub-i : tie.Need-overflow-sub-i invariant-loop decreases-loop
+sub-i : tie.Need-overflow_sub-i invariant-loop-k decreases-loop-k
 sub-i c = (facts c).turn.low
 
-cast-i : tie.Need-overflow-cast-i invariant-loop decreases-loop
+cast-i : tie.Need-overflow_cast-i invariant-loop-k decreases-loop-k
 cast-i c = let f = facts c in omega arith
 
-mul-rows : tie.Need-overflow-mul-rows invariant-loop decreases-loop
-mul-rows c = omega (arith, (facts c).more, (entry c).well-formed)
+mul-rows : tie.Need-offset_bounds-list-k invariant-loop-k decreases-loop-k
+mul-rows c = omega (arith, (facts c).more, (entry c).well_formed)
 
-shared-slice-read-rows : tie.Need-shared-slice-read-rows invariant-loop decreases-loop
+shared-slice-read-rows : tie.Need-bounds-list-k invariant-loop-k decreases-loop-k
 shared-slice-read-rows c = (facts c.before).more
 
-cast-rows : tie.Need-overflow-cast-rows invariant-loop decreases-loop
-cast-rows c = omega (arith, (entry c.before).pre.narrow c.before.before.loop.k)
+cast-rows : tie.Need-overflow_cast-rows invariant-loop-k decreases-loop-k
+cast-rows c = omega (arith, (entry c.before).requires.narrow c.before.before.loop-k.k)
 
-mul-rows-2 : tie.Need-overflow-mul-rows-2 invariant-loop decreases-loop
+mul-rows-2 : tie.Need-offset_bounds-rows-i invariant-loop-k decreases-loop-k
 mul-rows-2 c = let f = facts c.before in omega arith
 
-slice-write-rows : tie.Need-slice-write-rows invariant-loop decreases-loop
+slice-write-rows : tie.Need-bounds-rows-i invariant-loop-k decreases-loop-k
 slice-write-rows c = let f = facts c.before in omega arith
 
-mul-r : tie.Need-overflow-mul-r invariant-loop decreases-loop
+mul-r : tie.Need-offset_bounds-next-i invariant-loop-k decreases-loop-k
 mul-r c = let f = facts c.before in omega arith
 
-shared-slice-read-r : tie.Need-shared-slice-read-r invariant-loop decreases-loop
+shared-slice-read-r : tie.Need-bounds-next-i invariant-loop-k decreases-loop-k
 shared-slice-read-r c = let f = facts c.before.before in omega arith
 
-add-k : tie.Need-overflow-add-k invariant-loop decreases-loop
-add-k c = omega (arith, (facts c.before.before).more, (entry c.before.before).good)
+add-k : tie.Need-overflow_add-k invariant-loop-k decreases-loop-k
+add-k c = omega (arith, (facts c.before.before).more, (entry c.before.before).well_formed)
 
-loop-less : tie.Need-loop-smaller invariant-loop decreases-loop
+loop-less : tie.Need-loop-k-smaller invariant-loop-k decreases-loop-k
 loop-less c = omega (arith, (facts c.before.before).more)
 
-loop-again : tie.Need-loop-preserved invariant-loop decreases-loop
+loop-again : tie.Need-loop-k-preserved invariant-loop-k decreases-loop-k
 loop-again c = (facts c.before.before).turn.again
 
-same_length : tie.Need-same-length invariant-loop decreases-loop
-same_length c = c.before.loop.invariant.long
+same_length : tie.Need-shape_of-rows invariant-loop-k decreases-loop-k
+same_length c = c.before.loop-k.invariant.long
 
-returns : tie.Need-returns invariant-loop decreases-loop
-returns c = writing-end c.before.before.requires c.before.loop.invariant c.loop-test.false
+returns : tie.Need-returns invariant-loop-k decreases-loop-k
+returns c = writing-end c.before.before.requires c.before.loop-k.invariant c.loop-k-test.false
 
-pub write-rows-spec : {M : Type 1} → statement M
-write-rows-spec =
+pub write_rows_spec : {M : Type 1} → statement M
+write_rows_spec =
     tie.close
     (tie.spec
-    invariant-loop
-    decreases-loop
+    invariant-loop-k
+    decreases-loop-k
     loop-holds
     sub-i
     cast-i

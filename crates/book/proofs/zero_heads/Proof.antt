@@ -8,42 +8,42 @@ use Rattle.book.proofs.Opened.{Zeroing, zeroing-start, zeroing-long, zeroing-nex
 use Rattle.book.proofs.zero_heads.Statement.{statement}
 use Rattle.book.proofs.zero_heads.Tie as tie
 
-abbrev invariant-loop : tie.invariant-loop
-invariant-loop heads₀ i₀ heads i = Zeroing heads₀ heads i
+abbrev invariant-loop-i : tie.invariant-loop-i
+invariant-loop-i heads₀ i₀ heads i = Zeroing heads₀ heads i
 
-abbrev decreases-loop : tie.decreases-loop
-decreases-loop heads₀ i₀ heads i = length heads₀ - i
+abbrev decreases-loop-i : tie.decreases-loop-i
+decreases-loop-i heads₀ i₀ heads i = length heads₀ - i
 
-loop-holds : tie.Need-loop-init invariant-loop decreases-loop
+loop-holds : tie.Need-loop-i-init invariant-loop-i decreases-loop-i
 loop-holds c = zeroing-start _
 
-mul-heads : tie.Need-overflow-mul-heads invariant-loop decreases-loop
-mul-heads c = omega (arith, zeroing-long c.before.loop.invariant)
+mul-heads : tie.Need-offset_bounds-heads-i invariant-loop-i decreases-loop-i
+mul-heads c = omega (arith, zeroing-long c.before.loop-i.invariant)
 
-slice-write-heads : tie.Need-slice-write-heads invariant-loop decreases-loop
+slice-write-heads : tie.Need-bounds-heads-i invariant-loop-i decreases-loop-i
 slice-write-heads c = omega arith
 
-add-i : tie.Need-overflow-add-i invariant-loop decreases-loop
-add-i c = omega (arith, zeroing-long c.before.loop.invariant)
+add-i : tie.Need-overflow_add-i invariant-loop-i decreases-loop-i
+add-i c = omega (arith, zeroing-long c.before.loop-i.invariant)
 
-loop-less : tie.Need-loop-smaller invariant-loop decreases-loop
-loop-less c = omega (arith, zeroing-long c.before.loop.invariant)
+loop-less : tie.Need-loop-i-smaller invariant-loop-i decreases-loop-i
+loop-less c = omega (arith, zeroing-long c.before.loop-i.invariant)
 
-loop-again : tie.Need-loop-preserved invariant-loop decreases-loop
-loop-again c = zeroing-next c.before.loop.invariant c.loop-test.true
+loop-again : tie.Need-loop-i-preserved invariant-loop-i decreases-loop-i
+loop-again c = zeroing-next c.before.loop-i.invariant c.loop-i-test.true
 
-same_length : tie.Need-same-length invariant-loop decreases-loop
-same_length c = zeroing-long c.before.loop.invariant
+same_length : tie.Need-shape_of-heads invariant-loop-i decreases-loop-i
+same_length c = zeroing-long c.before.loop-i.invariant
 
-returns : tie.Need-returns invariant-loop decreases-loop
-returns c = zeroing-end c.before.loop.invariant c.loop-test.false
+returns : tie.Need-returns invariant-loop-i decreases-loop-i
+returns c = zeroing-end c.before.loop-i.invariant c.loop-i-test.false
 
-pub zero-heads-spec : {M : Type 1} → statement M
-zero-heads-spec =
+pub zero_heads_spec : {M : Type 1} → statement M
+zero_heads_spec =
     tie.close
     (tie.spec
-    invariant-loop
-    decreases-loop
+    invariant-loop-i
+    decreases-loop-i
     loop-holds
     mul-heads
     slice-write-heads
