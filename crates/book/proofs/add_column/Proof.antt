@@ -7,20 +7,11 @@ use Rattle.book.proofs.add_column.Statement.{statement}
 use Rattle.book.proofs.add_column.Tie as tie
 
 -- ---- the places, named
-abbrev entry : tie.After-write-rows-arg2 → tie.Start
-entry c = c.before.before.before.before.before.before
-
-abbrev written : tie.After-cut_after-arg-1 → tie.After-write_rows-last
-written c = c.before.before.before
-
-abbrev cut : tie.After-slice_known-5-1 → tie.After-cut_after-rest
-cut c = c.before.before
-
 write-rows-requires : tie.Need-write_rows-last-requires
-write-rows-requires c κs = add-write (entry c).requires
+write-rows-requires c κs = add-write c.requires
 
 cut-after-requires : tie.Need-cut_after-rest-requires
-cut-after-requires c κs = let d = written c in add-has (entry d.before).requires d.write_rows-last.ensures
+cut-after-requires c κs = add-has c.requires c.write_rows-last.ensures
 
 sub-heads : tie.Need-overflow_sub-heads
 sub-heads c = search rules
@@ -45,9 +36,7 @@ same-length-3 c = search rules
 
 returns : tie.Need-returns
 returns c =
-    let e = cut c in
-    let d = written e.before in
-    added (entry d.before).requires d.write_rows-last.ensures e.cut_after-rest.ensures.1 e.cut_after-rest.ensures.0
+    added c.requires c.write_rows-last.ensures c.cut_after-rest.ensures.1 c.cut_after-rest.ensures.0
 
 pub add_column_spec : {M : Type 1} → statement M
 add_column_spec =

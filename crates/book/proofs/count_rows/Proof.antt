@@ -15,12 +15,9 @@ invariant-loop-r heads rows next counters₀ k size₀ r₀ counters size r = Co
 abbrev decreases-loop-r : tie.decreases-loop-r
 decreases-loop-r heads rows next counters₀ k size₀ r₀ counters size r = length (chain next r)
 
-abbrev start : tie.In-loop-r invariant-loop-r decreases-loop-r → tie.Start invariant-loop-r decreases-loop-r
-start c = c.before.before.before
-
 facts : (c : tie.In-loop-r invariant-loop-r decreases-loop-r) →
-    RecordFacts (start c).args.rows.now (start c).args.next.now (start c).requires.m c.before.loop-r.counters c.before.loop-r.size c.before.loop-r.r
-facts c = counting-facts (start c).requires c.before.loop-r.invariant c.loop-r-test.true
+    RecordFacts c.args.rows.now c.args.next.now c.requires.m c.loop-r.counters c.loop-r.size c.loop-r.r
+facts c = counting-facts c.requires c.loop-r.invariant c.loop-r-test.true
 
 sub-r : tie.Need-overflow_sub-r invariant-loop-r decreases-loop-r
 sub-r c = c.requires.column.has.low
@@ -32,10 +29,10 @@ mul-r : tie.Need-offset_bounds-heads-k invariant-loop-r decreases-loop-r
 mul-r c = omega (arith, c.requires.column.has.low, c.requires.column.has.high, c.well_formed)
 
 shared-slice-read-r : tie.Need-bounds-heads-k invariant-loop-r decreases-loop-r
-shared-slice-read-r c = omega (arith, c.before.requires.column.has.low, c.before.requires.column.has.high)
+shared-slice-read-r c = omega (arith, c.requires.column.has.low, c.requires.column.has.high)
 
 loop-holds : tie.Need-loop-r-init invariant-loop-r decreases-loop-r
-loop-holds c = counting-start c.before.requires
+loop-holds c = counting-start c.requires
 
 sub-i : tie.Need-overflow_sub-i invariant-loop-r decreases-loop-r
 sub-i c = let f = facts c in omega arith
@@ -80,18 +77,17 @@ shared-slice-read-r-2 : tie.Need-bounds-next-i invariant-loop-r decreases-loop-r
 shared-slice-read-r-2 c = let f = facts c.before.before.before.before in omega arith
 
 loop-less : tie.Need-loop-r-smaller invariant-loop-r decreases-loop-r
-loop-less c = let d = c.before.before.before.before in counting-less (start d).requires d.before.loop-r.invariant d.loop-r-test.true
+loop-less c = counting-less c.requires c.loop-r.invariant c.loop-r-test.true
 
 loop-again : tie.Need-loop-r-preserved invariant-loop-r decreases-loop-r
 loop-again c =
-    let d = c.before.before.before.before in
-    counting_more (start d).requires d.before.loop-r.invariant d.loop-r-test.true _ (⊎_elim (λ w. inl (w.0.taken, w.1)) (λ w. inr (w.0.left, w.1)) c.before.if-v-eq0.branch-raw)
+    counting_more c.requires c.loop-r.invariant c.loop-r-test.true _ (⊎_elim (λ w. inl (w.if-v-eq0.true, w.size-is)) (λ w. inr (w.if-v-eq0.false, w.size-is)) c.if-v-eq0.branch-raw)
 
 same_length : tie.Need-shape_of-counters invariant-loop-r decreases-loop-r
-same_length c = tally-length c.before.loop-r.invariant.counted
+same_length c = tally-length c.loop-r.invariant.counted
 
 returns : tie.Need-returns invariant-loop-r decreases-loop-r
-returns c = (counting-end c.before.before.before.requires c.before.loop-r.invariant c.loop-r-test.false, c.before.loop-r.invariant.counted.size_is)
+returns c = (counting-end c.requires c.loop-r.invariant c.loop-r-test.false, c.loop-r.invariant.counted.size_is)
 
 pub count_rows_spec : {M : Type 1} → statement M
 count_rows_spec =

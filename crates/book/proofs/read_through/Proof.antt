@@ -10,21 +10,18 @@ use Rattle.book.proofs.read_through.Statement.{statement}
 use Rattle.book.proofs.read_through.Tie as tie
 
 -- ---- the places, named: the walk of all columns, cut or ended
-abbrev entry : tie.After-walk_columns → tie.Start
-entry d = d.before.before.before.before.before.before
-
 abbrev cut : tie.In_default → tie.After-walk_columns
-cut c = c.before.before.before.before
+cut c = c.before.before.before
 
 abbrev ended : tie.In-Ended → tie.After-walk_columns
-ended c = c.before.before.before.before.before
+ended c = c.before.before.before
 
 -- what is known once all columns were walked
-all-walked : (c : tie.In-Ended) → Walked (entry (ended c)).args.heads.now (entry (ended c)).args.rows.now (entry (ended c)).args.next.now (ended c).walk_columns.new.scratch (entry (ended c)).args.m
-    c.before.n-1.given.0.0 (length (entry (ended c)).args.heads.now)
-all-walked c = (ended c).walk_columns.ensures.walked c.before.n-1.given.0.0 c.before.n-1.given.1
+all-walked : (c : tie.In-Ended) → Walked c.args.heads.now c.args.rows.now c.args.next.now c.walk_columns.new.scratch c.args.m
+    c.in-Ended.n (length c.args.heads.now)
+all-walked c = c.walk_columns.ensures.walked c.in-Ended.n c.in-Ended.is
 
-long : (d : tie.After-walk_columns) → length d.walk_columns.new.scratch ≡ length (entry d).args.scratch.now
+long : (d : tie.After-walk_columns) → length d.walk_columns.new.scratch ≡ length d.args.scratch.now
 long d = d.walk_columns.auto.scratch
 
 walk-columns-requires : tie.Need-walk_columns-requires
@@ -37,49 +34,45 @@ enum_told : tie.Need-enum_told-1
 enum_told c = search rules
 
 same_length : tie.Need-shape_of-scratch-in_default
-same_length c = long (cut c)
+same_length c = long c.before.before.before
 
 returns : tie.Need-returns-in_default
-returns c = sym ((cut c).walk_columns.ensures.cut c.enum_told-1.given.1 (entry (cut c)).args.free.0)
+returns c = sym (c.walk_columns.ensures.cut c.in_default.is c.args.free.0)
 
 are-apart-requires : tie.Need-are_apart-requires
-are-apart-requires c κs = let d = c.before in comparing (all-walked d) (entry (ended d)).requires (long (ended d))
+are-apart-requires c κs = comparing (all-walked c) c.requires (long c.before.before.before)
 
 same-length-2 : tie.Need-shape_of-scratch-then-not-are_apart
-same-length-2 c = long (ended c.before.before.before)
+same-length-2 c = long c.before.before.before.before.before
 
 returns-2 : tie.Need-returns-then-not-are_apart
 returns-2 c =
-    let d = c.before.before.before in
-    sym (reading-shared (all-walked d) (entry (ended d)).requires.sized (entry (ended d)).args.free.0 c.before.are_apart.ensures
-    (not-true c.before.are_apart.result c.if-not-are_apart.true))
+    sym (reading-shared (all-walked c.before.before) c.requires.sized c.args.free.0 c.are_apart.ensures
+    c.if-not-are_apart.true)
 
 sub-left : tie.Need-overflow_sub-left
-sub-left c = (all-walked c.before.before.before).within
+sub-left c = (all-walked c.before.before).within
 
 zeros-requires : tie.Need-zeros-requires
 zeros-requires c κs = search rules
 
 same-length-3 : tie.Need-shape_of-scratch-then-zeros-left
-same-length-3 c = long (ended c.before.before.before.before.before)
+same-length-3 c = long c.before.before.before.before.before.before.before
 
 returns-3 : tie.Need-returns-then-zeros-left
 returns-3 c =
-    let d = c.before.before.before.before.before in
-    sym (reading-zeros (all-walked d) (entry (ended d)).requires.sized (entry (ended d)).args.free.0 c.before.zeros.ensures c.if-zeros-left.true)
+    sym (reading-zeros (all-walked c.before.before.before.before) c.requires.sized c.args.free.0 c.zeros.ensures c.if-zeros-left.true)
 
 has-requires : tie.Need-has-requires
-has-requires c κs = let p = (entry (ended c.before.before.before.before.before.before)).requires in record { same_size = p.sized; small = p.few-records }
+has-requires c κs = let p = c.requires in record { same_size = p.sized; small = p.few-records }
 
 same-length-4 : tie.Need-shape_of-scratch
-same-length-4 c = c.before.before.has.auto.scratch ∙ long (ended c.before.before.before.before.before.before.before.before.before)
+same-length-4 c = c.has.auto.scratch ∙ long c.before.before.before.before.before.before.before.before.before.before.before
 
 returns-4 : tie.Need-returns
 returns-4 c =
-    let o = c.before.before.before.before in
-    let d = o.before.before.before.before.before in
-    reading-free (all-walked d) (entry (ended d)).requires.sized (entry (ended d)).args.free.0 o.before.before.before.are_apart.ensures
-    (not-false o.before.before.before.are_apart.result o.before.before.if-not-are_apart.false) o.before.zeros.ensures o.if-zeros-left.false c.before.before.has.ensures
+    reading-free (all-walked c.before.before.before.before.before.before.before.before) c.requires.sized c.args.free.0 c.are_apart.ensures
+    c.if-not-are_apart.false c.zeros.ensures c.if-zeros-left.false c.has.ensures
 
 pub read_through_spec : {M : Type 1} → statement M
 read_through_spec =

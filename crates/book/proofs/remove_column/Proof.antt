@@ -7,15 +7,6 @@ use Rattle.book.proofs.remove_column.Statement.{statement}
 use Rattle.book.proofs.remove_column.Tie as tie
 
 -- ---- the places, named
-abbrev entry : tie.After-clear-rows-arg2 → tie.Start
-entry c = c.before.before.before.before.before.before
-
-abbrev cleared : tie.After-join_after-arg-1 → tie.After-clear_rows-last
-cleared c = c.before.before.before
-
-abbrev joined : tie.After-slice_known-6-1 → tie.After-join_after
-joined c = c.before.before
-
 sub-i : tie.Need-overflow_sub-i
 sub-i c = search rules
 
@@ -29,10 +20,10 @@ slice-read-h : tie.Need-bounds-heads-i
 slice-read-h c = search rules
 
 clear-rows-requires : tie.Need-clear_rows-last-requires
-clear-rows-requires c κs = remove-clear (entry c).requires
+clear-rows-requires c κs = remove-clear c.requires
 
 join-after-requires : tie.Need-join_after-requires
-join-after-requires c κs = let d = cleared c in remove-has (entry d.before).requires d.clear_rows-last.ensures
+join-after-requires c κs = remove-has c.requires c.clear_rows-last.ensures
 
 mul-heads : tie.Need-offset_bounds-heads-i-2
 mul-heads c = search rules
@@ -51,9 +42,7 @@ same-length-3 c = search rules
 
 returns : tie.Need-returns
 returns c =
-    let e = joined c in
-    let d = cleared e.before in
-    removed (entry d.before).requires d.clear_rows-last.ensures e.join_after.ensures
+    removed c.requires c.clear_rows-last.ensures c.join_after.ensures
 
 pub remove_column_spec : {M : Type 1} → statement M
 remove_column_spec =

@@ -16,92 +16,82 @@ abbrev decreases-loop-i : tie.decreases-loop-i
 decreases-loop-i heads rows next scratch₀ m c n₀ i₀ scratch n i = length heads - i
 
 -- ---- the places, named: the loop's turn, a walk of a column in it, what was cut and what ended
-abbrev entry : tie.At-loop-i invariant-loop-i decreases-loop-i → tie.Start invariant-loop-i decreases-loop-i
-entry l = l.before.before.before.before.before
-
 abbrev turn : tie.After-walk_column invariant-loop-i decreases-loop-i → tie.In-loop-i invariant-loop-i decreases-loop-i
 turn d = d.before.before.before
 
 abbrev cut : tie.In-Cut invariant-loop-i decreases-loop-i → tie.After-walk_column invariant-loop-i decreases-loop-i
-cut c = c.before.before
+cut c = c.before
 
 abbrev ended : tie.After-name-arg-in-Ended-1 invariant-loop-i decreases-loop-i → tie.After-walk_column invariant-loop-i decreases-loop-i
-ended c = c.before.before.before.before
+ended c = c.before.before
 
 loop-holds : tie.Need-loop-i-init invariant-loop-i decreases-loop-i
 loop-holds c = through-start
 
 add-k : tie.Need-overflow_add-k invariant-loop-i decreases-loop-i
-add-k c = omega (arith, (entry c.before).requires.few-ids)
+add-k c = omega (arith, c.requires.few-ids)
 
 cast-k : tie.Need-overflow_cast-k invariant-loop-i decreases-loop-i
-cast-k c = omega (arith, c.loop-i-test.true, (entry c.before).requires.few-ids)
+cast-k c = omega (arith, c.loop-i-test.true, c.requires.few-ids)
 
 mul-if1 : tie.Need-offset_bounds-heads-i invariant-loop-i decreases-loop-i
-mul-if1 c = omega (arith, c.loop-i-test.true, (entry c.before).requires.few-ids)
+mul-if1 c = omega (arith, c.loop-i-test.true, c.requires.few-ids)
 
 shared-slice-read-if1 : tie.Need-bounds-heads-i invariant-loop-i decreases-loop-i
-shared-slice-read-if1 c = c.before.loop-i-test.true
+shared-slice-read-if1 c = c.loop-i-test.true
 
 name-requires : tie.Need-name-requires invariant-loop-i decreases-loop-i
 name-requires c κs =
-    let d = c.before.before.before in
-    naming (entry d.before).requires d.before.loop-i.invariant d.loop-i-test.true (omega arith)
+    naming c.requires c.loop-i.invariant c.loop-i-test.true (omega arith)
 
 add-i : tie.Need-overflow_add-i invariant-loop-i decreases-loop-i
-add-i c = let d = c.before.before.before.before.before.before in omega (arith, d.loop-i-test.true, (entry d.before).requires.few-ids)
+add-i c = omega (arith, c.loop-i-test.true, c.requires.few-ids)
 
 loop-less : tie.Need-loop-i-smaller-then-heads-i-eq0 invariant-loop-i decreases-loop-i
-loop-less c = omega (arith, c.before.before.before.before.before.before.loop-i-test.true)
+loop-less c = omega (arith, c.loop-i-test.true)
 
 loop-again : tie.Need-loop-i-preserved-then-heads-i-eq0 invariant-loop-i decreases-loop-i
 loop-again c =
-    let d = c.before.before.before.before.before.before in
-    through-none (entry d.before).requires d.before.loop-i.invariant d.loop-i-test.true c.before.before.before.before.if-heads-i-eq0.true c.before.before.name.ensures
+    through-none c.requires c.loop-i.invariant c.loop-i-test.true c.if-heads-i-eq0.true c.name.ensures
 
 walk-column-requires : tie.Need-walk_column-requires invariant-loop-i decreases-loop-i
 walk-column-requires c κs =
-    let d = c.before.before in
-    record { sized = (entry d.before).requires.sized; inside = d.loop-i-test.true; booked = c.if-heads-i-eq0.false; within = d.before.loop-i.invariant.walked.within }
+    record { sized = c.requires.sized; inside = c.loop-i-test.true; booked = c.if-heads-i-eq0.false; within = c.loop-i.invariant.walked.within }
 
 enum_told : tie.Need-enum_told-1 invariant-loop-i decreases-loop-i
 enum_told c = search rules
 
 same_length : tie.Need-shape_of-scratch-in-Cut invariant-loop-i decreases-loop-i
-same_length c = (turn (cut c)).before.loop-i.invariant.long
+same_length c = c.loop-i.invariant.long
 
 returns : tie.Need-returns-in-Cut invariant-loop-i decreases-loop-i
 returns c =
-    let d = cut c in
-    through-cut (turn d).before.loop-i.invariant (turn d).loop-i-test.true d.before.if-heads-i-eq0.false d.walk_column.ensures c.enum_told-1.given.1
+    through-cut c.loop-i.invariant c.loop-i-test.true c.if-heads-i-eq0.false c.walk_column.ensures c.in-Cut.is
 
 enum-known-met : tie.Need-enum_known-met invariant-loop-i decreases-loop-i
 enum-known-met c = search rules
 
 name-requires-2 : tie.Need-name-requires-in-Ended invariant-loop-i decreases-loop-i
 name-requires-2 c κs =
-    let d = turn (ended c) in
-    let q = (entry d.before).requires in
-    let i = d.before.loop-i.invariant in
-    naming q i d.loop-i-test.true (omega (arith, last-few q i d.loop-i-test.true (ended c).walk_column.ensures c.before.before.met-1.given.1))
+    let q = c.requires in
+    let i = c.loop-i.invariant in
+    naming q i c.loop-i-test.true (omega (arith, last-few q i c.loop-i-test.true c.walk_column.ensures c.in-Ended.is))
 
 add-i-2 : tie.Need-overflow_add-i-in-Ended invariant-loop-i decreases-loop-i
-add-i-2 c = let d = turn (ended c.before.before.before) in omega (arith, d.loop-i-test.true, (entry d.before).requires.few-ids)
+add-i-2 c = omega (arith, c.loop-i-test.true, c.requires.few-ids)
 
 loop-less-2 : tie.Need-loop-i-smaller invariant-loop-i decreases-loop-i
-loop-less-2 c = omega (arith, (turn (ended c.before.before.before)).loop-i-test.true)
+loop-less-2 c = omega (arith, c.loop-i-test.true)
 
 loop-again-2 : tie.Need-loop-i-preserved invariant-loop-i decreases-loop-i
 loop-again-2 c =
-    let e = ended c.before.before.before in
-    let d = turn e in
-    through-next (entry d.before).requires d.before.loop-i.invariant d.loop-i-test.true e.walk_column.ensures c.before.before.before.before.before.met-1.given.1 c.before.before.name-in-Ended.ensures
+    through-next c.requires c.loop-i.invariant c.loop-i-test.true c.walk_column.ensures c.in-Ended.is c.name-in-Ended.ensures
 
 same-length-2 : tie.Need-shape_of-scratch invariant-loop-i decreases-loop-i
-same-length-2 c = c.before.loop-i.invariant.long
+same-length-2 c = c.loop-i.invariant.long
 
 returns-2 : tie.Need-returns invariant-loop-i decreases-loop-i
-returns-2 c = through-end c.before.loop-i.invariant c.loop-i-test.false
+returns-2 c = through-end c.loop-i.invariant c.loop-i-test.false
 
 pub walk_columns_spec : {M : Type 1} → statement M
 walk_columns_spec =
