@@ -6,20 +6,20 @@ use Rattle.differences.proofs.Count.{bumped-merge, merged-counted}
 use Rattle.differences.proofs.count_rows.Statement.{statement}
 use Rattle.differences.proofs.count_rows.Tie as tie
 
-bump-requires : tie.Need-bump-requires
+bump-requires : tie.Need-bump-f-requires
 bump-requires c κs = search rules
 
 merge-requires : tie.Need-merge-requires
-merge-requires c κs = let b = c.before.before.before in bumped-merge b.before.before.before.requires b.bump.ensures
+merge-requires c κs = bumped-merge c.requires c.bump-f.ensures
 
-add-result : tie.Need-overflow-add-result
-add-result c = let b = c.before.before.before.before.before.before in let q = bumped-merge b.before.before.before.requires b.bump.ensures in omega arith
+add-result : tie.Need-overflow_add-result
+add-result c = let q = bumped-merge c.requires c.bump-f.ensures in omega arith
 
-same_length : tie.Need-same-length
-same_length c = let g = c.before.before in let b = g.before.before.before.before in g.merge.ensures.only.same_length ∙ b.bump.ensures.only.same_length
+same_length : tie.Need-shape_of-work
+same_length c = c.merge.ensures.only.same_length ∙ c.bump-f.ensures.only.same_length
 
 returns : tie.Need-returns
-returns c = let g = c.before.before in let b = g.before.before.before.before in merged-counted b.before.before.before.requires b.bump.ensures g.merge.ensures
+returns c = merged-counted c.requires c.bump-f.ensures c.merge.ensures
 
-pub count-rows-spec : {M : Type 1} → statement M
-count-rows-spec = tie.close (tie.spec bump-requires merge-requires add-result same_length returns)
+pub count_rows_spec : {M : Type 1} → statement M
+count_rows_spec = tie.close (tie.spec bump-requires merge-requires add-result same_length returns)

@@ -8,54 +8,54 @@ use Rattle.differences.proofs.Gather.{gathering-start, list-room, list-push, lis
 use Rattle.differences.proofs.gather_rows.Statement.{statement}
 use Rattle.differences.proofs.gather_rows.Tie as tie
 
-abbrev invariant-loop : tie.invariant-loop
-invariant-loop work₀ list m k₀ work k = (k ≤ length list) × Gathering m work₀ work k (take k list)
+abbrev invariant-loop-k : tie.invariant-loop-k
+invariant-loop-k work₀ list m k₀ work k = (k ≤ length list) × Gathering m work₀ work k (take k list)
 
-abbrev decreases-loop : tie.decreases-loop
-decreases-loop work₀ list m k₀ work k = length list - k
+abbrev decreases-loop-k : tie.decreases-loop-k
+decreases-loop-k work₀ list m k₀ work k = length list - k
 
-loop-holds : tie.Need-loop-init invariant-loop decreases-loop
+loop-holds : tie.Need-loop-k-init invariant-loop-k decreases-loop-k
 loop-holds c = (omega arith, gathering-start c.requires.0)
 
-mul-work : tie.Need-overflow-mul-work invariant-loop decreases-loop
+mul-work : tie.Need-offset_bounds-list-k invariant-loop-k decreases-loop-k
 mul-work c = omega arith
 
-shared-slice-read-work : tie.Need-shared-slice-read-work invariant-loop decreases-loop
+shared-slice-read-work : tie.Need-bounds-list-k invariant-loop-k decreases-loop-k
 shared-slice-read-work c = omega arith
 
-mul-work-2 : tie.Need-overflow-mul-work-2 invariant-loop decreases-loop
+mul-work-2 : tie.Need-overflow_mul-work invariant-loop-k decreases-loop-k
 mul-work-2 c = omega arith
 
-add-work : tie.Need-overflow-add-work invariant-loop decreases-loop
+add-work : tie.Need-overflow_add-work invariant-loop-k decreases-loop-k
 add-work c = omega arith
 
-mul-work-3 : tie.Need-overflow-mul-work-3 invariant-loop decreases-loop
+mul-work-3 : tie.Need-offset_bounds-work-m invariant-loop-k decreases-loop-k
 mul-work-3 c = omega arith
 
-slice-write-work : tie.Need-slice-write-work invariant-loop decreases-loop
-slice-write-work c = omega (arith, list-room _ _ c.before.before.before.requires.1, c.before.before.loop.invariant.1.only.same_length)
+slice-write-work : tie.Need-bounds-work-m invariant-loop-k decreases-loop-k
+slice-write-work c = omega (arith, list-room _ _ c.before.before.before.requires.1, c.before.before.loop-k.invariant.1.only.same_length)
 
-add-k : tie.Need-overflow-add-k invariant-loop decreases-loop
+add-k : tie.Need-overflow_add-k invariant-loop-k decreases-loop-k
 add-k c = omega arith
 
-loop-less : tie.Need-loop-smaller invariant-loop decreases-loop
+loop-less : tie.Need-loop-k-smaller invariant-loop-k decreases-loop-k
 loop-less c = omega arith
 
-loop-again : tie.Need-loop-preserved invariant-loop decreases-loop
-loop-again c = let d = c.before.before in (omega arith, list-push d.before.args.list.now d.before.requires.0.long d.before.requires.1 c.before.loop-test.true d.loop.invariant.1)
+loop-again : tie.Need-loop-k-preserved invariant-loop-k decreases-loop-k
+loop-again c = let d = c.before.before in (omega arith, list-push d.before.args.list.now d.before.requires.0.long d.before.requires.1 c.before.loop-k-test.true d.loop-k.invariant.1)
 
-same_length : tie.Need-same-length invariant-loop decreases-loop
-same_length c = c.before.loop.invariant.1.only.same_length
+same_length : tie.Need-shape_of-work invariant-loop-k decreases-loop-k
+same_length c = c.before.loop-k.invariant.1.only.same_length
 
-returns : tie.Need-returns invariant-loop decreases-loop
-returns c = let d = c.before in list_done d.before.args.list.now d.before.requires.1 (omega arith) d.loop.invariant.1
+returns : tie.Need-returns invariant-loop-k decreases-loop-k
+returns c = let d = c.before in list_done d.before.args.list.now d.before.requires.1 (omega arith) d.loop-k.invariant.1
 
-pub gather-rows-spec : {M : Type 1} → statement M
-gather-rows-spec =
+pub gather_rows_spec : {M : Type 1} → statement M
+gather_rows_spec =
     tie.close
     (tie.spec
-    invariant-loop
-    decreases-loop
+    invariant-loop-k
+    decreases-loop-k
     loop-holds
     mul-work
     shared-slice-read-work

@@ -7,25 +7,25 @@ use borrow.Author.Tests.{lt-ltb, le-ltb}
 use Rattle.differences.proofs.is_above.Statement.{statement}
 use Rattle.differences.proofs.is_above.Tie as tie
 
-returns : tie.Need-returns
+returns : tie.Need-returns-then-i-eq0
 returns c = let i = c.before.args.i in let h : i ≤ 0 = omega arith in rw (le-ltb 0 i h) refl
 
-sub-result : tie.Need-overflow-sub-result
+sub-result : tie.Need-overflow_sub-result
 sub-result c = search rules
 
-add-result : tie.Need-overflow-add-result
+add-result : tie.Need-overflow_add-result
 add-result c = search rules
 
-mul-result : tie.Need-overflow-mul-result
+mul-result : tie.Need-offset_bounds-work-m
 mul-result c = search rules
 
-shared-slice-read-result : tie.Need-shared-slice-read-result
+shared-slice-read-result : tie.Need-bounds-work-m
 shared-slice-read-result c = search rules
 
-returns-2 : tie.Need-returns-2
+returns-2 : tie.Need-returns
 returns-2 c = let i = c.before.before.args.i in let h : 0 < i = omega arith in rw (lt-ltb 0 i h) refl
 
-pub is-above-spec : {M : Type 1} → statement M
-is-above-spec =
+pub is_above_spec : {M : Type 1} → statement M
+is_above_spec =
     tie.close
     (tie.spec returns sub-result add-result mul-result shared-slice-read-result returns-2)

@@ -9,101 +9,101 @@ use Rattle.windows.proofs.Collecting.{Collecting, collecting-start, collecting-t
 use Rattle.windows.proofs.collect.Statement.{statement}
 use Rattle.windows.proofs.collect.Tie as tie
 
-abbrev invariant-loop : tie.invariant-loop
-invariant-loop book-heads windows minute other list₀ n k₀ i₀ list k i = Collecting book-heads (moves_from windows (length book-heads) minute other) i₀ list₀ list k i
+abbrev invariant-loop-i : tie.invariant-loop-i
+invariant-loop-i book-heads windows minute other list₀ n k₀ i₀ list k i = Collecting book-heads (moves_from windows (length book-heads) minute other) i₀ list₀ list k i
 
-abbrev decreases-loop : tie.decreases-loop
-decreases-loop book-heads windows minute other list₀ n k₀ i₀ list k i = length book-heads + 1 - i
+abbrev decreases-loop-i : tie.decreases-loop-i
+decreases-loop-i book-heads windows minute other list₀ n k₀ i₀ list k i = length book-heads + 1 - i
 
 -- ---- the places, named
-abbrev entry : tie.At-loop invariant-loop decreases-loop → tie.Start invariant-loop decreases-loop
+abbrev entry : tie.At-loop-i invariant-loop-i decreases-loop-i → tie.Start invariant-loop-i decreases-loop-i
 entry c = c.before.before.before.before
 
-abbrev turn : tie.After-moves invariant-loop decreases-loop → tie.In-loop invariant-loop decreases-loop
+abbrev turn : tie.After-moves invariant-loop-i decreases-loop-i → tie.In-loop-i invariant-loop-i decreases-loop-i
 turn c = c.before.before
 
 -- what every need of a turn asks, at the loop's test
-pub record Facts (c : tie.In-loop invariant-loop decreases-loop) : Type 0 where
-  pub low : 1 ≤ c.before.loop.i
-  pub high : c.before.loop.i ≤ length (entry c.before).args.book-heads.now
-  pub windows-long : 2 * length (entry c.before).args.book-heads.now ≤ length (entry c.before).args.windows.now
-  pub few : length (entry c.before).args.book-heads.now ≤ 16384
-  pub long : length c.before.loop.list ≡ length (entry c.before).args.list.now
-  pub fits : c.before.loop.k ≤ length (entry c.before).args.list.now
+pub record Facts (c : tie.In-loop-i invariant-loop-i decreases-loop-i) : Type 0 where
+  pub low : 1 ≤ c.before.loop-i.i
+  pub high : c.before.loop-i.i ≤ length (entry c.before).args.book_heads.now
+  pub windows-long : 2 * length (entry c.before).args.book_heads.now ≤ length (entry c.before).args.windows.now
+  pub few : length (entry c.before).args.book_heads.now ≤ 16384
+  pub long : length c.before.loop-i.list ≡ length (entry c.before).args.list.now
+  pub fits : c.before.loop-i.k ≤ length (entry c.before).args.list.now
   pub room : length (entry c.before).args.list.now * 4 < 2 ^ 63
 
-facts : (c : tie.In-loop invariant-loop decreases-loop) → Facts c
+facts : (c : tie.In-loop-i invariant-loop-i decreases-loop-i) → Facts c
 facts c =
-    let q = (entry c.before).pre in
-    let i = c.before.loop.invariant in
+    let q = c.requires in
+    let i = c.loop-i.invariant in
     record {
       low = omega (arith, q.low, i.low);
-      high = omega (arith, c.loop-test.true);
+      high = omega (arith, c.loop-i-test.true);
       windows-long = q.windows-long;
       few = q.few;
       long = i.long;
       fits = i.fits;
-      room = omega (arith, (entry c.before).good);
+      room = omega (arith, c.well_formed);
     }
 
-loop-holds : tie.Need-loop-init invariant-loop decreases-loop
-loop-holds c = collecting-start _ _ _ _ c.before.before.before.requires.high
+loop-holds : tie.Need-loop-i-init invariant-loop-i decreases-loop-i
+loop-holds c = collecting-start _ _ _ _ c.requires.high
 
-cast-loop : tie.Need-overflow-cast-loop invariant-loop decreases-loop
-cast-loop c = omega (arith, c.loop.invariant.high, (entry c).requires.few)
+cast-loop : tie.Need-overflow_cast-i invariant-loop-i decreases-loop-i
+cast-loop c = omega (arith, c.loop-i.invariant.high, c.requires.few)
 
-same_length : tie.Need-same-length invariant-loop decreases-loop
-same_length c = c.before.before.loop.invariant.long
+same_length : tie.Need-shape_of-list-then-k-list invariant-loop-i decreases-loop-i
+same_length c = c.loop-i.invariant.long
 
-returns : tie.Need-returns invariant-loop decreases-loop
-returns c = collecting-full c.before.before.loop.invariant c.if1.true
+returns : tie.Need-returns-then-k-list invariant-loop-i decreases-loop-i
+returns c = collecting-full c.loop-i.invariant c.if-k-list.true
 
-moves-requires : tie.Need-moves-requires invariant-loop decreases-loop
+moves-requires : tie.Need-moves-requires invariant-loop-i decreases-loop-i
 moves-requires c κs = let f = facts c.before in omega arith
 
-mul-list : tie.Need-overflow-mul-list invariant-loop decreases-loop
-mul-list c = let f = facts (turn c.before) in omega (arith, c.before.before.if1.false)
+mul-list : tie.Need-offset_bounds-list-k invariant-loop-i decreases-loop-i
+mul-list c = let f = facts c.before.before.before in omega (arith, c.if-k-list.false)
 
-slice-write-list : tie.Need-slice-write-list invariant-loop decreases-loop
-slice-write-list c = let f = facts (turn c.before) in omega (arith, c.before.before.if1.false)
+slice-write-list : tie.Need-bounds-list-k invariant-loop-i decreases-loop-i
+slice-write-list c = let f = facts c.before.before.before in omega (arith, c.if-k-list.false)
 
-add-k : tie.Need-overflow-add-k invariant-loop decreases-loop
-add-k c = let f = facts (turn c.before) in omega arith
+add-k : tie.Need-overflow_add-k invariant-loop-i decreases-loop-i
+add-k c = let f = facts c.before.before.before in omega arith
 
-add-i : tie.Need-overflow-add-i invariant-loop decreases-loop
-add-i c = let f = facts (turn c.before) in omega arith
+add-i : tie.Need-overflow_add-i invariant-loop-i decreases-loop-i
+add-i c = let f = facts c.before.before.before in omega arith
 
-loop-less : tie.Need-loop-smaller invariant-loop decreases-loop
-loop-less c = let f = facts (turn c.before) in omega arith
+loop-less : tie.Need-loop-i-smaller-then-moves invariant-loop-i decreases-loop-i
+loop-less c = let f = facts c.before.before.before in omega arith
 
-loop-again : tie.Need-loop-preserved invariant-loop decreases-loop
+loop-again : tie.Need-loop-i-preserved-then-moves invariant-loop-i decreases-loop-i
 loop-again c =
-    let f = facts (turn c.before) in
-    collecting-took (turn c.before).before.loop.inv f.high (omega (arith, c.before.before.if1.false)) (sym c.before.moves.ensures ∙ c.if2.true)
+    let f = facts c.before.before.before in
+    collecting-took c.loop-i.invariant f.high (omega (arith, c.if-k-list.false)) (sym c.moves.ensures ∙ c.if-moves.true)
 
-add-i-2 : tie.Need-overflow-add-i-2 invariant-loop decreases-loop
-add-i-2 c = let f = facts (turn c.before) in omega arith
+add-i-2 : tie.Need-overflow_add-i-else-moves invariant-loop-i decreases-loop-i
+add-i-2 c = let f = facts c.before.before.before in omega arith
 
-loop-less-2 : tie.Need-loop-smaller-2 invariant-loop decreases-loop
-loop-less-2 c = let f = facts (turn c.before) in omega arith
+loop-less-2 : tie.Need-loop-i-smaller invariant-loop-i decreases-loop-i
+loop-less-2 c = let f = facts c.before.before.before in omega arith
 
-loop-again-2 : tie.Need-loop-preserved-2 invariant-loop decreases-loop
+loop-again-2 : tie.Need-loop-i-preserved invariant-loop-i decreases-loop-i
 loop-again-2 c =
-    let f = facts (turn c.before) in
-    collecting-passed (turn c.before).before.loop.inv f.high (sym c.before.moves.ensures ∙ c.if2.false)
+    let f = facts c.before.before.before in
+    collecting-passed c.loop-i.invariant f.high (sym c.moves.ensures ∙ c.if-moves.false)
 
-same-length-2 : tie.Need-same-length-2 invariant-loop decreases-loop
-same-length-2 c = c.before.loop.invariant.long
+same-length-2 : tie.Need-shape_of-list invariant-loop-i decreases-loop-i
+same-length-2 c = c.loop-i.invariant.long
 
-returns-2 : tie.Need-returns-2 invariant-loop decreases-loop
-returns-2 c = collecting-end c.before.loop.invariant c.loop-test.false
+returns-2 : tie.Need-returns invariant-loop-i decreases-loop-i
+returns-2 c = collecting-end c.loop-i.invariant c.loop-i-test.false
 
-pub collect-spec : {M : Type 1} → statement M
-collect-spec =
+pub collect_spec : {M : Type 1} → statement M
+collect_spec =
     tie.close
     (tie.spec
-    invariant-loop
-    decreases-loop
+    invariant-loop-i
+    decreases-loop-i
     loop-holds
     cast-loop
     same_length

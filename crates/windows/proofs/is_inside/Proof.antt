@@ -15,22 +15,22 @@ inside-from : (a b t : ℕ) → (a ≢ 0) ⊎ (b ≢ 0) → a ≤ t → ltb t b 
 inside-from a b t (inl n) h = rw (ne_eqb a 0 n, le-leb a t h) refl
 inside-from a b t (inr n) h = rw (ne_eqb b 0 n, and-false (eqb a 0), le-leb a t h) refl
 
-returns : tie.Need-returns
-returns c = rw (eq-eqb _ 0 c.before.if1.true, eq-eqb _ 0 c.if2.true) refl
+returns : tie.Need-returns-then-second-eq0
+returns c = rw (eq-eqb _ 0 c.if-first-eq0.true, eq-eqb _ 0 c.if-second-eq0.true) refl
 
-returns-2 : tie.Need-returns-2
+returns-2 : tie.Need-returns-then-minute-first
 returns-2 c =
-    let s = c.before.before.args in
+    let s = c.args in
     let n : s.first ≢ 0 = λ e. omega arith in
-    rw (ne_eqb s.first 0 n, lt-leb s.first s.minute c.if3.true) refl
+    rw (ne_eqb s.first 0 n, lt-leb s.first s.minute c.if-minute-first.true) refl
 
-returns-3 : tie.Need-returns-3
+returns-3 : tie.Need-returns
 returns-3 c =
-    let s = c.before.before.args in
-    elim c.before.if1.branch [
-      | inl e ↦ inside-from s.first s.second s.minute (inr e.1.left) c.if3.false
-      | inr e ↦ inside-from s.first s.second s.minute (inl e.left) c.if3.false
+    let s = c.args in
+    elim c.if-first-eq0.branch-raw [
+      | inl e ↦ inside-from s.first s.second s.minute (inr e.if-second-eq0.false) c.if-minute-first.false
+      | inr e ↦ inside-from s.first s.second s.minute (inl e.if-first-eq0.false) c.if-minute-first.false
     ]
 
-pub is-inside-spec : {M : Type 1} → statement M
-is-inside-spec = tie.close (tie.spec returns returns-2 returns-3)
+pub is_inside_spec : {M : Type 1} → statement M
+is_inside_spec = tie.close (tie.spec returns returns-2 returns-3)

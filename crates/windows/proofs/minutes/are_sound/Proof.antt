@@ -8,45 +8,42 @@ use Rattle.windows.proofs.Judging.{Judging, judging-start, judging-turn, judging
 use Rattle.windows.proofs.minutes.are_sound.Statement.{statement}
 use Rattle.windows.proofs.minutes.are_sound.Tie as tie
 
-abbrev invariant-loop : tie.invariant-loop
-invariant-loop book-heads windows n i₀ i = Judging book-heads windows i
+abbrev invariant-loop-i : tie.invariant-loop-i
+invariant-loop-i book-heads windows n i₀ i = Judging book-heads windows i
 
-abbrev decreases-loop : tie.decreases-loop
-decreases-loop book-heads windows n i₀ i = length book-heads + 1 - i
+abbrev decreases-loop-i : tie.decreases-loop-i
+decreases-loop-i book-heads windows n i₀ i = length book-heads + 1 - i
 
-abbrev entry : tie.At-loop invariant-loop decreases-loop → tie.Start invariant-loop decreases-loop
-entry c = c.before.before.before
-
-loop-holds : tie.Need-loop-init invariant-loop decreases-loop
+loop-holds : tie.Need-loop-i-init invariant-loop-i decreases-loop-i
 loop-holds c = judging-start _ _
 
-cast-loop : tie.Need-overflow-cast-loop invariant-loop decreases-loop
-cast-loop c = omega (arith, c.loop.invariant.high, (entry c).requires)
+cast-loop : tie.Need-overflow_cast-i invariant-loop-i decreases-loop-i
+cast-loop c = omega (arith, c.loop-i.invariant.high, c.requires)
 
-minutes-fit-requires : tie.Need-minutes-fit-requires invariant-loop decreases-loop
-minutes-fit-requires c κs = omega (arith, c.before.loop.invariant.low, (entry c.before).pre, c.loop-test.true)
+minutes-fit-requires : tie.Need-minutes_fit-requires invariant-loop-i decreases-loop-i
+minutes-fit-requires c κs = omega (arith, c.loop-i.invariant.low, c.requires, c.loop-i-test.true)
 
-returns : tie.Need-returns invariant-loop decreases-loop
-returns c = judging-broken c.before.before.before.loop.invariant c.before.before.loop-test.true (sym c.before.minutes-fit.ensures ∙ not-true _ c.if1.true)
+returns : tie.Need-returns-then-not-minutes_fit invariant-loop-i decreases-loop-i
+returns c = judging-broken c.loop-i.invariant c.loop-i-test.true (sym c.minutes_fit.ensures ∙ c.if-not-minutes_fit.true)
 
-add-i : tie.Need-overflow-add-i invariant-loop decreases-loop
-add-i c = omega (arith, c.before.before.loop-test.true, (entry c.before.before.before).pre)
+add-i : tie.Need-overflow_add-i invariant-loop-i decreases-loop-i
+add-i c = omega (arith, c.loop-i-test.true, c.requires)
 
-loop-less : tie.Need-loop-smaller invariant-loop decreases-loop
-loop-less c = omega (arith, c.before.before.loop-test.true)
+loop-less : tie.Need-loop-i-smaller invariant-loop-i decreases-loop-i
+loop-less c = omega (arith, c.loop-i-test.true)
 
-loop-again : tie.Need-loop-preserved invariant-loop decreases-loop
-loop-again c = judging-turn c.before.before.before.loop.invariant c.before.before.loop-test.true (sym c.before.minutes-fit.ensures ∙ not-false _ c.if1.false)
+loop-again : tie.Need-loop-i-preserved invariant-loop-i decreases-loop-i
+loop-again c = judging-turn c.loop-i.invariant c.loop-i-test.true (sym c.minutes_fit.ensures ∙ c.if-not-minutes_fit.false)
 
-returns-2 : tie.Need-returns-2 invariant-loop decreases-loop
-returns-2 c = judging-end c.before.loop.invariant c.loop-test.false
+returns-2 : tie.Need-returns invariant-loop-i decreases-loop-i
+returns-2 c = judging-end c.loop-i.invariant c.loop-i-test.false
 
-pub are-sound-spec : {M : Type 1} → statement M
-are-sound-spec =
+pub are_sound_spec : {M : Type 1} → statement M
+are_sound_spec =
     tie.close
     (tie.spec
-    invariant-loop
-    decreases-loop
+    invariant-loop-i
+    decreases-loop-i
     loop-holds
     cast-loop
     minutes-fit-requires

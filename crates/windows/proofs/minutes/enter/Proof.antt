@@ -6,72 +6,59 @@ use Rattle.windows.proofs.Writing.{Entering, entering-start, entering-turn, ente
 use Rattle.windows.proofs.minutes.enter.Statement.{statement}
 use Rattle.windows.proofs.minutes.enter.Tie as tie
 
-abbrev invariant-loop : tie.invariant-loop
-invariant-loop windows₀ n ids firsts seconds k₀ windows k = Entering windows₀ n ids firsts seconds windows k
+abbrev invariant-loop-k : tie.invariant-loop-k
+invariant-loop-k windows₀ n ids firsts seconds k₀ windows k = Entering windows₀ n ids firsts seconds windows k
 
-abbrev decreases-loop : tie.decreases-loop
-decreases-loop windows₀ n ids firsts seconds k₀ windows k = length ids - k
+abbrev decreases-loop-k : tie.decreases-loop-k
+decreases-loop-k windows₀ n ids firsts seconds k₀ windows k = length ids - k
 
-abbrev entry : tie.At-loop invariant-loop decreases-loop → tie.Start invariant-loop decreases-loop
-entry c = c.before.before.before.before.before
-
-abbrev in-test : tie.After-shared-slice-known5 invariant-loop decreases-loop → tie.In-loop invariant-loop decreases-loop
-in-test c = c.before.before.before
-
-abbrev at_test : tie.After-shared-slice-known5 invariant-loop decreases-loop → tie.At-loop invariant-loop decreases-loop
-at_test c = (in-test c).before
-
-abbrev back : tie.After-slice-known2 invariant-loop decreases-loop → tie.After-shared-slice-known5 invariant-loop decreases-loop
-back c = c.before.before.before.before
-
-loop-holds : tie.Need-loop-init invariant-loop decreases-loop
+loop-holds : tie.Need-loop-k-init invariant-loop-k decreases-loop-k
 loop-holds c = entering-start _ _ _ _ _
 
-mul-t7 : tie.Need-overflow-mul-t7 invariant-loop decreases-loop
+mul-t7 : tie.Need-offset_bounds-ids-k invariant-loop-k decreases-loop-k
 mul-t7 c = omega arith
 
-shared-slice-read-t13 : tie.Need-shared-slice-read-t13 invariant-loop decreases-loop
+shared-slice-read-t13 : tie.Need-bounds-ids-k invariant-loop-k decreases-loop-k
 shared-slice-read-t13 c = omega arith
 
-mul-put-minutes : tie.Need-overflow-mul-put-minutes invariant-loop decreases-loop
+mul-put-minutes : tie.Need-offset_bounds-firsts-k invariant-loop-k decreases-loop-k
 mul-put-minutes c = omega arith
 
-shared-slice-read-put-minutes : tie.Need-shared-slice-read-put-minutes invariant-loop decreases-loop
-shared-slice-read-put-minutes c = omega (arith, (entry (at_test c)).pre.1, (in-test c).loop-test.true)
+shared-slice-read-put-minutes : tie.Need-bounds-firsts-k invariant-loop-k decreases-loop-k
+shared-slice-read-put-minutes c = omega (arith, c.requires.1, c.loop-k-test.true)
 
-mul-put-minutes-2 : tie.Need-overflow-mul-put-minutes-2 invariant-loop decreases-loop
+mul-put-minutes-2 : tie.Need-offset_bounds-seconds-k invariant-loop-k decreases-loop-k
 mul-put-minutes-2 c = omega arith
 
-shared-slice-read-put-minutes-2 : tie.Need-shared-slice-read-put-minutes-2 invariant-loop decreases-loop
-shared-slice-read-put-minutes-2 c = omega (arith, (entry (at_test c.before)).pre.2, (in-test c.before).loop-test.taken)
+shared-slice-read-put-minutes-2 : tie.Need-bounds-seconds-k invariant-loop-k decreases-loop-k
+shared-slice-read-put-minutes-2 c = omega (arith, c.requires.2, c.loop-k-test.true)
 
-put-minutes-requires : tie.Need-put-minutes-requires invariant-loop decreases-loop
+put-minutes-requires : tie.Need-put_minutes-requires invariant-loop-k decreases-loop-k
 put-minutes-requires c κs =
-    let l = at_test c.before in
-    let p = (entry l).pre.0 in
-    omega (arith, p.named l.loop.k (in-test c.before).loop-test.taken, p.long, p.few, l.loop.inv.long)
+    let p = c.requires.0 in
+    omega (arith, p.named c.loop-k.k c.loop-k-test.true, p.long, p.few, c.loop-k.invariant.long)
 
-add-k : tie.Need-overflow-add-k invariant-loop decreases-loop
-add-k c = omega (arith, (in-test (back c)).loop-test.taken)
+add-k : tie.Need-overflow_add-k invariant-loop-k decreases-loop-k
+add-k c = omega (arith, c.loop-k-test.true)
 
-loop-less : tie.Need-loop-smaller invariant-loop decreases-loop
-loop-less c = omega (arith, (in-test (back c)).loop-test.taken)
+loop-less : tie.Need-loop-k-smaller invariant-loop-k decreases-loop-k
+loop-less c = omega (arith, c.loop-k-test.true)
 
-loop-again : tie.Need-loop-preserved invariant-loop decreases-loop
-loop-again c = entering-turn (at_test (back c)).loop.inv (in-test (back c)).loop-test.taken c.before.before.put-minutes.ensures
+loop-again : tie.Need-loop-k-preserved invariant-loop-k decreases-loop-k
+loop-again c = entering-turn c.loop-k.invariant c.loop-k-test.true c.put_minutes.ensures
 
-same_length : tie.Need-same-length invariant-loop decreases-loop
-same_length c = c.before.loop.invariant.long
+same_length : tie.Need-shape_of-windows invariant-loop-k decreases-loop-k
+same_length c = c.loop-k.invariant.long
 
-returns : tie.Need-returns invariant-loop decreases-loop
-returns c = entering-end c.before.loop.invariant c.loop-test.false
+returns : tie.Need-returns invariant-loop-k decreases-loop-k
+returns c = entering-end c.loop-k.invariant c.loop-k-test.false
 
 pub enter_spec : {M : Type 1} → statement M
 enter_spec =
     tie.close
     (tie.spec
-    invariant-loop
-    decreases-loop
+    invariant-loop-k
+    decreases-loop-k
     loop-holds
     mul-t7
     shared-slice-read-t13

@@ -9,78 +9,70 @@ use Rattle.windows.proofs.Hiding.{booked-start, booked-shown, booked-hidden}
 use Rattle.windows.proofs.minutes.hide_booked.Statement.{statement}
 use Rattle.windows.proofs.minutes.hide_booked.Tie as tie
 
-abbrev invariant-loop : tie.invariant-loop
-invariant-loop windows n ids minute starts₀ k₀ starts k = Filling (booked_inside minute windows n ids starts₀) starts₀ starts k
+abbrev invariant-loop-k : tie.invariant-loop-k
+invariant-loop-k windows n ids minute starts₀ k₀ starts k = Filling (booked_inside minute windows n ids starts₀) starts₀ starts k
 
-abbrev decreases-loop : tie.decreases-loop
-decreases-loop windows n ids minute starts₀ k₀ starts k = length starts₀ - k
-
-abbrev entry : tie.At-loop invariant-loop decreases-loop → tie.Start invariant-loop decreases-loop
-entry c = c.before.before.before.before
-
-abbrev turn : tie.After-counts-at invariant-loop decreases-loop → tie.In-loop invariant-loop decreases-loop
-turn c = c.before.before
+abbrev decreases-loop-k : tie.decreases-loop-k
+decreases-loop-k windows n ids minute starts₀ k₀ starts k = length starts₀ - k
 
 -- the place is one of the list's
-inside : (c : tie.In-loop invariant-loop decreases-loop) → c.before.loop.k < length (entry c.before).args.starts.now
-inside c = omega (arith, (entry c.before).pre.1, c.loop-test.true)
+inside : (c : tie.In-loop-k invariant-loop-k decreases-loop-k) → c.loop-k.k < length c.args.starts.now
+inside c = omega (arith, c.requires.1, c.loop-k-test.true)
 
-loop-holds : tie.Need-loop-init invariant-loop decreases-loop
+loop-holds : tie.Need-loop-k-init invariant-loop-k decreases-loop-k
 loop-holds c = booked-start _ _ _ _ _
 
-mul-t7 : tie.Need-overflow-mul-t7 invariant-loop decreases-loop
+mul-t7 : tie.Need-offset_bounds-ids-k invariant-loop-k decreases-loop-k
 mul-t7 c = omega arith
 
-shared-slice-read-t11 : tie.Need-shared-slice-read-t11 invariant-loop decreases-loop
+shared-slice-read-t11 : tie.Need-bounds-ids-k invariant-loop-k decreases-loop-k
 shared-slice-read-t11 c = omega arith
 
-counts-at-requires : tie.Need-counts-at-requires invariant-loop decreases-loop
+counts-at-requires : tie.Need-counts_at-requires invariant-loop-k decreases-loop-k
 counts-at-requires c κs =
-    let p = (entry c.before.before).pre.0 in
-    omega (arith, p.named c.before.before.loop.k c.before.loop-test.true, p.long, p.few)
+    let p = c.requires.0 in
+    omega (arith, p.named c.loop-k.k c.loop-k-test.true, p.long, p.few)
 
-add-k : tie.Need-overflow-add-k invariant-loop decreases-loop
-add-k c = omega (arith, inside (turn c.before))
+add-k : tie.Need-overflow_add-k invariant-loop-k decreases-loop-k
+add-k c = omega (arith, inside c.before.before.before)
 
-loop-less : tie.Need-loop-smaller invariant-loop decreases-loop
-loop-less c = omega (arith, inside (turn c.before))
+loop-less : tie.Need-loop-k-smaller-then-counts_at invariant-loop-k decreases-loop-k
+loop-less c = omega (arith, inside c.before.before.before)
 
-loop-again : tie.Need-loop-preserved invariant-loop decreases-loop
+loop-again : tie.Need-loop-k-preserved-then-counts_at invariant-loop-k decreases-loop-k
 loop-again c =
-    let t = turn c.before in
-    let s = (entry t.before).args in
-    booked-shown s.minute s.windows.now s.n s.ids.now t.before.loop.inv (inside t) (sym c.before.counts-at.ensures ∙ c.if1.true)
+    let s = c.args in
+    booked-shown s.minute s.windows.now s.n s.ids.now c.loop-k.invariant (inside c.before.before.before) (sym c.counts_at.ensures ∙ c.if-counts_at.true)
 
-mul-starts : tie.Need-overflow-mul-starts invariant-loop decreases-loop
-mul-starts c = omega (arith, inside (turn c.before))
+mul-starts : tie.Need-offset_bounds-starts-k invariant-loop-k decreases-loop-k
+mul-starts c = omega (arith, inside c.before.before.before)
 
-slice-write-starts : tie.Need-slice-write-starts invariant-loop decreases-loop
-slice-write-starts c = omega (arith, inside (turn c.before), filling-long (turn c.before).before.loop.inv)
+slice-write-starts : tie.Need-bounds-starts-k invariant-loop-k decreases-loop-k
+slice-write-starts c = omega (arith, inside c.before.before.before, filling-long c.loop-k.invariant)
 
-add-k-2 : tie.Need-overflow-add-k-2 invariant-loop decreases-loop
-add-k-2 c = omega (arith, inside (turn c.before))
+add-k-2 : tie.Need-overflow_add-k-else-counts_at invariant-loop-k decreases-loop-k
+add-k-2 c = omega (arith, inside c.before.before.before)
 
-loop-less-2 : tie.Need-loop-smaller-2 invariant-loop decreases-loop
-loop-less-2 c = omega (arith, inside (turn c.before))
+loop-less-2 : tie.Need-loop-k-smaller invariant-loop-k decreases-loop-k
+loop-less-2 c = omega (arith, inside c.before.before.before)
 
-loop-again-2 : tie.Need-loop-preserved-2 invariant-loop decreases-loop
+loop-again-2 : tie.Need-loop-k-preserved invariant-loop-k decreases-loop-k
 loop-again-2 c =
-    let t = turn c.before in
-    let s = (entry t.before).args in
-    booked-hidden s.minute s.windows.now s.n s.ids.now t.before.loop.inv (inside t) (sym c.before.counts-at.ensures ∙ c.if1.false)
+    let s = c.args in
+    booked-hidden s.minute s.windows.now s.n s.ids.now c.loop-k.invariant (inside c.before.before.before) (sym c.counts_at.ensures ∙ c.if-counts_at.false)
 
-same_length : tie.Need-same-length invariant-loop decreases-loop
-same_length c = filling-long c.before.loop.invariant
+same_length : tie.Need-shape_of-starts invariant-loop-k decreases-loop-k
+same_length c = filling-long c.loop-k.invariant
 
-returns : tie.Need-returns invariant-loop decreases-loop
-returns c = filling-end c.before.loop.invariant (omega (arith, (entry c.before).pre.1, c.loop-test.false))
+returns : tie.Need-returns invariant-loop-k decreases-loop-k
+returns c = filling-end c.loop-k.invariant (omega (arith, c.requires.1, c.loop-k-test.false))
 
-pub hide-booked-spec : {M : Type 1} → statement M
-hide-booked-spec =
+pub hide_booked_spec : {M : Type 1} → statement M
+hide_booked_spec =
     tie.close
     (tie.spec
-    invariant-loop
-    decreases-loop
+    invariant-loop-k
+    decreases-loop-k
     loop-holds
     mul-t7
     shared-slice-read-t11

@@ -10,82 +10,74 @@ use Rattle.windows.proofs.Hiding.{listed_start, listed-shown, listed-hidden}
 use Rattle.windows.proofs.minutes.hide_listed.Statement.{statement}
 use Rattle.windows.proofs.minutes.hide_listed.Tie as tie
 
-abbrev invariant-loop : tie.invariant-loop
-invariant-loop firsts seconds minute starts₀ k₀ starts k = Filling (listed_inside minute firsts seconds starts₀) starts₀ starts k
+abbrev invariant-loop-k : tie.invariant-loop-k
+invariant-loop-k firsts seconds minute starts₀ k₀ starts k = Filling (listed_inside minute firsts seconds starts₀) starts₀ starts k
 
-abbrev decreases-loop : tie.decreases-loop
-decreases-loop firsts seconds minute starts₀ k₀ starts k = length starts₀ - k
-
-abbrev entry : tie.At-loop invariant-loop decreases-loop → tie.Start invariant-loop decreases-loop
-entry c = c.before.before.before.before
-
-abbrev turn : tie.After-is-inside invariant-loop decreases-loop → tie.In-loop invariant-loop decreases-loop
-turn c = c.before.before.before
+abbrev decreases-loop-k : tie.decreases-loop-k
+decreases-loop-k firsts seconds minute starts₀ k₀ starts k = length starts₀ - k
 
 -- the place is one of the list's
-inside : (c : tie.In-loop invariant-loop decreases-loop) → c.before.loop.k < length (entry c.before).args.starts.now
-inside c = omega (arith, filling-long c.before.loop.invariant, c.loop-test.true)
+inside : (c : tie.In-loop-k invariant-loop-k decreases-loop-k) → c.loop-k.k < length c.args.starts.now
+inside c = omega (arith, filling-long c.loop-k.invariant, c.loop-k-test.true)
 
-loop-holds : tie.Need-loop-init invariant-loop decreases-loop
+loop-holds : tie.Need-loop-k-init invariant-loop-k decreases-loop-k
 loop-holds c = listed_start _ _ _ _
 
-mul-is-inside : tie.Need-overflow-mul-is-inside invariant-loop decreases-loop
+mul-is-inside : tie.Need-offset_bounds-firsts-k invariant-loop-k decreases-loop-k
 mul-is-inside c = omega arith
 
-shared-slice-read-is-inside : tie.Need-shared-slice-read-is-inside invariant-loop decreases-loop
-shared-slice-read-is-inside c = omega (arith, inside c.before, (entry c.before.before).pre.0)
+shared-slice-read-is-inside : tie.Need-bounds-firsts-k invariant-loop-k decreases-loop-k
+shared-slice-read-is-inside c = omega (arith, inside c.before, c.requires.0)
 
-mul-is-inside-2 : tie.Need-overflow-mul-is-inside-2 invariant-loop decreases-loop
+mul-is-inside-2 : tie.Need-offset_bounds-seconds-k invariant-loop-k decreases-loop-k
 mul-is-inside-2 c = omega arith
 
-shared-slice-read-is-inside-2 : tie.Need-shared-slice-read-is-inside-2 invariant-loop decreases-loop
-shared-slice-read-is-inside-2 c = omega (arith, inside c.before.before, (entry c.before.before.before).pre.1)
+shared-slice-read-is-inside-2 : tie.Need-bounds-seconds-k invariant-loop-k decreases-loop-k
+shared-slice-read-is-inside-2 c = omega (arith, inside c.before.before, c.requires.1)
 
-is-inside-requires : tie.Need-is-inside-requires invariant-loop decreases-loop
+is-inside-requires : tie.Need-is_inside-requires invariant-loop-k decreases-loop-k
 is-inside-requires c κs = search rules
 
-add-k : tie.Need-overflow-add-k invariant-loop decreases-loop
-add-k c = omega (arith, inside (turn c.before))
+add-k : tie.Need-overflow_add-k invariant-loop-k decreases-loop-k
+add-k c = omega (arith, inside c.before.before.before.before)
 
-loop-less : tie.Need-loop-smaller invariant-loop decreases-loop
-loop-less c = omega (arith, inside (turn c.before))
+loop-less : tie.Need-loop-k-smaller-then-is_inside invariant-loop-k decreases-loop-k
+loop-less c = omega (arith, inside c.before.before.before.before)
 
-loop-again : tie.Need-loop-preserved invariant-loop decreases-loop
+loop-again : tie.Need-loop-k-preserved-then-is_inside invariant-loop-k decreases-loop-k
 loop-again c =
-    let t = turn c.before in
-    let s = (entry t.before).args in
-    listed-shown s.minute s.firsts.now s.seconds.now t.before.loop.inv (inside t) (sym c.before.is-inside.ensures ∙ c.if1.true)
+    let s = c.args in
+    listed-shown s.minute s.firsts.now s.seconds.now c.loop-k.invariant (inside c.before.before.before.before) (sym c.is_inside.ensures ∙ c.if-is_inside.true)
 
-mul-starts : tie.Need-overflow-mul-starts invariant-loop decreases-loop
+mul-starts : tie.Need-offset_bounds-starts-k invariant-loop-k decreases-loop-k
 mul-starts c = omega arith
 
-slice-write-starts : tie.Need-slice-write-starts invariant-loop decreases-loop
-slice-write-starts c = omega (arith, (turn c.before).loop-test.taken)
+slice-write-starts : tie.Need-bounds-starts-k invariant-loop-k decreases-loop-k
+slice-write-starts c = omega (arith, c.loop-k-test.true)
 
-add-k-2 : tie.Need-overflow-add-k-2 invariant-loop decreases-loop
-add-k-2 c = omega (arith, inside (turn c.before))
+add-k-2 : tie.Need-overflow_add-k-else-is_inside invariant-loop-k decreases-loop-k
+add-k-2 c = omega (arith, inside c.before.before.before.before)
 
-loop-less-2 : tie.Need-loop-smaller-2 invariant-loop decreases-loop
-loop-less-2 c = omega (arith, inside (turn c.before))
+loop-less-2 : tie.Need-loop-k-smaller invariant-loop-k decreases-loop-k
+loop-less-2 c = omega (arith, inside c.before.before.before.before)
 
-loop-again-2 : tie.Need-loop-preserved-2 invariant-loop decreases-loop
+loop-again-2 : tie.Need-loop-k-preserved invariant-loop-k decreases-loop-k
 loop-again-2 c =
-    let t = turn c.before in
-    let s = (entry t.before).args in
-    listed-hidden s.minute s.firsts.now s.seconds.now t.before.loop.inv (inside t) (sym c.before.is-inside.ensures ∙ c.if1.false)
+    let s = c.args in
+    listed-hidden s.minute s.firsts.now s.seconds.now c.loop-k.invariant (inside c.before.before.before.before) (sym c.is_inside.ensures ∙ c.if-is_inside.false)
 
-same_length : tie.Need-same-length invariant-loop decreases-loop
-same_length c = filling-long c.before.loop.invariant
+same_length : tie.Need-shape_of-starts invariant-loop-k decreases-loop-k
+same_length c = filling-long c.loop-k.invariant
 
-returns : tie.Need-returns invariant-loop decreases-loop
-returns c = filling-end c.before.loop.invariant (omega (arith, filling-long c.before.loop.invariant, c.loop-test.false))
+returns : tie.Need-returns invariant-loop-k decreases-loop-k
+returns c = filling-end c.loop-k.invariant (omega (arith, filling-long c.loop-k.invariant, c.loop-k-test.false))
 
-pub hide-listed-spec : {M : Type 1} → statement M
-hide-listed-spec =
+pub hide_listed_spec : {M : Type 1} → statement M
+hide_listed_spec =
     tie.close
     (tie.spec
-    invariant-loop
-    decreases-loop
+    invariant-loop-k
+    decreases-loop-k
     loop-holds
     mul-is-inside
     shared-slice-read-is-inside

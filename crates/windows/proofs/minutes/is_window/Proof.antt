@@ -16,11 +16,11 @@ none a b e = rw (eq-eqb b 0 e, and-true (eqb a 0), le-ltb a b (omega arith), or-
 ordered : (a b : ℕ) → b ≢ 0 → ltb a b ≡ is_window a b
 ordered a b e = rw (ne_eqb b 0 e, and-false (eqb a 0)) refl
 
-returns : tie.Need-returns
-returns c = let s = c.before.args in none s.first s.second c.if1.true
+returns : tie.Need-returns-then-second-eq0
+returns c = let s = c.before.args in none s.first s.second c.if-second-eq0.true
 
-returns-2 : tie.Need-returns-2
-returns-2 c = let s = c.before.args in ordered s.first s.second c.if1.false
+returns-2 : tie.Need-returns
+returns-2 c = let s = c.before.args in ordered s.first s.second c.if-second-eq0.false
 
-pub is-window-spec : {M : Type 1} → statement M
-is-window-spec = tie.close (tie.spec returns returns-2)
+pub is_window_spec : {M : Type 1} → statement M
+is_window_spec = tie.close (tie.spec returns returns-2)

@@ -7,56 +7,56 @@ use borrow.Author.Rules.{rules}
 use Rattle.windows.proofs.minutes.minutes_fit.Statement.{statement}
 use Rattle.windows.proofs.minutes.minutes_fit.Tie as tie
 
-cast-k : tie.Need-overflow-cast-k
+cast-k : tie.Need-overflow_cast-k
 cast-k c = search rules
 
-sub-first : tie.Need-overflow-sub-first
+sub-first : tie.Need-overflow_sub-first
 sub-first c = search rules
 
-mul-first : tie.Need-overflow-mul-first
+mul-first : tie.Need-offset_bounds-windows-k
 mul-first c = search rules
 
-shared-slice-read-first : tie.Need-shared-slice-read-first
+shared-slice-read-first : tie.Need-bounds-windows-k
 shared-slice-read-first c = search rules
 
-add-second : tie.Need-overflow-add-second
+add-second : tie.Need-overflow_add-second
 add-second c = search rules
 
-sub-second : tie.Need-overflow-sub-second
+sub-second : tie.Need-overflow_sub-second
 sub-second c = search rules
 
-mul-second : tie.Need-overflow-mul-second
+mul-second : tie.Need-offset_bounds-windows-book_heads
 mul-second c = search rules
 
-shared-slice-read-second : tie.Need-shared-slice-read-second
+shared-slice-read-second : tie.Need-bounds-windows-book_heads
 shared-slice-read-second c = search rules
 
-is-booked-requires : tie.Need-is-booked-requires
+is-booked-requires : tie.Need-is_booked-requires
 is-booked-requires c κs = search rules
 
-is-window-requires : tie.Need-is-window-requires
+is-window-requires : tie.Need-is_window-requires
 is-window-requires c κs = search rules
 
-returns : tie.Need-returns
+returns : tie.Need-returns-then-is_booked
 returns c =
     let s = c.before.before.before.before.before.before.before.before.args in
-    let e : is_booked s.book-heads.now s.id.0 ≡ true = sym c.before.before.is-booked.ensures ∙ c.before.if1.true in
-    rw e c.is-window.ensures
+    let e : is_booked s.book_heads.now s.id.0 ≡ true = sym c.before.before.is_booked.ensures ∙ c.before.if-is_booked.true in
+    rw e c.is_window.ensures
 
-returns-2 : tie.Need-returns-2
+returns-2 : tie.Need-returns-then-first-ne0
 returns-2 c =
     let s = c.before.before.before.before.before.before.before.before.args in
-    let e : is_booked s.book-heads.now s.id.0 ≡ false = sym c.before.before.is-booked.ensures ∙ c.before.if1.false in
-    rw (e, ne_eqb _ 0 c.if2.true) refl
+    let e : is_booked s.book_heads.now s.id.0 ≡ false = sym c.before.before.is_booked.ensures ∙ c.before.if-is_booked.false in
+    rw (e, ne_eqb _ 0 c.if-first-ne0.true) refl
 
-returns-3 : tie.Need-returns-3
+returns-3 : tie.Need-returns
 returns-3 c =
     let s = c.before.before.before.before.before.before.before.before.args in
-    let e : is_booked s.book-heads.now s.id.0 ≡ false = sym c.before.before.is-booked.ensures ∙ c.before.if1.false in
-    rw (e, eq-eqb _ 0 c.if2.false) refl
+    let e : is_booked s.book_heads.now s.id.0 ≡ false = sym c.before.before.is_booked.ensures ∙ c.before.if-is_booked.false in
+    rw (e, eq-eqb _ 0 c.if-first-ne0.false) refl
 
-pub minutes-fit-spec : {M : Type 1} → statement M
-minutes-fit-spec =
+pub minutes_fit_spec : {M : Type 1} → statement M
+minutes_fit_spec =
     tie.close
     (tie.spec
     cast-k
