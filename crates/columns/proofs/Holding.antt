@@ -236,6 +236,7 @@ later-above xs a b r rs h y m =
 
 pub rises-once : (xs : List ℕ) (a b : ℕ) {x y : ℕ} (rs : List ℕ) → rises a b (values_at xs rs) ≡ true → Mem x rs → Mem y rs → at xs x ≡ at xs y → x ≡ y
 unfolding rises values_at
+rises-once xs a b {x = x} {y = y} [] h x6 _ e = elim x6 [ ]
 rises-once xs a b (r ∷ rs) h first first e = refl
 rises-once xs a b {y = y} (r ∷ rs) h first (later m) e = absurd (omega (arith, later-above xs a b r rs h y m))
 rises-once xs a b {x = x} (r ∷ rs) h (later m) first e = absurd (omega (arith, later-above xs a b r rs h x m))

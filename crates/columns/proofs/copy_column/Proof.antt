@@ -8,96 +8,96 @@ use Rattle.columns.proofs.Copying.{Copying, Turn, copying-start, copying-turn, c
 use Rattle.columns.proofs.copy_column.Statement.{statement}
 use Rattle.columns.proofs.copy_column.Tie as tie
 
-abbrev invariant-loop : tie.invariant-loop
-invariant-loop rows counts next list₀ r₀ k₀ list r k = Copying rows counts next list₀ r₀ list r k
+abbrev invariant-loop-r : tie.invariant-loop-r
+invariant-loop-r rows counts next list₀ r₀ k₀ list r k = Copying rows counts next list₀ r₀ list r k
 
-abbrev decreases-loop : tie.decreases-loop
-decreases-loop rows counts next list₀ r₀ k₀ list r k = length (chain next r)
+abbrev decreases-loop-r : tie.decreases-loop-r
+decreases-loop-r rows counts next list₀ r₀ k₀ list r k = length (chain next r)
 
-abbrev start : tie.In-loop invariant-loop decreases-loop → tie.Start invariant-loop decreases-loop
+abbrev start : tie.In-loop-r invariant-loop-r decreases-loop-r → tie.Start invariant-loop-r decreases-loop-r
 start c = c.before.before
 
-turn : (c : tie.In-loop invariant-loop decreases-loop) → Turn (start c).args.rows.now (start c).args.counts.now (start c).args.next.now (start c).args.list.now (start c).args.head.0 c.before.loop.list c.before.loop.r c.before.loop.k
-turn c = copying-turn (start c).requires c.before.loop.invariant c.loop-test.true
+turn : (c : tie.In-loop-r invariant-loop-r decreases-loop-r) → Turn (start c).args.rows.now (start c).args.counts.now (start c).args.next.now (start c).args.list.now (start c).args.head.0 c.before.loop-r.list c.before.loop-r.r c.before.loop-r.k
+turn c = copying-turn (start c).requires c.before.loop-r.invariant c.loop-r-test.true
 
-loop-holds : tie.Need-loop-init invariant-loop decreases-loop
+loop-holds : tie.Need-loop-r-init invariant-loop-r decreases-loop-r
 loop-holds c = copying-start c.requires
 
-sub-i : tie.Need-overflow-sub-i invariant-loop decreases-loop
+sub-i : tie.Need-overflow_sub-i invariant-loop-r decreases-loop-r
 sub-i c = (turn c).low
 
-cast-i : tie.Need-overflow-cast-i invariant-loop decreases-loop
+cast-i : tie.Need-overflow_cast-i invariant-loop-r decreases-loop-r
 cast-i c = let t = turn c in omega arith
 
-mul-list : tie.Need-overflow-mul-list invariant-loop decreases-loop
+mul-list : tie.Need-offset_bounds-rows-i invariant-loop-r decreases-loop-r
 mul-list c = let t = turn c in omega arith
 
-shared-slice-read-list : tie.Need-shared-slice-read-list invariant-loop decreases-loop
-shared-slice-read-list c = let t = turn c.before in omega (arith, t, (start c.before).pre.read.rows_long)
+shared-slice-read-list : tie.Need-bounds-rows-i invariant-loop-r decreases-loop-r
+shared-slice-read-list c = let t = turn c.before in omega (arith, t, (start c.before).requires.read.rows_long)
 
-cast-list : tie.Need-overflow-cast-list invariant-loop decreases-loop
-cast-list c = omega (arith, c.shared-slice-known.given (c.before.before.loop.r - 1))
+cast-list : tie.Need-overflow_cast-list invariant-loop-r decreases-loop-r
+cast-list c = omega (arith, c.shared_slice_known-1.given (c.before.before.loop-r.r - 1))
 
-mul-list-2 : tie.Need-overflow-mul-list-2 invariant-loop decreases-loop
-mul-list-2 c = let t = turn c.before in omega (arith, t, (start c.before).pre.fits)
+mul-list-2 : tie.Need-overflow_mul-list invariant-loop-r decreases-loop-r
+mul-list-2 c = let t = turn c.before in omega (arith, t, (start c.before).requires.fits)
 
-mul-list-3 : tie.Need-overflow-mul-list-3 invariant-loop decreases-loop
-mul-list-3 c = let t = turn c.before in omega (arith, t, (start c.before).pre.fits)
+mul-list-3 : tie.Need-offset_bounds-list-k invariant-loop-r decreases-loop-r
+mul-list-3 c = let t = turn c.before in omega (arith, t, (start c.before).requires.fits)
 
-slice-write-list : tie.Need-slice-write-list invariant-loop decreases-loop
-slice-write-list c = let t = turn c.before in omega (arith, t, (start c.before).pre.fits)
+slice-write-list : tie.Need-bounds-list-k invariant-loop-r decreases-loop-r
+slice-write-list c = let t = turn c.before in omega (arith, t, (start c.before).requires.fits)
 
-mul-list-4 : tie.Need-overflow-mul-list-4 invariant-loop decreases-loop
+mul-list-4 : tie.Need-offset_bounds-counts-i invariant-loop-r decreases-loop-r
 mul-list-4 c = let t = turn c.before in omega arith
 
-shared-slice-read-list-2 : tie.Need-shared-slice-read-list-2 invariant-loop decreases-loop
-shared-slice-read-list-2 c = let t = turn c.before.before in omega (arith, t, (start c.before.before).pre.read.counts-long)
+shared-slice-read-list-2 : tie.Need-bounds-counts-i invariant-loop-r decreases-loop-r
+shared-slice-read-list-2 c = let t = turn c.before.before in omega (arith, t, (start c.before.before).requires.read.counts-long)
 
-cast-list-2 : tie.Need-overflow-cast-list-2 invariant-loop decreases-loop
-cast-list-2 c = omega (arith, c.shared-slice-known2.given (c.before.before.before.loop.r - 1))
+cast-list-2 : tie.Need-overflow_cast-list-in-loop-r invariant-loop-r decreases-loop-r
+cast-list-2 c = omega (arith, c.shared_slice_known-in-loop-r-1.given (c.before.before.before.loop-r.r - 1))
 
-mul-list-5 : tie.Need-overflow-mul-list-5 invariant-loop decreases-loop
-mul-list-5 c = let t = turn c.before.before in omega (arith, t, (start c.before.before).pre.fits)
+mul-list-5 : tie.Need-overflow_mul-list-in-loop-r invariant-loop-r decreases-loop-r
+mul-list-5 c = let t = turn c.before.before in omega (arith, t, (start c.before.before).requires.fits)
 
-add-list : tie.Need-overflow-add-list invariant-loop decreases-loop
-add-list c = let t = turn c.before.before in omega (arith, t, (start c.before.before).pre.fits)
+add-list : tie.Need-overflow_add-list invariant-loop-r decreases-loop-r
+add-list c = let t = turn c.before.before in omega (arith, t, (start c.before.before).requires.fits)
 
-mul-list-6 : tie.Need-overflow-mul-list-6 invariant-loop decreases-loop
-mul-list-6 c = let t = turn c.before.before in omega (arith, t, (start c.before.before).pre.fits)
+mul-list-6 : tie.Need-offset_bounds-list-k-in-loop-r invariant-loop-r decreases-loop-r
+mul-list-6 c = let t = turn c.before.before in omega (arith, t, (start c.before.before).requires.fits)
 
-slice-write-list-2 : tie.Need-slice-write-list-2 invariant-loop decreases-loop
-slice-write-list-2 c = let t = turn c.before.before in simp length-set (omega (arith, t, (start c.before.before).pre.fits))
+slice-write-list-2 : tie.Need-bounds-list-k-in-loop-r invariant-loop-r decreases-loop-r
+slice-write-list-2 c = let t = turn c.before.before in simp length-set (omega (arith, t, (start c.before.before).requires.fits))
 
-mul-r : tie.Need-overflow-mul-r invariant-loop decreases-loop
+mul-r : tie.Need-offset_bounds-next-i invariant-loop-r decreases-loop-r
 mul-r c = let t = turn c.before.before in omega arith
 
-shared-slice-read-r : tie.Need-shared-slice-read-r invariant-loop decreases-loop
+shared-slice-read-r : tie.Need-bounds-next-i invariant-loop-r decreases-loop-r
 shared-slice-read-r c = let t = turn c.before.before.before in omega arith
 
-add-k : tie.Need-overflow-add-k invariant-loop decreases-loop
-add-k c = let t = turn c.before.before.before in omega (arith, t, (start c.before.before.before).pre.narrow)
+add-k : tie.Need-overflow_add-k invariant-loop-r decreases-loop-r
+add-k c = let t = turn c.before.before.before in omega (arith, t, (start c.before.before.before).requires.narrow)
 
-loop-less : tie.Need-loop-smaller invariant-loop decreases-loop
+loop-less : tie.Need-loop-r-smaller invariant-loop-r decreases-loop-r
 loop-less c = (turn c.before.before.before).shorter
 
-loop-again : tie.Need-loop-preserved invariant-loop decreases-loop
+loop-again : tie.Need-loop-r-preserved invariant-loop-r decreases-loop-r
 loop-again c = (turn c.before.before.before).again
 
-cast-result : tie.Need-overflow-cast-result invariant-loop decreases-loop
-cast-result c = omega (arith, copying-number c.before.before.requires c.before.loop.invariant c.loop-test.false, c.before.before.requires.narrow)
+cast-result : tie.Need-overflow_cast-result invariant-loop-r decreases-loop-r
+cast-result c = omega (arith, copying-number c.before.before.requires c.before.loop-r.invariant c.loop-r-test.false, c.before.before.requires.narrow)
 
-same_length : tie.Need-same-length invariant-loop decreases-loop
-same_length c = copying-long c.before.before.requires c.before.loop.invariant
+same_length : tie.Need-shape_of-list invariant-loop-r decreases-loop-r
+same_length c = copying-long c.before.before.requires c.before.loop-r.invariant
 
-returns : tie.Need-returns invariant-loop decreases-loop
-returns c = (copying-number c.before.before.requires c.before.loop.invariant c.loop-test.false, copying-written c.before.before.requires c.before.loop.invariant c.loop-test.false)
+returns : tie.Need-returns invariant-loop-r decreases-loop-r
+returns c = (copying-number c.before.before.requires c.before.loop-r.invariant c.loop-r-test.false, copying-written c.before.before.requires c.before.loop-r.invariant c.loop-r-test.false)
 
-pub copy-column-spec : {M : Type 1} → statement M
-copy-column-spec =
+pub copy_column_spec : {M : Type 1} → statement M
+copy_column_spec =
     tie.close
     (tie.spec
-    invariant-loop
-    decreases-loop
+    invariant-loop-r
+    decreases-loop-r
     loop-holds
     sub-i
     cast-i

@@ -10,51 +10,51 @@ use Rattle.lists.proofs.Over.{Filling, filling-start, filling-long, filling-next
 use Rattle.columns.proofs.number_heads.Statement.{statement}
 use Rattle.columns.proofs.number_heads.Tie as tie
 
-abbrev invariant-loop : tie.invariant-loop
-invariant-loop heads₀ i₀ heads i = Filling (up_from 1 (length heads₀)) heads₀ heads i
+abbrev invariant-loop-i : tie.invariant-loop-i
+invariant-loop-i heads₀ i₀ heads i = Filling (up_from 1 (length heads₀)) heads₀ heads i
 
-abbrev decreases-loop : tie.decreases-loop
-decreases-loop heads₀ i₀ heads i = length heads₀ - i
+abbrev decreases-loop-i : tie.decreases-loop-i
+decreases-loop-i heads₀ i₀ heads i = length heads₀ - i
 
-loop-holds : tie.Need-loop-init invariant-loop decreases-loop
+loop-holds : tie.Need-loop-i-init invariant-loop-i decreases-loop-i
 loop-holds c = filling-start _ _ (up-length 1 (length c.args.heads.now))
 
-add-heads : tie.Need-overflow-add-heads invariant-loop decreases-loop
-add-heads c = omega (arith, filling-long c.before.loop.invariant)
+add-heads : tie.Need-overflow_add-heads invariant-loop-i decreases-loop-i
+add-heads c = omega (arith, filling-long c.before.loop-i.invariant)
 
-cast-heads : tie.Need-overflow-cast-heads invariant-loop decreases-loop
-cast-heads c = omega (arith, filling-long c.before.loop.invariant)
+cast-heads : tie.Need-overflow_cast-heads invariant-loop-i decreases-loop-i
+cast-heads c = omega (arith, filling-long c.before.loop-i.invariant)
 
-mul-heads : tie.Need-overflow-mul-heads invariant-loop decreases-loop
-mul-heads c = omega (arith, filling-long c.before.loop.invariant)
+mul-heads : tie.Need-offset_bounds-heads-i invariant-loop-i decreases-loop-i
+mul-heads c = omega (arith, filling-long c.before.loop-i.invariant)
 
-slice-write-heads : tie.Need-slice-write-heads invariant-loop decreases-loop
+slice-write-heads : tie.Need-bounds-heads-i invariant-loop-i decreases-loop-i
 slice-write-heads c = omega arith
 
-add-i : tie.Need-overflow-add-i invariant-loop decreases-loop
-add-i c = omega (arith, filling-long c.before.loop.invariant)
+add-i : tie.Need-overflow_add-i invariant-loop-i decreases-loop-i
+add-i c = omega (arith, filling-long c.before.loop-i.invariant)
 
-loop-less : tie.Need-loop-smaller invariant-loop decreases-loop
-loop-less c = omega (arith, filling-long c.before.loop.invariant)
+loop-less : tie.Need-loop-i-smaller invariant-loop-i decreases-loop-i
+loop-less c = omega (arith, filling-long c.before.loop-i.invariant)
 
-loop-again : tie.Need-loop-preserved invariant-loop decreases-loop
+loop-again : tie.Need-loop-i-preserved invariant-loop-i decreases-loop-i
 loop-again c =
-    let w = c.before.loop.invariant in
-    filling-next w (omega (arith, filling-long w, c.loop-test.true))
-    (up_at 1 (length c.before.before.args.heads.now) c.before.loop.i (omega (arith, filling-long w, c.loop-test.true)) ∙ omega arith)
+    let w = c.before.loop-i.invariant in
+    filling-next w (omega (arith, filling-long w, c.loop-i-test.true))
+    (up_at 1 (length c.before.before.args.heads.now) c.before.loop-i.i (omega (arith, filling-long w, c.loop-i-test.true)) ∙ omega arith)
 
-same_length : tie.Need-same-length invariant-loop decreases-loop
-same_length c = filling-long c.before.loop.invariant
+same_length : tie.Need-shape_of-heads invariant-loop-i decreases-loop-i
+same_length c = filling-long c.before.loop-i.invariant
 
-returns : tie.Need-returns invariant-loop decreases-loop
-returns c = filling-end c.before.loop.invariant (omega (arith, filling-long c.before.loop.invariant, c.loop-test.false))
+returns : tie.Need-returns invariant-loop-i decreases-loop-i
+returns c = filling-end c.before.loop-i.invariant (omega (arith, filling-long c.before.loop-i.invariant, c.loop-i-test.false))
 
-pub number-heads-spec : {M : Type 1} → statement M
-number-heads-spec =
+pub number_heads_spec : {M : Type 1} → statement M
+number_heads_spec =
     tie.close
     (tie.spec
-    invariant-loop
-    decreases-loop
+    invariant-loop-i
+    decreases-loop-i
     loop-holds
     add-heads
     cast-heads

@@ -9,69 +9,69 @@ use Rattle.columns.proofs.Opened.{rows-length, rows-front, rows_back}
 use Rattle.columns.proofs.number_rows.Statement.{statement}
 use Rattle.columns.proofs.number_rows.Tie as tie
 
-abbrev invariant-loop : tie.invariant-loop
-invariant-loop rows₀ m i₀ rows i = Filling (opened_rows m (length rows₀)) rows₀ rows i
+abbrev invariant-loop-i : tie.invariant-loop-i
+invariant-loop-i rows₀ m i₀ rows i = Filling (opened_rows m (length rows₀)) rows₀ rows i
 
-abbrev decreases-loop : tie.decreases-loop
-decreases-loop rows₀ m i₀ rows i = length rows₀ - i
+abbrev decreases-loop-i : tie.decreases-loop-i
+decreases-loop-i rows₀ m i₀ rows i = length rows₀ - i
 
-loop-holds : tie.Need-loop-init invariant-loop decreases-loop
+loop-holds : tie.Need-loop-i-init invariant-loop-i decreases-loop-i
 loop-holds c = filling-start _ _ (rows-length c.args.m (length c.args.rows.now) c.requires.0)
 
-add-rows : tie.Need-overflow-add-rows invariant-loop decreases-loop
-add-rows c = omega (arith, filling-long c.before.before.loop.invariant)
+add-rows : tie.Need-overflow_add-rows invariant-loop-i decreases-loop-i
+add-rows c = omega (arith, filling-long c.before.before.loop-i.invariant)
 
-cast-rows : tie.Need-overflow-cast-rows invariant-loop decreases-loop
-cast-rows c = omega (arith, c.if1.true, c.before.before.before.requires.1)
+cast-rows : tie.Need-overflow_cast-rows invariant-loop-i decreases-loop-i
+cast-rows c = omega (arith, c.if-i-m.true, c.before.before.before.requires.1)
 
-mul-rows : tie.Need-overflow-mul-rows invariant-loop decreases-loop
-mul-rows c = omega (arith, filling-long c.before.before.loop.invariant)
+mul-rows : tie.Need-offset_bounds-rows-i invariant-loop-i decreases-loop-i
+mul-rows c = omega (arith, filling-long c.before.before.loop-i.invariant)
 
-slice-write-rows : tie.Need-slice-write-rows invariant-loop decreases-loop
+slice-write-rows : tie.Need-bounds-rows-i invariant-loop-i decreases-loop-i
 slice-write-rows c = omega arith
 
-add-i : tie.Need-overflow-add-i invariant-loop decreases-loop
-add-i c = omega (arith, filling-long c.before.before.loop.invariant)
+add-i : tie.Need-overflow_add-i invariant-loop-i decreases-loop-i
+add-i c = omega (arith, filling-long c.before.before.loop-i.invariant)
 
-loop-less : tie.Need-loop-smaller invariant-loop decreases-loop
-loop-less c = omega (arith, filling-long c.before.before.loop.invariant)
+loop-less : tie.Need-loop-i-smaller-then-i-m invariant-loop-i decreases-loop-i
+loop-less c = omega (arith, filling-long c.before.before.loop-i.invariant)
 
-loop-again : tie.Need-loop-preserved invariant-loop decreases-loop
+loop-again : tie.Need-loop-i-preserved-then-i-m invariant-loop-i decreases-loop-i
 loop-again c =
     let s = c.before.before.before.args in
-    filling-next c.before.before.loop.invariant (omega (arith, filling-long c.before.before.loop.invariant, c.before.loop-test.true)) (rows-front s.m (length s.rows.now) c.before.before.loop.i c.if1.true)
+    filling-next c.before.before.loop-i.invariant (omega (arith, filling-long c.before.before.loop-i.invariant, c.before.loop-i-test.true)) (rows-front s.m (length s.rows.now) c.before.before.loop-i.i c.if-i-m.true)
 
-mul-rows-2 : tie.Need-overflow-mul-rows-2 invariant-loop decreases-loop
-mul-rows-2 c = omega (arith, filling-long c.before.before.loop.invariant)
+mul-rows-2 : tie.Need-offset_bounds-rows-i-else-i-m invariant-loop-i decreases-loop-i
+mul-rows-2 c = omega (arith, filling-long c.before.before.loop-i.invariant)
 
-slice-write-rows-2 : tie.Need-slice-write-rows-2 invariant-loop decreases-loop
+slice-write-rows-2 : tie.Need-bounds-rows-i-else-i-m invariant-loop-i decreases-loop-i
 slice-write-rows-2 c = omega arith
 
-add-i-2 : tie.Need-overflow-add-i-2 invariant-loop decreases-loop
-add-i-2 c = omega (arith, filling-long c.before.before.loop.invariant)
+add-i-2 : tie.Need-overflow_add-i-else-i-m invariant-loop-i decreases-loop-i
+add-i-2 c = omega (arith, filling-long c.before.before.loop-i.invariant)
 
-loop-less-2 : tie.Need-loop-smaller-2 invariant-loop decreases-loop
-loop-less-2 c = omega (arith, filling-long c.before.before.loop.invariant)
+loop-less-2 : tie.Need-loop-i-smaller invariant-loop-i decreases-loop-i
+loop-less-2 c = omega (arith, filling-long c.before.before.loop-i.invariant)
 
-loop-again-2 : tie.Need-loop-preserved-2 invariant-loop decreases-loop
+loop-again-2 : tie.Need-loop-i-preserved invariant-loop-i decreases-loop-i
 loop-again-2 c =
     let s = c.before.before.before.args in
-    let w = c.before.before.loop.invariant in
-    filling-next w (omega (arith, filling-long w, c.before.loop-test.true))
-    (rows_back s.m (length s.rows.now) c.before.before.loop.i c.if1.false (omega (arith, filling-long w, c.before.loop-test.true)))
+    let w = c.before.before.loop-i.invariant in
+    filling-next w (omega (arith, filling-long w, c.before.loop-i-test.true))
+    (rows_back s.m (length s.rows.now) c.before.before.loop-i.i c.if-i-m.false (omega (arith, filling-long w, c.before.loop-i-test.true)))
 
-same_length : tie.Need-same-length invariant-loop decreases-loop
-same_length c = filling-long c.before.loop.invariant
+same_length : tie.Need-shape_of-rows invariant-loop-i decreases-loop-i
+same_length c = filling-long c.before.loop-i.invariant
 
-returns : tie.Need-returns invariant-loop decreases-loop
-returns c = filling-end c.before.loop.invariant (omega (arith, filling-long c.before.loop.invariant, c.loop-test.false))
+returns : tie.Need-returns invariant-loop-i decreases-loop-i
+returns c = filling-end c.before.loop-i.invariant (omega (arith, filling-long c.before.loop-i.invariant, c.loop-i-test.false))
 
-pub number-rows-spec : {M : Type 1} → statement M
-number-rows-spec =
+pub number_rows_spec : {M : Type 1} → statement M
+number_rows_spec =
     tie.close
     (tie.spec
-    invariant-loop
-    decreases-loop
+    invariant-loop-i
+    decreases-loop-i
     loop-holds
     add-rows
     cast-rows

@@ -9,91 +9,90 @@ use Rattle.counting.proofs.Tallies.{Tallying, tallying-start, tallying-row, tall
 use Rattle.counting.proofs.tally.Statement.{statement}
 use Rattle.counting.proofs.tally.Tie as tie
 
-abbrev invariant-loop : tie.invariant-loop
-invariant-loop work₀ a e size₀ k₀ work size k = Tallying work₀ a e work size k
+abbrev invariant-loop-k : tie.invariant-loop-k
+invariant-loop-k work₀ a e size₀ k₀ work size k = Tallying work₀ a e work size k
 
-abbrev decreases-loop : tie.decreases-loop
-decreases-loop work₀ a e size₀ k₀ work size k = e - k
+abbrev decreases-loop-k : tie.decreases-loop-k
+decreases-loop-k work₀ a e size₀ k₀ work size k = e - k
 
-pub record Facts (c : tie.In-loop invariant-loop decreases-loop) : Type 0 where
-  pub inside : c.before.loop.k < length c.before.loop.work
-  pub row : (1 ≤ get_or c.before.loop.work c.before.loop.k 0) × (get_or c.before.loop.work c.before.loop.k 0 ≤ c.before.before.requires.m)
-  pub long : c.before.before.requires.m ≤ length c.before.loop.work
-  pub few : c.before.loop.size + 1 < 4294967296
-  pub room : get_or c.before.loop.work (get_or c.before.loop.work c.before.loop.k 0 - 1) 0 + 1 < 4294967296
+pub record Facts (c : tie.In-loop-k invariant-loop-k decreases-loop-k) : Type 0 where
+  pub inside : c.before.loop-k.k < length c.before.loop-k.work
+  pub row : (1 ≤ get_or c.before.loop-k.work c.before.loop-k.k 0) × (get_or c.before.loop-k.work c.before.loop-k.k 0 ≤ c.before.before.requires.m)
+  pub long : c.before.before.requires.m ≤ length c.before.loop-k.work
+  pub few : c.before.loop-k.size + 1 < 4294967296
+  pub room : get_or c.before.loop-k.work (get_or c.before.loop-k.work c.before.loop-k.k 0 - 1) 0 + 1 < 4294967296
 
-facts : (c : tie.In-loop invariant-loop decreases-loop) → Facts c
+facts : (c : tie.In-loop-k invariant-loop-k decreases-loop-k) → Facts c
 facts c =
-    let pre = c.before.before.requires in
-    let i = c.before.loop.invariant in
+    let pre = c.requires in
+    let i = c.loop-k.invariant in
     let l = tally-length i.counted in
-    let r = tallying-row pre i c.loop-test.true in
+    let r = tallying-row pre i c.loop-k-test.true in
     record {
       inside = omega (arith, pre.long);
       row = r;
       long = omega (arith, pre.long, pre.before, i.low);
-      few = tallying-few pre i c.loop-test.true;
-      room = tallying-room pre i (get_or c.before.loop.work c.before.loop.k 0 - 1) c.loop-test.true (omega arith);
+      few = tallying-few pre i c.loop-k-test.true;
+      room = tallying-room pre i (get_or c.loop-k.work c.loop-k.k 0 - 1) c.loop-k-test.true (omega arith);
     }
 
-loop-holds : tie.Need-loop-init invariant-loop decreases-loop
+loop-holds : tie.Need-loop-k-init invariant-loop-k decreases-loop-k
 loop-holds c = tallying-start c.args.work.now c.args.a c.args.e
 
-mul-i : tie.Need-overflow-mul-i invariant-loop decreases-loop
+mul-i : tie.Need-offset_bounds-work-k invariant-loop-k decreases-loop-k
 mul-i c = let f = facts c in omega arith
 
-slice-read-i : tie.Need-slice-read-i invariant-loop decreases-loop
+slice-read-i : tie.Need-bounds-work-k invariant-loop-k decreases-loop-k
 slice-read-i c = let f = facts c.before in omega arith
 
-sub-i : tie.Need-overflow-sub-i invariant-loop decreases-loop
+sub-i : tie.Need-overflow_sub-i invariant-loop-k decreases-loop-k
 sub-i c = let f = facts c.before in omega arith
 
-cast-i : tie.Need-overflow-cast-i invariant-loop decreases-loop
+cast-i : tie.Need-overflow_cast-i invariant-loop-k decreases-loop-k
 cast-i c = let f = facts c.before in omega arith
 
-mul-v : tie.Need-overflow-mul-v invariant-loop decreases-loop
+mul-v : tie.Need-offset_bounds-work-i invariant-loop-k decreases-loop-k
 mul-v c = let f = facts c.before in omega arith
 
-slice-read-v : tie.Need-slice-read-v invariant-loop decreases-loop
+slice-read-v : tie.Need-bounds-work-i invariant-loop-k decreases-loop-k
 slice-read-v c = let f = facts c.before.before in omega arith
 
-add-work : tie.Need-overflow-add-work invariant-loop decreases-loop
+add-work : tie.Need-overflow_add-work invariant-loop-k decreases-loop-k
 add-work c = let f = facts c.before.before in omega arith
 
-mul-work : tie.Need-overflow-mul-work invariant-loop decreases-loop
+mul-work : tie.Need-offset_bounds-work-i-in-loop-k invariant-loop-k decreases-loop-k
 mul-work c = let f = facts c.before.before in omega arith
 
-slice-write-work : tie.Need-slice-write-work invariant-loop decreases-loop
+slice-write-work : tie.Need-bounds-work-i-in-loop-k invariant-loop-k decreases-loop-k
 slice-write-work c = let f = facts c.before.before in omega arith
 
-add-size : tie.Need-overflow-add-size invariant-loop decreases-loop
+add-size : tie.Need-overflow_add-size invariant-loop-k decreases-loop-k
 add-size c = let f = facts c.before.before.before in omega arith
 
-add-k : tie.Need-overflow-add-k invariant-loop decreases-loop
+add-k : tie.Need-overflow_add-k invariant-loop-k decreases-loop-k
 add-k c = let f = facts c.before.before.before in omega arith
 
-loop-less : tie.Need-loop-smaller invariant-loop decreases-loop
+loop-less : tie.Need-loop-k-smaller invariant-loop-k decreases-loop-k
 loop-less c = omega arith
 
-loop-again : tie.Need-loop-preserved invariant-loop decreases-loop
+loop-again : tie.Need-loop-k-preserved invariant-loop-k decreases-loop-k
 loop-again c =
-    let d = c.before.before.before in
-    let pre = d.before.before.requires in
-    let i = d.before.loop.invariant in
-    tallying-more pre i _ d.loop-test.true (⊎_elim (λ w. inl (w.0.taken, w.1)) (λ w. inr (w.0.left, w.1)) c.if1.branch)
+    let pre = c.requires in
+    let i = c.loop-k.invariant in
+    tallying-more pre i _ c.loop-k-test.true (⊎_elim (λ w. inl (w.if-v-eq0.true, w.size-is)) (λ w. inr (w.if-v-eq0.false, w.size-is)) c.if-v-eq0.branch-raw)
 
-same_length : tie.Need-same-length invariant-loop decreases-loop
-same_length c = tally-length c.before.loop.invariant.counted
+same_length : tie.Need-shape_of-work invariant-loop-k decreases-loop-k
+same_length c = tally-length c.loop-k.invariant.counted
 
-returns : tie.Need-returns invariant-loop decreases-loop
-returns c = (tallying-end c.before.before.requires c.before.loop.invariant c.loop-test.false, c.before.loop.invariant.counted.size_is)
+returns : tie.Need-returns invariant-loop-k decreases-loop-k
+returns c = (tallying-end c.requires c.loop-k.invariant c.loop-k-test.false, c.loop-k.invariant.counted.size_is)
 
-pub tally-spec : {M : Type 1} → statement M
-tally-spec =
+pub tally_spec : {M : Type 1} → statement M
+tally_spec =
     tie.close
     (tie.spec
-    invariant-loop
-    decreases-loop
+    invariant-loop-k
+    decreases-loop-k
     loop-holds
     mul-i
     slice-read-i

@@ -5,48 +5,44 @@ use Rattle.counting.proofs.Given.{giving-children, giving-columns, giving-first,
 use Rattle.counting.proofs.tally_all.Statement.{statement}
 use Rattle.counting.proofs.tally_all.Tie as tie
 
-sub-work : tie.Need-overflow-sub-work
-sub-work c = let s = c.before.before.before.before.requires.sizes in omega arith
+sub-work : tie.Need-overflow_sub-work
+sub-work c = let s = c.requires.sizes in omega arith
 
-cast-work : tie.Need-overflow-cast-work
-cast-work c = let s = c.before.before.before.before.requires.sizes in omega arith
+cast-work : tie.Need-overflow_cast-work
+cast-work c = let s = c.requires.sizes in omega arith
 
-mul-work : tie.Need-overflow-mul-work
-mul-work c = let s = c.before.before.before.before.requires.sizes in omega arith
+mul-work : tie.Need-offset_bounds-work-column
+mul-work c = let s = c.requires.sizes in omega arith
 
-slice-write-work : tie.Need-slice-write-work
-slice-write-work c = let s = c.before.before.before.before.requires.sizes in omega arith
+slice-write-work : tie.Need-bounds-work-column
+slice-write-work c = let s = c.requires.sizes in omega arith
 
-tally-children-requires : tie.Need-tally-children-requires
-tally-children-requires c κs = giving-children c.before.before.before.before.before.requires
+tally-children-requires : tie.Need-tally_children-children-requires
+tally-children-requires c κs = giving-children c.requires
 
-tally-columns-requires : tie.Need-tally-columns-requires
-tally-columns-requires c κs = giving-columns c.before.before.before.before.before.before.before.before.before.requires c.before.before.before.tally-children.ensures
+tally-columns-requires : tie.Need-tally_columns-columns-requires
+tally-columns-requires c κs = giving-columns c.requires c.tally_children-children.ensures
 
-add-result : tie.Need-overflow-add-result
+add-result : tie.Need-overflow_add-result
 add-result c =
-    let k = c.before.before.before.before.before.before in
-    let pre = k.before.before.before.before.before.before.requires in
-    omega (arith, giving-first pre k.tally-children.ensures)
+    let pre = c.requires in
+    omega (arith, giving-first pre c.tally_children-children.ensures)
 
-add-result-2 : tie.Need-overflow-add-result-2
+add-result-2 : tie.Need-overflow_add-result-2
 add-result-2 c =
-    let k = c.before.before.before.before.before.before in
-    let pre = k.before.before.before.before.before.before.requires in
-    omega (arith, giving-first pre k.tally-children.ensures, giving-second pre k.tally-children.ensures c.before.before.tally-columns.ensures)
+    let pre = c.requires in
+    omega (arith, giving-first pre c.tally_children-children.ensures, giving-second pre c.tally_children-children.ensures c.tally_columns-columns.ensures)
 
-same_length : tie.Need-same-length
+same_length : tie.Need-shape_of-work
 same_length c =
-    let k = c.before.before.before.before.before.before in
-    giving-length k.before.before.before.before.before.before.requires k.tally-children.ensures c.before.before.tally-columns.ensures
+    giving-length c.requires c.tally_children-children.ensures c.tally_columns-columns.ensures
 
 returns : tie.Need-returns
 returns c =
-    let k = c.before.before.before.before.before.before in
-    giving-end k.before.before.before.before.before.before.requires k.tally-children.ensures c.before.before.tally-columns.ensures
+    giving-end c.requires c.tally_children-children.ensures c.tally_columns-columns.ensures
 
-pub tally-all-spec : {M : Type 1} → statement M
-tally-all-spec =
+pub tally_all_spec : {M : Type 1} → statement M
+tally_all_spec =
     tie.close
     (tie.spec
     sub-work

@@ -11,146 +11,139 @@ use Rattle.counting.proofs.Children.{Children, ChildFacts, children-gathers, chi
 use Rattle.counting.proofs.tally_children.Statement.{statement}
 use Rattle.counting.proofs.tally_children.Tie as tie
 
-abbrev invariant-loop : tie.invariant-loop
-invariant-loop work₀ m f column stash size₀ c₀ work size c = Children work₀ m f column work size c
+abbrev invariant-loop-c : tie.invariant-loop-c
+invariant-loop-c work₀ m f column stash size₀ c₀ work size c = Children work₀ m f column work size c
 
-abbrev decreases-loop : tie.decreases-loop
-decreases-loop work₀ m f column stash size₀ c₀ work size c = length (chain (region work₀ (child_next m) m) c)
+abbrev decreases-loop-c : tie.decreases-loop-c
+decreases-loop-c work₀ m f column stash size₀ c₀ work size c = length (chain (region work₀ (child_next m) m) c)
 
-abbrev start : tie.In-loop invariant-loop decreases-loop → tie.Start invariant-loop decreases-loop
-start c = c.before.before.before.before
+facts : (c : tie.In-loop-c invariant-loop-c decreases-loop-c) →
+    ChildFacts c.args.work.now c.args.m c.args.f c.loop-c.work c.loop-c.size c.loop-c.c
+facts c = children-facts c.requires c.loop-c.invariant c.loop-c-test.true
 
-facts : (c : tie.In-loop invariant-loop decreases-loop) →
-    ChildFacts (start c).args.work.now (start c).args.m (start c).args.f c.before.loop.work c.before.loop.size c.before.loop.c
-facts c = children-facts (start c).requires c.before.loop.invariant c.loop-test.true
+mul-stash : tie.Need-overflow_mul-stash invariant-loop-c decreases-loop-c
+mul-stash c = omega (arith, c.requires.sizes)
 
-mul-stash : tie.Need-overflow-mul-stash invariant-loop decreases-loop
-mul-stash c = omega (arith, c.before.requires.sizes)
+add-stash : tie.Need-overflow_add-stash invariant-loop-c decreases-loop-c
+add-stash c = let s = c.requires.sizes in omega arith
 
-add-stash : tie.Need-overflow-add-stash invariant-loop decreases-loop
-add-stash c = let s = c.before.requires.sizes in omega arith
+sub-c : tie.Need-overflow_sub-c invariant-loop-c decreases-loop-c
+sub-c c = let s = c.requires.sizes in omega arith
 
-sub-c : tie.Need-overflow-sub-c invariant-loop decreases-loop
-sub-c c = let s = c.before.requires.sizes in omega arith
+cast-c : tie.Need-overflow_cast-c invariant-loop-c decreases-loop-c
+cast-c c = let s = c.requires.sizes in omega arith
 
-cast-c : tie.Need-overflow-cast-c invariant-loop decreases-loop
-cast-c c = let s = c.before.requires.sizes in omega arith
+add-c : tie.Need-overflow_add-c invariant-loop-c decreases-loop-c
+add-c c = let s = c.requires.sizes in omega arith
 
-add-c : tie.Need-overflow-add-c invariant-loop decreases-loop
-add-c c = let s = c.before.requires.sizes in omega arith
+mul-c : tie.Need-offset_bounds-work-m invariant-loop-c decreases-loop-c
+mul-c c = let s = c.requires.sizes in omega arith
 
-mul-c : tie.Need-overflow-mul-c invariant-loop decreases-loop
-mul-c c = let s = c.before.requires.sizes in omega arith
+slice-read-c : tie.Need-bounds-work-m invariant-loop-c decreases-loop-c
+slice-read-c c = let s = c.requires.sizes in omega arith
 
-slice-read-c : tie.Need-slice-read-c invariant-loop decreases-loop
-slice-read-c c = let s = c.before.before.requires.sizes in omega arith
+loop-holds : tie.Need-loop-c-init invariant-loop-c decreases-loop-c
+loop-holds c = gathering-start (children-gathers c.requires)
 
-loop-holds : tie.Need-loop-init invariant-loop decreases-loop
-loop-holds c = gathering-start (children-gathers c.before.before.requires)
-
-sub-k : tie.Need-overflow-sub-k invariant-loop decreases-loop
+sub-k : tie.Need-overflow_sub-k invariant-loop-c decreases-loop-c
 sub-k c = let f = facts c in omega arith
 
-cast-k : tie.Need-overflow-cast-k invariant-loop decreases-loop
+cast-k : tie.Need-overflow_cast-k invariant-loop-c decreases-loop-c
 cast-k c = let f = facts c in omega arith
 
-mul-a : tie.Need-overflow-mul-a invariant-loop decreases-loop
+mul-a : tie.Need-overflow_mul-a invariant-loop-c decreases-loop-c
 mul-a c = let f = facts c in omega arith
 
-add_a : tie.Need-overflow-add-a invariant-loop decreases-loop
+add_a : tie.Need-overflow_add-a invariant-loop-c decreases-loop-c
 add_a c = let f = facts c in omega arith
 
-mul-a-2 : tie.Need-overflow-mul-a-2 invariant-loop decreases-loop
+mul-a-2 : tie.Need-offset_bounds-work-m-in-loop-c invariant-loop-c decreases-loop-c
 mul-a-2 c = let f = facts c in omega arith
 
-slice-read-a : tie.Need-slice-read-a invariant-loop decreases-loop
+slice-read-a : tie.Need-bounds-work-m-in-loop-c invariant-loop-c decreases-loop-c
 slice-read-a c = let f = facts c.before in omega arith
 
-mul-e : tie.Need-overflow-mul-e invariant-loop decreases-loop
+mul-e : tie.Need-overflow_mul-e invariant-loop-c decreases-loop-c
 mul-e c = let f = facts c.before in omega arith
 
-cast-e : tie.Need-overflow-cast-e invariant-loop decreases-loop
+cast-e : tie.Need-overflow_cast-e invariant-loop-c decreases-loop-c
 cast-e c = let f = facts c.before in omega arith
 
-add-e : tie.Need-overflow-add-e invariant-loop decreases-loop
+add-e : tie.Need-overflow_add-e invariant-loop-c decreases-loop-c
 add-e c = let f = facts c.before in omega arith
 
-mul-e-2 : tie.Need-overflow-mul-e-2 invariant-loop decreases-loop
+mul-e-2 : tie.Need-offset_bounds-work-m-in-loop-c-2 invariant-loop-c decreases-loop-c
 mul-e-2 c = let f = facts c.before in omega arith
 
-slice-read-e : tie.Need-slice-read-e invariant-loop decreases-loop
+slice-read-e : tie.Need-bounds-work-m-in-loop-c-2 invariant-loop-c decreases-loop-c
 slice-read-e c = let f = facts c.before.before in omega arith
 
-cast-tally : tie.Need-overflow-cast-tally invariant-loop decreases-loop
+cast-tally : tie.Need-overflow_cast-a invariant-loop-c decreases-loop-c
 cast-tally c = let f = facts c.before.before.before in omega arith
 
-add-tally : tie.Need-overflow-add-tally invariant-loop decreases-loop
+add-tally : tie.Need-overflow_add-stash-in-loop-c invariant-loop-c decreases-loop-c
 add-tally c = let f = facts c.before.before.before in omega arith
 
-add-tally-2 : tie.Need-overflow-add-tally-2 invariant-loop decreases-loop
+add-tally-2 : tie.Need-overflow_add-stash-in-loop-c-2 invariant-loop-c decreases-loop-c
 add-tally-2 c = let f = facts c.before.before.before in omega arith
 
-cast-tally-2 : tie.Need-overflow-cast-tally-2 invariant-loop decreases-loop
+cast-tally-2 : tie.Need-overflow_cast-e-in-loop-c invariant-loop-c decreases-loop-c
 cast-tally-2 c = let f = facts c.before.before.before in omega arith
 
-add-tally-3 : tie.Need-overflow-add-tally-3 invariant-loop decreases-loop
+add-tally-3 : tie.Need-overflow_add-stash-in-loop-c-3 invariant-loop-c decreases-loop-c
 add-tally-3 c = let f = facts c.before.before.before in omega arith
 
-tally-requires : tie.Need-tally-requires invariant-loop decreases-loop
+tally-requires : tie.Need-tally-more-requires invariant-loop-c decreases-loop-c
 tally-requires c κs =
-    let d = c.before.before.before in
-    children-can (start d).requires d.before.loop.invariant d.loop-test.true _ _ refl refl
+    children-can c.requires c.loop-c.invariant c.loop-c-test.true _ _ refl refl
 
-add-size : tie.Need-overflow-add-size invariant-loop decreases-loop
+add-size : tie.Need-overflow_add-size invariant-loop-c decreases-loop-c
 add-size c =
-    let d = c.before.before.before.before.before.before in
-    let f = facts d in
-    let t = c.before.before.tally in
+    let f = facts c.before.before.before.before.before.before in
+    let t = c.tally-more in
     omega (
       arith,
-      gathering-few (children-gathers (start d).requires)
-          (gathering-next (children-gathers (start d).requires) d.before.loop.invariant d.loop-test.true
-          (children-tally (start d).requires d.before.loop.invariant d.loop-test.true _ _ refl refl t.ensures.0 t.ensures.1)),
+      gathering-few (children-gathers c.requires)
+          (gathering-next (children-gathers c.requires) c.loop-c.invariant c.loop-c-test.true
+          (children-tally c.requires c.loop-c.invariant c.loop-c-test.true _ _ refl refl t.ensures.0 t.ensures.1)),
     )
 
-mul-c-2 : tie.Need-overflow-mul-c-2 invariant-loop decreases-loop
+mul-c-2 : tie.Need-overflow_mul-c invariant-loop-c decreases-loop-c
 mul-c-2 c = let f = facts c.before.before.before.before.before.before in omega arith
 
-add-c-2 : tie.Need-overflow-add-c-2 invariant-loop decreases-loop
+add-c-2 : tie.Need-overflow_add-c-in-loop-c invariant-loop-c decreases-loop-c
 add-c-2 c = let f = facts c.before.before.before.before.before.before in omega arith
 
-mul-c-3 : tie.Need-overflow-mul-c-3 invariant-loop decreases-loop
+mul-c-3 : tie.Need-offset_bounds-work-m-in-loop-c-3 invariant-loop-c decreases-loop-c
 mul-c-3 c = let f = facts c.before.before.before.before.before.before in omega arith
 
-slice-read-c-2 : tie.Need-slice-read-c-2 invariant-loop decreases-loop
-slice-read-c-2 c = let f = facts c.before.before.before.before.before.before.before in omega (arith, c.before.before.before.tally.auto)
+slice-read-c-2 : tie.Need-bounds-work-m-in-loop-c-3 invariant-loop-c decreases-loop-c
+slice-read-c-2 c = let f = facts c.before.before.before.before.before.before.before in omega (arith, c.tally-more.auto)
 
-loop-less : tie.Need-loop-smaller invariant-loop decreases-loop
+loop-less : tie.Need-loop-c-smaller invariant-loop-c decreases-loop-c
 loop-less c =
-    let d = c.before.before.before.before.before.before.before in
-    let t = c.before.before.before.tally in
-    gathering-less (children-gathers (start d).requires) d.before.loop.invariant d.loop-test.true
-    (children-tally (start d).requires d.before.loop.invariant d.loop-test.true _ _ refl refl t.ensures.0 t.ensures.1)
+    let t = c.tally-more in
+    gathering-less (children-gathers c.requires) c.loop-c.invariant c.loop-c-test.true
+    (children-tally c.requires c.loop-c.invariant c.loop-c-test.true _ _ refl refl t.ensures.0 t.ensures.1)
 
-loop-again : tie.Need-loop-preserved invariant-loop decreases-loop
+loop-again : tie.Need-loop-c-preserved invariant-loop-c decreases-loop-c
 loop-again c =
-    let d = c.before.before.before.before.before.before.before in
-    let t = c.before.before.before.tally in
-    gathering-next (children-gathers (start d).requires) d.before.loop.invariant d.loop-test.true
-    (children-tally (start d).requires d.before.loop.invariant d.loop-test.true _ _ refl refl t.ensures.0 t.ensures.1)
+    let t = c.tally-more in
+    gathering-next (children-gathers c.requires) c.loop-c.invariant c.loop-c-test.true
+    (children-tally c.requires c.loop-c.invariant c.loop-c-test.true _ _ refl refl t.ensures.0 t.ensures.1)
 
-same_length : tie.Need-same-length invariant-loop decreases-loop
-same_length c = gathering-length (children-gathers c.before.before.before.before.requires) c.before.loop.invariant
+same_length : tie.Need-shape_of-work invariant-loop-c decreases-loop-c
+same_length c = gathering-length (children-gathers c.requires) c.loop-c.invariant
 
-returns : tie.Need-returns invariant-loop decreases-loop
-returns c = let p = c.before.before.before.before in gathering-end (children-gathers p.requires) c.before.loop.invariant c.loop-test.false
+returns : tie.Need-returns invariant-loop-c decreases-loop-c
+returns c = gathering-end (children-gathers c.requires) c.loop-c.invariant c.loop-c-test.false
 
-pub tally-children-spec : {M : Type 1} → statement M
-tally-children-spec =
+pub tally_children_spec : {M : Type 1} → statement M
+tally_children_spec =
     tie.close
     (tie.spec
-    invariant-loop
-    decreases-loop
+    invariant-loop-c
+    decreases-loop-c
     mul-stash
     add-stash
     sub-c

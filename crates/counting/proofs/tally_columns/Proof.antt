@@ -11,109 +11,109 @@ use Rattle.counting.proofs.Starting.{Starting, IdFacts, starting-gathers, starti
 use Rattle.counting.proofs.tally_columns.Statement.{statement}
 use Rattle.counting.proofs.tally_columns.Tie as tie
 
-abbrev invariant-loop : tie.invariant-loop
-invariant-loop book-heads book-rows book-next work₀ m f column nexts size₀ i₀ work size i = Starting book-heads book-rows book-next work₀ m f column work size i
+abbrev invariant-loop-i : tie.invariant-loop-i
+invariant-loop-i book-heads book-rows book-next work₀ m f column nexts size₀ i₀ work size i = Starting book-heads book-rows book-next work₀ m f column work size i
 
-abbrev decreases-loop : tie.decreases-loop
-decreases-loop book-heads book-rows book-next work₀ m f column nexts size₀ i₀ work size i = length (chain (region work₀ (column_next m f (length book-next)) (length book-heads)) i)
+abbrev decreases-loop-i : tie.decreases-loop-i
+decreases-loop-i book-heads book-rows book-next work₀ m f column nexts size₀ i₀ work size i = length (chain (region work₀ (column_next m f (length book-next)) (length book-heads)) i)
 
-abbrev start : tie.In-loop invariant-loop decreases-loop → tie.Start invariant-loop decreases-loop
+abbrev start : tie.In-loop-i invariant-loop-i decreases-loop-i → tie.Start invariant-loop-i decreases-loop-i
 start c = c.before.before.before.before.before.before.before
 
 -- the loop's test after a count
-abbrev at_count : tie.After-slice-known3 invariant-loop decreases-loop → tie.In-loop invariant-loop decreases-loop
+abbrev at_count : tie.After-slice_known-in-loop-i-1 invariant-loop-i decreases-loop-i → tie.In-loop-i invariant-loop-i decreases-loop-i
 at_count c = c.before.before.before.before
 
-facts : (c : tie.In-loop invariant-loop decreases-loop) →
-    IdFacts (start c).args.book-heads.now (start c).args.book-next.now (start c).args.m (start c).args.f
-    c.before.loop.work c.before.loop.size c.before.loop.i
-facts c = starting-facts (start c).requires c.before.loop.invariant c.loop-test.true
+facts : (c : tie.In-loop-i invariant-loop-i decreases-loop-i) →
+    IdFacts (start c).args.book_heads.now (start c).args.book_next.now (start c).args.m (start c).args.f
+    c.before.loop-i.work c.before.loop-i.size c.before.loop-i.i
+facts c = starting-facts (start c).requires c.before.loop-i.invariant c.loop-i-test.true
 
-mul-nexts : tie.Need-overflow-mul-nexts invariant-loop decreases-loop
+mul-nexts : tie.Need-overflow_mul-nexts invariant-loop-i decreases-loop-i
 mul-nexts c = let p = c.before.before.before.before.requires in let s = p.sizes in omega arith
 
-mul-nexts-2 : tie.Need-overflow-mul-nexts-2 invariant-loop decreases-loop
+mul-nexts-2 : tie.Need-overflow_mul-nexts-2 invariant-loop-i decreases-loop-i
 mul-nexts-2 c = let p = c.before.before.before.before.requires in let s = p.sizes in omega arith
 
-add-nexts : tie.Need-overflow-add-nexts invariant-loop decreases-loop
+add-nexts : tie.Need-overflow_add-nexts invariant-loop-i decreases-loop-i
 add-nexts c = let p = c.before.before.before.before.requires in let s = p.sizes in omega arith
 
-add-nexts-2 : tie.Need-overflow-add-nexts-2 invariant-loop decreases-loop
+add-nexts-2 : tie.Need-overflow_add-nexts-2 invariant-loop-i decreases-loop-i
 add-nexts-2 c = let p = c.before.before.before.before.requires in let s = p.sizes in omega arith
 
-add-nexts-3 : tie.Need-overflow-add-nexts-3 invariant-loop decreases-loop
+add-nexts-3 : tie.Need-overflow_add-nexts-3 invariant-loop-i decreases-loop-i
 add-nexts-3 c = let p = c.before.before.before.before.requires in let s = p.sizes in omega arith
 
-mul-i : tie.Need-overflow-mul-i invariant-loop decreases-loop
+mul-i : tie.Need-overflow_mul-i invariant-loop-i decreases-loop-i
 mul-i c = let p = c.before.before.before.before.requires in let s = p.sizes in omega arith
 
-sub-i : tie.Need-overflow-sub-i invariant-loop decreases-loop
+sub-i : tie.Need-overflow_sub-i invariant-loop-i decreases-loop-i
 sub-i c = let p = c.before.before.before.before.requires in let s = p.sizes in omega arith
 
-cast-i : tie.Need-overflow-cast-i invariant-loop decreases-loop
+cast-i : tie.Need-overflow_cast-i invariant-loop-i decreases-loop-i
 cast-i c = let p = c.before.before.before.before.requires in let s = p.sizes in omega arith
 
-add-i : tie.Need-overflow-add-i invariant-loop decreases-loop
+add-i : tie.Need-overflow_add-i invariant-loop-i decreases-loop-i
 add-i c = let p = c.before.before.before.before.requires in let s = p.sizes in omega arith
 
-mul-i-2 : tie.Need-overflow-mul-i-2 invariant-loop decreases-loop
+mul-i-2 : tie.Need-offset_bounds-work-m invariant-loop-i decreases-loop-i
 mul-i-2 c = let p = c.before.before.before.before.requires in let s = p.sizes in omega arith
 
-slice-read-i : tie.Need-slice-read-i invariant-loop decreases-loop
+slice-read-i : tie.Need-bounds-work-m invariant-loop-i decreases-loop-i
 slice-read-i c = let p = c.before.before.before.before.before.requires in let s = p.sizes in omega arith
 
-loop-holds : tie.Need-loop-init invariant-loop decreases-loop
+loop-holds : tie.Need-loop-i-init invariant-loop-i decreases-loop-i
 loop-holds c = gathering-start (starting-gathers c.before.before.before.before.before.requires)
 
-count-rows-requires : tie.Need-count-rows-requires invariant-loop decreases-loop
-count-rows-requires c κs = let d = c.before in starting-can (start d).requires d.before.loop.invariant d.loop-test.true
+count-rows-requires : tie.Need-count_rows-more-requires invariant-loop-i decreases-loop-i
+count-rows-requires c κs = let d = c.before in starting-can (start d).requires d.before.loop-i.invariant d.loop-i-test.true
 
-add-size : tie.Need-overflow-add-size invariant-loop decreases-loop
+add-size : tie.Need-overflow_add-size invariant-loop-i decreases-loop-i
 add-size c =
     let d = at_count c in
     let f = facts d in
-    let t = c.before.before.count-rows in
-    omega (arith, gathering-few (starting-gathers (start d).pre) (gathering-next (starting-gathers (start d).pre) d.before.loop.inv d.loop-test.taken (tally-of t.ensures.0 t.ensures.1)))
+    let t = c.before.before.count_rows-more in
+    omega (arith, gathering-few (starting-gathers (start d).requires) (gathering-next (starting-gathers (start d).requires) d.before.loop-i.invariant d.loop-i-test.true (tally-of t.ensures.0 t.ensures.1)))
 
-sub-i-2 : tie.Need-overflow-sub-i-2 invariant-loop decreases-loop
+sub-i-2 : tie.Need-overflow_sub-i-in-loop-i invariant-loop-i decreases-loop-i
 sub-i-2 c = let f = facts (at_count c) in omega arith
 
-cast-i-2 : tie.Need-overflow-cast-i-2 invariant-loop decreases-loop
+cast-i-2 : tie.Need-overflow_cast-i-in-loop-i invariant-loop-i decreases-loop-i
 cast-i-2 c = let f = facts (at_count c) in omega arith
 
-add-i-2 : tie.Need-overflow-add-i-2 invariant-loop decreases-loop
+add-i-2 : tie.Need-overflow_add-i-in-loop-i invariant-loop-i decreases-loop-i
 add-i-2 c = let f = facts (at_count c) in omega arith
 
-mul-i-3 : tie.Need-overflow-mul-i-3 invariant-loop decreases-loop
+mul-i-3 : tie.Need-offset_bounds-work-nexts invariant-loop-i decreases-loop-i
 mul-i-3 c = let f = facts (at_count c) in omega arith
 
-slice-read-i-2 : tie.Need-slice-read-i-2 invariant-loop decreases-loop
-slice-read-i-2 c = let f = facts (at_count c.before) in omega (arith, c.before.before.before.count-rows.auto)
+slice-read-i-2 : tie.Need-bounds-work-nexts invariant-loop-i decreases-loop-i
+slice-read-i-2 c = let f = facts (at_count c.before) in omega (arith, c.before.before.before.count_rows-more.auto)
 
-loop-less : tie.Need-loop-smaller invariant-loop decreases-loop
+loop-less : tie.Need-loop-i-smaller invariant-loop-i decreases-loop-i
 loop-less c =
     let d = at_count c.before in
-    let t = c.before.before.before.count-rows in
-    gathering-less (starting-gathers (start d).pre) d.before.loop.inv d.loop-test.taken (tally-of t.ensures.0 t.ensures.1)
+    let t = c.before.before.before.count_rows-more in
+    gathering-less (starting-gathers (start d).requires) d.before.loop-i.invariant d.loop-i-test.true (tally-of t.ensures.0 t.ensures.1)
 
-loop-again : tie.Need-loop-preserved invariant-loop decreases-loop
+loop-again : tie.Need-loop-i-preserved invariant-loop-i decreases-loop-i
 loop-again c =
     let d = at_count c.before in
-    let t = c.before.before.before.count-rows in
-    gathering-next (starting-gathers (start d).pre) d.before.loop.inv d.loop-test.taken (tally-of t.ensures.0 t.ensures.1)
+    let t = c.before.before.before.count_rows-more in
+    gathering-next (starting-gathers (start d).requires) d.before.loop-i.invariant d.loop-i-test.true (tally-of t.ensures.0 t.ensures.1)
 
-same_length : tie.Need-same-length invariant-loop decreases-loop
-same_length c = gathering-length (starting-gathers c.before.before.before.before.before.before.before.requires) c.before.loop.invariant
+same_length : tie.Need-shape_of-work invariant-loop-i decreases-loop-i
+same_length c = gathering-length (starting-gathers c.before.before.before.before.before.before.before.requires) c.before.loop-i.invariant
 
-returns : tie.Need-returns invariant-loop decreases-loop
-returns c = let p = c.before.before.before.before.before.before.before in gathering-end (starting-gathers p.requires) c.before.loop.invariant c.loop-test.false
+returns : tie.Need-returns invariant-loop-i decreases-loop-i
+returns c = let p = c.before.before.before.before.before.before.before in gathering-end (starting-gathers p.requires) c.before.loop-i.invariant c.loop-i-test.false
 
-pub tally-columns-spec : {M : Type 1} → statement M
-tally-columns-spec =
+pub tally_columns_spec : {M : Type 1} → statement M
+tally_columns_spec =
     tie.close
     (tie.spec
-    invariant-loop
-    decreases-loop
+    invariant-loop-i
+    decreases-loop-i
     mul-nexts
     mul-nexts-2
     add-nexts
