@@ -113,6 +113,10 @@ strike a (n ∷ ns) (suc k) h p z =
     let q : eqb n 0 ≡ true = eq-eqb n 0 (z 0 (omega arith)) in
     (rw q (t.0 ∙ ap (λ (x : ℕ). x ∷ pattern_from (suc a) (set ns k 0)) e), rw q t.1)
 
+zero-first : (n : ℕ) (ns : List ℕ) (k : ℕ) → n ≡ 0 → ZeroBelow ns k → ZeroBelow (n ∷ ns) (suc k)
+zero-first n ns k q z zero h = q
+zero-first n ns k q z (suc l) h = z l (omega arith)
+
 -- a pattern's first row
 head_of : (a : ℕ) (ns : List ℕ) (x : ℕ) (xs : List ℕ) → pattern_from a ns ≡ x ∷ xs → (k : ℕ) × (k < length ns) × (get_or ns k 0 ≢ 0) × ZeroBelow ns k
 unfolding pattern_from
@@ -121,7 +125,7 @@ head_of a (n ∷ ns) x xs e =
     elim (eq-or-ne n 0) [
       | inl q ↦
           let t : (k : ℕ) × (k < length ns) × (get_or ns k 0 ≢ 0) × ZeroBelow ns k = head_of (suc a) ns x xs (rw (eq-eqb n 0 q) at e) in
-          (suc t.0, omega arith, t.2, λ l. elim l [ zero ↦ λ h. q | suc l ↦ λ h. t.3 l (omega arith) ])
+          (suc t.0, omega arith, t.2, zero-first n ns t.0 q t.3)
       | inr q ↦ (0, omega arith, q, λ l h. absurd (omega arith))
     ]
 

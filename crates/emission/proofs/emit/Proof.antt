@@ -33,201 +33,176 @@ use Rattle.emission.proofs.Emitting.{
 use Rattle.emission.proofs.emit.Statement.{statement}
 use Rattle.emission.proofs.emit.Tie as tie
 
-abbrev invariant-loop : tie.invariant-loop
-invariant-loop rows counts next work₀ m n j used walk₀ i₀ work walk i =
-    (old new : List ℕ) → CanEmit rows counts next work₀ m n j.0 walk₀.at.0 used walk₀.avail.0 old new →
+abbrev invariant-loop-i : tie.invariant-loop-i
+invariant-loop-i rows counts next work₀ m n j used walk₀ i₀ work walk i =
+    (old new : List ℕ) → CanEmit rows counts next work₀ m n j.0 walk₀.at-1.0 used walk₀.avail.0 old new →
     Emitting rows counts next work₀ m n j.0 used walk₀.avail.0 old new work walk i
 
-abbrev decreases-loop : tie.decreases-loop
-decreases-loop rows counts next work₀ m n j used walk₀ i₀ work walk i = n - i
+abbrev decreases-loop-i : tie.decreases-loop-i
+decreases-loop-i rows counts next work₀ m n j used walk₀ i₀ work walk i = n - i
 
 -- ---- places
 
-abbrev start : tie.In-loop invariant-loop decreases-loop → tie.Start invariant-loop decreases-loop
-start c = c.before.before.before.before.before.before
-
-abbrev in-turn : tie.Then1 invariant-loop decreases-loop → tie.In-loop invariant-loop decreases-loop
-in-turn c = c.before.before.before
-
-abbrev passed : tie.After-stored invariant-loop decreases-loop → tie.After-pass invariant-loop decreases-loop
-passed c = c.before.before
-
-abbrev in-read : tie.After-stored invariant-loop decreases-loop → tie.In-loop invariant-loop decreases-loop
-in-read c = in-turn (passed c).before
-
-abbrev in-call : tie.After-plan-row invariant-loop decreases-loop → tie.In-loop invariant-loop decreases-loop
-in-call c = in-read c.before.before.before.before
-
 -- ---- what a turn asks
 
-abbrev ready : (c : tie.In-loop invariant-loop decreases-loop) → Ready (start c).args.rows.now (start c).args.counts.now (start c).args.next.now (start c).args.work.now (start c).args.m (start c).args.n
-    (start c).args.j.0 (start c).args.head.0 (start c).args.used (start c).args.avail.0
-ready c = (start c).requires
+abbrev ready : (c : tie.In-loop-i invariant-loop-i decreases-loop-i) → Ready c.args.rows.now c.args.counts.now c.args.next.now c.args.work.now c.args.m c.args.n
+    c.args.j.0 c.args.head.0 c.args.used c.args.avail.0
+ready c = c.requires
 
-abbrev held : (c : tie.In-loop invariant-loop decreases-loop) → Emitting (start c).args.rows.now (start c).args.counts.now (start c).args.next.now (start c).args.work.now (start c).args.m
-    (start c).args.n (start c).args.j.0 (start c).args.used (start c).args.avail.0 (ready c).old (ready c).new c.before.loop.work c.before.loop.walk c.before.loop.i
-held c = c.before.loop.invariant (ready c).old (ready c).new (ready c).can
+abbrev held : (c : tie.In-loop-i invariant-loop-i decreases-loop-i) → Emitting c.args.rows.now c.args.counts.now c.args.next.now c.args.work.now c.args.m
+    c.args.n c.args.j.0 c.args.used c.args.avail.0 (ready c).old (ready c).new c.loop-i.work c.loop-i.walk c.loop-i.i
+held c = c.loop-i.invariant (ready c).old (ready c).new (ready c).can
 
-abbrev row_at : tie.In-loop invariant-loop decreases-loop → ℕ
-row_at c = cell c.before.loop.work (start c).args.m c.before.loop.i
+abbrev row_at : tie.In-loop-i invariant-loop-i decreases-loop-i → ℕ
+row_at c = cell c.loop-i.work c.args.m c.loop-i.i
 
-pub record Facts (c : tie.In-loop invariant-loop decreases-loop) : Type 0 where
-  pub below : c.before.loop.i < (start c).args.n
-  pub within : (start c).args.n ≤ (start c).args.m
-  pub long : 3 * (start c).args.m ≤ length c.before.loop.work
-  pub good : length c.before.loop.work * 4 < 2 ^ 63
+pub record Facts (c : tie.In-loop-i invariant-loop-i decreases-loop-i) : Type 0 where
+  pub below : c.loop-i.i < c.args.n
+  pub within : c.args.n ≤ c.args.m
+  pub long : 3 * c.args.m ≤ length c.loop-i.work
+  pub good : length c.loop-i.work * 4 < 2 ^ 63
   pub row_low : 1 ≤ row_at c
-  pub row-high : row_at c ≤ (start c).args.m
+  pub row-high : row_at c ≤ c.args.m
 
-facts : (c : tie.In-loop invariant-loop decreases-loop) → Facts c
+facts : (c : tie.In-loop-i invariant-loop-i decreases-loop-i) → Facts c
 facts c =
     let l = emitting-length (ready c).can (held c) in
-    let g = (start c).well-formed in
+    let g = c.well_formed in
     record {
-      below = c.loop-test.true;
+      below = c.loop-i-test.true;
       within = (ready c).can.tally.touched.within;
       long = omega (arith, (ready c).can.tally.touched.long);
       good = omega (arith, g);
-      row_low = row-some (ready c).can (held c) c.loop-test.true;
-      row-high = row_within (ready c).can (held c) c.loop-test.true;
+      row_low = row-some (ready c).can (held c) c.loop-i-test.true;
+      row-high = row_within (ready c).can (held c) c.loop-i-test.true;
     }
 
 -- the old multiplicity that was read, and the new one
-pub record Values (c : tie.After-stored invariant-loop decreases-loop) : Type 0 where
-  pub old-is : c.stored.result ≡ get_or (ready (in-read c)).old (row_at (in-read c) - 1) 0
-  pub new_is : get_or (ready (in-read c)).new (row_at (in-read c) - 1) 0 + base ≡ c.stored.result + at (in-read c).before.loop.work (row_at (in-read c))
-  pub new-small : get_or (ready (in-read c)).new (row_at (in-read c) - 1) 0 < 65536
+pub record Values (c : tie.After-stored-old invariant-loop-i decreases-loop-i) : Type 0 where
+  pub old-is : c.stored-old.result ≡ get_or (ready c.before.before.before.before.before.before).old (row_at c.before.before.before.before.before.before - 1) 0
+  pub new_is : get_or (ready c.before.before.before.before.before.before).new (row_at c.before.before.before.before.before.before - 1) 0 + base ≡ c.stored-old.result + at c.loop-i.work (row_at c.before.before.before.before.before.before)
+  pub new-small : get_or (ready c.before.before.before.before.before.before).new (row_at c.before.before.before.before.before.before - 1) 0 < 65536
 
-values : (c : tie.After-stored invariant-loop decreases-loop) → Values c
+values : (c : tie.After-stored-old invariant-loop-i decreases-loop-i) → Values c
 values c =
-    let d = in-read c in
-    let y = (passed c).before.if1.true in
-    let e = c.stored.ensures ∙ old_value (ready d).can (held d) d.loop-test.taken y (passed c).pass.ensures in
+    let y = c.if-walk.true in
+    let e = c.stored-old.ensures ∙ old_value (ready c.before.before.before.before.before.before).can (held c.before.before.before.before.before.before) c.loop-i-test.true y c.pass-w.ensures in
     record {
       old-is = e;
-      new_is = omega (arith, e, new-value (ready d).can (held d) d.loop-test.taken y (passed c).pass.ensures);
-      new-small = new-fits (ready d).can (held d) d.loop-test.taken y (passed c).pass.ensures;
+      new_is = omega (arith, e, new-value (ready c.before.before.before.before.before.before).can (held c.before.before.before.before.before.before) c.loop-i-test.true y c.pass-w.ensures);
+      new-small = new-fits (ready c.before.before.before.before.before.before).can (held c.before.before.before.before.before.before) c.loop-i-test.true y c.pass-w.ensures;
     }
 
-abbrev new-at : tie.After-stored invariant-loop decreases-loop → ℕ
-new-at c = c.stored.result + at (in-read c).before.loop.work (row_at (in-read c)) - base
+abbrev new-at : tie.After-stored-old invariant-loop-i decreases-loop-i → ℕ
+new-at c = c.stored-old.result + at c.loop-i.work (row_at c.before.before.before.before.before.before) - base
 
-walk_is : (c : tie.After-count-row invariant-loop decreases-loop) → c.count-row.result ≡
-    counting (start (in-read c.before.before)).args.j.0 (row_at (in-read c.before.before)) (new-at c.before.before)
-    (advanced (start (in-read c.before.before)).args.next.now c.before.before.stored.result (passed c.before.before).pass.result)
+walk_is : (c : tie.After-count_row-v invariant-loop-i decreases-loop-i) → c.count_row-v.result ≡
+    counting c.args.j.0 (row_at c.before.before.before.before.before.before.before.before) (new-at c.before.before)
+    (advanced c.args.next.now c.stored-old.result c.pass-w.result)
 walk_is c =
-    let s = c.before.before in
-    let d = in-read s in
-    c.count-row.ensures ∙ ap (λ (w : Walk). counting (start d).args.j.0 (row_at d) (new-at s) w) c.before.advance.ensures
+    c.count_row-v.ensures ∙ ap (λ (w : Walk). counting c.args.j.0 (row_at c.before.before.before.before.before.before.before.before) (new-at c.before.before) w) c.advance.ensures
 
 -- ---- needs
 
-loop-holds : tie.Need-loop-init invariant-loop decreases-loop
+loop-holds : tie.Need-loop-i-init invariant-loop-i decreases-loop-i
 loop-holds c = λ old new can. emitting-start can
 
-add_row : tie.Need-overflow-add-row invariant-loop decreases-loop
+add_row : tie.Need-overflow_add-row invariant-loop-i decreases-loop-i
 add_row c = let f = facts c in omega arith
 
-mul-row : tie.Need-overflow-mul-row invariant-loop decreases-loop
+mul-row : tie.Need-offset_bounds-work-m invariant-loop-i decreases-loop-i
 mul-row c = let f = facts c in omega arith
 
-slice-read-row : tie.Need-slice-read-row invariant-loop decreases-loop
+slice-read-row : tie.Need-bounds-work-m invariant-loop-i decreases-loop-i
 slice-read-row c = let f = facts c.before in omega arith
 
-sub-k : tie.Need-overflow-sub-k invariant-loop decreases-loop
+sub-k : tie.Need-overflow_sub-k invariant-loop-i decreases-loop-i
 sub-k c = let f = facts c.before in omega arith
 
-cast-k : tie.Need-overflow-cast-k invariant-loop decreases-loop
+cast-k : tie.Need-overflow_cast-k invariant-loop-i decreases-loop-i
 cast-k c = let f = facts c.before in omega arith
 
-mul-x : tie.Need-overflow-mul-x invariant-loop decreases-loop
+mul-x : tie.Need-offset_bounds-work-k invariant-loop-i decreases-loop-i
 mul-x c = let f = facts c.before in omega arith
 
-slice-read-x : tie.Need-slice-read-x invariant-loop decreases-loop
+slice-read-x : tie.Need-bounds-work-k invariant-loop-i decreases-loop-i
 slice-read-x c = let f = facts c.before.before in omega arith
 
-mul-work : tie.Need-overflow-mul-work invariant-loop decreases-loop
+mul-work : tie.Need-offset_bounds-work-k-in-loop-i invariant-loop-i decreases-loop-i
 mul-work c = let f = facts c.before.before in omega arith
 
-slice-write-work : tie.Need-slice-write-work invariant-loop decreases-loop
+slice-write-work : tie.Need-bounds-work-k-in-loop-i invariant-loop-i decreases-loop-i
 slice-write-work c = let f = facts c.before.before in omega arith
 
-add-work : tie.Need-overflow-add-work invariant-loop decreases-loop
+add-work : tie.Need-overflow_add-work invariant-loop-i decreases-loop-i
 add-work c = let f = facts c.before.before in omega arith
 
-mul-work-2 : tie.Need-overflow-mul-work-2 invariant-loop decreases-loop
+mul-work-2 : tie.Need-offset_bounds-work-m-in-loop-i invariant-loop-i decreases-loop-i
 mul-work-2 c = let f = facts c.before.before in omega arith
 
-slice-write-work-2 : tie.Need-slice-write-work-2 invariant-loop decreases-loop
+slice-write-work-2 : tie.Need-bounds-work-m-in-loop-i invariant-loop-i decreases-loop-i
 slice-write-work-2 c = let f = facts c.before.before in simp length-set (omega arith)
 
-pass-requires : tie.Need-pass-requires invariant-loop decreases-loop
-pass-requires c κs = let d = in-turn c in emitting-pass (ready d).can (held d)
+pass-requires : tie.Need-pass-w-requires invariant-loop-i decreases-loop-i
+pass-requires c κs = emitting-pass (ready c.before.before.before).can (held c.before.before.before)
 
-stored-requires : tie.Need-stored-requires invariant-loop decreases-loop
-stored-requires c κs = let p = c.before in let d = in-turn p.before in let q = walk_inside (ready d).can (held d) d.loop-test.taken p.before.if1.true p.pass.ensures in omega (arith, (ready d).can.rows_long, (ready d).can.counts-long)
+stored-requires : tie.Need-stored-old-requires invariant-loop-i decreases-loop-i
+stored-requires c κs = let q = walk_inside (ready c.before.before.before.before.before).can (held c.before.before.before.before.before) c.loop-i-test.true c.if-walk.true c.pass-w.ensures in omega (arith, (ready c.before.before.before.before.before).can.rows_long, (ready c.before.before.before.before.before).can.counts-long)
 
-add-new : tie.Need-overflow-add-new invariant-loop decreases-loop
+add-new : tie.Need-overflow_add-new invariant-loop-i decreases-loop-i
 add-new c = let v = values c in omega arith
 
-sub-new : tie.Need-overflow-sub-new invariant-loop decreases-loop
+sub-new : tie.Need-overflow_sub-new invariant-loop-i decreases-loop-i
 sub-new c = let v = values c in omega arith
 
-advance-requires : tie.Need-advance-requires invariant-loop decreases-loop
-advance-requires c κs = let d = in-read c in (λ z. record-inside (ready d).can (held d) d.loop-test.taken (passed c).before.if1.true (passed c).pass.ensures (λ e. z ((values c).old-is ∙ e)))
+advance-requires : tie.Need-advance-requires invariant-loop-i decreases-loop-i
+advance-requires c κs = (λ z. record-inside (ready c.before.before.before.before.before.before).can (held c.before.before.before.before.before.before) c.loop-i-test.true c.if-walk.true c.pass-w.ensures (λ e. z ((values c).old-is ∙ e)))
 
-count-row-requires : tie.Need-count-row-requires invariant-loop decreases-loop
-count-row-requires c κs = let s = c.before in let d = in-read s in omega (arith, ap (λ (w : Walk). w.size) c.advance.ensures, advanced-small (ready d).can (held d) d.loop-test.taken (passed s).before.if1.true (passed s).pass.ensures s.stored.result)
+count-row-requires : tie.Need-count_row-v-requires invariant-loop-i decreases-loop-i
+count-row-requires c κs = omega (arith, ap (λ (w : Walk). w.size) c.advance.ensures, advanced-small (ready c.before.before.before.before.before.before.before).can (held c.before.before.before.before.before.before.before) c.loop-i-test.true c.if-walk.true c.pass-w.ensures c.stored-old.result)
 
-plan-row-requires : tie.Need-plan-row-requires invariant-loop decreases-loop
+plan-row-requires : tie.Need-plan_row-walk-requires invariant-loop-i decreases-loop-i
 plan-row-requires c κs =
-    let k = c.before in
-    let s = k.before.before in
-    let d = in-read s in
-    emitting-plan (ready d).can (held d) d.loop-test.taken (passed s).before.if1.true (passed s).pass.ensures s.stored.ensures refl (walk_is k)
+    emitting-plan (ready c.before.before.before.before.before.before.before.before.before).can (held c.before.before.before.before.before.before.before.before.before) c.loop-i-test.true c.if-walk.true c.pass-w.ensures c.stored-old.ensures refl (walk_is c.before)
 
-add-i : tie.Need-overflow-add-i invariant-loop decreases-loop
-add-i c = let f = facts (in-call c.before.before) in omega arith
+add-i : tie.Need-overflow_add-i invariant-loop-i decreases-loop-i
+add-i c = let f = facts c.before.before.before.before.before.before.before.before.before.before.before.before in omega arith
 
-loop-less : tie.Need-loop-smaller invariant-loop decreases-loop
-loop-less c = let f = facts (in-call c.before.before) in omega arith
+loop-less : tie.Need-loop-i-smaller-then-walk invariant-loop-i decreases-loop-i
+loop-less c = let f = facts c.before.before.before.before.before.before.before.before.before.before.before.before in omega arith
 
-loop-again : tie.Need-loop-preserved invariant-loop decreases-loop
+loop-again : tie.Need-loop-i-preserved-then-walk invariant-loop-i decreases-loop-i
 loop-again c =
-    let p = c.before.before in
-    let k = p.before.before in
-    let s = k.before.before in
-    let d = in-call p in
-    λ old new can. emitting-turn can (d.before.loop.inv old new can) d.loop-test.taken (passed s).before.if1.true (passed s).pass.ensures s.stored.ensures refl (walk_is k)
-    p.plan-row.ensures
+    λ old new can. emitting-turn can (c.loop-i.invariant old new can) c.loop-i-test.true c.if-walk.true c.pass-w.ensures c.stored-old.ensures refl (walk_is c.before.before.before.before)
+    c.plan_row-walk.ensures
 
-add-i-2 : tie.Need-overflow-add-i-2 invariant-loop decreases-loop
+add-i-2 : tie.Need-overflow_add-i-else-walk invariant-loop-i decreases-loop-i
 add-i-2 c = let f = facts c.before.before.before in omega arith
 
-loop-less-2 : tie.Need-loop-smaller-2 invariant-loop decreases-loop
+loop-less-2 : tie.Need-loop-i-smaller invariant-loop-i decreases-loop-i
 loop-less-2 c = let f = facts c.before.before.before in omega arith
 
-loop-again-2 : tie.Need-loop-preserved-2 invariant-loop decreases-loop
-loop-again-2 c = let d = c.before.before.before in λ old new can. emitting-skip can (d.before.loop.invariant old new can) d.loop-test.true c.if1.false
+loop-again-2 : tie.Need-loop-i-preserved invariant-loop-i decreases-loop-i
+loop-again-2 c = λ old new can. emitting-skip can (c.loop-i.invariant old new can) c.loop-i-test.true c.if-walk.false
 
-pass-requires-2 : tie.Need-pass-requires-2 invariant-loop decreases-loop
-pass-requires-2 c κs = let r = c.before.before.before.before.before.before.requires in emitting-pass r.can (c.before.loop.invariant r.old r.new r.can)
+pass-requires-2 : tie.Need-pass-last-requires invariant-loop-i decreases-loop-i
+pass-requires-2 c κs = let r = c.requires in emitting-pass r.can (c.loop-i.invariant r.old r.new r.can)
 
-larger-of-requires : tie.Need-larger-of-requires invariant-loop decreases-loop
+larger-of-requires : tie.Need-larger_of-larger-requires invariant-loop-i decreases-loop-i
 larger-of-requires c κs = search rules
 
-same_length : tie.Need-same-length invariant-loop decreases-loop
-same_length c = let d = c.before.before.before.before in let r = d.before.before.before.before.before.before.requires in emitting-length r.can (d.before.loop.invariant r.old r.new r.can)
+same_length : tie.Need-shape_of-work invariant-loop-i decreases-loop-i
+same_length c = let r = c.requires in emitting-length r.can (c.loop-i.invariant r.old r.new r.can)
 
-returns : tie.Need-returns invariant-loop decreases-loop
-returns c = let q = c.before.before in let p = q.before in let d = p.before in λ old new can. emitting-done can (d.before.loop.invariant old new can) (omega arith) p.pass2.ensures q.larger-of.ensures
+returns : tie.Need-returns invariant-loop-i decreases-loop-i
+returns c = λ old new can. emitting-done can (c.loop-i.invariant old new can) (omega arith) c.pass-last.ensures c.larger_of-larger.ensures
 
-pub emit-spec : {M : Type 1} → statement M
-emit-spec =
+pub emit_spec : {M : Type 1} → statement M
+emit_spec =
     tie.close
     (tie.spec
-    invariant-loop
-    decreases-loop
+    invariant-loop-i
+    decreases-loop-i
     loop-holds
     add_row
     mul-row

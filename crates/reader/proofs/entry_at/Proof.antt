@@ -11,7 +11,7 @@ use Rattle.reader.proofs.entry_at.Statement.{statement}
 use Rattle.reader.proofs.entry_at.Tie as tie
 
 -- after the three reads
-abbrev start : tie.After-shared-slice-known3 → tie.Start
+abbrev start : tie.After-shared_slice_known-3-1 → tie.Start
 start c = c.before.before.before.before.before.before.before
 
 -- the answer at a record that is not in use
@@ -19,46 +19,46 @@ ends : (c : tie.Start) → (InUse c.args.rows.now c.args.counts.now c.args.next.
     End ≡ entry_at c.args.rows.now c.args.counts.now c.args.next.now c.args.r.0
 ends c h = sym (entry-end c.args.rows.now c.args.counts.now c.args.next.now c.args.r.0 h)
 
-returns : tie.Need-returns
-returns c = ends c.before (λ u. omega (arith, u.low, c.if1.true))
+returns : tie.Need-returns-then-k-eq0
+returns c = ends c.before (λ u. omega (arith, u.low, c.if-k-eq0.true))
 
-sub-i : tie.Need-overflow-sub-i
+sub-i : tie.Need-overflow_sub-i
 sub-i c = search rules
 
-cast-i : tie.Need-overflow-cast-i
+cast-i : tie.Need-overflow_cast-i
 cast-i c = search rules
 
-returns-2 : tie.Need-returns-2
-returns-2 c = ends c.before.before (λ u. omega (arith, u.low, u.rows, c.if2.true))
+returns-2 : tie.Need-returns-then-rows-i
+returns-2 c = ends c.before.before (λ u. omega (arith, u.low, u.rows, c.if-rows-i.true))
 
-returns-3 : tie.Need-returns-3
-returns-3 c = ends c.before.before.before (λ u. omega (arith, u.low, u.counts, c.if3.true))
+returns-3 : tie.Need-returns-then-counts-i
+returns-3 c = ends c.before.before.before (λ u. omega (arith, u.low, u.counts, c.if-counts-i.true))
 
-returns-4 : tie.Need-returns-4
-returns-4 c = ends c.before.before.before.before (λ u. omega (arith, u.low, u.next, c.if4.true))
+returns-4 : tie.Need-returns-then-next-i
+returns-4 c = ends c.before.before.before.before (λ u. omega (arith, u.low, u.next, c.if-next-i.true))
 
-mul-row : tie.Need-overflow-mul-row
+mul-row : tie.Need-offset_bounds-rows-i
 mul-row c = search rules
 
-shared-slice-read-row : tie.Need-shared-slice-read-row
+shared-slice-read-row : tie.Need-bounds-rows-i
 shared-slice-read-row c = omega arith
 
-mul-count : tie.Need-overflow-mul-count
+mul-count : tie.Need-offset_bounds-counts-i
 mul-count c = search rules
 
-shared-slice-read-count : tie.Need-shared-slice-read-count
+shared-slice-read-count : tie.Need-bounds-counts-i
 shared-slice-read-count c = omega arith
 
-mul-after : tie.Need-overflow-mul-after
+mul-after : tie.Need-offset_bounds-next-i
 mul-after c = search rules
 
-shared-slice-read-after : tie.Need-shared-slice-read-after
+shared-slice-read-after : tie.Need-bounds-next-i
 shared-slice-read-after c = omega arith
 
-returns-5 : tie.Need-returns-5
-returns-5 c = ends (start c.before) (λ u. u.some c.if5.true)
+returns-5 : tie.Need-returns-then-row-eq0
+returns-5 c = ends (start c.before) (λ u. u.some c.if-row-eq0.true)
 
-returns-6 : tie.Need-returns-6
+returns-6 : tie.Need-returns
 returns-6 c =
     let a = (start c.before).args in
     sym (entry_of a.rows.now a.counts.now a.next.now a.r.0 (record {
@@ -66,11 +66,11 @@ returns-6 c =
       rows = omega arith;
       counts = omega arith;
       next = omega arith;
-      some = c.if5.false;
+      some = c.if-row-eq0.false;
     }))
 
-pub entry-at-spec : {M : Type 1} → statement M
-entry-at-spec =
+pub entry_at_spec : {M : Type 1} → statement M
+entry_at_spec =
     tie.close
     (tie.spec
     returns

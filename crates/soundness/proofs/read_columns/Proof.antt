@@ -10,69 +10,57 @@ use borrow.Author.Rules.{rules}
 use Rattle.soundness.proofs.read_columns.Statement.{statement}
 use Rattle.soundness.proofs.read_columns.Tie as tie
 
-abbrev invariant-loop : tie.invariant-loop
-invariant-loop heads parents rows counts next book-heads book-rows book-next work₀ free book-free n₀ i₀ work n i = ColumnsReading (stored_of heads parents rows counts next free.0) (book_of book-heads book-rows book-next book-free.0) work₀ work n i
+abbrev invariant-loop-i : tie.invariant-loop-i
+invariant-loop-i heads parents rows counts next book-heads book-rows book-next work₀ free book-free n₀ i₀ work n i = ColumnsReading (stored_of heads parents rows counts next free.0) (book_of book-heads book-rows book-next book-free.0) work₀ work n i
 
-abbrev decreases-loop : tie.decreases-loop
-decreases-loop heads parents rows counts next book-heads book-rows book-next work₀ free book-free n₀ i₀ work n i = length heads - i
+abbrev decreases-loop-i : tie.decreases-loop-i
+decreases-loop-i heads parents rows counts next book-heads book-rows book-next work₀ free book-free n₀ i₀ work n i = length heads - i
 
-abbrev entry : tie.In-loop invariant-loop decreases-loop → tie.Start invariant-loop decreases-loop
-entry c = c.before.before.before.before.before.before.before.before.before.before.before
-
-abbrev test : tie.After-read-column invariant-loop decreases-loop → tie.In-loop invariant-loop decreases-loop
-test d = d.before.before
-
-abbrev refused : tie.After-enum-told invariant-loop decreases-loop → tie.After-read-column invariant-loop decreases-loop
-refused c = c.before.before.before.before
-
-abbrev read_one : tie.After-known-told invariant-loop decreases-loop → tie.After-read-column invariant-loop decreases-loop
-read_one c = c.before.before.before.before.before
-
-loop-holds : tie.Need-loop-init invariant-loop decreases-loop
+loop-holds : tie.Need-loop-i-init invariant-loop-i decreases-loop-i
 loop-holds c = columns-start
 
-add-j : tie.Need-overflow-add-j invariant-loop decreases-loop
+add-j : tie.Need-overflow_add-j invariant-loop-i decreases-loop-i
 add-j c = omega arith
 
-cast-j : tie.Need-overflow-cast-j invariant-loop decreases-loop
-cast-j c = omega (arith, (entry c).requires.state.sizes.m-bound)
+cast-j : tie.Need-overflow_cast-j invariant-loop-i decreases-loop-i
+cast-j c = omega (arith, c.requires.state.sizes.m-bound)
 
-read-column-requires : tie.Need-read-column-requires invariant-loop decreases-loop
-read-column-requires c κs = columns-can c.before.before.loop.invariant (entry c.before).pre c.before.loop-test.true
+read-column-requires : tie.Need-read_column-requires invariant-loop-i decreases-loop-i
+read-column-requires c κs = columns-can c.loop-i.invariant c.requires c.loop-i-test.true
 
-enum_told : tie.Need-enum-told invariant-loop decreases-loop
+enum_told : tie.Need-enum_told-1 invariant-loop-i decreases-loop-i
 enum_told c = search rules
 
-same_length : tie.Need-same-length invariant-loop decreases-loop
-same_length c = let d = refused c in (columns-cut (test d).before.loop.inv d.read-column.ensures c.enum_told.given.1).only.same_length
+same_length : tie.Need-shape_of-work-in-Cut invariant-loop-i decreases-loop-i
+same_length c = (columns-cut c.loop-i.invariant c.read_column.ensures c.in-Cut.is).only.same_length
 
-returns : tie.Need-returns invariant-loop decreases-loop
-returns c = let d = refused c in columns-cut (test d).before.loop.inv d.read-column.ensures c.enum_told.given.1
+returns : tie.Need-returns-in-Cut invariant-loop-i decreases-loop-i
+returns c = columns-cut c.loop-i.invariant c.read_column.ensures c.in-Cut.is
 
-enum-known-k : tie.Need-enum-known-k invariant-loop decreases-loop
+enum-known-k : tie.Need-enum_known-k invariant-loop-i decreases-loop-i
 enum-known-k c = search rules
 
-add-i : tie.Need-overflow-add-i invariant-loop decreases-loop
-add-i c = omega (arith, (test (read_one c)).loop-test.taken)
+add-i : tie.Need-overflow_add-i invariant-loop-i decreases-loop-i
+add-i c = omega (arith, c.loop-i-test.true)
 
-loop-less : tie.Need-loop-smaller invariant-loop decreases-loop
-loop-less c = omega (arith, (test (read_one c)).loop-test.taken)
+loop-less : tie.Need-loop-i-smaller invariant-loop-i decreases-loop-i
+loop-less c = omega (arith, c.loop-i-test.true)
 
-loop-again : tie.Need-loop-preserved invariant-loop decreases-loop
-loop-again c = let d = read_one c in columns-next (test d).before.loop.inv d.read-column.ensures (test d).loop-test.taken c.before.k.given.1
+loop-again : tie.Need-loop-i-preserved invariant-loop-i decreases-loop-i
+loop-again c = columns-next c.loop-i.invariant c.read_column.ensures c.loop-i-test.true c.in-Ended.is
 
-same-length-2 : tie.Need-same-length-2 invariant-loop decreases-loop
-same-length-2 c = c.before.loop.invariant.only.same_length
+same-length-2 : tie.Need-shape_of-work invariant-loop-i decreases-loop-i
+same-length-2 c = c.loop-i.invariant.only.same_length
 
-returns-2 : tie.Need-returns-2 invariant-loop decreases-loop
-returns-2 c = columns-end c.before.loop.invariant c.loop-test.false
+returns-2 : tie.Need-returns invariant-loop-i decreases-loop-i
+returns-2 c = columns-end c.loop-i.invariant c.loop-i-test.false
 
-pub read-columns-spec : {M : Type 1} → statement M
-read-columns-spec =
+pub read_columns_spec : {M : Type 1} → statement M
+read_columns_spec =
     tie.close
     (tie.spec
-    invariant-loop
-    decreases-loop
+    invariant-loop-i
+    decreases-loop-i
     loop-holds
     add-j
     cast-j

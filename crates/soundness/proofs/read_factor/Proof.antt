@@ -10,89 +10,65 @@ use Rattle.soundness.proofs.read_factor.Statement.{statement}
 use Rattle.soundness.proofs.read_factor.Tie as tie
 
 -- ---- the places, named
-abbrev entry : tie.After-read-columns → tie.Start
-entry d = d.before.before.before.before.before.before.before.before.before.before.before
+abbrev compared : tie.After-are_apart → tie.In-Ended
+compared c = c.before
 
-abbrev refused : tie.After-enum-told → tie.After-read-columns
-refused c = c.before.before.before.before
+read-columns-requires : tie.Need-read_columns-requires
+read-columns-requires c κs = first_some c.requires
 
-abbrev ended : tie.After-known-told → tie.After-read-columns
-ended c = c.before.before.before.before.before
-
-abbrev compared : tie.After-are-apart → tie.After-known-told
-compared c = c.before.before
-
-read-columns-requires : tie.Need-read-columns-requires
-read-columns-requires c κs = first_some c.before.before.before.before.before.before.before.before.before.before.requires
-
-enum_told : tie.Need-enum-told
+enum_told : tie.Need-enum_told-1
 enum_told c = search rules
 
-same_length : tie.Need-same-length
-same_length c = (refused c).read-columns.ensures.only.same_length
+same_length : tie.Need-shape_of-work-in-Cut
+same_length c = c.read_columns.ensures.only.same_length
 
-returns : tie.Need-returns
+returns : tie.Need-returns-in-Cut
 returns c =
-    let r = refused c in
     record {
-      only = r.read-columns.ensures.only;
-      answer = λ windows clock p. sym (r.read-columns.ensures.cut c.enum_told.given.1 windows clock (first-state p));
+      only = c.read_columns.ensures.only;
+      answer = λ windows clock p. sym (c.read_columns.ensures.cut c.in-Cut.is windows clock (first-state p));
     }
 
-enum-known-n : tie.Need-enum-known-n
+enum-known-n : tie.Need-enum_known-n
 enum-known-n c = search rules
 
-mul-are-apart : tie.Need-overflow-mul-are-apart
-mul-are-apart c = let p = (entry (ended c.before)).requires.prepared.sizes in omega arith
+mul-are-apart : tie.Need-overflow_mul-m
+mul-are-apart c = let p = c.requires.prepared.sizes in omega arith
 
-mul-are-apart-2 : tie.Need-overflow-mul-are-apart-2
-mul-are-apart-2 c = let p = (entry (ended c.before)).requires.prepared.sizes in omega arith
+mul-are-apart-2 : tie.Need-overflow_mul-m-in-Ended
+mul-are-apart-2 c = let p = c.requires.prepared.sizes in omega arith
 
-are-apart-requires : tie.Need-are-apart-requires
-are-apart-requires c κs = let h = c.before in last-compare (some_after (ended h).read-columns.ensures h.before.n.given.1 (entry (ended h)).requires).state
+are-apart-requires : tie.Need-are_apart-requires
+are-apart-requires c κs = last-compare (some_after c.read_columns.ensures c.in-Ended.is c.requires).state
 
-same-length-2 : tie.Need-same-length-2
-same-length-2 c = (ended (compared c.before)).read-columns.ensures.only.same_length
+same-length-2 : tie.Need-shape_of-work-then-not-are_apart
+same-length-2 c = c.read_columns.ensures.only.same_length
 
-returns-2 : tie.Need-returns-2
+returns-2 : tie.Need-returns-then-not-are_apart
 returns-2 c =
-    let d = c.before in
-    let h = compared d in
-    let r = ended h in
-    last-shared r.read-columns.ensures h.before.n.given.1 d.are-apart.ensures
-    (not-true d.are-apart.result c.if1.true)
+    last-shared c.read_columns.ensures c.in-Ended.is c.are_apart.ensures
+    c.if-not-are_apart.true
 
-sub-left : tie.Need-overflow-sub-left
+sub-left : tie.Need-overflow_sub-left
 sub-left c =
-    let h = compared c.before in
-    omega (arith, last_within (some_after (ended h).read-columns.ensures h.before.n.given.1 (entry (ended h)).requires).state)
+    omega (arith, last_within (some_after c.read_columns.ensures c.in-Ended.is c.requires).state)
 
-read-free-requires : tie.Need-read-free-requires
+read-free-requires : tie.Need-read_free-requires
 read-free-requires c κs =
-    let h = compared c.before.before in last-can (some_after (ended h).read-columns.ensures h.before.n.given.1 (entry (ended h)).requires).state
+    last-can (some_after c.read_columns.ensures c.in-Ended.is c.requires).state
 
-same-length-3 : tie.Need-same-length-3
+same-length-3 : tie.Need-shape_of-work-in-Ended
 same-length-3 c =
-    let f = c.before.before in
-    let e = f.before.before in
-    let d = e.before in
-    let h = compared d in
-    let r = ended h in
-    (last-answer r.read-columns.ensures h.before.n.given.1 d.are-apart.ensures
-    (not-false d.are-apart.result e.if1.false) f.read-free.ensures.0 f.read-free.ensures.1).only.same_length
+    (last-answer c.read_columns.ensures c.in-Ended.is c.are_apart.ensures
+    c.if-not-are_apart.false c.read_free.ensures.0 c.read_free.ensures.1).only.same_length
 
-returns-3 : tie.Need-returns-3
+returns-3 : tie.Need-returns-in-Ended
 returns-3 c =
-    let f = c.before.before in
-    let e = f.before.before in
-    let d = e.before in
-    let h = compared d in
-    let r = ended h in
-    last-answer r.read-columns.ensures h.before.n.given.1 d.are-apart.ensures
-    (not-false d.are-apart.result e.if1.false) f.read-free.ensures.0 f.read-free.ensures.1
+    last-answer c.read_columns.ensures c.in-Ended.is c.are_apart.ensures
+    c.if-not-are_apart.false c.read_free.ensures.0 c.read_free.ensures.1
 
-pub read-factor-spec : {M : Type 1} → statement M
-read-factor-spec =
+pub read_factor_spec : {M : Type 1} → statement M
+read_factor_spec =
     tie.close
     (tie.spec
     read-columns-requires

@@ -139,7 +139,7 @@ module _ {M : Type 1} {𝓤 : Ura M} (𝓛 : Logic 𝓤) (at_mem : Memory → SP
   abbrev to-entry : (EntryAt 𝓛 at_mem run).Ghost
   to-entry = ((κs, qs, tt, fields, passed), tt)
 
-  goes-entry : ent 𝓤 (⋆ 𝓛 ((‵ (flft κ' q') ⊛ ‵ ftrue) ∷ ‵ (all_own D.parts L fields) ∷ [])) ((EntryAt 𝓛 at_mem run).pre to-entry)
+  goes-entry : ent 𝓤 (⋆ 𝓛 ((‵ (flft κ' q') ⊛ ‵ ftrue) ∷ ‵ (all_own D.parts L fields) ∷ [])) ((EntryAt 𝓛 at_mem run).requires to-entry)
   goes-entry =
       qed 𝓛 ((‵ (flft κ' q') ⊛ ‵ ftrue) ∷ ‵ (owns (ShrSlice (named 0) κ' u16 ∷ ShrSlice (named 1) κ' u16 ∷ ShrSlice (named 2) κ' u32 ∷ R.the_row ∷ []) fields passed) ∷ []) ∵
       split ! $ use1 𝓛 (‵ (flft κ' qs.0) ⊛ ‵ (flft κ' (PosShare.right q'))) (𝓛.lfts.lft_split κ' q') $ split ! $
@@ -158,7 +158,7 @@ module _ {M : Type 1} {𝓤 : Ura M} (𝓛 : Logic 𝓤) (at_mem : Memory → SP
   abbrev to-place : Entry → Val → (PlaceAfter 𝓛 at_mem run).Ghost
   to-place e u = ((tt, tt, tt, (e, tt), (u ∷ [], tt)), tt)
 
-  goes-place : (e : Entry) (u : Val) → ent 𝓤 (sem 𝓛 ((S.the_row).own_val e (u ∷ []))) ((PlaceAfter 𝓛 at_mem run).pre (to-place e u))
+  goes-place : (e : Entry) (u : Val) → ent 𝓤 (sem 𝓛 ((S.the_row).own_val e (u ∷ []))) ((PlaceAfter 𝓛 at_mem run).requires (to-place e u))
   goes-place e u = qed 𝓛 (‵ ((S.the_row).own_val e (u ∷ [])) ∷ []) ∵ nothing ! $ move ! (1 ∷ 0 ∷ []) $ fjoin ! $ nothing ! $ join ! $ frame ! $ done !
 
   place-said : (e : Entry) (p : Rec) → ent 𝓤 (ensured 𝓛 place.ended (place.clauses 𝓛 at_mem run) tt (e, tt) tt p) (fact 𝓤 (p ≡ after e))
@@ -195,7 +195,7 @@ module _ {M : Type 1} {𝓤 : Ura M} (𝓛 : Logic 𝓤) (at_mem : Memory → SP
         -- what the reader owns is had twice, and one copy is taken apart for `entry_at`
         move ! (1 ∷ []) $ use1 𝓛 (‵ Own ⊛ ‵ Own) ((LL.copy D (T'.the_copy (α κ')) 𝓛).twice h (T'.lowered h ∷ [])) $ split ! $
         use1 𝓛 (given (T'.lowered h ∷ [] ≡ T'.lowered h ∷ []) (‵ (all_own D.parts L fields))) (own_open 𝓛 D L fields (T'.lowered h)) $ learn ! (λ _.
-        move ! (6 ∷ 0 ∷ []) $ use2 𝓛 (raw ((EntryAt 𝓛 at_mem run).pre to-entry)) goes-entry $
+        move ! (6 ∷ 0 ∷ []) $ use2 𝓛 (raw ((EntryAt 𝓛 at_mem run).requires to-entry)) goes-entry $
         calls_at ! fm (EntryAt 𝓛 at_mem run) known-entry to-entry (and_then ! (load ! (from ! (stop !)) (look ! 13 refl)) (and_then ! (load ! (from ! (stop !)) (look ! 11 refl)) (and_then ! (load ! (from ! (stop !)) (look ! 9 refl)) (and_then ! (load ! (from ! (stop !)) (look ! 7 refl)) (no_more !))))) (λ u.
         use1 𝓛 (later (some (λ (e : Entry). ((‵ (flft κ' qs.0) ⊛ ‵ (flft κ' qs.1.0) ⊛ ‵ (flft κ' qs.1.1.0) ⊛ ‵ ftrue) ⊛ ‵ ((S.the_row).own_val e (u ∷ []))) ⊛ raw (ensured 𝓛 entry.ended (entry.clauses 𝓛 at_mem run) κs fields tt e)))) (id⊢ 𝓤 _) $ await ! tt $ pick ! (λ e.
         split ! $ move ! (1 ∷ []) $ use1 𝓛 (raw (fact 𝓤 (e ≡ entry_of h))) (entry-said e) $ heard ! (e ≡ entry_of h) (λ said. split ! $
@@ -203,7 +203,7 @@ module _ {M : Type 1} {𝓤 : Ura M} (𝓛 : Logic 𝓤) (at_mem : Memory → SP
         -- [the entry; 'a's token; what the reader owns; its cell; the open borrow; obs; auth; …; _7; …; _6; …; _5; …; _4; …; _3; …; _2; …; _1; …; room for _0; …]
         peeks ! S.the_row (Is S.the_row) (shows 𝓛 S.the_row) e (u ∷ []) (λ is.
         land ! (from ! (stop !)) (init ! 18 refl ((EL.lawful S.the_type S'.the_laws 𝓛 tt).typed e _ is).0) $
-        use1 𝓛 (raw ((PlaceAfter 𝓛 at_mem run).pre (to-place e u))) (goes-place e u) $
+        use1 𝓛 (raw ((PlaceAfter 𝓛 at_mem run).requires (to-place e u))) (goes-place e u) $
         calls_at ! fm (PlaceAfter 𝓛 at_mem run) known-place (to-place e u) (and_then ! (load ! (from ! (stop !)) (look ! 18 refl)) (no_more !)) (λ w.
         use1 𝓛 (later (some (λ (p : Rec). (‵ ftrue ⊛ ‵ ((R.the_row).own_val p (w ∷ []))) ⊛ raw (ensured 𝓛 place.ended (place.clauses 𝓛 at_mem run) tt (e, tt) tt p)))) (id⊢ 𝓤 _) $ await ! tt $ pick ! (λ p.
         split ! $ move ! (1 ∷ []) $ use1 𝓛 (raw (fact 𝓤 (p ≡ after e))) (place-said e p) $ heard ! (p ≡ after e) (λ placed. split ! $ move ! (1 ∷ []) $
