@@ -61,10 +61,10 @@ word-end-requires : tie.Need-word_end-end-requires
 word-end-requires c κs = search rules
 
 slice-aggregate-word-is : tie.Need-slice_bounds-word_is-end
-slice-aggregate-word-is c = part c.before
+slice-aggregate-word-is c = part c
 
 slice-aggregate-word-is-2 : tie.Need-slice_bounds-word_is-end-3
-slice-aggregate-word-is-2 c = search rules
+slice-aggregate-word-is-2 c = part (at_open c.before)
 
 word-is-requires : tie.Need-word_is-requires
 word-is-requires c κs = search rules
@@ -78,10 +78,10 @@ returns-2 c =
     parsed-open (short (at_open w)) (front (at_open w)) (entry (at_open w)).args.rows.now c.open_rest.result (sym w.word_is.ensures ∙ c.before.if-word_is.true) c.open_rest.ensures
 
 slice-aggregate-word-is-3 : tie.Need-slice_bounds-word_is-end-5
-slice-aggregate-word-is-3 c = part (at_open c.before.before)
+slice-aggregate-word-is-3 c = part (at_open (at-add c.before))
 
 slice-aggregate-word-is-4 : tie.Need-slice_bounds-word_is-end-7
-slice-aggregate-word-is-4 c = search rules
+slice-aggregate-word-is-4 c = part (at_open (at-add (at_drop c.before)))
 
 word-is-requires-2 : tie.Need-word_is-requires-2
 word-is-requires-2 c κs = search rules
@@ -100,12 +100,6 @@ returns-3 c =
     let e = at_open (at-add w) in
     parsed-add (short e) (front e) (no-open w) (entry e).args.rows.now c.before.before.add_rest.new.rows c.before.before.add_rest.result (sym w.word_is-2.ensures ∙ c.before.before.before.before.if-word_is-2.true) c.before.before.add_rest.ensures
 
-slice-aggregate-word-is-5 : tie.Need-slice-aggregate-word-is-5
-slice-aggregate-word-is-5 c = part (at_open (at-add c.before.before))
-
-slice-aggregate-word-is-6 : tie.Need-slice-aggregate-word-is-6
-slice-aggregate-word-is-6 c = search rules
-
 word-is-requires-3 : tie.Need-word_is-requires-3
 word-is-requires-3 c κs = search rules
 
@@ -117,12 +111,6 @@ returns-4 c =
     let w = c.before.before in
     let e = at_open (at-add (at_drop w)) in
     parsed-drop (short e) (front e) (no-open (at_drop w)) (no_add w) (entry e).args.rows.now c.drop_rest.result (sym w.word_is-3.ensures ∙ c.before.if-word_is-3.true) c.drop_rest.ensures
-
-slice-aggregate-word-is-7 : tie.Need-slice-aggregate-word-is-7
-slice-aggregate-word-is-7 c = part (at_open (at-add (at_drop c.before.before)))
-
-slice-aggregate-word-is-8 : tie.Need-slice-aggregate-word-is-8
-slice-aggregate-word-is-8 c = search rules
 
 word-is-requires-4 : tie.Need-word_is-requires-4
 word-is-requires-4 c κs = search rules

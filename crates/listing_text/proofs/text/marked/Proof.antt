@@ -17,7 +17,7 @@ number-requires : tie.Need-number-requires
 number-requires c κs = record { room = simp length-set (omega arith) }
 
 same_length : tie.Need-shape_of-out
-same_length c = c.before.before.number.auto.0 ∙ simp length-set refl
+same_length c = c.before.before.number.auto.out ∙ simp length-set refl
 
 returns : tie.Need-returns
 returns c =

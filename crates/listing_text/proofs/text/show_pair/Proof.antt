@@ -23,7 +23,7 @@ returns : tie.Need-returns
 unfolding show_pair
 returns c =
     let s = c.before.before.before.before.before.before.before.before.before in
-    written-join (omega (arith, pair-length s.args.row s.args.multiplicity)) c.before.before.before.before.before.before.marked-a.ensures c.before.before.marked-a.ensures
+    written-join (omega (arith, pair-length s.args.row s.args.multiplicity)) c.before.before.before.before.before.before.marked-a.ensures c.before.before.marked.ensures
 
 pub show_pair_spec : {M : Type 1} → statement M
 show_pair_spec = tie.close (tie.spec marked-requires marked-requires-2 same_length returns)
