@@ -2,6 +2,8 @@
 -- list: written ones wait no more, and added ones wait behind the others. Assumes nothing.
 use Rattle.std.proofs.Common.{◌≡◌, ℕ, ◌+◌, ◌/◌, ◌%◌, ◌^◌, Bool, true, false, ◌⊎◌, List, [], ◌++◌, length, take, sym, refl, ap, ◌∙◌, subst, inl, inr, true≢false, append_assoc, append-nil, arith, length-append}
 use Rattle.streams.specs.Passing.{CountOf, Passed, Finished, Wrote, Issued}
+use Rattle.std.specs.declared.io.Stdin.{Stdin}
+use Rattle.std.specs.declared.io.Stdout.{Stdout}
 use Rattle.streams.specs.declared.Streams.{Streams}
 
 -- ---- counts
@@ -11,11 +13,11 @@ count-more c n b q = ((c + b) / 2 ^ 64 + q.0, omega (arith, q.1))
 
 -- ---- reads and writes
 
-pub passed_start : Passed (record { read = 0; written = 0; reads = 0; ended = false; failed = false; broken = false }) [] []
-passed_start = record { handed = 0; read = (0, refl); written = (0, refl); front = omega arith; whole = λ e. refl }
+pub passed_start : (i : Stdin) (o : Stdout) → Passed (record { stdin = i; stdout = o; read = 0; written = 0; reads = 0; ended = false; failed = false; broken = false }) [] []
+passed_start i o = record { handed = 0; read = (0, refl); written = (0, refl); front = omega arith; whole = λ e. refl }
 
 pub passed-read : {s : Streams} {i o : List ℕ} (bs : List ℕ) (k : ℕ) (d b : Bool) {n : ℕ} → n ≡ (s.read + length bs) % 2 ^ 64 → s.failed ≡ false → Passed s i o →
-    Passed (record { read = n; written = s.written; reads = k; ended = d; failed = false; broken = b }) (i ++ bs) o
+    Passed (record { stdin = s.stdin; stdout = s.stdout; read = n; written = s.written; reads = k; ended = d; failed = false; broken = b }) (i ++ bs) o
 passed-read {s} {i} {o} bs k d b {n} q e p =
     record {
       handed = p.handed;
@@ -27,7 +29,7 @@ passed-read {s} {i} {o} bs k d b {n} q e p =
     }
 
 pub passed-write : {s : Streams} {i o : List ℕ} (bs : List ℕ) (f : Bool) {n : ℕ} → n ≡ (s.written + length bs) % 2 ^ 64 → s.failed ≡ false → Passed s i o →
-    Passed (record { read = s.read; written = n; reads = s.reads; ended = s.ended; failed = f; broken = s.broken }) i (o ++ bs)
+    Passed (record { stdin = s.stdin; stdout = s.stdout; read = s.read; written = n; reads = s.reads; ended = s.ended; failed = f; broken = s.broken }) i (o ++ bs)
 passed-write {s} {i} {o} bs f {n} q e p =
     record {
       handed = length (o ++ bs);

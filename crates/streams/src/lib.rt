@@ -4,12 +4,14 @@
 ghost use Rattle.std.specs.Prelude.{◌≤◌, length};
 ghost use Rattle.streams.specs.Passing.{Started, Read, Wrote, Flushed};
 
-use libc::{STDERR_FILENO, STDIN_FILENO, STDOUT_FILENO};
+use std::io::{Print, Read, Stderr, Stdin, Stdout};
 
-// How many bytes were read and written, modulo 2^64, how many reads were made, whether the last of them gave nothing, whether a write failed, and whether the
+// Standard input and output; how many bytes were read and written, modulo 2^64, how many reads were made, whether the last of them gave nothing, whether a write failed, and whether the
 // last read did.
 #[derive(Drop)]
 pub struct Streams {
+    stdin: Stdin,
+    stdout: Stdout,
     read: u64,
     written: u64,
     reads: u64,
@@ -32,17 +34,42 @@ pub struct Waiting {
     pub count: usize,
 }
 
+// What one read of standard input gave: how many bytes stand at the front of the list, none if it failed.
+#[derive(Clone, Copy)]
+struct Got {
+    count: usize,
+    broken: bool,
+}
+
 // Before anything is read or written.
-pub fn start() -> Streams
+pub fn start(stdin: Stdin, stdout: Stdout) -> Streams
     ensures { Started result }
 {
     Streams {
+        stdin,
+        stdout,
         read: 0,
         written: 0,
         reads: 0,
         ended: false,
         failed: false,
         broken: false,
+    }
+}
+
+// One read of standard input.
+fn read_once(mut stdin: Stdin, piece: &mut [u8]) -> Got
+    ensures { result.count ≤ length piece.new }
+{
+    match stdin.read(piece) {
+        Ok(count) => Got {
+            count,
+            broken: false,
+        },
+        Err(_) => Got {
+            count: 0,
+            broken: true,
+        },
     }
 }
 
@@ -62,15 +89,17 @@ pub fn read(streams: Streams, piece: &mut [u8]) -> Reading
     if piece.len() == 0 {
         return Reading { streams, count: 0 };
     }
-    let got = libc::read(STDIN_FILENO, piece);
-    let count = io::count(got, piece);
+    let got = read_once(streams.stdin, piece);
+    let count = got.count;
     let after = Streams {
-        read: std::num::wrapping_add_u64(streams.read, count as u64),
+        stdin: streams.stdin,
+        stdout: streams.stdout,
+        read: streams.read.wrapping_add(count as u64),
         written: streams.written,
         reads: streams.reads + 1,
         ended: count == 0,
         failed: false,
-        broken: got < 0,
+        broken: got.broken,
     };
     Reading {
         streams: after,
@@ -85,10 +114,12 @@ pub fn write(streams: Streams, bytes: &[u8]) -> Streams
     if streams.failed {
         return streams;
     }
-    let done = io::write_all(STDOUT_FILENO, bytes);
+    let done = streams.stdout.write_all(bytes).is_ok();
     Streams {
+        stdin: streams.stdin,
+        stdout: streams.stdout,
         read: streams.read,
-        written: std::num::wrapping_add_u64(streams.written, bytes.len() as u64),
+        written: streams.written.wrapping_add(bytes.len() as u64),
         reads: streams.reads,
         ended: streams.ended,
         failed: !done,
@@ -113,11 +144,11 @@ pub fn make_room(streams: Streams, list: &[u8], count: usize, needed: usize) -> 
 }
 
 // Says on standard error what failed, if anything did.
-pub fn report(streams: Streams) {
+pub fn report(streams: Streams, stderr: Stderr) {
     if streams.failed {
-        io::write_all(STDERR_FILENO, b"the output failed\n");
+        let _ = stderr.write_all(b"the output failed\n");
     }
     if streams.broken {
-        io::write_all(STDERR_FILENO, b"the input failed\n");
+        let _ = stderr.write_all(b"the input failed\n");
     }
 }

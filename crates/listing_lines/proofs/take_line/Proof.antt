@@ -7,57 +7,57 @@ use Rattle.listing_lines.proofs.Lines.{Filling, filling-start, filling-end, fill
 use Rattle.listing_lines.proofs.take_line.Statement.{statement}
 use Rattle.listing_lines.proofs.take_line.Tie as tie
 
-abbrev invariant-loop : tie.invariant-loop
-invariant-loop piece line₀ place length next₀ filled₀ line next filled = Filling piece line₀ place length line next filled
+abbrev invariant-loop-next : tie.invariant-loop-next
+invariant-loop-next piece line₀ place length next₀ filled₀ line next filled = Filling piece line₀ place length line next filled
 
-abbrev decreases-loop : tie.decreases-loop
-decreases-loop piece line₀ place filled next₀ filled₀ line next now = length piece - next
+abbrev decreases-loop-next : tie.decreases-loop-next
+decreases-loop-next piece line₀ place filled next₀ filled₀ line next now = length piece - next
 
-loop-holds : tie.Need-loop-init invariant-loop decreases-loop
+loop-holds : tie.Need-loop-next-init invariant-loop-next decreases-loop-next
 loop-holds c = filling-start c.requires
 
-shared-slice-read-byte : tie.Need-shared-slice-read-byte invariant-loop decreases-loop
+shared-slice-read-byte : tie.Need-bounds-piece-next invariant-loop-next decreases-loop-next
 shared-slice-read-byte c = omega arith
 
-add-next : tie.Need-overflow-add-next invariant-loop decreases-loop
+add-next : tie.Need-overflow_add-next invariant-loop-next decreases-loop-next
 add-next c = omega arith
 
-same_length : tie.Need-same-length invariant-loop decreases-loop
-same_length c = c.before.before.before.loop.invariant.long
+same_length : tie.Need-shape_of-line-then-byte-eq10 invariant-loop-next decreases-loop-next
+same_length c = c.before.before.before.loop-next.invariant.long
 
-returns : tie.Need-returns invariant-loop decreases-loop
-returns c = filling-newline c.before.before.before.loop.invariant c.before.before.loop-test.true c.if1.true
+returns : tie.Need-returns-then-byte-eq10 invariant-loop-next decreases-loop-next
+returns c = filling-newline c.before.before.before.loop-next.invariant c.before.before.loop-next-test.true c.if-byte-eq10.true
 
-slice-write-line : tie.Need-slice-write-line invariant-loop decreases-loop
-slice-write-line c = c.if2.true
+slice-write-line : tie.Need-bounds-line-filled invariant-loop-next decreases-loop-next
+slice-write-line c = c.if-filled-line.true
 
-add-filled : tie.Need-overflow-add-filled invariant-loop decreases-loop
+add-filled : tie.Need-overflow_add-filled invariant-loop-next decreases-loop-next
 add-filled c = omega arith
 
-loop-less : tie.Need-loop-smaller invariant-loop decreases-loop
+loop-less : tie.Need-loop-next-smaller-then-filled-line invariant-loop-next decreases-loop-next
 loop-less c = omega arith
 
-loop-again : tie.Need-loop-preserved invariant-loop decreases-loop
-loop-again c = filling-byte c.before.before.before.before.loop.invariant c.before.before.before.loop-test.true c.before.if1.false c.if2.true
+loop-again : tie.Need-loop-next-preserved-then-filled-line invariant-loop-next decreases-loop-next
+loop-again c = filling-byte c.before.before.before.before.loop-next.invariant c.before.before.before.loop-next-test.true c.before.if-byte-eq10.false c.if-filled-line.true
 
-loop-less-2 : tie.Need-loop-smaller-2 invariant-loop decreases-loop
+loop-less-2 : tie.Need-loop-next-smaller invariant-loop-next decreases-loop-next
 loop-less-2 c = omega arith
 
-loop-again-2 : tie.Need-loop-preserved-2 invariant-loop decreases-loop
-loop-again-2 c = filling-full c.before.before.before.before.loop.invariant c.before.before.before.loop-test.true c.before.if1.false (omega arith)
+loop-again-2 : tie.Need-loop-next-preserved invariant-loop-next decreases-loop-next
+loop-again-2 c = filling-full c.before.before.before.before.loop-next.invariant c.before.before.before.loop-next-test.true c.before.if-byte-eq10.false (omega arith)
 
-same-length-2 : tie.Need-same-length-2 invariant-loop decreases-loop
-same-length-2 c = c.before.loop.invariant.long
+same-length-2 : tie.Need-shape_of-line invariant-loop-next decreases-loop-next
+same-length-2 c = c.before.loop-next.invariant.long
 
-returns-2 : tie.Need-returns-2 invariant-loop decreases-loop
-returns-2 c = filling-end c.before.loop.invariant (omega arith)
+returns-2 : tie.Need-returns invariant-loop-next decreases-loop-next
+returns-2 c = filling-end c.before.loop-next.invariant (omega arith)
 
-pub take-line-spec : {M : Type 1} → statement M
-take-line-spec =
+pub take_line_spec : {M : Type 1} → statement M
+take_line_spec =
     tie.close
     (tie.spec
-    invariant-loop
-    decreases-loop
+    invariant-loop-next
+    decreases-loop-next
     loop-holds
     shared-slice-read-byte
     add-next

@@ -1,0 +1,12 @@
+-- `write` meets its contract: the bytes are handed, unless a write failed before. Assumes nothing.
+use Rattle.std.proofs.Common.{refl}
+use Rattle.streams.proofs.Passing.{passed-write, finished-write}
+use Rattle.streams.proofs.write.Goals as goal
+
+pub returns : goal.returns
+returns c =
+    record {
+      passed = λ i o p. passed-write _ _ refl c.if-streams.false p;
+      later = λ h. finished-write c.args.streams _ c.if-streams.false h;
+      same = refl;
+    }
