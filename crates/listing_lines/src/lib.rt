@@ -2,6 +2,9 @@
 // its end are dropped, so that a full list stands for a line that is too long.
 ghost use Rattle.listing_lines.specs.Lines.{Growing, Grown};
 
+// The byte that ends a line.
+const NEWLINE: u8 = b'\n';
+
 // What was taken: the place after it in the piece, the line's length now, and whether a newline ended it.
 #[derive(Drop)]
 pub struct Taken {
@@ -20,7 +23,7 @@ pub fn take_line(piece: &[u8], line: &mut [u8], place: usize, length: usize) -> 
     while next < piece.len() {
         let byte = piece[next];
         next += 1;
-        if byte == b'\n' {
+        if byte == NEWLINE {
             return Taken {
                 place: next,
                 length: filled,

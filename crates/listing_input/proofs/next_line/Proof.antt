@@ -9,79 +9,68 @@ use Rattle.listing_input.proofs.Taking.{Taking, piece-less, taking-start, count_
 use Rattle.listing_input.proofs.next_line.Statement.{statement}
 use Rattle.listing_input.proofs.next_line.Tie as tie
 
-abbrev invariant-loop : tie.invariant-loop
-invariant-loop piece₀ line₀ out added passed₀ place₀ count₀ waiting₀ filled₀ more₀ piece line passed place count waiting filled more =
+abbrev invariant-loop-more : tie.invariant-loop-more
+invariant-loop-more piece₀ line₀ out added passed₀ place₀ count₀ waiting₀ filled₀ more₀ piece line passed place count waiting filled more =
     Taking piece₀ out passed₀ place₀ count₀ waiting₀ piece line passed place count waiting filled more
 
-abbrev decreases-loop : tie.decreases-loop
-decreases-loop piece₀ line₀ out added passed₀ place₀ count₀ waiting₀ filled₀ more₀ piece line passed place count waiting filled more = reads_left passed + one more
+abbrev decreases-loop-more : tie.decreases-loop-more
+decreases-loop-more piece₀ line₀ out added passed₀ place₀ count₀ waiting₀ filled₀ more₀ piece line passed place count waiting filled more = reads_left passed + one more
 
-abbrev entry : tie.At-loop invariant-loop decreases-loop → tie.Start invariant-loop decreases-loop
-entry c = c.before.before.before.before.before.before
+add-waiting : tie.Need-overflow_add-waiting invariant-loop-more decreases-loop-more
+add-waiting c = omega (arith, c.requires.waits, c.well_formed)
 
-abbrev taken : tie.After-take-line invariant-loop decreases-loop → tie.In-loop invariant-loop decreases-loop
-taken c = c.before.before.before
+loop-holds : tie.Need-loop-more-init invariant-loop-more decreases-loop-more
+loop-holds c = taking-start c.requires _ (omega (arith, c.requires.waits))
 
-add-waiting : tie.Need-overflow-add-waiting invariant-loop decreases-loop
-add-waiting c = let s = c.before.before.before.before.before in omega (arith, s.requires.waits, s.well-formed)
+slice-reshare-prefix-take-line : tie.Need-slice_bounds-take_line-end invariant-loop-more decreases-loop-more
+slice-reshare-prefix-take-line c = c.loop-more.invariant.fits
 
-loop-holds : tie.Need-loop-init invariant-loop decreases-loop
-loop-holds c = let s = c.before.before.before.before.before in taking-start s.requires _ (omega (arith, s.requires.waits))
+slice-aggregate-take-line : tie.Need-slice_bounds-take_line-end-in-loop-more invariant-loop-more decreases-loop-more
+slice-aggregate-take-line c = sym (count_long c.loop-more.invariant)
 
-slice-reshare-prefix-take-line : tie.Need-slice-reshare-prefix-take-line invariant-loop decreases-loop
-slice-reshare-prefix-take-line c = c.before.loop.invariant.fits
-
-slice-aggregate-take-line : tie.Need-slice-aggregate-take-line invariant-loop decreases-loop
-slice-aggregate-take-line c = sym (count_long c.before.before.loop.invariant)
-
-take-line-requires : tie.Need-take-line-requires invariant-loop decreases-loop
+take-line-requires : tie.Need-take_line-taken-requires invariant-loop-more decreases-loop-more
 take-line-requires c κs =
-    let i = c.before.before.before.loop.invariant in
+    let i = c.loop-more.invariant in
     record { within = omega (arith, i.within, count_long i); fits = omega (arith, i.cut, i.line-long) }
 
-make-room-requires : tie.Need-make-room-requires invariant-loop decreases-loop
-make-room-requires c κs = let l = (taken c.before.before.before).before in (l.loop.inv.waits, (entry l).pre.room)
+make-room-requires : tie.Need-make_room-room-requires invariant-loop-more decreases-loop-more
+make-room-requires c κs = (c.loop-more.invariant.waits, c.requires.room)
 
-same_length : tie.Need-same-length invariant-loop decreases-loop
-same_length c = let l = (taken c.before.before.before.before.before).before in l.loop.inv.piece-long ∙ sym (entry l).pre.piece-long
+same_length : tie.Need-shape_of-piece-then-taken invariant-loop-more decreases-loop-more
+same_length c = c.loop-more.invariant.piece-long ∙ sym c.requires.piece-long
 
-same-length-2 : tie.Need-same-length-2 invariant-loop decreases-loop
-same-length-2 c = let t = c.before.before.before.before.before in let l = (taken t).before in t.take-line.auto.1.0 ∙ l.loop.inv.line-long ∙ sym (entry l).pre.line-long
+same-length-2 : tie.Need-shape_of-line-then-taken invariant-loop-more decreases-loop-more
+same-length-2 c = c.take_line-taken.auto.line ∙ c.loop-more.invariant.line-long ∙ sym c.requires.line-long
 
-returns : tie.Need-returns invariant-loop decreases-loop
+returns : tie.Need-returns-then-taken invariant-loop-more decreases-loop-more
 returns c =
-    let t = c.before.before.before.before.before in
-    let l = (taken t).before in
-    let s = entry l in
-    taking-line s.args.input s.args.added l.loop.inv t.take-line.ensures c.before.before.if1.true c.before.make-room.ensures
+    taking-line c.args.input c.args.added c.loop-more.invariant c.take_line-taken.ensures c.if-taken.true c.make_room-room.ensures
 
-next-piece-requires : tie.Need-next-piece-requires invariant-loop decreases-loop
-next-piece-requires c κs = (taken c.before.before.before.before).before.loop.inv.waits
+next-piece-requires : tie.Need-next_piece-got-requires invariant-loop-more decreases-loop-more
+next-piece-requires c κs = c.loop-more.invariant.waits
 
-loop-less : tie.Need-loop-smaller invariant-loop decreases-loop
-loop-less c = omega (arith, piece-less c.before.before.before.next-piece.ensures, ap one (taken c.before.before.before.before.before.before.before.before).loop-test.taken)
+loop-less : tie.Need-loop-more-smaller invariant-loop-more decreases-loop-more
+loop-less c = omega (arith, piece-less c.next_piece-got.ensures, ap one c.loop-more-test.true)
 
-loop-again : tie.Need-loop-preserved invariant-loop decreases-loop
+loop-again : tie.Need-loop-more-preserved invariant-loop-more decreases-loop-more
 loop-again c =
-    let n = c.before.before.before in
-    let t = c.before.before.before.before.before.before.before.before in
-    taking-piece (taken t).before.loop.invariant t.take-line.ensures n.before.before.if1.false n.next-piece.ensures n.next-piece.auto.0 t.take-line.auto.1.0
+    taking-piece c.loop-more.invariant c.take_line-taken.ensures c.if-taken.false c.next_piece-got.ensures c.next_piece-got.auto.piece c.take_line-taken.auto.line
 
-same-length-3 : tie.Need-same-length-3 invariant-loop decreases-loop
-same-length-3 c = c.before.loop.invariant.piece-long ∙ sym (entry c.before).pre.piece-long
+same-length-3 : tie.Need-shape_of-piece invariant-loop-more decreases-loop-more
+same-length-3 c = c.loop-more.invariant.piece-long ∙ sym c.requires.piece-long
 
-same-length-4 : tie.Need-same-length-4 invariant-loop decreases-loop
-same-length-4 c = c.before.loop.invariant.line-long ∙ sym (entry c.before).pre.line-long
+same-length-4 : tie.Need-shape_of-line invariant-loop-more decreases-loop-more
+same-length-4 c = c.loop-more.invariant.line-long ∙ sym c.requires.line-long
 
-returns-2 : tie.Need-returns-2 invariant-loop decreases-loop
-returns-2 c = let s = entry c.before in taking-end s.args.input s.args.added c.before.loop.invariant c.loop-test.false s.pre.room
+returns-2 : tie.Need-returns invariant-loop-more decreases-loop-more
+returns-2 c = taking-end c.args.input c.args.added c.loop-more.invariant c.loop-more-test.false c.requires.room
 
-pub next-line-spec : {M : Type 1} → statement M
-next-line-spec =
+pub next_line_spec : {M : Type 1} → statement M
+next_line_spec =
     tie.close
     (tie.spec
-    invariant-loop
-    decreases-loop
+    invariant-loop-more
+    decreases-loop-more
     add-waiting
     loop-holds
     slice-reshare-prefix-take-line

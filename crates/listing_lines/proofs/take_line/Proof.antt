@@ -22,11 +22,11 @@ shared-slice-read-byte c = omega arith
 add-next : tie.Need-overflow_add-next invariant-loop-next decreases-loop-next
 add-next c = omega arith
 
-same_length : tie.Need-shape_of-line-then-byte-eq10 invariant-loop-next decreases-loop-next
+same_length : tie.Need-shape_of-line-then-byte-eq-NEWLINE invariant-loop-next decreases-loop-next
 same_length c = c.before.before.before.loop-next.invariant.long
 
-returns : tie.Need-returns-then-byte-eq10 invariant-loop-next decreases-loop-next
-returns c = filling-newline c.before.before.before.loop-next.invariant c.before.before.loop-next-test.true c.if-byte-eq10.true
+returns : tie.Need-returns-then-byte-eq-NEWLINE invariant-loop-next decreases-loop-next
+returns c = filling-newline c.before.before.before.loop-next.invariant c.before.before.loop-next-test.true c.if-byte-eq-NEWLINE.true
 
 slice-write-line : tie.Need-bounds-line-filled invariant-loop-next decreases-loop-next
 slice-write-line c = c.if-filled-line.true
@@ -38,13 +38,13 @@ loop-less : tie.Need-loop-next-smaller-then-filled-line invariant-loop-next decr
 loop-less c = omega arith
 
 loop-again : tie.Need-loop-next-preserved-then-filled-line invariant-loop-next decreases-loop-next
-loop-again c = filling-byte c.before.before.before.before.loop-next.invariant c.before.before.before.loop-next-test.true c.before.if-byte-eq10.false c.if-filled-line.true
+loop-again c = filling-byte c.before.before.before.before.loop-next.invariant c.before.before.before.loop-next-test.true c.before.if-byte-eq-NEWLINE.false c.if-filled-line.true
 
 loop-less-2 : tie.Need-loop-next-smaller invariant-loop-next decreases-loop-next
 loop-less-2 c = omega arith
 
 loop-again-2 : tie.Need-loop-next-preserved invariant-loop-next decreases-loop-next
-loop-again-2 c = filling-full c.before.before.before.before.loop-next.invariant c.before.before.before.loop-next-test.true c.before.if-byte-eq10.false (omega arith)
+loop-again-2 c = filling-full c.before.before.before.before.loop-next.invariant c.before.before.before.loop-next-test.true c.before.if-byte-eq-NEWLINE.false (omega arith)
 
 same-length-2 : tie.Need-shape_of-line invariant-loop-next decreases-loop-next
 same-length-2 c = c.before.loop-next.invariant.long
