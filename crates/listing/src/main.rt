@@ -1,4 +1,4 @@
 // The listing program: answers the commands on standard input, here those of document 01's example.
-fn main() {
-    streams::report(listing_loop::run());
+fn main(rt: HostRuntime) {
+    streams::report(listing_loop::run(rt.stdin(), rt.stdout()), rt.stderr());
 }

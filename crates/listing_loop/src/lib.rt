@@ -9,6 +9,7 @@ ghost use Rattle.listing_loop.specs.Running.{AllAnswered, Listed};
 
 use factor::Factor;
 use listing_input::Input;
+use std::io::{Stdin, Stdout};
 use streams::Streams;
 
 // Answers one line after another, until there is none.
@@ -35,7 +36,7 @@ fn serve(
     requires places { 1000 ≤ length list.old }
     requires room { 91520 ≤ length out.old }
     requires ready { Ready (memory_now factor heads parents rows counts next book_heads book_rows book_next windows work touched labels) }
-    requires whole { length line.old ≡ 2000 }
+    requires line { length line.old ≡ 2000 }
     requires piece { length piece.old ≡ 4096 }
     requires fresh { Passed streams [] [] }
     ensures { AllAnswered (memory_in factor heads parents rows counts next book_heads book_rows book_next windows work touched labels) result }
@@ -79,11 +80,11 @@ fn serve(
 }
 
 // The whole program, and what went through.
-pub fn run() -> Streams
+pub fn run(stdin: Stdin, stdout: Stdout) -> Streams
     ensures { Listed result }
 {
     let factor = listing_memory::closed();
-    let streams = streams::start();
+    let streams = streams::start(stdin, stdout);
     let mut heads = [0u32; 64];
     let mut parents = [0u16; 64];
     let mut rows = [0u16; 2048];
