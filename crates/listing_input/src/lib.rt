@@ -1,5 +1,7 @@
 // The next line of standard input: `next_line` takes it from a piece that was read, byte by byte, and reads on where the piece is used up. Before each read the bytes that
 // wait at the front of a list are written, so that whoever wrote a line has the answers to all lines before it. It knows no factor.
+#![tactic(auto)]
+
 ghost use Rattle.std.specs.Prelude.{◌≤◌, length};
 ghost use Rattle.listing_input.specs.Input.{PieceRead, Between, NextLine};
 

@@ -1,5 +1,7 @@
 // Lines from pieces of input: a line grows in a lent list, piece by piece, until a newline ends it. A list of 2,000 places holds every command; bytes past
 // its end are dropped, so that a full list stands for a line that is too long.
+#![tactic(auto)]
+
 ghost use Rattle.listing_lines.specs.Lines.{Growing, Grown};
 
 // The byte that ends a line.

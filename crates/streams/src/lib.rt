@@ -1,6 +1,8 @@
 // Standard input and output with a record of what went through them. `Passed` says of the record how many bytes the reads gave and how many the writes were handed,
 // `Finished` that no read gives any more. Its fields are private, so no other crate makes a record but by these functions. After a read that gave nothing nothing
 // is read any more, after a failed write nothing is read or written; at most 2^64 - 1 reads are made.
+#![tactic(auto)]
+
 ghost use Rattle.std.specs.Prelude.{◌≤◌, length};
 ghost use Rattle.streams.specs.Passing.{Started, Read, Wrote, Flushed};
 
