@@ -35,7 +35,7 @@ use Rattle.emission.proofs.emit.Tie as tie
 
 abbrev invariant-loop-i : tie.invariant-loop-i
 invariant-loop-i rows counts next work₀ m n j used walk₀ i₀ work walk i =
-    (old new : List ℕ) → CanEmit rows counts next work₀ m n j.0 walk₀.at-1.0 used walk₀.avail.0 old new →
+    (old new : List ℕ) → CanEmit rows counts next work₀ m n j.0 walk₀.at.0 used walk₀.avail.0 old new →
     Emitting rows counts next work₀ m n j.0 used walk₀.avail.0 old new work walk i
 
 abbrev decreases-loop-i : tie.decreases-loop-i
