@@ -2,6 +2,8 @@
 // and lengths; with `place_after` it is what callers with plain slices use, whose proofs need no walk by hand. The reader holds the tables and a place:
 // each call reads there and moves on. Nothing is checked: on tables that are not sound the records may form a cycle, which gives entries for ever, so a
 // caller that is not sure of its tables has them checked first, or stops after m entries, which no column exceeds.
+#![tactic(auto)]
+
 ghost use Rattle.std.specs.Prelude.{◌≡◌};
 ghost use Rattle.reader.specs.Reading.{entry_at, after};
 ghost use Rattle.reader.specs.Reader.{begun, entry_of, moved};

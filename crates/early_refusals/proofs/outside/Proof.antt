@@ -3,11 +3,11 @@ use Rattle.early_refusals.proofs.Tests.{outside_low, outside_high}
 use Rattle.early_refusals.proofs.outside.Statement.{statement}
 use Rattle.early_refusals.proofs.outside.Tie as tie
 
-returns : tie.Need-returns
-returns c = outside_low _ _ _ c.if1.true
+returns : tie.Need-returns-then-x-low
+returns c = outside_low _ _ _ c.if-x-low.true
 
-returns-2 : tie.Need-returns-2
-returns-2 c = outside_high _ _ _ c.if1.false
+returns-2 : tie.Need-returns
+returns-2 c = outside_high _ _ _ c.if-x-low.false
 
-pub outside-spec : {M : Type 1} → statement M
-outside-spec = tie.close (tie.spec returns returns-2)
+pub outside_spec : {M : Type 1} → statement M
+outside_spec = tie.close (tie.spec returns returns-2)

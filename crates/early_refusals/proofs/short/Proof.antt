@@ -5,7 +5,7 @@ use Rattle.early_refusals.proofs.Early.{short-first, short-second, short-third}
 use Rattle.early_refusals.proofs.short.Statement.{statement}
 use Rattle.early_refusals.proofs.short.Tie as tie
 
-abbrev entry : tie.After-short-factor → tie.Start
+abbrev entry : tie.After-short_factor → tie.Start
 entry c = c.before.before.before.before.before.before.before.before.before.before.before
 
 abbrev sizes_at : tie.Start → Sizes
@@ -13,39 +13,39 @@ sizes_at s = sizes_of s.args.m s.args.n s.args.f s.args.c
 
 abbrev tables_at : tie.Start → Tables
 tables_at s =
-    tables_of s.args.heads.now s.args.parents.now s.args.rows.now s.args.counts.now s.args.next.now s.args.book-heads.now s.args.book-rows.now
-    s.args.book-next.now s.args.windows.now
+    tables_of s.args.heads.now s.args.parents.now s.args.rows.now s.args.counts.now s.args.next.now s.args.book_heads.now s.args.book_rows.now
+    s.args.book_next.now s.args.windows.now
 
-short-factor-requires : tie.Need-short-factor-requires
+short-factor-requires : tie.Need-short_factor-requires
 short-factor-requires c κs = search rules
 
-returns : tie.Need-returns
+returns : tie.Need-returns-then-short_factor
 returns c =
     let s : tie.Start = entry c.before in
-    short-first (sizes_at s) (tables_at s) s.args.work.now c.before.short-factor.ensures c.if1.true
+    short-first (sizes_at s) (tables_at s) s.args.work.now c.before.short_factor.ensures c.if-short_factor.true
 
-short-book-requires : tie.Need-short-book-requires
+short-book-requires : tie.Need-short_book-requires
 short-book-requires c κs = search rules
 
-returns-2 : tie.Need-returns-2
+returns-2 : tie.Need-returns-then-short_book
 returns-2 c =
-    let one : tie.After-short-factor = c.before.before.before in
+    let one : tie.After-short_factor = c.before.before.before in
     let s : tie.Start = entry one in
-    short-second (sizes_at s) (tables_at s) s.args.work.now one.short-factor.ensures c.before.before.if1.false c.before.short-book.ensures c.if2.true
+    short-second (sizes_at s) (tables_at s) s.args.work.now one.short_factor.ensures c.before.before.if-short_factor.false c.before.short_book.ensures c.if-short_book.true
 
-work-need-requires : tie.Need-work-need-requires
+work-need-requires : tie.Need-work_need-requires
 work-need-requires c κs = search rules
 
-returns-3 : tie.Need-returns-3
+returns-3 : tie.Need-returns
 returns-3 c =
-    let two : tie.After-short-book = c.before.before in
-    let one : tie.After-short-factor = two.before.before in
+    let two : tie.After-short_book = c.before.before in
+    let one : tie.After-short_factor = two.before.before in
     let s : tie.Start = entry one in
-    rw c.work-need.ensures
-    (short-third (sizes_at s) (tables_at s) s.args.work.now one.short-factor.ensures two.before.if1.false two.short-book.ensures c.before.if2.false)
+    rw c.work_need.ensures
+    (short-third (sizes_at s) (tables_at s) s.args.work.now one.short_factor.ensures two.before.if-short_factor.false two.short_book.ensures c.before.if-short_book.false)
 
-pub short-spec : {M : Type 1} → statement M
-short-spec =
+pub short_spec : {M : Type 1} → statement M
+short_spec =
     tie.close
     (tie.spec
     short-factor-requires

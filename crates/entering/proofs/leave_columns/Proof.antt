@@ -10,75 +10,75 @@ use Rattle.entering.proofs.Leaving.{Leaving, leaving-start, leaving-end, leaving
 use Rattle.entering.proofs.leave_columns.Statement.{statement}
 use Rattle.entering.proofs.leave_columns.Tie as tie
 
-abbrev invariant-loop : tie.invariant-loop
-invariant-loop book-heads₀ book-rows₀ book-next₀ ids z₀ i₀ book-heads book-rows book-next z i =
+abbrev invariant-loop-i : tie.invariant-loop-i
+invariant-loop-i book-heads₀ book-rows₀ book-next₀ ids z₀ i₀ book-heads book-rows book-next z i =
     (m : ℕ) → CanLeave m (book_of book-heads₀ book-rows₀ book-next₀ z₀.0) ids →
     Leaving m (book_of book-heads₀ book-rows₀ book-next₀ z₀.0) ids (book_of book-heads book-rows book-next z.0) i
 
-abbrev decreases-loop : tie.decreases-loop
-decreases-loop book-heads₀ book-rows₀ book-next₀ ids z₀ i₀ book-heads book-rows book-next z i = length ids - i
+abbrev decreases-loop-i : tie.decreases-loop-i
+decreases-loop-i book-heads₀ book-rows₀ book-next₀ ids z₀ i₀ book-heads book-rows book-next z i = length ids - i
 
 -- ---- the places, named
 
-abbrev entry : tie.At-loop invariant-loop decreases-loop → tie.Start invariant-loop decreases-loop
+abbrev entry : tie.At-loop-i invariant-loop-i decreases-loop-i → tie.Start invariant-loop-i decreases-loop-i
 entry c = c.before.before.before.before.before
 
-abbrev in-turn : tie.After-shared-slice-known2 invariant-loop decreases-loop → tie.In-loop invariant-loop decreases-loop
+abbrev in-turn : tie.After-shared_slice_known-in-loop-i-1 invariant-loop-i decreases-loop-i → tie.In-loop-i invariant-loop-i decreases-loop-i
 in-turn c = c.before.before.before.before
 
-abbrev at_call : tie.After-slice-known6 invariant-loop decreases-loop → tie.After-remove-column invariant-loop decreases-loop
+abbrev at_call : tie.After-slice_known-in-loop-i-3-1 invariant-loop-i decreases-loop-i → tie.After-remove_column-z invariant-loop-i decreases-loop-i
 at_call c = c.before.before.before.before.before.before
 
 -- the invariant for what the premise gives
-now-is : (c : tie.At-loop invariant-loop decreases-loop) →
-    Leaving (entry c).requires.m (book_of (entry c).args.book-heads.now (entry c).args.book-rows.now (entry c).args.book-next.now (entry c).args.free.0) (entry c).args.ids.now (book_of c.loop.book-heads c.loop.book-rows c.loop.book-next c.loop.z.0) c.loop.i
-now-is c = c.loop.invariant (entry c).requires.m (entry c).requires.can
+now-is : (c : tie.At-loop-i invariant-loop-i decreases-loop-i) →
+    Leaving (entry c).requires.m (book_of (entry c).args.book_heads.now (entry c).args.book_rows.now (entry c).args.book_next.now (entry c).args.free.0) (entry c).args.ids.now (book_of c.loop-i.book_heads c.loop-i.book_rows c.loop-i.book_next c.loop-i.z.0) c.loop-i.i
+now-is c = c.loop-i.invariant (entry c).requires.m (entry c).requires.can
 
-loop-holds : tie.Need-loop-init invariant-loop decreases-loop
+loop-holds : tie.Need-loop-i-init invariant-loop-i decreases-loop-i
 loop-holds c = λ m can. leaving-start can
 
 -- ---- a turn
 
-mul-t8 : tie.Need-overflow-mul-t8 invariant-loop decreases-loop
-mul-t8 c = let d = c.before.before.before in omega (arith, d.loop-test.true, (entry d.before).good)
+mul-t8 : tie.Need-offset_bounds-ids-i invariant-loop-i decreases-loop-i
+mul-t8 c = let d = c.before.before.before in omega (arith, d.loop-i-test.true, (entry d.before).well_formed)
 
-shared-slice-read-t17 : tie.Need-shared-slice-read-t17 invariant-loop decreases-loop
-shared-slice-read-t17 c = omega (arith, (in-turn c).loop-test.true)
+shared-slice-read-t17 : tie.Need-bounds-ids-i invariant-loop-i decreases-loop-i
+shared-slice-read-t17 c = omega (arith, (in-turn c).loop-i-test.true)
 
-remove-column-requires : tie.Need-remove-column-requires invariant-loop decreases-loop
-remove-column-requires c κs = let d = in-turn c in leaving-can (now-is d.before) d.loop-test.taken
+remove-column-requires : tie.Need-remove_column-z-requires invariant-loop-i decreases-loop-i
+remove-column-requires c κs = let d = in-turn c in leaving-can (now-is d.before) d.loop-i-test.true
 
-add-i : tie.Need-overflow-add-i invariant-loop decreases-loop
-add-i c = let d = in-turn (at_call c).before in omega (arith, d.loop-test.taken, (entry d.before).good)
+add-i : tie.Need-overflow_add-i invariant-loop-i decreases-loop-i
+add-i c = let d = in-turn (at_call c).before in omega (arith, d.loop-i-test.true, (entry d.before).well_formed)
 
-loop-less : tie.Need-loop-smaller invariant-loop decreases-loop
-loop-less c = let d = in-turn (at_call c).before in omega (arith, d.loop-test.taken)
+loop-less : tie.Need-loop-i-smaller invariant-loop-i decreases-loop-i
+loop-less c = let d = in-turn (at_call c).before in omega (arith, d.loop-i-test.true)
 
-loop-again : tie.Need-loop-preserved invariant-loop decreases-loop
+loop-again : tie.Need-loop-i-preserved invariant-loop-i decreases-loop-i
 loop-again c =
     let d = in-turn (at_call c).before in
-    λ m can. leaving-turn (d.before.loop.inv m can) d.loop-test.taken (at_call c).remove-column.ensures
+    λ m can. leaving-turn (d.before.loop-i.invariant m can) d.loop-i-test.true (at_call c).remove_column-z.ensures
 
 -- ---- after the loop
 
-same_length : tie.Need-same-length invariant-loop decreases-loop
+same_length : tie.Need-shape_of-book_heads invariant-loop-i decreases-loop-i
 same_length c = (now-is c.before).same-heads
 
-same-length-2 : tie.Need-same-length-2 invariant-loop decreases-loop
-same-length-2 c = let e = now-is c.before in e.can.sized ∙ e.same-records ∙ sym (entry c.before).pre.can.sized
+same-length-2 : tie.Need-shape_of-book_rows invariant-loop-i decreases-loop-i
+same-length-2 c = let e = now-is c.before in e.can.sized ∙ e.same-records ∙ sym (entry c.before).requires.can.sized
 
-same-length-3 : tie.Need-same-length-3 invariant-loop decreases-loop
+same-length-3 : tie.Need-shape_of-book_next invariant-loop-i decreases-loop-i
 same-length-3 c = (now-is c.before).same-records
 
-returns : tie.Need-returns invariant-loop decreases-loop
-returns c = λ m can. leaving-end (c.before.loop.invariant m can) c.loop-test.false
+returns : tie.Need-returns invariant-loop-i decreases-loop-i
+returns c = λ m can. leaving-end (c.before.loop-i.invariant m can) c.loop-i-test.false
 
-pub leave-columns-spec : {M : Type 1} → statement M
-leave-columns-spec =
+pub leave_columns_spec : {M : Type 1} → statement M
+leave_columns_spec =
     tie.close
     (tie.spec
-    invariant-loop
-    decreases-loop
+    invariant-loop-i
+    decreases-loop-i
     loop-holds
     mul-t8
     shared-slice-read-t17

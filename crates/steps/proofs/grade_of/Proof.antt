@@ -10,62 +10,58 @@ use Rattle.steps.proofs.Grading.{count_most, grade-counted}
 use Rattle.steps.proofs.grade_of.Statement.{statement}
 use Rattle.steps.proofs.grade_of.Tie as tie
 
-abbrev entry : tie.After-reaches3 → tie.Start
-entry c = c.before.before.before.before
-
-abbrev limits_at : tie.After-reaches3 → Limits
-limits_at c = let s = entry c in limits_of s.args.grade2 s.args.grade3 s.args.grade4
+abbrev limits_at : tie.After-reaches-fourth → Limits
+limits_at c = limits_of c.args.grade2 c.args.grade3 c.args.grade4
 
 -- each limit is reached once or not at all
-most : (c : tie.After-reaches3) → (c.before.before.reaches.result ≤ 1) × (c.before.reaches2.result ≤ 1) × (c.reaches3.result ≤ 1)
-most c = count_most (limits_at c) (entry c).args.entries c.before.before.reaches.ensures c.before.reaches2.ensures c.reaches3.ensures
+most : (c : tie.After-reaches-fourth) → (c.reaches-second.result ≤ 1) × (c.reaches-third.result ≤ 1) × (c.reaches-fourth.result ≤ 1)
+most c = count_most (limits_at c) c.args.entries c.reaches-second.ensures c.reaches-third.ensures c.reaches-fourth.ensures
 
 -- one more than the limits that are reached is the grade
-graded : (c : tie.After-reaches3) {k : ℕ} → c.before.before.reaches.result + c.before.reaches2.result + c.reaches3.result ≡ k →
-    suc k ≡ grade_of (limits_at c) (entry c).args.entries
+graded : (c : tie.After-reaches-fourth) {k : ℕ} → c.reaches-second.result + c.reaches-third.result + c.reaches-fourth.result ≡ k →
+    suc k ≡ grade_of (limits_at c) c.args.entries
 graded c e =
-    grade-counted (limits_at c) (entry c).args.entries c.before.before.reaches.ensures c.before.reaches2.ensures c.reaches3.ensures
-    c.before.before.before.if1.false e
+    grade-counted (limits_at c) c.args.entries c.reaches-second.ensures c.reaches-third.ensures c.reaches-fourth.ensures
+    c.if-entries-eq0.false e
 
-returns : tie.Need-returns
-returns c = rw (eq-eqb _ _ c.if1.true) refl
+returns : tie.Need-returns-then-entries-eq0
+returns c = rw (eq-eqb _ _ c.if-entries-eq0.true) refl
 
-reaches-requires : tie.Need-reaches-requires
+reaches-requires : tie.Need-reaches-second-requires
 reaches-requires c κs = search rules
 
-reaches-requires-2 : tie.Need-reaches-requires-2
+reaches-requires-2 : tie.Need-reaches-third-requires
 reaches-requires-2 c κs = search rules
 
-reaches-requires-3 : tie.Need-reaches-requires-3
+reaches-requires-3 : tie.Need-reaches-fourth-requires
 reaches-requires-3 c κs = search rules
 
-add-match : tie.Need-overflow-add-match
+add-match : tie.Need-overflow_add-second
 add-match c = let m = most c in omega arith
 
-add-match-2 : tie.Need-overflow-add-match-2
+add-match-2 : tie.Need-overflow_add-second-2
 add-match-2 c = let m = most c in omega arith
 
-returns-2 : tie.Need-returns-2
-returns-2 c = graded c.before c.match.keys1
+returns-2 : tie.Need-returns-in-0
+returns-2 c = graded c.before c.in-0.keys1
 
-returns-3 : tie.Need-returns-3
-returns-3 c = graded c.before c.match.keys2
+returns-3 : tie.Need-returns-in-1
+returns-3 c = graded c.before c.in-0.keys2
 
-returns-4 : tie.Need-returns-4
-returns-4 c = graded c.before c.match.keys3
+returns-4 : tie.Need-returns-in-2
+returns-4 c = graded c.before c.in-0.keys3
 
-returns-5 : tie.Need-returns-5
+returns-5 : tie.Need-returns-in_default
 returns-5 c =
-    let x = c.before in
-    let m = most x in
-    let n : ℕ = x.before.before.reaches.result + x.before.reaches2.result + x.reaches3.result in
-    let a : n ≢ 0 = c.match.rest.0.0.1 in
-    let b : n ≢ 1 = c.match.rest.0.1 in
-    let d : n ≢ 2 = c.match.rest.1 in
-    graded x (omega arith)
+    let m = most c.before in
+    let n : ℕ = c.reaches-second.result + c.reaches-third.result + c.reaches-fourth.result in
+    let a : n ≢ 0 = c.in-0.rest.0.0.1 in
+    let b : n ≢ 1 = c.in-0.rest.0.1 in
+    let d : n ≢ 2 = c.in-0.rest.1 in
+    graded c.before (omega arith)
 
-pub grade-of-spec : {M : Type 1} → statement M
-grade-of-spec =
+pub grade_of_spec : {M : Type 1} → statement M
+grade_of_spec =
     tie.close
     (tie.spec
     returns
