@@ -9,48 +9,48 @@ use Rattle.refusals.proofs.Positions.{IdsLeft, ids-start, ids-refused, ids_more,
 use Rattle.refusals.proofs.ids_refusal.Statement.{statement}
 use Rattle.refusals.proofs.ids_refusal.Tie as tie
 
-abbrev invariant-loop : tie.invariant-loop
-invariant-loop book-heads ids k₀ k = IdsLeft book-heads ids k
+abbrev invariant-loop-k : tie.invariant-loop-k
+invariant-loop-k book-heads ids k₀ k = IdsLeft book-heads ids k
 
-abbrev decreases-loop : tie.decreases-loop
-decreases-loop book-heads ids k₀ k = length ids - k
+abbrev decreases-loop-k : tie.decreases-loop-k
+decreases-loop-k book-heads ids k₀ k = length ids - k
 
-loop-holds : tie.Need-loop-init invariant-loop decreases-loop
+loop-holds : tie.Need-loop-k-init invariant-loop-k decreases-loop-k
 loop-holds c = ids-start _ _
 
-leaving-refusal-requires : tie.Need-leaving-refusal-requires invariant-loop decreases-loop
+leaving-refusal-requires : tie.Need-leaving_refusal-number-requires invariant-loop-k decreases-loop-k
 leaving-refusal-requires c κs = search rules
 
-refused-at-requires : tie.Need-refused-at-requires invariant-loop decreases-loop
+refused-at-requires : tie.Need-refused_at-requires invariant-loop-k decreases-loop-k
 refused-at-requires c κs = search rules
 
-returns : tie.Need-returns invariant-loop decreases-loop
+returns : tie.Need-returns-then-number-ne0 invariant-loop-k decreases-loop-k
 returns c m rows next free =
-    let one : tie.Then1 invariant-loop decreases-loop = c.before in
-    let t : tie.In-loop invariant-loop decreases-loop = one.before.before in
-    c.refused-at.ensures ∙ ids-refused t.before.loop.invariant t.loop-test.true one.before.leaving-refusal.ensures one.if1.true m rows next free
+    let one : tie.Then-number-ne0 invariant-loop-k decreases-loop-k = c.before in
+    let t : tie.In-loop-k invariant-loop-k decreases-loop-k = one.before.before in
+    c.refused_at.ensures ∙ ids-refused t.before.loop-k.invariant t.loop-k-test.true one.before.leaving_refusal-number.ensures one.if-number-ne0.true m rows next free
 
-add-k : tie.Need-overflow-add-k invariant-loop decreases-loop
+add-k : tie.Need-overflow_add-k invariant-loop-k decreases-loop-k
 add-k c = search rules
 
-loop-less : tie.Need-loop-smaller invariant-loop decreases-loop
+loop-less : tie.Need-loop-k-smaller invariant-loop-k decreases-loop-k
 loop-less c = omega arith
 
-loop-again : tie.Need-loop-preserved invariant-loop decreases-loop
-loop-again c = ids_more c.before.before.before.loop.invariant c.before.before.loop-test.true c.before.leaving-refusal.ensures c.if1.false
+loop-again : tie.Need-loop-k-preserved invariant-loop-k decreases-loop-k
+loop-again c = ids_more c.before.before.before.loop-k.invariant c.before.before.loop-k-test.true c.before.leaving_refusal-number.ensures c.if-number-ne0.false
 
-refused-requires : tie.Need-refused-requires invariant-loop decreases-loop
+refused-requires : tie.Need-refused-requires invariant-loop-k decreases-loop-k
 refused-requires c κs = search rules
 
-returns-2 : tie.Need-returns-2 invariant-loop decreases-loop
-returns-2 c m rows next free = c.refused.ensures ∙ ids-end c.before.before.loop.invariant c.before.loop-test.false m rows next free
+returns-2 : tie.Need-returns invariant-loop-k decreases-loop-k
+returns-2 c m rows next free = c.refused.ensures ∙ ids-end c.before.before.loop-k.invariant c.before.loop-k-test.false m rows next free
 
-pub ids-refusal-spec : {M : Type 1} → statement M
-ids-refusal-spec =
+pub ids_refusal_spec : {M : Type 1} → statement M
+ids_refusal_spec =
     tie.close
     (tie.spec
-    invariant-loop
-    decreases-loop
+    invariant-loop-k
+    decreases-loop-k
     loop-holds
     leaving-refusal-requires
     refused-at-requires

@@ -4,14 +4,14 @@ use borrow.Author.Rules.{rules}
 use Rattle.refusals.proofs.refused_at.Statement.{statement}
 use Rattle.refusals.proofs.refused_at.Tie as tie
 
-add-position : tie.Need-overflow-add-position
+add-position : tie.Need-overflow_add-position
 add-position c = search rules
 
-cast-position : tie.Need-overflow-cast-position
+cast-position : tie.Need-overflow_cast-position
 cast-position c = search rules
 
 returns : tie.Need-returns
 returns c = refl
 
-pub refused-at-spec : {M : Type 1} → statement M
-refused-at-spec = tie.close (tie.spec add-position cast-position returns)
+pub refused_at_spec : {M : Type 1} → statement M
+refused_at_spec = tie.close (tie.spec add-position cast-position returns)

@@ -43,21 +43,21 @@ add-match-2 : tie.Need-overflow_add-second-2
 add-match-2 c = let m = most c in omega arith
 
 returns-2 : tie.Need-returns-in-0
-returns-2 c = graded c.before c.in-0.keys1
+returns-2 c = graded c.before c.in-0.is
 
 returns-3 : tie.Need-returns-in-1
-returns-3 c = graded c.before c.in-0.keys2
+returns-3 c = graded c.before c.in-1.is
 
 returns-4 : tie.Need-returns-in-2
-returns-4 c = graded c.before c.in-0.keys3
+returns-4 c = graded c.before c.in-2.is
 
 returns-5 : tie.Need-returns-in_default
 returns-5 c =
     let m = most c.before in
     let n : ℕ = c.reaches-second.result + c.reaches-third.result + c.reaches-fourth.result in
-    let a : n ≢ 0 = c.in-0.rest.0.0.1 in
-    let b : n ≢ 1 = c.in-0.rest.0.1 in
-    let d : n ≢ 2 = c.in-0.rest.1 in
+    let a : n ≢ 0 = c.in_default.not-0 in
+    let b : n ≢ 1 = c.in_default.not-1 in
+    let d : n ≢ 2 = c.in_default.not-2 in
     graded c.before (omega arith)
 
 pub grade_of_spec : {M : Type 1} → statement M

@@ -7,59 +7,48 @@ use Rattle.updown.proofs.plan_enter.Tie as tie
 
 -- ---- places: the start, the starts marked, the walk gone
 
-abbrev start : tie.After-mark-starts-arg → tie.Start
+abbrev start : tie.After-mark_starts-arg-1 → tie.Start
 start c = c.before.before.before.before.before.before.before.before.before.before.before.before
 
-abbrev marked : tie.After-walk-booked-arg → tie.After-mark-starts
+abbrev marked : tie.After-walk_booked-arg-1 → tie.After-mark_starts
 marked c = c.before.before.before
 
-abbrev walked : tie.After-plan-of-arg → tie.After-walk-booked
-walked c = c.before.before.before
-
-mul-flags : tie.Need-overflow-mul-flags
+mul-flags : tie.Need-overflow_mul-flags
 mul-flags c = search rules
 
-mul-flags-2 : tie.Need-overflow-mul-flags-2
+mul-flags-2 : tie.Need-overflow_mul-flags-2
 mul-flags-2 c = search rules
 
-add-flags : tie.Need-overflow-add-flags
+add-flags : tie.Need-overflow_add-flags
 add-flags c = search rules
 
-mark-starts-requires : tie.Need-mark-starts-requires
-mark-starts-requires c κs = let t = start c in record { W = t.pre.W; can = enter-mark t.pre.can }
+mark-starts-requires : tie.Need-mark_starts-requires
+mark-starts-requires c κs = record { W = c.requires.W; can = enter-mark c.requires.can }
 
-walk-booked-requires : tie.Need-walk-booked-requires
+walk-booked-requires : tie.Need-walk_booked-walk-requires
 walk-booked-requires c κs =
-    let t = start (marked c).before in
     record {
-      R = t.pre.R;
-      W = t.pre.W;
-      work₀ = t.args.work.now;
-      can = enter-walk t.pre.can ((marked c).mark-starts.ensures t.pre.W (enter-mark t.pre.can));
+      R = c.requires.R;
+      W = c.requires.W;
+      work₀ = c.args.work.now;
+      can = enter-walk c.requires.can (c.mark_starts.ensures c.requires.W (enter-mark c.requires.can));
     }
 
-plan-of-requires : tie.Need-plan-of-requires
+plan-of-requires : tie.Need-plan_of-requires
 plan-of-requires c κs =
-    let w = walked c in
-    let k = marked w.before in
-    let t = start k.before in
-    let can = enter-walk t.pre.can (k.mark-starts.ensures t.pre.W (enter-mark t.pre.can)) in
-    walk_end can.walk (w.walk-booked.ensures t.pre.R t.pre.W t.args.work.now can)
+    let can = enter-walk c.requires.can (c.mark_starts.ensures c.requires.W (enter-mark c.requires.can)) in
+    walk_end can.walk (c.walk_booked-walk.ensures c.requires.R c.requires.W c.args.work.now can)
 
-same_length : tie.Need-same-length
+same_length : tie.Need-shape_of-work
 same_length c = search rules
 
 returns : tie.Need-returns
 returns c = λ R W can.
-    let p = c.before.before in
-    let w = walked p.before in
-    let k = marked w.before in
-    let t = start k.before in
-    add-made can.can (w.walk-booked.ensures R W t.args.work.now (enter-walk can (k.mark-starts.ensures W (enter-mark can))))
-    p.plan-of.ensures
+    add-made can.can (c.walk_booked-walk.ensures R W c.args.work.now (enter-walk can (c.mark_starts.ensures W (enter-mark can))))
+    c.plan_of.ensures
 
-pub plan-enter-spec : {M : Type 1} → statement M
-plan-enter-spec =
+pub plan_enter_spec : {M : Type 1} → statement M
+plan_enter_spec =
     tie.close
     (tie.spec
     mul-flags

@@ -11,40 +11,40 @@ use Rattle.updown.proofs.plan_of.Tie as tie
 clear-requires : tie.Need-clear-requires
 clear-requires c κs = search rules
 
-cast-t10 : tie.Need-overflow-cast-t10
+cast-t10 : tie.Need-overflow_cast-result
 cast-t10 c = search rules
 
-same_length : tie.Need-same-length
+same_length : tie.Need-shape_of-work-then-walk
 same_length c = search rules
 
-returns : tie.Need-returns
-returns c = rw c.before.before.if1.true (record { table = c.before.before.before.before.before.clear.ensures; fits-is = refl; numbers = λ _. (refl, refl, refl, refl) })
+returns : tie.Need-returns-then-walk
+returns c = rw c.before.before.if-walk.true (record { table = c.before.before.before.before.before.clear.ensures; fits-is = refl; numbers = λ _. (refl, refl, refl, refl) })
 
-mul-clear : tie.Need-overflow-mul-clear
+mul-clear : tie.Need-overflow_mul-m
 mul-clear c = search rules
 
-add-clear : tie.Need-overflow-add-clear
+add-clear : tie.Need-overflow_add-m
 add-clear c = search rules
 
 clear-requires-2 : tie.Need-clear-requires-2
 clear-requires-2 c κs = search rules
 
-same-length-2 : tie.Need-same-length-2
+same-length-2 : tie.Need-shape_of-work
 same-length-2 c = search rules
 
-returns-2 : tie.Need-returns-2
+returns-2 : tie.Need-returns
 returns-2 c =
     let d = c.before.before.before.before.before in
     let f = d.before.before.before in
     let s = f.before.before.before.args in
-    rw d.if1.false (record {
-      table = c.before.before.clear2.ensures ∙ ap (λ (w : List ℕ). cleared w 0 (8 * s.m + s.walk.used)) f.clear.ensures;
+    rw d.if-walk.false (record {
+      table = c.before.before.clear-2.ensures ∙ ap (λ (w : List ℕ). cleared w 0 (8 * s.m + s.walk.used)) f.clear.ensures;
       fits-is = refl;
       numbers = λ x. absurd (false≢true x);
     })
 
-pub plan-of-spec : {M : Type 1} → statement M
-plan-of-spec =
+pub plan_of_spec : {M : Type 1} → statement M
+plan_of_spec =
     tie.close
     (tie.spec
     clear-requires

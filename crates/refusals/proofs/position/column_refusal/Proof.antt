@@ -8,98 +8,98 @@ use Rattle.refusals.proofs.Parts.{id_range, column-id, column-live, column-count
 use Rattle.refusals.proofs.position.column_refusal.Statement.{statement}
 use Rattle.refusals.proofs.position.column_refusal.Tie as tie
 
-abbrev entry : tie.After-id-refusal → tie.Start
+abbrev entry : tie.After-id_refusal-first → tie.Start
 entry c = c.before.before.before.before.before.before.before
 
 abbrev id_booked : tie.Start → Bool
-id_booked s = is_booked s.args.book-heads.now (get_or s.args.ids.now s.args.k 0)
+id_booked s = is_booked s.args.book_heads.now (get_or s.args.ids.now s.args.k 0)
 
-id-refusal-requires : tie.Need-id-refusal-requires
+id-refusal-requires : tie.Need-id_refusal-first-requires
 id-refusal-requires c κs = search rules
 
-returns : tie.Need-returns
+returns : tie.Need-returns-then-first-ne0
 returns c =
-    let i : tie.After-id-refusal = c.before in
+    let i : tie.After-id_refusal-first = c.before in
     let s : tie.Start = entry i in
-    column-id (length s.args.book-heads.now) (id_booked s) s.args.ids.now s.args.k i.id-refusal.ensures s.args.m s.args.row_counts.now
-    (drop s.args.from s.args.row_list.now) s.args.firsts.now s.args.seconds.now (λ e. omega (arith, c.if1.true, e))
+    column-id (length s.args.book_heads.now) (id_booked s) s.args.ids.now s.args.k i.id_refusal-first.ensures s.args.m s.args.row_counts.now
+    (drop s.args.from s.args.row_list.now) s.args.firsts.now s.args.seconds.now (λ e. omega (arith, c.if-first-ne0.true, e))
 
-mul-id : tie.Need-overflow-mul-id
+mul-id : tie.Need-offset_bounds-ids-k
 mul-id c = search rules
 
-shared-slice-read-id : tie.Need-shared-slice-read-id
+shared-slice-read-id : tie.Need-bounds-ids-k
 shared-slice-read-id c = search rules
 
-is-booked-requires : tie.Need-is-booked-requires
+is-booked-requires : tie.Need-is_booked-requires
 is-booked-requires c κs =
-    let i : tie.After-id-refusal = c.before.before in
+    let i : tie.After-id_refusal-first = c.before.before in
     let s : tie.Start = entry i in
-    id_range (length s.args.book-heads.now) s.args.ids.now s.args.k i.id-refusal.ensures c.before.if1.false
+    id_range (length s.args.book_heads.now) s.args.ids.now s.args.k i.id_refusal-first.ensures c.before.if-first-ne0.false
 
-returns-2 : tie.Need-returns-2
+returns-2 : tie.Need-returns-then-is_booked
 returns-2 c =
-    let i : tie.After-id-refusal = c.before.before.before.before in
+    let i : tie.After-id_refusal-first = c.before.before.before.before in
     let s : tie.Start = entry i in
-    column-live (length s.args.book-heads.now) (id_booked s) s.args.ids.now s.args.k i.id-refusal.ensures s.args.m s.args.row_counts.now
-    (drop s.args.from s.args.row_list.now) s.args.firsts.now s.args.seconds.now c.before.before.before.if1.false c.before.is-booked.ensures c.if2.true
+    column-live (length s.args.book_heads.now) (id_booked s) s.args.ids.now s.args.k i.id_refusal-first.ensures s.args.m s.args.row_counts.now
+    (drop s.args.from s.args.row_list.now) s.args.firsts.now s.args.seconds.now c.before.before.before.if-first-ne0.false c.before.is_booked.ensures c.if-is_booked.true
 
-mul-count : tie.Need-overflow-mul-count
+mul-count : tie.Need-offset_bounds-row_counts-k
 mul-count c = search rules
 
-shared-slice-read-count : tie.Need-shared-slice-read-count
+shared-slice-read-count : tie.Need-bounds-row_counts-k
 shared-slice-read-count c = search rules
 
-count-refusal-requires : tie.Need-count-refusal-requires
+count-refusal-requires : tie.Need-count_refusal-number-requires
 count-refusal-requires c κs = search rules
 
-returns-3 : tie.Need-returns-3
+returns-3 : tie.Need-returns-then-number-ne0
 returns-3 c =
-    let two : tie.Else2 = c.before.before.before in
-    let i : tie.After-id-refusal = two.before.before.before.before in
+    let two : tie.Else-is_booked = c.before.before.before in
+    let i : tie.After-id_refusal-first = two.before.before.before.before in
     let s : tie.Start = entry i in
-    column-count (length s.args.book-heads.now) (id_booked s) s.args.ids.now s.args.k i.id-refusal.ensures s.args.m s.args.row_counts.now
-    (drop s.args.from s.args.row_list.now) s.args.firsts.now s.args.seconds.now two.before.before.before.if1.false two.before.is-booked.ensures two.if2.false
-    c.before.count-refusal.ensures c.if3.true
+    column-count (length s.args.book_heads.now) (id_booked s) s.args.ids.now s.args.k i.id_refusal-first.ensures s.args.m s.args.row_counts.now
+    (drop s.args.from s.args.row_list.now) s.args.firsts.now s.args.seconds.now two.before.before.before.if-first-ne0.false two.before.is_booked.ensures two.if-is_booked.false
+    c.before.count_refusal-number.ensures c.if-number-ne0.true
 
-mul-is-window : tie.Need-overflow-mul-is-window
+mul-is-window : tie.Need-offset_bounds-firsts-k
 mul-is-window c = search rules
 
-shared-slice-read-is-window : tie.Need-shared-slice-read-is-window
+shared-slice-read-is-window : tie.Need-bounds-firsts-k
 shared-slice-read-is-window c = search rules
 
-mul-is-window-2 : tie.Need-overflow-mul-is-window-2
+mul-is-window-2 : tie.Need-offset_bounds-seconds-k
 mul-is-window-2 c = search rules
 
-shared-slice-read-is-window-2 : tie.Need-shared-slice-read-is-window-2
+shared-slice-read-is-window-2 : tie.Need-bounds-seconds-k
 shared-slice-read-is-window-2 c = search rules
 
-is-window-requires : tie.Need-is-window-requires
+is-window-requires : tie.Need-is_window-requires
 is-window-requires c κs = search rules
 
-returns-4 : tie.Need-returns-4
+returns-4 : tie.Need-returns-then-is_window
 returns-4 c =
-    let w : tie.After-is-window = c.before in
-    let three : tie.Else3 = w.before.before.before in
-    let two : tie.Else2 = three.before.before.before in
-    let i : tie.After-id-refusal = two.before.before.before.before in
+    let w : tie.After-is_window = c.before in
+    let three : tie.Else-number-ne0 = w.before.before.before in
+    let two : tie.Else-is_booked = three.before.before.before in
+    let i : tie.After-id_refusal-first = two.before.before.before.before in
     let s : tie.Start = entry i in
-    column-window (length s.args.book-heads.now) (id_booked s) s.args.ids.now s.args.k i.id-refusal.ensures s.args.m s.args.row_counts.now
-    (drop s.args.from s.args.row_list.now) s.args.firsts.now s.args.seconds.now two.before.before.before.if1.false two.before.is-booked.ensures two.if2.false
-    three.before.count-refusal.ensures three.if3.false w.is-window.ensures c.if4.true
+    column-window (length s.args.book_heads.now) (id_booked s) s.args.ids.now s.args.k i.id_refusal-first.ensures s.args.m s.args.row_counts.now
+    (drop s.args.from s.args.row_list.now) s.args.firsts.now s.args.seconds.now two.before.before.before.if-first-ne0.false two.before.is_booked.ensures two.if-is_booked.false
+    three.before.count_refusal-number.ensures three.if-number-ne0.false w.is_window.ensures c.if-is_window.true
 
-returns-5 : tie.Need-returns-5
+returns-5 : tie.Need-returns
 returns-5 c =
-    let w : tie.After-is-window = c.before in
-    let three : tie.Else3 = w.before.before.before in
-    let two : tie.Else2 = three.before.before.before in
-    let i : tie.After-id-refusal = two.before.before.before.before in
+    let w : tie.After-is_window = c.before in
+    let three : tie.Else-number-ne0 = w.before.before.before in
+    let two : tie.Else-is_booked = three.before.before.before in
+    let i : tie.After-id_refusal-first = two.before.before.before.before in
     let s : tie.Start = entry i in
-    column-late (length s.args.book-heads.now) (id_booked s) s.args.ids.now s.args.k i.id-refusal.ensures s.args.m s.args.row_counts.now
-    (drop s.args.from s.args.row_list.now) s.args.firsts.now s.args.seconds.now two.before.before.before.if1.false two.before.is-booked.ensures two.if2.false
-    three.before.count-refusal.ensures three.if3.false w.is-window.ensures c.if4.false
+    column-late (length s.args.book_heads.now) (id_booked s) s.args.ids.now s.args.k i.id_refusal-first.ensures s.args.m s.args.row_counts.now
+    (drop s.args.from s.args.row_list.now) s.args.firsts.now s.args.seconds.now two.before.before.before.if-first-ne0.false two.before.is_booked.ensures two.if-is_booked.false
+    three.before.count_refusal-number.ensures three.if-number-ne0.false w.is_window.ensures c.if-is_window.false
 
-pub column-refusal-spec : {M : Type 1} → statement M
-column-refusal-spec =
+pub column_refusal_spec : {M : Type 1} → statement M
+column_refusal_spec =
     tie.close
     (tie.spec
     id-refusal-requires

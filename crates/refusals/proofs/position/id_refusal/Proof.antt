@@ -6,42 +6,42 @@ use Rattle.refusals.proofs.Parts.{id-low, id-high, id-earlier, id-fits}
 use Rattle.refusals.proofs.position.id_refusal.Statement.{statement}
 use Rattle.refusals.proofs.position.id_refusal.Tie as tie
 
-mul-id : tie.Need-overflow-mul-id
+mul-id : tie.Need-offset_bounds-ids-k
 mul-id c = search rules
 
-shared-slice-read-id : tie.Need-shared-slice-read-id
+shared-slice-read-id : tie.Need-bounds-ids-k
 shared-slice-read-id c = search rules
 
-returns : tie.Need-returns
+returns : tie.Need-returns-then-id-lt1
 returns c =
     let s : tie.Start = c.before.before.before.before in
-    id-low (length s.args.book-heads.now) s.args.ids.now s.args.k c.if1.true
+    id-low (length s.args.book_heads.now) s.args.ids.now s.args.k c.if-id-lt1.true
 
-cast-if2 : tie.Need-overflow-cast-if2
-cast-if2 c = omega (arith, c.before.shared-slice-known3.given c.before.before.before.before.args.k)
+cast-if2 : tie.Need-overflow_cast-id
+cast-if2 c = omega (arith, c.before.shared_slice_known-3-1.given c.before.before.before.before.args.k)
 
-returns-2 : tie.Need-returns-2
+returns-2 : tie.Need-returns-then-book_heads-id
 returns-2 c =
     let s : tie.Start = c.before.before.before.before.before in
-    id-high (length s.args.book-heads.now) s.args.ids.now s.args.k c.if2.true
+    id-high (length s.args.book_heads.now) s.args.ids.now s.args.k c.if-book_heads-id.true
 
-is-earlier-requires : tie.Need-is-earlier-requires
+is-earlier-requires : tie.Need-is_earlier-requires
 is-earlier-requires c κs = search rules
 
-returns-3 : tie.Need-returns-3
+returns-3 : tie.Need-returns-then-is_earlier
 returns-3 c =
-    let two : tie.Else2 = c.before.before in
+    let two : tie.Else-book_heads-id = c.before.before in
     let s : tie.Start = two.before.before.before.before.before in
-    id-earlier (length s.args.book-heads.now) s.args.ids.now s.args.k two.before.if1.false two.if2.false c.before.is-earlier.ensures c.if3.true
+    id-earlier (length s.args.book_heads.now) s.args.ids.now s.args.k two.before.if-id-lt1.false two.if-book_heads-id.false c.before.is_earlier.ensures c.if-is_earlier.true
 
-returns-4 : tie.Need-returns-4
+returns-4 : tie.Need-returns
 returns-4 c =
-    let two : tie.Else2 = c.before.before in
+    let two : tie.Else-book_heads-id = c.before.before in
     let s : tie.Start = two.before.before.before.before.before in
-    id-fits (length s.args.book-heads.now) s.args.ids.now s.args.k two.before.if1.false two.if2.false c.before.is-earlier.ensures c.if3.false
+    id-fits (length s.args.book_heads.now) s.args.ids.now s.args.k two.before.if-id-lt1.false two.if-book_heads-id.false c.before.is_earlier.ensures c.if-is_earlier.false
 
-pub id-refusal-spec : {M : Type 1} → statement M
-id-refusal-spec =
+pub id_refusal_spec : {M : Type 1} → statement M
+id_refusal_spec =
     tie.close
     (tie.spec
     mul-id

@@ -11,58 +11,58 @@ use Rattle.refusals.proofs.Parts.{before-none, before_more, before-has}
 use Rattle.refusals.proofs.position.is_earlier.Statement.{statement}
 use Rattle.refusals.proofs.position.is_earlier.Tie as tie
 
-abbrev invariant-loop : tie.invariant-loop
-invariant-loop ids k id j₀ j = (j ≤ k) × (among (get_or ids k 0) (before j ids) ≡ false)
+abbrev invariant-loop-j : tie.invariant-loop-j
+invariant-loop-j ids k id j₀ j = (j ≤ k) × (among (get_or ids k 0) (before j ids) ≡ false)
 
-abbrev decreases-loop : tie.decreases-loop
-decreases-loop ids k id j₀ j = k - j
+abbrev decreases-loop-j : tie.decreases-loop-j
+decreases-loop-j ids k id j₀ j = k - j
 
-mul-id : tie.Need-overflow-mul-id invariant-loop decreases-loop
+mul-id : tie.Need-offset_bounds-ids-k invariant-loop-j decreases-loop-j
 mul-id c = search rules
 
-shared-slice-read-id : tie.Need-shared-slice-read-id invariant-loop decreases-loop
+shared-slice-read-id : tie.Need-bounds-ids-k invariant-loop-j decreases-loop-j
 shared-slice-read-id c = search rules
 
-loop-holds : tie.Need-loop-init invariant-loop decreases-loop
+loop-holds : tie.Need-loop-j-init invariant-loop-j decreases-loop-j
 loop-holds c = (omega arith, before-none _ _)
 
-mul-if1 : tie.Need-overflow-mul-if1 invariant-loop decreases-loop
+mul-if1 : tie.Need-offset_bounds-ids-j invariant-loop-j decreases-loop-j
 mul-if1 c = search rules
 
-shared-slice-read-if1 : tie.Need-shared-slice-read-if1 invariant-loop decreases-loop
+shared-slice-read-if1 : tie.Need-bounds-ids-j invariant-loop-j decreases-loop-j
 shared-slice-read-if1 c = search rules
 
-returns : tie.Need-returns invariant-loop decreases-loop
+returns : tie.Need-returns-then-id-ids invariant-loop-j decreases-loop-j
 returns c =
-    let l : tie.At-loop invariant-loop decreases-loop = c.before.before.before in
-    let s : tie.Start invariant-loop decreases-loop = l.before.before in
-    sym (before-has s.args.ids.now (get_or s.args.ids.now s.args.k 0) l.loop.j s.args.k c.if1.true c.before.before.loop-test.true)
+    let l : tie.At-loop-j invariant-loop-j decreases-loop-j = c.before.before.before in
+    let s : tie.Start invariant-loop-j decreases-loop-j = l.before.before in
+    sym (before-has s.args.ids.now (get_or s.args.ids.now s.args.k 0) l.loop-j.j s.args.k c.if-id-ids.true c.before.before.loop-j-test.true)
 
-add-j : tie.Need-overflow-add-j invariant-loop decreases-loop
+add-j : tie.Need-overflow_add-j invariant-loop-j decreases-loop-j
 add-j c = omega arith
 
-loop-less : tie.Need-loop-smaller invariant-loop decreases-loop
+loop-less : tie.Need-loop-j-smaller invariant-loop-j decreases-loop-j
 loop-less c = omega arith
 
-loop-again : tie.Need-loop-preserved invariant-loop decreases-loop
+loop-again : tie.Need-loop-j-preserved invariant-loop-j decreases-loop-j
 loop-again c =
-    let l : tie.At-loop invariant-loop decreases-loop = c.before.before.before in
-    let s : tie.Start invariant-loop decreases-loop = l.before.before in
-    (omega arith, before_more s.args.ids.now (get_or s.args.ids.now s.args.k 0) l.loop.j l.loop.invariant.1 c.if1.false)
+    let l : tie.At-loop-j invariant-loop-j decreases-loop-j = c.before.before.before in
+    let s : tie.Start invariant-loop-j decreases-loop-j = l.before.before in
+    (omega arith, before_more s.args.ids.now (get_or s.args.ids.now s.args.k 0) l.loop-j.j l.loop-j.invariant.1 c.if-id-ids.false)
 
-returns-2 : tie.Need-returns-2 invariant-loop decreases-loop
+returns-2 : tie.Need-returns invariant-loop-j decreases-loop-j
 returns-2 c =
-    let l : tie.At-loop invariant-loop decreases-loop = c.before in
-    let s : tie.Start invariant-loop decreases-loop = l.before.before in
-    let e : l.loop.j ≡ s.args.k = omega (arith, l.loop.invariant.0) in
-    sym (subst (λ (j : ℕ). among (get_or s.args.ids.now s.args.k 0) (before j s.args.ids.now) ≡ false) e l.loop.invariant.1)
+    let l : tie.At-loop-j invariant-loop-j decreases-loop-j = c.before in
+    let s : tie.Start invariant-loop-j decreases-loop-j = l.before.before in
+    let e : l.loop-j.j ≡ s.args.k = omega (arith, l.loop-j.invariant.0) in
+    sym (subst (λ (j : ℕ). among (get_or s.args.ids.now s.args.k 0) (before j s.args.ids.now) ≡ false) e l.loop-j.invariant.1)
 
-pub is-earlier-spec : {M : Type 1} → statement M
-is-earlier-spec =
+pub is_earlier_spec : {M : Type 1} → statement M
+is_earlier_spec =
     tie.close
     (tie.spec
-    invariant-loop
-    decreases-loop
+    invariant-loop-j
+    decreases-loop-j
     mul-id
     shared-slice-read-id
     loop-holds

@@ -10,59 +10,59 @@ use borrow.Author.Rules.{rules}
 use Rattle.updown.proofs.children.lost_child.Statement.{statement}
 use Rattle.updown.proofs.children.lost_child.Tie as tie
 
-second-requires : tie.Need-second-requires
-second-requires c κs = column-head (child-plan c.before.before.before.before.requires.here (inr refl)).column c.before.before.before.before.args.adding (child-chain c.before.before.before.before.requires.here (inr refl) c.before.before.before.before.requires.columns)
+second-requires : tie.Need-second-r-requires
+second-requires c κs = column-head (child-plan c.requires.here (inr refl)).column c.args.adding (child-chain c.requires.here (inr refl) c.requires.columns)
 
-gather-chain-requires : tie.Need-gather-chain-requires
-gather-chain-requires c κs = (can-gather (child-steady c.before.before.before.before.before.before.before.requires.here), column-rises (child-plan c.before.before.before.before.before.before.before.requires.here (inr refl)).column c.before.before.before.before.before.before.before.args.adding (child-chain c.before.before.before.before.before.before.before.requires.here (inr refl) c.before.before.before.before.before.before.before.requires.columns) _ c.before.before.second.ensures)
+gather-chain-requires : tie.Need-gather_chain-g-requires
+gather-chain-requires c κs = (can-gather (child-steady c.requires.here), column-rises (child-plan c.requires.here (inr refl)).column c.args.adding (child-chain c.requires.here (inr refl) c.requires.columns) _ c.second-r.ensures)
 
-count-rows-requires : tie.Need-count-rows-requires
-count-rows-requires c κs = can-count c.before.before.before.gather-chain.ensures (child-steady c.before.before.before.before.before.before.before.before.before.before.before.requires.here)
+count-rows-requires : tie.Need-count_rows-requires
+count-rows-requires c κs = can-count c.gather_chain-g.ensures (child-steady c.requires.here)
 
-same_length : tie.Need-same-length
+same_length : tie.Need-shape_of-work-then-adding
 same_length c = search rules
 
-returns : tie.Need-returns
-returns c = λ R W j used H k a. handled-lost a (chain-lost _ c.before.before.before.before.before.before.before.before.before.second.ensures _ c.before.before.before.before.before.before.before.before.if1.true c.before.before.before.before.before.before.gather-chain.ensures c.before.before.count-rows.ensures (child-plan a (inr refl)) (child-chain a (inr refl) k))
+returns : tie.Need-returns-then-adding
+returns c = λ R W j used H k a. handled-lost a (chain-lost _ c.second-r.ensures _ c.if-adding.true c.gather_chain-g.ensures c.count_rows.ensures (child-plan a (inr refl)) (child-chain a (inr refl) k))
 
-mul-from : tie.Need-overflow-mul-from
+mul-from : tie.Need-overflow_mul-from
 mul-from c = search rules
 
-sub-from : tie.Need-overflow-sub-from
+sub-from : tie.Need-overflow_sub-from
 sub-from c = search rules
 
-cast-from : tie.Need-overflow-cast-from
+cast-from : tie.Need-overflow_cast-from
 cast-from c = search rules
 
-add-from : tie.Need-overflow-add-from
+add-from : tie.Need-overflow_add-from
 add-from c = search rules
 
-mul-from-2 : tie.Need-overflow-mul-from-2
+mul-from-2 : tie.Need-offset_bounds-work-m
 mul-from-2 c = search rules
 
-slice-read-from : tie.Need-slice-read-from
+slice-read-from : tie.Need-bounds-work-m
 slice-read-from c = search rules
 
-cast-from-2 : tie.Need-overflow-cast-from-2
-cast-from-2 c = omega (arith, c.slice-known4.given (4 * c.before.before.before.before.before.before.before.before.args.m + (c.before.before.before.before.before.before.before.before.args.c.0 - 1)))
+cast-from-2 : tie.Need-overflow_cast-from-2
+cast-from-2 c = omega (arith, c.slice_known-2-1.given (4 * c.args.m + (c.args.c.0 - 1)))
 
-plan-end-requires : tie.Need-plan-end-requires
-plan-end-requires c κs = child-end c.before.before.before.before.before.before.before.before.before.requires.here (inr refl)
+plan-end-requires : tie.Need-plan_end-to-requires
+plan-end-requires c κs = child-end c.requires.here (inr refl)
 
-gather-pruned-requires : tie.Need-gather-pruned-requires
-gather-pruned-requires c κs = (can-gather (child-steady c.before.before.before.before.before.before.before.before.before.before.before.requires.here), column-rises (child-plan c.before.before.before.before.before.before.before.before.before.before.before.requires.here (inr refl)).column c.before.before.before.before.before.before.before.before.before.before.before.args.adding (child-chain c.before.before.before.before.before.before.before.before.before.before.before.requires.here (inr refl) c.before.before.before.before.before.before.before.before.before.before.before.requires.columns) _ c.before.before.before.before.before.before.second.ensures, plan-read _ c.before.plan-end.ensures (child-plan c.before.before.before.before.before.before.before.before.before.before.before.requires.here (inr refl)))
+gather-pruned-requires : tie.Need-gather_pruned-k-requires
+gather-pruned-requires c κs = (can-gather (child-steady c.requires.here), column-rises (child-plan c.requires.here (inr refl)).column c.args.adding (child-chain c.requires.here (inr refl) c.requires.columns) _ c.second-r.ensures, plan-read _ c.plan_end-to.ensures (child-plan c.requires.here (inr refl)))
 
-count-rows-requires-2 : tie.Need-count-rows-requires-2
-count-rows-requires-2 c κs = can-count c.before.before.before.gather-pruned.ensures (child-steady c.before.before.before.before.before.before.before.before.before.before.before.before.before.before.before.requires.here)
+count-rows-requires-2 : tie.Need-count_rows-requires-2
+count-rows-requires-2 c κs = can-count c.gather_pruned-k.ensures (child-steady c.requires.here)
 
-same-length-2 : tie.Need-same-length-2
+same-length-2 : tie.Need-shape_of-work
 same-length-2 c = search rules
 
-returns-2 : tie.Need-returns-2
-returns-2 c = λ R W j used H k a. handled-lost a (pruned-up _ c.before.before.before.before.before.before.before.before.before.before.before.before.before.second.ensures _ c.before.before.before.before.before.before.before.before.plan-end.ensures _ c.before.before.before.before.before.before.before.before.before.before.before.before.if1.false c.before.before.before.before.before.before.gather-pruned.ensures c.before.before.count-rows2.ensures (child-plan a (inr refl)) (child-chain a (inr refl) k))
+returns-2 : tie.Need-returns
+returns-2 c = λ R W j used H k a. handled-lost a (pruned-up _ c.second-r.ensures _ c.plan_end-to.ensures _ c.if-adding.false c.gather_pruned-k.ensures c.count_rows-2.ensures (child-plan a (inr refl)) (child-chain a (inr refl) k))
 
-pub lost-child-spec : {M : Type 1} → statement M
-lost-child-spec =
+pub lost_child_spec : {M : Type 1} → statement M
+lost_child_spec =
     tie.close
     (tie.spec
     second-requires

@@ -6,41 +6,41 @@ use borrow.Author.Rules.{rules}
 use Rattle.updown.proofs.children.other_parent.Statement.{statement}
 use Rattle.updown.proofs.children.other_parent.Tie as tie
 
-sub-i : tie.Need-overflow-sub-i
+sub-i : tie.Need-overflow_sub-i
 sub-i c = search rules
 
-cast-i : tie.Need-overflow-cast-i
+cast-i : tie.Need-overflow_cast-i
 cast-i c = search rules
 
-mul-t9 : tie.Need-overflow-mul-t9
+mul-t9 : tie.Need-offset_bounds-parents-i
 mul-t9 c = search rules
 
-shared-slice-read-t11 : tie.Need-shared-slice-read-t11
+shared-slice-read-t11 : tie.Need-bounds-parents-i
 shared-slice-read-t11 c = search rules
 
-cast-t12 : tie.Need-overflow-cast-t12
-cast-t12 c = omega (arith, c.shared-slice-known.given (c.before.before.before.args.c.0 - 1))
+cast-t12 : tie.Need-overflow_cast-result
+cast-t12 c = omega (arith, c.shared_slice_known-1.given (c.before.before.before.args.c.0 - 1))
 
-returns : tie.Need-returns
-returns c = rw c.before.if1.true refl
+returns : tie.Need-returns-then-adding
+returns c = rw c.before.if-adding.true refl
 
-mul-t13 : tie.Need-overflow-mul-t13
+mul-t13 : tie.Need-overflow_mul-result
 mul-t13 c = search rules
 
-add-t14 : tie.Need-overflow-add-t14
+add-t14 : tie.Need-overflow_add-result
 add-t14 c = search rules
 
-mul-t15 : tie.Need-overflow-mul-t15
+mul-t15 : tie.Need-offset_bounds-work-m
 mul-t15 c = search rules
 
-shared-slice-read-t7 : tie.Need-shared-slice-read-t7
+shared-slice-read-t7 : tie.Need-bounds-work-m
 shared-slice-read-t7 c = search rules
 
-returns-2 : tie.Need-returns-2
-returns-2 c = rw c.before.if1.false refl
+returns-2 : tie.Need-returns
+returns-2 c = rw c.before.if-adding.false refl
 
-pub other-parent-spec : {M : Type 1} → statement M
-other-parent-spec =
+pub other_parent_spec : {M : Type 1} → statement M
+other_parent_spec =
     tie.close
     (tie.spec
     sub-i

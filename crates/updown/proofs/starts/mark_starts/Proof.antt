@@ -10,64 +10,64 @@ use native.Mathlib.Omega.{arith}
 use Rattle.updown.proofs.starts.mark_starts.Statement.{statement}
 use Rattle.updown.proofs.starts.mark_starts.Tie as tie
 
-abbrev invariant-loop : tie.invariant-loop
-invariant-loop work₀ starts m flags k₀ work k = (k ≤ length starts) × ((W : List Column) → CanMark starts m flags work₀ W → StartsTo m flags W work₀ work k)
+abbrev invariant-loop-k : tie.invariant-loop-k
+invariant-loop-k work₀ starts m flags k₀ work k = (k ≤ length starts) × ((W : List Column) → CanMark starts m flags work₀ W → StartsTo m flags W work₀ work k)
 
-abbrev decreases-loop : tie.decreases-loop
-decreases-loop work₀ starts m flags k₀ work k = length starts - k
+abbrev decreases-loop-k : tie.decreases-loop-k
+decreases-loop-k work₀ starts m flags k₀ work k = length starts - k
 
-abbrev start : tie.At-loop invariant-loop decreases-loop → tie.Start invariant-loop decreases-loop
+abbrev start : tie.At-loop-k invariant-loop-k decreases-loop-k → tie.Start invariant-loop-k decreases-loop-k
 start c = c.before.before.before
 
 -- what holds at the loop's test, for the columns of the premise
-hand : (c : tie.At-loop invariant-loop decreases-loop) →
-    StartsTo (start c).args.m (start c).args.flags (start c).requires.W (start c).args.work.now c.loop.work c.loop.k
-hand c = c.loop.invariant.1 (start c).requires.W (start c).requires.can
+hand : (c : tie.At-loop-k invariant-loop-k decreases-loop-k) →
+    StartsTo (start c).args.m (start c).args.flags (start c).requires.W (start c).args.work.now c.loop-k.work c.loop-k.k
+hand c = c.loop-k.invariant.1 (start c).requires.W (start c).requires.can
 
-loop-holds : tie.Need-loop-init invariant-loop decreases-loop
+loop-holds : tie.Need-loop-k-init invariant-loop-k decreases-loop-k
 loop-holds c = (omega arith, λ W can. starts_none can.bare)
 
-mul-start : tie.Need-overflow-mul-start invariant-loop decreases-loop
+mul-start : tie.Need-offset_bounds-starts-k invariant-loop-k decreases-loop-k
 mul-start c = omega arith
 
-shared-slice-read-start : tie.Need-shared-slice-read-start invariant-loop decreases-loop
+shared-slice-read-start : tie.Need-bounds-starts-k invariant-loop-k decreases-loop-k
 shared-slice-read-start c = omega arith
 
-add-mark-start : tie.Need-overflow-add-mark-start invariant-loop decreases-loop
+add-mark-start : tie.Need-overflow_add-k invariant-loop-k decreases-loop-k
 add-mark-start c = omega arith
 
-cast-mark-start : tie.Need-overflow-cast-mark-start invariant-loop decreases-loop
-cast-mark-start c = let l = c.before.before.before in omega (arith, (marking-row (start l).requires.can (hand l) c.before.before.loop-test.true).2)
+cast-mark-start : tie.Need-overflow_cast-k invariant-loop-k decreases-loop-k
+cast-mark-start c = let l = c.before.before.before in omega (arith, (marking-row (start l).requires.can (hand l) c.before.before.loop-k-test.true).2)
 
-mark-start-requires : tie.Need-mark-start-requires invariant-loop decreases-loop
-mark-start-requires c κs = let l = c.before.before.before in marking-row (start l).requires.can (hand l) c.before.before.loop-test.true
+mark-start-requires : tie.Need-mark_start-requires invariant-loop-k decreases-loop-k
+mark-start-requires c κs = let l = c.before.before.before in marking-row (start l).requires.can (hand l) c.before.before.loop-k-test.true
 
-add-k : tie.Need-overflow-add-k invariant-loop decreases-loop
+add-k : tie.Need-overflow_add-k-in-loop-k invariant-loop-k decreases-loop-k
 add-k c = omega arith
 
-loop-less : tie.Need-loop-smaller invariant-loop decreases-loop
+loop-less : tie.Need-loop-k-smaller invariant-loop-k decreases-loop-k
 loop-less c = omega arith
 
-loop-again : tie.Need-loop-preserved invariant-loop decreases-loop
+loop-again : tie.Need-loop-k-preserved invariant-loop-k decreases-loop-k
 loop-again c = (
   omega arith,
   λ W can.
       let t = c.before.before.before.before.before in
-      marking-next can (t.before.loop.invariant.1 W can) t.loop-test.true c.before.before.mark-start.ensures (omega arith),
+      marking-next can (t.before.loop-k.invariant.1 W can) t.loop-k-test.true c.before.before.mark_start.ensures (omega arith),
 )
 
-same_length : tie.Need-same-length invariant-loop decreases-loop
+same_length : tie.Need-shape_of-work invariant-loop-k decreases-loop-k
 same_length c = (hand c.before).same_length
 
-returns : tie.Need-returns invariant-loop decreases-loop
-returns c = λ W can. marking-end can (c.before.loop.invariant.1 W can) c.before.loop.invariant.0 c.loop-test.false
+returns : tie.Need-returns invariant-loop-k decreases-loop-k
+returns c = λ W can. marking-end can (c.before.loop-k.invariant.1 W can) c.before.loop-k.invariant.0 c.loop-k-test.false
 
-pub mark-starts-spec : {M : Type 1} → statement M
-mark-starts-spec =
+pub mark_starts_spec : {M : Type 1} → statement M
+mark_starts_spec =
     tie.close
     (tie.spec
-    invariant-loop
-    decreases-loop
+    invariant-loop-k
+    decreases-loop-k
     loop-holds
     mul-start
     shared-slice-read-start

@@ -7,80 +7,80 @@ use borrow.Author.Rules.{rules}
 use Rattle.updown.proofs.turns.begin.Statement.{statement}
 use Rattle.updown.proofs.turns.begin.Tie as tie
 
-cast-work : tie.Need-overflow-cast-work
+cast-work : tie.Need-overflow_cast-work
 cast-work c = search rules
 
-mul-work : tie.Need-overflow-mul-work
+mul-work : tie.Need-overflow_mul-work
 mul-work c = search rules
 
-sub-work : tie.Need-overflow-sub-work
+sub-work : tie.Need-overflow_sub-work
 sub-work c = search rules
 
-cast-work-2 : tie.Need-overflow-cast-work-2
+cast-work-2 : tie.Need-overflow_cast-work-then-last-eq0
 cast-work-2 c = search rules
 
-add-work : tie.Need-overflow-add-work
+add-work : tie.Need-overflow_add-work
 add-work c = search rules
 
-mul-work-2 : tie.Need-overflow-mul-work-2
+mul-work-2 : tie.Need-offset_bounds-work-m
 mul-work-2 c = search rules
 
-slice-write-work : tie.Need-slice-write-work
+slice-write-work : tie.Need-bounds-work-m
 slice-write-work c = search rules
 
-same_length : tie.Need-same-length
+same_length : tie.Need-shape_of-work-then-last-eq0
 same_length c = search rules
 
-returns : tie.Need-returns
-returns c = rw (eq-eqb c.before.before.before.args.last.0 0 c.before.if1.true) refl
+returns : tie.Need-returns-then-last-eq0
+returns c = rw (eq-eqb c.before.before.before.args.last.0 0 c.before.if-last-eq0.true) refl
 
-mul-work-3 : tie.Need-overflow-mul-work-3
+mul-work-3 : tie.Need-overflow_mul-work-2
 mul-work-3 c = search rules
 
-sub-work-2 : tie.Need-overflow-sub-work-2
+sub-work-2 : tie.Need-overflow_sub-work-2
 sub-work-2 c = search rules
 
-cast-work-3 : tie.Need-overflow-cast-work-3
+cast-work-3 : tie.Need-overflow_cast-work-2
 cast-work-3 c = search rules
 
-add-work-2 : tie.Need-overflow-add-work-2
+add-work-2 : tie.Need-overflow_add-work-2
 add-work-2 c = search rules
 
-mul-work-4 : tie.Need-overflow-mul-work-4
+mul-work-4 : tie.Need-offset_bounds-work-m-2
 mul-work-4 c = search rules
 
-slice-write-work-2 : tie.Need-slice-write-work-2
+slice-write-work-2 : tie.Need-bounds-work-m-2
 slice-write-work-2 c = search rules
 
-cast-work-4 : tie.Need-overflow-cast-work-4
+cast-work-4 : tie.Need-overflow_cast-work-3
 cast-work-4 c = search rules
 
-mul-work-5 : tie.Need-overflow-mul-work-5
+mul-work-5 : tie.Need-overflow_mul-work-3
 mul-work-5 c = search rules
 
-sub-work-3 : tie.Need-overflow-sub-work-3
+sub-work-3 : tie.Need-overflow_sub-work-3
 sub-work-3 c = search rules
 
-cast-work-5 : tie.Need-overflow-cast-work-5
+cast-work-5 : tie.Need-overflow_cast-work-4
 cast-work-5 c = search rules
 
-add-work-3 : tie.Need-overflow-add-work-3
+add-work-3 : tie.Need-overflow_add-work-3
 add-work-3 c = search rules
 
-mul-work-6 : tie.Need-overflow-mul-work-6
+mul-work-6 : tie.Need-offset_bounds-work-m-3
 mul-work-6 c = search rules
 
-slice-write-work-3 : tie.Need-slice-write-work-3
+slice-write-work-3 : tie.Need-bounds-work-m-3
 slice-write-work-3 c = simp length-set (omega arith)
 
-same-length-2 : tie.Need-same-length-2
+same-length-2 : tie.Need-shape_of-work
 same-length-2 c = search rules
 
-returns-2 : tie.Need-returns-2
-returns-2 c = rw (ne_eqb c.before.before.before.before.args.last.0 0 c.before.before.if1.false) refl
+returns-2 : tie.Need-returns
+returns-2 c = rw (ne_eqb c.before.before.before.before.args.last.0 0 c.before.before.if-last-eq0.false) refl
 
-pub begin-spec : {M : Type 1} → statement M
-begin-spec =
+pub begin_spec : {M : Type 1} → statement M
+begin_spec =
     tie.close
     (tie.spec
     cast-work

@@ -4,11 +4,11 @@ use mathlib.Core.Path.{refl}
 use Rattle.updown.proofs.turns.first_of.Statement.{statement}
 use Rattle.updown.proofs.turns.first_of.Tie as tie
 
-returns : tie.Need-returns
-returns c = rw (eq-eqb c.before.before.args.first.0 0 c.if1.true) refl
+returns : tie.Need-returns-then-first-eq0
+returns c = rw (eq-eqb c.before.before.args.first.0 0 c.if-first-eq0.true) refl
 
-returns-2 : tie.Need-returns-2
-returns-2 c = rw (ne_eqb c.before.before.args.first.0 0 c.if1.false) refl
+returns-2 : tie.Need-returns
+returns-2 c = rw (ne_eqb c.before.before.args.first.0 0 c.if-first-eq0.false) refl
 
-pub first-of-spec : {M : Type 1} → statement M
-first-of-spec = tie.close (tie.spec returns returns-2)
+pub first_of_spec : {M : Type 1} → statement M
+first_of_spec = tie.close (tie.spec returns returns-2)
