@@ -15,9 +15,6 @@ use Rattle.refusals.proofs.Finding.{found-accepted, rows_few, add_step, add-posi
 use Rattle.refusals.proofs.find_add.Statement.{statement}
 use Rattle.refusals.proofs.find_add.Tie as tie
 
-abbrev entry : tie.After-out_of_step → tie.Start
-entry c = c.before.before.before.before.before.before.before.before
-
 -- the book with given rows
 abbrev book_at : tie.Start → List ℕ → Book
 book_at s rows = book_of s.args.book_heads.now rows s.args.book_next.now s.args.book_free.0
@@ -26,9 +23,8 @@ book_at s rows = book_of s.args.book_heads.now rows s.args.book_next.now s.args.
 in_step : (c : tie.Else-out_of_step) →
     InStep c.args.ids.now c.args.row_counts.now c.args.firsts.now c.args.seconds.now
 in_step c =
-    let s : tie.Start = c in
-    step-facts s.args.ids.now s.args.row_counts.now s.args.firsts.now s.args.seconds.now
-    (is-in (keep_step s.args.ids.now s.args.row_counts.now s.args.firsts.now s.args.seconds.now) c.out_of_step.ensures c.if-out_of_step.false)
+    step-facts c.args.ids.now c.args.row_counts.now c.args.firsts.now c.args.seconds.now
+    (is-in (keep_step c.args.ids.now c.args.row_counts.now c.args.firsts.now c.args.seconds.now) c.out_of_step.ensures c.if-out_of_step.false)
 
 out-of-step-requires : tie.Need-out_of_step-requires
 out-of-step-requires c κs = search rules
@@ -38,11 +34,9 @@ refused-requires c κs = search rules
 
 returns : tie.Need-returns-then-out_of_step
 returns c rows sound =
-    let one : tie.Then-out_of_step = c in
-    let s : tie.Start = entry one.before in
     c.refused.ensures ∙
-    add_step s.args.m (book_at s rows) s.args.ids.now s.args.row_counts.now s.args.row_list.now s.args.firsts.now s.args.seconds.now
-    one.before.out_of_step.ensures one.if-out_of_step.true
+    add_step c.args.m (book_at c.before.before.before.before.before.before.before.before.before.before rows) c.args.ids.now c.args.row_counts.now c.args.row_list.now c.args.firsts.now c.args.seconds.now
+    c.out_of_step.ensures c.if-out_of_step.true
 
 columns-refusal-requires : tie.Need-columns_refusal-first-requires
 columns-refusal-requires c κs =
@@ -51,57 +45,40 @@ columns-refusal-requires c κs =
 
 returns-2 : tie.Need-returns-then-first-ne0
 returns-2 c rows sound =
-    let f : tie.After-columns_refusal-first = c in
-    let one : tie.Else-out_of_step = f.before in
-    let s : tie.Start = entry one.before in
-    add-positions s.args.m (book_at s rows) s.args.ids.now s.args.row_counts.now s.args.row_list.now s.args.firsts.now s.args.seconds.now
-    one.before.out_of_step.ensures one.if-out_of_step.false (f.columns_refusal-first.ensures rows s.args.book_next.now s.args.book_free.0) c.if-first-ne0.true
+    add-positions c.args.m (book_at c.before.before.before.before.before.before.before.before.before.before.before.before rows) c.args.ids.now c.args.row_counts.now c.args.row_list.now c.args.firsts.now c.args.seconds.now
+    c.out_of_step.ensures c.if-out_of_step.false (c.columns_refusal-first.ensures rows c.args.book_next.now c.args.book_free.0) c.if-first-ne0.true
 
 cast_fits : tie.Need-overflow_cast-row_list
 cast_fits c =
-    let f : tie.After-columns_refusal-first = c in
-    let one : tie.Else-out_of_step = f.before in
-    let s : tie.Start = entry one.before in
-    let b : Book = book_at s s.requires.rows in
-    let l : length s.args.row_list.now ≤ 256 * length s.args.ids.now =
-    rows_few (bare_in s.args.m b) (length s.args.book_heads.now) s.args.ids.now s.args.row_counts.now s.args.row_list.now s.args.firsts.now s.args.seconds.now
-    (ap is_accepted (sym (f.columns_refusal-first.ensures s.requires.rows s.args.book_next.now s.args.book_free.0)) ∙ found-accepted f.columns_refusal-first.result c.if-first-ne0.false) in
-    omega (arith, (in_step one).few)
+    let b : Book = book_at c.before.before.before.before.before.before.before.before.before.before.before.before c.requires.rows in
+    let l : length c.args.row_list.now ≤ 256 * length c.args.ids.now =
+    rows_few (bare_in c.args.m b) (length c.args.book_heads.now) c.args.ids.now c.args.row_counts.now c.args.row_list.now c.args.firsts.now c.args.seconds.now
+    (ap is_accepted (sym (c.columns_refusal-first.ensures c.requires.rows c.args.book_next.now c.args.book_free.0)) ∙ found-accepted c.columns_refusal-first.result c.if-first-ne0.false) in
+    omega (arith, (in_step c.before.before.before).few)
 
 fits-requires : tie.Need-fits-requires
 fits-requires c κs =
-    let s : tie.Start = c in
-    free-linked s.args.m (book_at s s.requires.rows) s.requires.sound
+    free-linked c.args.m (book_at c.before.before.before.before.before.before.before.before.before.before.before.before c.requires.rows) c.requires.sound
 
 refused-requires-2 : tie.Need-refused-requires-then-fits
 refused-requires-2 c κs = search rules
 
 returns-3 : tie.Need-returns-then-fits
 returns-3 c rows sound =
-    let three : tie.Then-fits = c in
-    let two : tie.Else-first-ne0 = three.before.before in
-    let f : tie.After-columns_refusal-first = two.before.before in
-    let one : tie.Else-out_of_step = f.before in
-    let s : tie.Start = entry one.before in
     c.refused-then-fits.ensures ∙
-    add-fits s.args.m (book_at s rows) s.args.ids.now s.args.row_counts.now s.args.row_list.now s.args.firsts.now s.args.seconds.now
-    one.before.out_of_step.ensures one.if-out_of_step.false (f.columns_refusal-first.ensures rows s.args.book_next.now s.args.book_free.0) two.if-first-ne0.false
-    sound three.before.fits2.ensures three.if-fits.true
+    add-fits c.args.m (book_at c.before.before.before.before.before.before.before.before.before.before.before.before.before.before.before rows) c.args.ids.now c.args.row_counts.now c.args.row_list.now c.args.firsts.now c.args.seconds.now
+    c.out_of_step.ensures c.if-out_of_step.false (c.columns_refusal-first.ensures rows c.args.book_next.now c.args.book_free.0) c.if-first-ne0.false
+    sound c.fits.ensures c.if-fits.true
 
 refused-requires-3 : tie.Need-refused-requires-2
 refused-requires-3 c κs = search rules
 
 returns-4 : tie.Need-returns
 returns-4 c rows sound =
-    let three : tie.Else-fits = c in
-    let two : tie.Else-first-ne0 = three.before.before in
-    let f : tie.After-columns_refusal-first = two.before.before in
-    let one : tie.Else-out_of_step = f.before in
-    let s : tie.Start = entry one.before in
     c.refused-2.ensures ∙
-    add-full s.args.m (book_at s rows) s.args.ids.now s.args.row_counts.now s.args.row_list.now s.args.firsts.now s.args.seconds.now
-    one.before.out_of_step.ensures one.if-out_of_step.false (f.columns_refusal-first.ensures rows s.args.book_next.now s.args.book_free.0) two.if-first-ne0.false
-    sound three.before.fits2.ensures three.if-fits.false
+    add-full c.args.m (book_at c.before.before.before.before.before.before.before.before.before.before.before.before.before.before.before rows) c.args.ids.now c.args.row_counts.now c.args.row_list.now c.args.firsts.now c.args.seconds.now
+    c.out_of_step.ensures c.if-out_of_step.false (c.columns_refusal-first.ensures rows c.args.book_next.now c.args.book_free.0) c.if-first-ne0.false
+    sound c.fits.ensures c.if-fits.false
 
 pub find_add_spec : {M : Type 1} → statement M
 find_add_spec =

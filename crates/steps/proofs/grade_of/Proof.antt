@@ -55,9 +55,9 @@ returns-5 : tie.Need-returns-in_default
 returns-5 c =
     let m = most c.before in
     let n : ℕ = c.reaches-second.result + c.reaches-third.result + c.reaches-fourth.result in
-    let a : n ≢ 0 = c.in_default.not-0 in
-    let b : n ≢ 1 = c.in_default.not-1 in
-    let d : n ≢ 2 = c.in_default.not-2 in
+    let a : n ≢ 0 = c.in_default.in_default-own.rest.0.0.1 in
+    let b : n ≢ 1 = c.in_default.in_default-own.rest.0.1 in
+    let d : n ≢ 2 = c.in_default.in_default-own.rest.1 in
     graded c.before (omega arith)
 
 pub grade_of_spec : {M : Type 1} → statement M
