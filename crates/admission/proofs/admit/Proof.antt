@@ -8,57 +8,44 @@ use Rattle.admission.proofs.admit.Statement.{statement}
 use Rattle.admission.proofs.admit.Tie as tie
 
 -- ---- the places, named
-abbrev entry : tie.After-early → tie.Start
-entry c = c.before.before.before.before.before.before.before.before.before.before.before.before
-
-abbrev passed : tie.After-read-through → tie.After-early
-passed c = c.before.before.before
-
 abbrev state_at : tie.Start → State
 state_at s = state_of s.args.state
 
 abbrev tables_at : tie.Start → Tables
-tables_at s = tables_of s.args.heads.now s.args.parents.now s.args.rows.now s.args.counts.now s.args.next.now s.args.book-heads.now s.args.book-rows.now s.args.book-next.now s.args.windows.now
+tables_at s = tables_of s.args.heads.now s.args.parents.now s.args.rows.now s.args.counts.now s.args.next.now s.args.book_heads.now s.args.book_rows.now s.args.book_next.now s.args.windows.now
 
-early-requires : tie.Need-early-requires
+early-requires : tie.Need-early-number-requires
 early-requires c κs = search rules
 
-same_length : tie.Need-same-length
+same_length : tie.Need-shape_of-work-then-number-ne0
 same_length c = refl
 
-returns : tie.Need-returns
+returns : tie.Need-returns-then-number-ne0
 returns c =
-    let s : tie.Start = entry c.before in
-    admit-early (state_at s) (tables_at s) s.args.work.now s.args.lists c.before.early.ensures c.if1.true
+    admit-early (state_at c.before.before.before.before.before.before.before.before.before.before.before.before) (tables_at c.before.before.before.before.before.before.before.before.before.before.before.before) c.args.work.now c.args.lists c.early-number.ensures c.if-number-ne0.true
 
-read-through-requires : tie.Need-read-through-requires
+read-through-requires : tie.Need-read_through-requires
 read-through-requires c κs =
-    let d : tie.After-early = c.before.before in
-    let s : tie.Start = entry d in
-    admit-reads (state_at s) (tables_at s) s.args.work.now s.args.lists d.early.ensures c.before.if1.false
+    admit-reads (state_at c.before.before.before.before.before.before.before.before.before.before.before.before.before) (tables_at c.before.before.before.before.before.before.before.before.before.before.before.before.before) c.args.work.now c.args.lists c.early-number.ensures c.if-number-ne0.false
 
-same-length-2 : tie.Need-same-length-2
-same-length-2 c = c.before.before.before.read_through.auto.1.1.1.1.1.1.1.1.1.1.0
+same-length-2 : tie.Need-shape_of-work-then-read_through
+same-length-2 c = c.read_through.auto.free
 
-returns-2 : tie.Need-returns-2
+returns-2 : tie.Need-returns-then-read_through
 returns-2 c =
-    let r : tie.After-read-through = c.before.before.before in
-    let s : tie.Start = entry (passed r) in
-    admit-sound (state_at s) (tables_at s) s.args.work.now s.args.lists (passed r).early.ensures r.before.before.if1.false r.read_through.ensures.0
-    r.read_through.ensures.1 c.if2.true
+    admit-sound (state_at c.before.before.before.before.before.before.before.before.before.before.before.before.before.before.before.before.before) (tables_at c.before.before.before.before.before.before.before.before.before.before.before.before.before.before.before.before.before) c.args.work.now c.args.lists c.early-number.ensures c.if-number-ne0.false c.read_through.ensures.0
+    c.read_through.ensures.1 c.if-read_through.true
 
-same-length-3 : tie.Need-same-length-3
-same-length-3 c = c.before.before.before.read_through.auto.1.1.1.1.1.1.1.1.1.1.0
+same-length-3 : tie.Need-shape_of-work
+same-length-3 c = c.read_through.auto.free
 
-returns-3 : tie.Need-returns-3
+returns-3 : tie.Need-returns
 returns-3 c =
-    let r : tie.After-read-through = c.before.before.before in
-    let s : tie.Start = entry (passed r) in
-    admit-unsound (state_at s) (tables_at s) s.args.work.now s.args.lists (passed r).early.ensures r.before.before.if1.false r.read_through.ensures.0
-    r.read_through.ensures.1 c.if2.false
+    admit-unsound (state_at c.before.before.before.before.before.before.before.before.before.before.before.before.before.before.before.before.before) (tables_at c.before.before.before.before.before.before.before.before.before.before.before.before.before.before.before.before.before) c.args.work.now c.args.lists c.early-number.ensures c.if-number-ne0.false c.read_through.ensures.0
+    c.read_through.ensures.1 c.if-read_through.false
 
-pub admit-spec : {M : Type 1} → statement M
-admit-spec =
+pub admit_spec : {M : Type 1} → statement M
+admit_spec =
     tie.close
     (tie.spec
     early-requires

@@ -13,143 +13,126 @@ use Rattle.commit.proofs.Committing.{Committing, AtColumn, committing-start, com
 use Rattle.commit.proofs.commit_columns.Statement.{statement}
 use Rattle.commit.proofs.commit_columns.Tie as tie
 
-abbrev invariant-loop : tie.invariant-loop
-invariant-loop heads rows₀ counts₀ next₀ work used m j₀ z₀ rows counts next j z =
+abbrev invariant-loop-j : tie.invariant-loop-j
+invariant-loop-j heads rows₀ counts₀ next₀ work used m j₀ z₀ rows counts next j z =
     (ps : List ℕ) (L L' : List FactorColumn) (label : ℕ → ℕ) (columns : List ℕ) →
     CanCommitPlans (stored_of heads ps rows₀ counts₀ next₀ z₀.0) L L' label columns work j₀.0 used →
     Committing (stored_of heads ps rows₀ counts₀ next₀ z₀.0) L L' label columns work used (stored_of heads ps rows counts next z.0) j.0
 
-abbrev decreases-loop : tie.decreases-loop
-decreases-loop heads rows₀ counts₀ next₀ work used m j₀ z₀ rows counts next j z = left (length heads) j.0
+abbrev decreases-loop-j : tie.decreases-loop-j
+decreases-loop-j heads rows₀ counts₀ next₀ work used m j₀ z₀ rows counts next j z = left (length heads) j.0
 
 -- ---- the places, named
 
-abbrev entry : tie.At-loop invariant-loop decreases-loop → tie.Start invariant-loop decreases-loop
-entry c = c.before.before.before.before.before.before
-
-abbrev in-turn : tie.After-shared-slice-known4 invariant-loop decreases-loop → tie.Then1 invariant-loop decreases-loop
-in-turn c = c.before.before.before
-
-abbrev at-end : tie.After-commit-column-arg3 invariant-loop decreases-loop → tie.After-plan-end invariant-loop decreases-loop
-at-end c = c.before.before.before
-
-abbrev at_call : tie.After-slice-known6 invariant-loop decreases-loop → tie.After-commit-column invariant-loop decreases-loop
-at_call c = c.before.before.before.before.before.before
-
 -- the invariant for what the premise gives
-now-is : (c : tie.At-loop invariant-loop decreases-loop) →
-    Committing (stored_of (entry c).args.heads.now (entry c).requires.parents (entry c).args.rows.now (entry c).args.counts.now (entry c).args.next.now (entry c).args.free.0) (entry c).requires.L (entry c).requires.L' (entry c).requires.label (entry c).requires.columns (entry c).args.work.now (entry c).args.used (stored_of (entry c).args.heads.now (entry c).requires.parents c.loop.rows c.loop.counts c.loop.next c.loop.z.0) c.loop.j.0
-now-is c = let p = (entry c).requires in c.loop.invariant p.parents p.L p.L' p.label p.columns p.can
+now-is : (c : tie.At-loop-j invariant-loop-j decreases-loop-j) →
+    Committing (stored_of c.args.heads.now c.requires.parents c.args.rows.now c.args.counts.now c.args.next.now c.args.free.0) c.requires.L c.requires.L' c.requires.label c.requires.columns c.args.work.now c.args.used (stored_of c.args.heads.now c.requires.parents c.loop-j.rows c.loop-j.counts c.loop-j.next c.loop-j.z.0) c.loop-j.j.0
+now-is c = let p = c.requires in c.loop-j.invariant p.parents p.L p.L' p.label p.columns p.can
 
-facts : (c : tie.Then1 invariant-loop decreases-loop) →
-    AtColumn (length (entry c.before.before).args.heads.now) (entry c.before.before).args.work.now (entry c.before.before).args.used c.before.before.loop.j.0
-facts c = at-column (entry c.before.before).pre.can (now-is c.before.before) c.if1.true
+facts : (c : tie.In-loop-j invariant-loop-j decreases-loop-j) →
+    AtColumn (length c.args.heads.now) c.args.work.now c.args.used c.loop-j.j.0
+facts c = at-column c.requires.can (now-is c.before.before) c.loop-j-test.true
 
-loop-holds : tie.Need-loop-init invariant-loop decreases-loop
+loop-holds : tie.Need-loop-j-init invariant-loop-j decreases-loop-j
 loop-holds c = λ ps L L' label columns can. committing-start can
 
 -- ---- a turn: what is read
 
-sub-k : tie.Need-overflow-sub-k invariant-loop decreases-loop
+sub-k : tie.Need-overflow_sub-k invariant-loop-j decreases-loop-j
 sub-k c = (facts c.before).low
 
-cast-k : tie.Need-overflow-cast-k invariant-loop decreases-loop
+cast-k : tie.Need-overflow_cast-k invariant-loop-j decreases-loop-j
 cast-k c = let f = facts c.before in omega arith
 
-mul-a : tie.Need-overflow-mul-a invariant-loop decreases-loop
+mul-a : tie.Need-overflow_mul-after invariant-loop-j decreases-loop-j
 mul-a c = let f = facts c.before in omega arith
 
-add_a : tie.Need-overflow-add-a invariant-loop decreases-loop
+add_a : tie.Need-overflow_add-after invariant-loop-j decreases-loop-j
 add_a c = let f = facts c.before in omega arith
 
-mul-a-2 : tie.Need-overflow-mul-a-2 invariant-loop decreases-loop
+mul-a-2 : tie.Need-offset_bounds-work-m invariant-loop-j decreases-loop-j
 mul-a-2 c = let f = facts c.before in omega arith
 
-shared-slice-read-a : tie.Need-shared-slice-read-a invariant-loop decreases-loop
+shared-slice-read-a : tie.Need-bounds-work-m invariant-loop-j decreases-loop-j
 shared-slice-read-a c = let f = facts c.before.before in omega arith
 
-mul-a-3 : tie.Need-overflow-mul-a-3 invariant-loop decreases-loop
+mul-a-3 : tie.Need-overflow_mul-a invariant-loop-j decreases-loop-j
 mul-a-3 c = let f = facts c.before.before in omega arith
 
-mul-a-4 : tie.Need-overflow-mul-a-4 invariant-loop decreases-loop
+mul-a-4 : tie.Need-overflow_mul-a-in-loop-j invariant-loop-j decreases-loop-j
 mul-a-4 c = let f = facts c.before.before in omega arith
 
-add-a-2 : tie.Need-overflow-add-a-2 invariant-loop decreases-loop
+add-a-2 : tie.Need-overflow_add-a invariant-loop-j decreases-loop-j
 add-a-2 c = let f = facts c.before.before in omega arith
 
-mul-a-5 : tie.Need-overflow-mul-a-5 invariant-loop decreases-loop
+mul-a-5 : tie.Need-offset_bounds-work-m-in-loop-j invariant-loop-j decreases-loop-j
 mul-a-5 c = let f = facts c.before.before in omega arith
 
-shared-slice-read-a-2 : tie.Need-shared-slice-read-a-2 invariant-loop decreases-loop
-shared-slice-read-a-2 c = let f = facts (in-turn c) in omega arith
+shared-slice-read-a-2 : tie.Need-bounds-work-m-in-loop-j invariant-loop-j decreases-loop-j
+shared-slice-read-a-2 c = let f = facts c.before.before.before in omega arith
 
-cast-a : tie.Need-overflow-cast-a invariant-loop decreases-loop
-cast-a c = let f = facts (in-turn c) in omega arith
+cast-a : tie.Need-overflow_cast-a invariant-loop-j decreases-loop-j
+cast-a c = let f = facts c.before.before.before in omega arith
 
-add-a-3 : tie.Need-overflow-add-a-3 invariant-loop decreases-loop
-add-a-3 c = let f = facts (in-turn c) in omega arith
+add-a-3 : tie.Need-overflow_add-a-in-loop-j invariant-loop-j decreases-loop-j
+add-a-3 c = let f = facts c.before.before.before in omega arith
 
-plan-end-requires : tie.Need-plan-end-requires invariant-loop decreases-loop
-plan-end-requires c κs = let f = facts (in-turn c) in record { bound = f.bound; long = omega arith; high = f.after }
+plan-end-requires : tie.Need-plan_end-e-requires invariant-loop-j decreases-loop-j
+plan-end-requires c κs = let f = facts c.before.before.before in record { bound = f.bound; long = omega arith; high = f.after }
 
 -- ---- a turn: the call
 
-mul-commit-column : tie.Need-overflow-mul-commit-column invariant-loop decreases-loop
-mul-commit-column c = let f = facts (in-turn (at-end c).before) in omega (arith, (at-end c).plan-end.ensures)
+mul-commit-column : tie.Need-offset_bounds-work-a invariant-loop-j decreases-loop-j
+mul-commit-column c = let f = facts c.before.before.before.before.before.before.before in omega (arith, c.plan_end-e.ensures)
 
-sub-commit-column : tie.Need-overflow-sub-commit-column invariant-loop decreases-loop
-sub-commit-column c = let f = facts (in-turn (at-end c).before) in omega (arith, (at-end c).plan-end.ensures)
+sub-commit-column : tie.Need-slice_bounds-commit_column-count invariant-loop-j decreases-loop-j
+sub-commit-column c = let f = facts c.before.before.before.before.before.before.before in omega (arith, c.plan_end-e.ensures)
 
-part-commit-column-start : tie.Need-slice-bounds-commit-column-start invariant-loop decreases-loop
-part-commit-column-start c = let f = facts (in-turn (at-end c).before) in omega (arith, (at-end c).plan-end.ensures)
+part-commit-column-start : tie.Need-slice_bounds-commit_column-start invariant-loop-j decreases-loop-j
+part-commit-column-start c = let f = facts c.before.before.before.before.before.before.before in omega (arith, c.plan_end-e.ensures)
 
-part-commit-column-end : tie.Need-slice-bounds-commit-column-end invariant-loop decreases-loop
-part-commit-column-end c = let f = facts (in-turn (at-end c).before) in omega (arith, (at-end c).plan-end.ensures)
+part-commit-column-end : tie.Need-slice_bounds-commit_column-end invariant-loop-j decreases-loop-j
+part-commit-column-end c = let f = facts c.before.before.before.before.before.before.before in omega (arith, c.plan_end-e.ensures)
 
-mul-t19 : tie.Need-overflow-mul-t19 invariant-loop decreases-loop
-mul-t19 c = let f = facts (in-turn (at-end c.before).before) in omega arith
+mul-t19 : tie.Need-offset_bounds-heads-k invariant-loop-j decreases-loop-j
+mul-t19 c = let f = facts c.before.before.before.before.before.before.before.before in omega arith
 
-shared-slice-read-t17 : tie.Need-shared-slice-read-t17 invariant-loop decreases-loop
-shared-slice-read-t17 c = let f = facts (in-turn (at-end c.before.before).before) in omega arith
+shared-slice-read-t17 : tie.Need-bounds-heads-k invariant-loop-j decreases-loop-j
+shared-slice-read-t17 c = let f = facts c.before.before.before.before.before.before.before.before.before in omega arith
 
-commit-column-requires : tie.Need-commit-column-requires invariant-loop decreases-loop
+commit-column-requires : tie.Need-commit_column-z-requires invariant-loop-j decreases-loop-j
 commit-column-requires c κs =
-    let b = at-end c.before.before in
-    let d = in-turn b.before in
-    committing-ready (entry d.before.before).pre.can (now-is d.before.before) d.if1.taken refl b.plan-end.ensures
+    committing-ready c.requires.can (now-is c.before.before.before.before.before.before.before.before.before.before.before) c.loop-j-test.true refl c.plan_end-e.ensures
 
-loop-less : tie.Need-loop-smaller invariant-loop decreases-loop
+loop-less : tie.Need-loop-j-smaller invariant-loop-j decreases-loop-j
 loop-less c =
-    let d = in-turn (at-end (at_call c).before.before.before).before in
-    left_less _ d.before.before.loop.j.0 _ d.if1.taken (facts d).high (facts d).rises
+    left_less _ c.loop-j.j.0 _ c.loop-j-test.true (facts c.before.before.before.before.before.before.before.before.before.before.before.before.before.before.before.before).high (facts c.before.before.before.before.before.before.before.before.before.before.before.before.before.before.before.before).rises
 
-loop-again : tie.Need-loop-preserved invariant-loop decreases-loop
+loop-again : tie.Need-loop-j-preserved invariant-loop-j decreases-loop-j
 loop-again c =
-    let b = at-end (at_call c).before.before.before in
-    let d = in-turn b.before in
     λ ps L L' label columns can.
-    committing-turn can (d.before.before.loop.inv ps L L' label columns can) d.if1.taken refl b.plan-end.ensures (at_call c).commit-column.ensures
+    committing-turn can (c.loop-j.invariant ps L L' label columns can) c.loop-j-test.true refl c.plan_end-e.ensures c.commit_column-z.ensures
 
 -- ---- after the loop
 
-same_length : tie.Need-same-length invariant-loop decreases-loop
-same_length c = committing-long (entry c.before.before).pre.can (now-is c.before.before)
+same_length : tie.Need-shape_of-rows invariant-loop-j decreases-loop-j
+same_length c = committing-long c.requires.can (now-is c.before.before)
 
-same-length-2 : tie.Need-same-length-2 invariant-loop decreases-loop
-same-length-2 c = committing-counts (entry c.before.before).pre.can (now-is c.before.before)
+same-length-2 : tie.Need-shape_of-counts invariant-loop-j decreases-loop-j
+same-length-2 c = committing-counts c.requires.can (now-is c.before.before)
 
-same-length-3 : tie.Need-same-length-3 invariant-loop decreases-loop
+same-length-3 : tie.Need-shape_of-next invariant-loop-j decreases-loop-j
 same-length-3 c = (now-is c.before.before).records
 
-returns : tie.Need-returns invariant-loop decreases-loop
-returns c = λ ps L L' label columns can. committing-end can (c.before.before.loop.invariant ps L L' label columns can) c.if1.false
+returns : tie.Need-returns invariant-loop-j decreases-loop-j
+returns c = λ ps L L' label columns can. committing-end can (c.loop-j.invariant ps L L' label columns can) c.loop-j-test.false
 
-pub commit-columns-spec : {M : Type 1} → statement M
-commit-columns-spec =
+pub commit_columns_spec : {M : Type 1} → statement M
+commit_columns_spec =
     tie.close
     (tie.spec
-    invariant-loop
-    decreases-loop
+    invariant-loop-j
+    decreases-loop-j
     loop-holds
     sub-k
     cast-k

@@ -11,27 +11,27 @@ use Rattle.commit.proofs.Gathering.{size-added, size-stays}
 use Rattle.commit.proofs.with_size.Statement.{statement}
 use Rattle.commit.proofs.with_size.Tie as tie
 
-returns : tie.Need-returns
-returns c = sym (size-stays c.before.before.args.place (length (chain c.before.before.args.next.now c.before.before.args.head.0)) c.if1.true)
+returns : tie.Need-returns-then-place-ge-UPPER_WEIGHT
+returns c = sym (size-stays c.before.before.args.place (length (chain c.before.before.args.next.now c.before.before.args.head.0)) c.if-place-ge-UPPER_WEIGHT.true)
 
-count-requires : tie.Need-count-requires
+count-requires : tie.Need-count-n-requires
 count-requires c κs = search rules
 
-add-result : tie.Need-overflow-add-result
+add-result : tie.Need-overflow_add-result
 add-result c = search rules
 
-mul-result : tie.Need-overflow-mul-result
+mul-result : tie.Need-overflow_mul-result
 mul-result c = search rules
 
-add-result-2 : tie.Need-overflow-add-result-2
+add-result-2 : tie.Need-overflow_add-result-2
 add-result-2 c = search rules
 
-returns-2 : tie.Need-returns-2
+returns-2 : tie.Need-returns
 returns-2 c =
     let s = c.before.before.before in
     let n : ℕ = length (chain s.args.next.now s.args.head.0) in
-    let e : c.count.result ≡ n = omega (arith, c.count.ensures, s.requires.short) in
-    ap (λ (x : ℕ). s.args.place + upper_weight * (1 + x)) e ∙ sym (size-added s.args.place n c.before.if1.false)
+    let e : c.count-n.result ≡ n = omega (arith, c.count-n.ensures, s.requires.short) in
+    ap (λ (x : ℕ). s.args.place + upper_weight * (1 + x)) e ∙ sym (size-added s.args.place n c.before.if-place-ge-UPPER_WEIGHT.false)
 
-pub with-size-spec : {M : Type 1} → statement M
-with-size-spec = tie.close (tie.spec returns count-requires add-result mul-result add-result-2 returns-2)
+pub with_size_spec : {M : Type 1} → statement M
+with_size_spec = tie.close (tie.spec returns count-requires add-result mul-result add-result-2 returns-2)

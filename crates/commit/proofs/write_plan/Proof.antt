@@ -10,79 +10,61 @@ use Rattle.commit.proofs.write_plan.Tie as tie
 
 -- ---- the places, named
 
-abbrev entry : tie.After-commit-columns-arg4 → tie.Start
-entry c = c.before.before.before.before.before.before.before.before.before.before
-
-abbrev committed : tie.After-write-parents-arg2 → tie.After-commit-columns
-committed c = c.before.before.before.before.before.before.before.before
-
-abbrev wrote : tie.After-clear-arg → tie.After-write-parents
-wrote c = c.before.before.before.before.before
-
-abbrev cleared : tie.After-slice-known11 → tie.After-clear
-cleared c = c.before.before
-
-commit-columns-requires : tie.Need-commit-columns-requires
+commit-columns-requires : tie.Need-commit_columns-z-requires
 commit-columns-requires c κs =
-    let s = entry c in
-    let p = s.pre in
+    let p = c.requires in
     record {
-      parents = s.args.parents.now;
-      L = factor_of (length s.args.heads.now) p.cs;
-      L' = factor_of (length s.args.heads.now) p.ds;
+      parents = c.args.parents.now;
+      L = factor_of (length c.args.heads.now) p.cs;
+      L' = factor_of (length c.args.heads.now) p.ds;
       label = p.label;
       columns = p.columns;
       can = can-commits p.can;
     }
 
-write-parents-requires : tie.Need-write-parents-requires
+write-parents-requires : tie.Need-write_parents-requires
 write-parents-requires c κs =
-    let s = entry (committed c).before in
-    let p = s.pre in
+    let p = c.requires in
     record {
-      L = factor_of (length s.args.heads.now) p.cs;
-      L' = factor_of (length s.args.heads.now) p.ds;
+      L = factor_of (length c.args.heads.now) p.cs;
+      L' = factor_of (length c.args.heads.now) p.ds;
       label = p.label;
       columns = p.columns;
-      used = s.args.used;
+      used = c.args.used;
       can = can-parents p.can;
     }
 
-mul-clear : tie.Need-overflow-mul-clear
-mul-clear c = let s = entry (committed (wrote c).before).before in omega (arith, s.pre.can.m-bound)
+mul-clear : tie.Need-overflow_mul-heads
+mul-clear c = omega (arith, c.requires.can.m-bound)
 
 clear-requires : tie.Need-clear-requires
 clear-requires c κs =
-    let s = entry (committed (wrote c).before).before in
-    omega (arith, clear-fits s.pre.can, (wrote c).write-parents.auto.1.0)
+    omega (arith, clear-fits c.requires.can, c.write_parents.auto.work)
 
-same_length : tie.Need-same-length
+same_length : tie.Need-shape_of-parents
 same_length c = search rules
 
-same-length-2 : tie.Need-same-length-2
+same-length-2 : tie.Need-shape_of-rows
 same-length-2 c = search rules
 
-same-length-3 : tie.Need-same-length-3
+same-length-3 : tie.Need-shape_of-counts
 same-length-3 c = search rules
 
-same-length-4 : tie.Need-same-length-4
+same-length-4 : tie.Need-shape_of-next
 same-length-4 c = search rules
 
-same-length-5 : tie.Need-same-length-5
+same-length-5 : tie.Need-shape_of-work
 same-length-5 c = search rules
 
 returns : tie.Need-returns
 returns c =
-    let x = wrote (cleared c).before in
-    let y = committed x.before in
-    let s = entry y.before in
-    let m : ℕ = length s.args.heads.now in
+    let m : ℕ = length c.args.heads.now in
     λ cs ds label columns before count entries can.
-    let r = x.write-parents.ensures (factor_of m cs) (factor_of m ds) label columns s.args.used (can-parents can) in
-    written can (y.commit-columns.ensures s.args.parents.now (factor_of m cs) (factor_of m ds) label columns (can-commits can)) r.parents-are r (cleared c).clear.ensures
+    let r = c.write_parents.ensures (factor_of m cs) (factor_of m ds) label columns c.args.used (can-parents can) in
+    written can (c.commit_columns-z.ensures c.args.parents.now (factor_of m cs) (factor_of m ds) label columns (can-commits can)) r.parents-are r c.clear.ensures
 
-pub write-plan-spec : {M : Type 1} → statement M
-write-plan-spec =
+pub write_plan_spec : {M : Type 1} → statement M
+write_plan_spec =
     tie.close
     (tie.spec
     commit-columns-requires

@@ -3,11 +3,11 @@ use Rattle.question_refusals.proofs.Room.{room-past, room-left}
 use Rattle.question_refusals.proofs.room_outside.Statement.{statement}
 use Rattle.question_refusals.proofs.room_outside.Tie as tie
 
-returns : tie.Need-returns
-returns c = room-past _ _ _ c.if1.true
+returns : tie.Need-returns-then-len-place
+returns c = room-past _ _ _ c.if-len-place.true
 
-returns-2 : tie.Need-returns-2
-returns-2 c = room-left _ _ _ c.if1.false
+returns-2 : tie.Need-returns
+returns-2 c = room-left _ _ _ c.if-len-place.false
 
-pub room-outside-spec : {M : Type 1} → statement M
-room-outside-spec = tie.close (tie.spec returns returns-2)
+pub room_outside_spec : {M : Type 1} → statement M
+room_outside_spec = tie.close (tie.spec returns returns-2)

@@ -13,5 +13,5 @@ outside-requires c κs = search rules
 returns : tie.Need-returns
 returns c = c.outside.ensures ∙ ap not (sym (unless-accepted (is_in 1 c.before.args.m c.before.args.row) 17 0 refl))
 
-pub row-outside-spec : {M : Type 1} → statement M
-row-outside-spec = tie.close (tie.spec outside-requires returns)
+pub row_outside_spec : {M : Type 1} → statement M
+row_outside_spec = tie.close (tie.spec outside-requires returns)

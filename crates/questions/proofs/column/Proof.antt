@@ -18,141 +18,141 @@ use Rattle.questions.proofs.column.Statement.{statement}
 use Rattle.questions.proofs.column.Tie as tie
 
 -- ---- the places, named
-abbrev start : tie.After-row-outside → tie.Start
+abbrev start : tie.After-row_outside → tie.Start
 start c = c.before.before.before.before.before.before
 
-abbrev outside : tie.After-count → tie.Else1
+abbrev outside : tie.After-count-n → tie.Else-row_outside
 outside c = c.before.before
 
-abbrev counted : tie.After-room-outside → tie.After-count
+abbrev counted : tie.After-room_outside → tie.After-count-n
 counted c = c.before
 
-abbrev entry : tie.After-count → tie.Start
+abbrev entry : tie.After-count-n → tie.Start
 entry c = start (outside c).before
 
 -- column j is one of 1 to m, and its records were counted
-record Facts (c : tie.After-count) : Type 0 where
+record Facts (c : tie.After-count-n) : Type 0 where
   pub passed : row_refusal (length (entry c).args.heads.now) (entry c).args.j.0 ≡ accepted
   pub low : 1 ≤ (entry c).args.j.0
   pub high : (entry c).args.j.0 ≤ length (entry c).args.heads.now
-  pub number : c.count.result ≡ length (chain (entry c).args.next.now (at (entry c).args.heads.now (entry c).args.j.0))
-  pub short : c.count.result ≤ 4096
+  pub number : c.count-n.result ≡ length (chain (entry c).args.next.now (at (entry c).args.heads.now (entry c).args.j.0))
+  pub short : c.count-n.result ≤ 4096
 
-facts : (c : tie.After-count) → Facts c
+facts : (c : tie.After-count-n) → Facts c
 facts c =
     let s = entry c in
-    let t = row_in (length s.args.heads.now) s.args.j.0 (outside c).before.row-outside.ensures (outside c).if1.false in
-    let k = chain-short s.pre s.args.j.0 t.1 t.2 in
-    let e = c.count.ensures in
-    record { passed = t.0; low = t.1; high = t.2; number = omega arith; short = omega (arith, s.pre.narrow) }
+    let t = row_in (length s.args.heads.now) s.args.j.0 (outside c).before.row_outside.ensures (outside c).if-row_outside.false in
+    let k = chain-short s.requires s.args.j.0 t.1 t.2 in
+    let e = c.count-n.ensures in
+    record { passed = t.0; low = t.1; high = t.2; number = omega arith; short = omega (arith, s.requires.narrow) }
 
-cast-m : tie.Need-overflow-cast-m
+cast-m : tie.Need-overflow_cast-m
 cast-m c = omega (arith, c.before.before.before.before.before.requires.narrow)
 
-row-outside-requires : tie.Need-row-outside-requires
+row-outside-requires : tie.Need-row_outside-requires
 row-outside-requires c κs = search rules
 
-returns : tie.Need-returns
+returns : tie.Need-returns-then-row_outside
 returns c =
     let a = (start c.before).args in
     column-row a.heads.now a.rows.now a.counts.now a.next.now a.j.0 a.place a.list.now
-    (row_out (length a.heads.now) a.j.0 c.before.row-outside.ensures c.if1.true)
+    (row_out (length a.heads.now) a.j.0 c.before.row_outside.ensures c.if-row_outside.true)
 
-sub-t16 : tie.Need-overflow-sub-t16
+sub-t16 : tie.Need-overflow_sub-head
 sub-t16 c =
-    let a = (start c.before).args in (row_in (length a.heads.now) a.j.0 c.before.row-outside.ensures c.if1.false).1
+    let a = (start c.before).args in (row_in (length a.heads.now) a.j.0 c.before.row_outside.ensures c.if-row_outside.false).1
 
-cast-t14 : tie.Need-overflow-cast-t14
+cast-t14 : tie.Need-overflow_cast-head
 cast-t14 c = search rules
 
-mul-t17 : tie.Need-overflow-mul-t17
+mul-t17 : tie.Need-offset_bounds-heads-k
 mul-t17 c = search rules
 
-shared-slice-read-t19 : tie.Need-shared-slice-read-t19
+shared-slice-read-t19 : tie.Need-bounds-heads-k
 shared-slice-read-t19 c =
     let e = c.before in
     let a = (start e.before).args in
-    omega (arith, row_in (length a.heads.now) a.j.0 e.before.row-outside.ensures e.if1.false)
+    omega (arith, row_in (length a.heads.now) a.j.0 e.before.row_outside.ensures e.if-row_outside.false)
 
-count-requires : tie.Need-count-requires
+count-requires : tie.Need-count-n-requires
 count-requires c κs =
     let e = c.before in
     let s = start e.before in
-    let t = row_in (length s.args.heads.now) s.args.j.0 e.before.row-outside.ensures e.if1.false in
-    s.pre.linked s.args.j.0 t.1 t.2
+    let t = row_in (length s.args.heads.now) s.args.j.0 e.before.row_outside.ensures e.if-row_outside.false in
+    s.requires.linked s.args.j.0 t.1 t.2
 
-cast-places : tie.Need-overflow-cast-places
+cast-places : tie.Need-overflow_cast-places
 cast-places c = search rules
 
-mul-places : tie.Need-overflow-mul-places
+mul-places : tie.Need-overflow_mul-places
 mul-places c = search rules
 
-room-outside-requires : tie.Need-room-outside-requires
+room-outside-requires : tie.Need-room_outside-requires
 room-outside-requires c κs = search rules
 
-returns-2 : tie.Need-returns-2
+returns-2 : tie.Need-returns-then-room_outside
 returns-2 c =
     let d = counted c.before in
     let f = facts d in
     let a = (entry d).args in
-    column-room a.heads.now a.rows.now a.counts.now a.next.now a.j.0 a.place a.list.now f.passed (2 * d.count.result)
+    column-room a.heads.now a.rows.now a.counts.now a.next.now a.j.0 a.place a.list.now f.passed (2 * d.count-n.result)
     (λ r h. ap (λ (n : ℕ). 2 * n) f.number ∙ read-places h a.j.0 f.low f.high)
-    (room_out a.list.now a.place (2 * d.count.result) c.before.room-outside.ensures c.if2.true)
+    (room_out a.list.now a.place (2 * d.count-n.result) c.before.room_outside.ensures c.if-room_outside.true)
 
 -- the answer fits into the list
-abbrev placed : tie.Else2 → tie.After-count
+abbrev placed : tie.Else-room_outside → tie.After-count-n
 placed c = counted c.before
 
-room : (c : tie.Else2) → (room_for (entry (placed c)).args.list.now (entry (placed c)).args.place (2 * (placed c).count.result) ≡ accepted) ×
-    ((entry (placed c)).args.place + 2 * (placed c).count.result ≤ length (entry (placed c)).args.list.now)
+room : (c : tie.Else-room_outside) → (room_for (entry (placed c)).args.list.now (entry (placed c)).args.place (2 * (placed c).count-n.result) ≡ accepted) ×
+    ((entry (placed c)).args.place + 2 * (placed c).count-n.result ≤ length (entry (placed c)).args.list.now)
 room c =
     let a = (entry (placed c)).args in
-    room_in a.list.now a.place (2 * (placed c).count.result) c.before.room-outside.ensures c.if2.false
+    room_in a.list.now a.place (2 * (placed c).count-n.result) c.before.room_outside.ensures c.if-room_outside.false
 
-fits : (c : tie.Else2) → (entry (placed c)).args.place + 2 * (placed c).count.result ≤ length (entry (placed c)).args.list.now
+fits : (c : tie.Else-room_outside) → (entry (placed c)).args.place + 2 * (placed c).count-n.result ≤ length (entry (placed c)).args.list.now
 fits c = (room c).1
 
-mul-copy-column : tie.Need-overflow-mul-copy-column
+mul-copy-column : tie.Need-offset_bounds-list-at
 mul-copy-column c = let r = fits c in omega arith
 
-sub-copy-column : tie.Need-overflow-sub-copy-column
+sub-copy-column : tie.Need-slice_bounds-copy_column-count
 sub-copy-column c = let r = fits c in omega arith
 
-part-copy-column-start : tie.Need-slice-bounds-copy-column-start
+part-copy-column-start : tie.Need-slice_bounds-copy_column-start
 part-copy-column-start c = let r = fits c in omega arith
 
-part-copy-column-end : tie.Need-slice-bounds-copy-column-end
+part-copy-column-end : tie.Need-slice_bounds-copy_column-end
 part-copy-column-end c = search rules
 
-copy-column-requires : tie.Need-copy-column-requires
+copy-column-requires : tie.Need-copy_column-requires
 copy-column-requires c κs =
     let e = c.before in
     let d = placed e in
     let f = facts d in
     let a = (entry d).args in
-    can-copy (entry d).pre a.j.0 f.low f.high (take (length a.list.now - a.place) (drop a.place a.list.now))
+    can-copy (entry d).requires a.j.0 f.low f.high (take (length a.list.now - a.place) (drop a.place a.list.now))
     (omega (arith, fits e, f.number, ap length (part_to_end a.list.now a.place), length-drop a.place a.list.now))
 
-same_length : tie.Need-same-length
+same_length : tie.Need-shape_of-list
 same_length c = search rules
 
-returns-3 : tie.Need-returns-3
+returns-3 : tie.Need-returns
 returns-3 c =
     let w = c.before.before in
     let e = w.before.before in
     let d = placed e in
     let f = facts d in
     let a = (entry d).args in
-    column-answer a.heads.now a.rows.now a.counts.now a.next.now a.j.0 a.place a.list.now f.passed (2 * d.count.result)
-    (λ r h. ap (λ (n : ℕ). 2 * n) f.number ∙ read-places h a.j.0 f.low f.high) d.count.result _ (room e).0
+    column-answer a.heads.now a.rows.now a.counts.now a.next.now a.j.0 a.place a.list.now f.passed (2 * d.count-n.result)
+    (λ r h. ap (λ (n : ℕ). 2 * n) f.number ∙ read-places h a.j.0 f.low f.high) d.count-n.result _ (room e).0
     (λ r h. f.number ∙ read-size h a.j.0 f.low f.high)
     (λ r h. part-written a.list.now _ (column_list r a.j.0) a.place
     (omega (arith, fits e, f.number, read-places h a.j.0 f.low f.high))
-    (w.copy-column.ensures.1 ∙ ap (λ (l : List ℕ). over l (take (length a.list.now - a.place) (drop a.place a.list.now)))
+    (w.copy_column.ensures.1 ∙ ap (λ (l : List ℕ). over l (take (length a.list.now - a.place) (drop a.place a.list.now)))
     (read-entries h a.j.0 f.low f.high)))
 
-pub column-spec : {M : Type 1} → statement M
-column-spec =
+pub column_spec : {M : Type 1} → statement M
+column_spec =
     tie.close
     (tie.spec
     cast-m

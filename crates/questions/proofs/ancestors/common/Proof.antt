@@ -8,32 +8,27 @@ use Rattle.questions.proofs.ancestors.common.Statement.{statement}
 use Rattle.questions.proofs.ancestors.common.Tie as tie
 
 -- ---- the places, named
-abbrev start : tie.After-named → tie.Start
-start c = c.before.before.before
+cast-m : tie.Need-overflow_cast-m
+cast-m c = omega (arith, c.requires.narrow)
 
-cast-m : tie.Need-overflow-cast-m
-cast-m c = omega (arith, c.before.before.requires.narrow)
-
-named-requires : tie.Need-named-requires
+named-requires : tie.Need-named-number-requires
 named-requires c κs = search rules
 
-returns : tie.Need-returns
-returns c = let a = (start c.before).args in common-refused a.parents.now a.row_list.now c.before.named.ensures c.if1.true
+returns : tie.Need-returns-then-number-ne0
+returns c = let a = c.args in common-refused a.parents.now a.row_list.now c.named-number.ensures c.if-number-ne0.true
 
-common-row-requires : tie.Need-common-row-requires
+common-row-requires : tie.Need-common_row-x-requires
 common-row-requires c κs =
-    let s = start c.before in
-    let t = named_in (length s.args.parents.now) s.args.row_list.now c.before.named.ensures c.if1.false in
-    (s.pre, t.0, t.1)
+    let t = named_in (length c.args.parents.now) c.args.row_list.now c.named-number.ensures c.if-number-ne0.false in
+    (c.requires, t.0, t.1)
 
-returns-2 : tie.Need-returns-2
+returns-2 : tie.Need-returns
 returns-2 c =
-    let e = c.before in
-    let a = (start e.before).args in
-    common-answer a.parents.now a.row_list.now e.before.named.ensures c.common-row.result.0 e.if1.false c.common-row.ensures
+    let a = c.args in
+    common-answer a.parents.now a.row_list.now c.named-number.ensures c.common_row-x.result.0 c.if-number-ne0.false c.common_row-x.ensures
 
-pub common-spec : {M : Type 1} → statement M
-common-spec =
+pub common_spec : {M : Type 1} → statement M
+common_spec =
     tie.close
     (tie.spec
     cast-m

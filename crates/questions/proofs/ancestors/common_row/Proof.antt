@@ -10,80 +10,66 @@ use Rattle.questions.proofs.Nearing.{CommonLeft, named-row, common-start, common
 use Rattle.questions.proofs.ancestors.common_row.Statement.{statement}
 use Rattle.questions.proofs.ancestors.common_row.Tie as tie
 
-abbrev invariant-loop : tie.invariant-loop
-invariant-loop parents row_list x₀ k₀ x k = (r : Register) → ParentsFor parents r → CommonLeft r row_list x k
+abbrev invariant-loop-k : tie.invariant-loop-k
+invariant-loop-k parents row_list x₀ k₀ x k = (r : Register) → ParentsFor parents r → CommonLeft r row_list x k
 
-abbrev decreases-loop : tie.decreases-loop
-decreases-loop parents row_list x₀ k₀ x k = length row_list - k
+abbrev decreases-loop-k : tie.decreases-loop-k
+decreases-loop-k parents row_list x₀ k₀ x k = length row_list - k
 
 -- ---- the places, named
-abbrev begun : tie.At-loop invariant-loop decreases-loop → tie.Start invariant-loop decreases-loop
-begun c = c.before.before.before.before
-
-abbrev entry : tie.In-loop invariant-loop decreases-loop → tie.Start invariant-loop decreases-loop
-entry c = begun c.before
-
-abbrev turn : tie.After-join invariant-loop decreases-loop → tie.In-loop invariant-loop decreases-loop
-turn c = c.before.before
-
 -- x and the row at place k are rows of 1 to m
-record Facts (c : tie.In-loop invariant-loop decreases-loop) : Type 0 where
-  pub low : 1 ≤ c.before.loop.x
-  pub high : c.before.loop.x ≤ length (entry c).args.parents.now
-  pub next_low : 1 ≤ get_or (entry c).args.row_list.now c.before.loop.k 0
-  pub next-high : get_or (entry c).args.row_list.now c.before.loop.k 0 ≤ length (entry c).args.parents.now
-  pub more : c.before.loop.k < length (entry c).args.row_list.now
+record Facts (c : tie.In-loop-k invariant-loop-k decreases-loop-k) : Type 0 where
+  pub low : 1 ≤ c.loop-k.x
+  pub high : c.loop-k.x ≤ length c.args.parents.now
+  pub next_low : 1 ≤ get_or c.args.row_list.now c.loop-k.k 0
+  pub next-high : get_or c.args.row_list.now c.loop-k.k 0 ≤ length c.args.parents.now
+  pub more : c.loop-k.k < length c.args.row_list.now
 
-facts : (c : tie.In-loop invariant-loop decreases-loop) → Facts c
+facts : (c : tie.In-loop-k invariant-loop-k decreases-loop-k) → Facts c
 facts c =
-    let s = entry c in
-    let p = s.pre.0 in
-    let i = c.before.loop.invariant p.register p.followed in
-    let t = named-row (length s.args.parents.now) s.args.row_list.now c.before.loop.k c.loop-test.true s.pre.2 in
-    record { low = i.low; high = omega (arith, i.high, p.followed.size); next_low = t.0; next-high = t.1; more = c.loop-test.true }
+    let p = c.requires.0 in
+    let i = c.loop-k.invariant p.register p.followed in
+    let t = named-row (length c.args.parents.now) c.args.row_list.now c.loop-k.k c.loop-k-test.true c.requires.2 in
+    record { low = i.low; high = omega (arith, i.high, p.followed.size); next_low = t.0; next-high = t.1; more = c.loop-k-test.true }
 
-shared-slice-read-x : tie.Need-shared-slice-read-x invariant-loop decreases-loop
-shared-slice-read-x c = omega (arith, c.before.before.before.requires.1)
+shared-slice-read-x : tie.Need-bounds-row_list-0 invariant-loop-k decreases-loop-k
+shared-slice-read-x c = omega (arith, c.requires.1)
 
-loop-holds : tie.Need-loop-init invariant-loop decreases-loop
-loop-holds c = let s = c.before.before.before in λ r f. common-start f s.args.row_list.now s.requires.1 s.requires.2
+loop-holds : tie.Need-loop-k-init invariant-loop-k decreases-loop-k
+loop-holds c = λ r f. common-start f c.args.row_list.now c.requires.1 c.requires.2
 
-mul-t8 : tie.Need-overflow-mul-t8 invariant-loop decreases-loop
+mul-t8 : tie.Need-offset_bounds-row_list-k invariant-loop-k decreases-loop-k
 mul-t8 c = search rules
 
-shared-slice-read-t12 : tie.Need-shared-slice-read-t12 invariant-loop decreases-loop
+shared-slice-read-t12 : tie.Need-bounds-row_list-k invariant-loop-k decreases-loop-k
 shared-slice-read-t12 c = (facts c.before).more
 
-join-requires : tie.Need-join-requires invariant-loop decreases-loop
-join-requires c κs = let f = facts c.before in ((entry c.before).pre.0, f.low, f.high, f.next_low, f.next-high)
+join-requires : tie.Need-join-met-requires invariant-loop-k decreases-loop-k
+join-requires c κs = let f = facts c.before in (c.requires.0, f.low, f.high, f.next_low, f.next-high)
 
-returns : tie.Need-returns invariant-loop decreases-loop
+returns : tie.Need-returns-then-x-eq0 invariant-loop-k decreases-loop-k
 returns c =
-    let d = c.before in
-    let t = turn d in
-    λ r f. common-none f (entry t).args.row_list.now (t.before.loop.inv r f) t.loop-test.taken (d.join.ensures r f) c.if1.true
+    λ r f. common-none f c.args.row_list.now (c.loop-k.invariant r f) c.loop-k-test.true (c.join-met.ensures r f) c.if-x-eq0.true
 
-add-k : tie.Need-overflow-add-k invariant-loop decreases-loop
+add-k : tie.Need-overflow_add-k invariant-loop-k decreases-loop-k
 add-k c = search rules
 
-loop-less : tie.Need-loop-smaller invariant-loop decreases-loop
-loop-less c = let f = facts (turn c.before) in omega arith
+loop-less : tie.Need-loop-k-smaller invariant-loop-k decreases-loop-k
+loop-less c = let f = facts c.before.before.before in omega arith
 
-loop-again : tie.Need-loop-preserved invariant-loop decreases-loop
+loop-again : tie.Need-loop-k-preserved invariant-loop-k decreases-loop-k
 loop-again c =
-    let d = c.before in
-    let t = turn d in
-    λ r f. common-turn f (entry t).args.row_list.now (t.before.loop.inv r f) t.loop-test.taken (d.join.ensures r f) c.if1.false
+    λ r f. common-turn f c.args.row_list.now (c.loop-k.invariant r f) c.loop-k-test.true (c.join-met.ensures r f) c.if-x-eq0.false
 
-returns-2 : tie.Need-returns-2 invariant-loop decreases-loop
-returns-2 c = let s = begun c.before in λ r f. common-end f s.args.row_list.now (c.before.loop.invariant r f) c.loop-test.false
+returns-2 : tie.Need-returns invariant-loop-k decreases-loop-k
+returns-2 c = λ r f. common-end f c.args.row_list.now (c.loop-k.invariant r f) c.loop-k-test.false
 
-pub common-row-spec : {M : Type 1} → statement M
-common-row-spec =
+pub common_row_spec : {M : Type 1} → statement M
+common_row_spec =
     tie.close
     (tie.spec
-    invariant-loop
-    decreases-loop
+    invariant-loop-k
+    decreases-loop-k
     shared-slice-read-x
     loop-holds
     mul-t8

@@ -9,124 +9,109 @@ use Rattle.questions.proofs.Nearing.{parent-higher, Nearing, nearing-start, near
 use Rattle.questions.proofs.ancestors.join.Statement.{statement}
 use Rattle.questions.proofs.ancestors.join.Tie as tie
 
-abbrev invariant-loop : tie.invariant-loop
-invariant-loop parents x₀ y₀ x y = (r : Register) → ParentsFor parents r → Nearing parents r x₀ y₀ x y
+abbrev invariant-loop-x : tie.invariant-loop-x
+invariant-loop-x parents x₀ y₀ x y = (r : Register) → ParentsFor parents r → Nearing parents r x₀ y₀ x y
 
-abbrev decreases-loop : tie.decreases-loop
-decreases-loop parents x₀ y₀ x y = (length parents - x) + (length parents - y)
+abbrev decreases-loop-x : tie.decreases-loop-x
+decreases-loop-x parents x₀ y₀ x y = (length parents - x) + (length parents - y)
 
 -- ---- the places, named
-abbrev entry : tie.In-loop invariant-loop decreases-loop → tie.Start invariant-loop decreases-loop
-entry c = c.before.before
+record Facts (c : tie.In-loop-x invariant-loop-x decreases-loop-x) : Type 0 where
+  pub left-low : 1 ≤ c.loop-x.x
+  pub left-high : c.loop-x.x ≤ length c.args.parents.now
+  pub right-low : 1 ≤ c.loop-x.y
+  pub right-high : c.loop-x.y ≤ length c.args.parents.now
+  pub narrow : length c.args.parents.now ≤ 4096
 
-abbrev left : tie.After-shared-slice-known invariant-loop decreases-loop → tie.In-loop invariant-loop decreases-loop
-left c = c.before.before
-
-abbrev right : tie.After-shared-slice-known2 invariant-loop decreases-loop → tie.In-loop invariant-loop decreases-loop
-right c = c.before.before
-
-record Facts (c : tie.In-loop invariant-loop decreases-loop) : Type 0 where
-  pub left-low : 1 ≤ c.before.loop.x
-  pub left-high : c.before.loop.x ≤ length (entry c).args.parents.now
-  pub right-low : 1 ≤ c.before.loop.y
-  pub right-high : c.before.loop.y ≤ length (entry c).args.parents.now
-  pub narrow : length (entry c).args.parents.now ≤ 4096
-
-facts : (c : tie.In-loop invariant-loop decreases-loop) → Facts c
+facts : (c : tie.In-loop-x invariant-loop-x decreases-loop-x) → Facts c
 facts c =
-    let p = (entry c).requires.0 in
-    let i = c.before.loop.invariant p.register p.followed in
+    let p = c.requires.0 in
+    let i = c.loop-x.invariant p.register p.followed in
     record { left-low = i.left-low; left-high = i.left-high; right-low = i.right-low; right-high = i.right-high; narrow = p.narrow }
 
-loop-holds : tie.Need-loop-init invariant-loop decreases-loop
+loop-holds : tie.Need-loop-x-init invariant-loop-x decreases-loop-x
 loop-holds c = λ r f. nearing-start f c.args.a.0 c.args.b.0 c.requires.1 c.requires.2 c.requires.3 c.requires.4
 
 -- ---- the first is smaller
 
-sub-x : tie.Need-overflow-sub-x invariant-loop decreases-loop
+sub-x : tie.Need-overflow_sub-x invariant-loop-x decreases-loop-x
 sub-x c = (facts c.before).left-low
 
-cast-x : tie.Need-overflow-cast-x invariant-loop decreases-loop
+cast-x : tie.Need-overflow_cast-x invariant-loop-x decreases-loop-x
 cast-x c = let f = facts c.before in omega arith
 
-mul-x : tie.Need-overflow-mul-x invariant-loop decreases-loop
+mul-x : tie.Need-offset_bounds-parents-x invariant-loop-x decreases-loop-x
 mul-x c = let f = facts c.before in omega arith
 
-shared-slice-read-x : tie.Need-shared-slice-read-x invariant-loop decreases-loop
-shared-slice-read-x c = let f = facts (left c) in omega arith
+shared-slice-read-x : tie.Need-bounds-parents-x invariant-loop-x decreases-loop-x
+shared-slice-read-x c = let f = facts c.before.before in omega arith
 
-cast-x-2 : tie.Need-overflow-cast-x-2 invariant-loop decreases-loop
-cast-x-2 c = omega (arith, c.shared-slice-known.given ((left c).before.loop.x - 1))
+cast-x-2 : tie.Need-overflow_cast-x-then-x-y invariant-loop-x decreases-loop-x
+cast-x-2 c = omega (arith, c.shared_slice_known-1.given (c.loop-x.x - 1))
 
-returns : tie.Need-returns invariant-loop decreases-loop
+returns : tie.Need-returns-then-x-eq0 invariant-loop-x decreases-loop-x
 returns c =
-    let t = left c.before in
-    let a = (entry t).args in
-    λ r f. left-root f a.a.0 a.b.0 (t.before.loop.inv r f) c.before.before.if1.true c.if2.true
+    let a = c.args in
+    λ r f. left-root f a.a.0 a.b.0 (c.loop-x.invariant r f) c.if-x-y.true c.if-x-eq0.true
 
-loop-less : tie.Need-loop-smaller invariant-loop decreases-loop
+loop-less : tie.Need-loop-x-smaller-else-x-eq0 invariant-loop-x decreases-loop-x
 loop-less c =
-    let t = left c.before in
-    let g = facts t in
-    omega (arith, g, parent-higher (entry t).pre.0.followed t.before.loop.x g.left-low g.left-high c.if2.false)
+    let g = facts c.before.before.before in
+    omega (arith, g, parent-higher c.requires.0.followed c.loop-x.x g.left-low g.left-high c.if-x-eq0.false)
 
-loop-again : tie.Need-loop-preserved invariant-loop decreases-loop
+loop-again : tie.Need-loop-x-preserved-else-x-eq0 invariant-loop-x decreases-loop-x
 loop-again c =
-    let t = left c.before in
-    let a = (entry t).args in
-    λ r f. nearing-left f a.a.0 a.b.0 (t.before.loop.inv r f) c.before.before.if1.true c.if2.false
+    let a = c.args in
+    λ r f. nearing-left f a.a.0 a.b.0 (c.loop-x.invariant r f) c.if-x-y.true c.if-x-eq0.false
 
 -- ---- the second is smaller
 
-sub-y : tie.Need-overflow-sub-y invariant-loop decreases-loop
+sub-y : tie.Need-overflow_sub-y invariant-loop-x decreases-loop-x
 sub-y c = (facts c.before).right-low
 
-cast-y : tie.Need-overflow-cast-y invariant-loop decreases-loop
+cast-y : tie.Need-overflow_cast-y invariant-loop-x decreases-loop-x
 cast-y c = let f = facts c.before in omega arith
 
-mul-y : tie.Need-overflow-mul-y invariant-loop decreases-loop
+mul-y : tie.Need-offset_bounds-parents-y invariant-loop-x decreases-loop-x
 mul-y c = let f = facts c.before in omega arith
 
-shared-slice-read-y : tie.Need-shared-slice-read-y invariant-loop decreases-loop
-shared-slice-read-y c = let f = facts (right c) in omega arith
+shared-slice-read-y : tie.Need-bounds-parents-y invariant-loop-x decreases-loop-x
+shared-slice-read-y c = let f = facts c.before.before in omega arith
 
-cast-y-2 : tie.Need-overflow-cast-y-2 invariant-loop decreases-loop
-cast-y-2 c = omega (arith, c.shared-slice-known2.given ((right c).before.loop.y - 1))
+cast-y-2 : tie.Need-overflow_cast-y-else-x-y invariant-loop-x decreases-loop-x
+cast-y-2 c = omega (arith, c.shared_slice_known-else-x-y-1.given (c.loop-x.y - 1))
 
-above : (c : tie.Else1 invariant-loop decreases-loop) → c.before.before.loop.y < c.before.before.loop.x
-above c = omega (arith, c.before.loop-test.true, c.if1.false)
+above : (c : tie.Else-x-y invariant-loop-x decreases-loop-x) → c.loop-x.y < c.loop-x.x
+above c = omega (arith, c.loop-x-test.true, c.if-x-y.false)
 
-returns-2 : tie.Need-returns-2 invariant-loop decreases-loop
+returns-2 : tie.Need-returns-then-y-eq0 invariant-loop-x decreases-loop-x
 returns-2 c =
-    let t = right c.before in
-    let a = (entry t).args in
-    λ r f. right-root f a.a.0 a.b.0 (t.before.loop.inv r f) (above c.before.before) c.if3.true
+    let a = c.args in
+    λ r f. right-root f a.a.0 a.b.0 (c.loop-x.invariant r f) (above c.before.before) c.if-y-eq0.true
 
-loop-less-2 : tie.Need-loop-smaller-2 invariant-loop decreases-loop
+loop-less-2 : tie.Need-loop-x-smaller invariant-loop-x decreases-loop-x
 loop-less-2 c =
-    let t = right c.before in
-    let g = facts t in
-    omega (arith, g, parent-higher (entry t).pre.0.followed t.before.loop.y g.right-low g.right-high c.if3.false)
+    let g = facts c.before.before.before in
+    omega (arith, g, parent-higher c.requires.0.followed c.loop-x.y g.right-low g.right-high c.if-y-eq0.false)
 
-loop-again-2 : tie.Need-loop-preserved-2 invariant-loop decreases-loop
+loop-again-2 : tie.Need-loop-x-preserved invariant-loop-x decreases-loop-x
 loop-again-2 c =
-    let t = right c.before in
-    let a = (entry t).args in
-    λ r f. nearing-right f a.a.0 a.b.0 (t.before.loop.inv r f) (above c.before.before) c.if3.false
+    let a = c.args in
+    λ r f. nearing-right f a.a.0 a.b.0 (c.loop-x.invariant r f) (above c.before.before) c.if-y-eq0.false
 
 -- ---- they have met
 
-returns-3 : tie.Need-returns-3 invariant-loop decreases-loop
+returns-3 : tie.Need-returns invariant-loop-x decreases-loop-x
 returns-3 c =
-    let a = c.before.before.args in
-    λ r f. nearing-end f a.a.0 a.b.0 (c.before.loop.invariant r f) c.loop-test.false
+    let a = c.args in
+    λ r f. nearing-end f a.a.0 a.b.0 (c.loop-x.invariant r f) c.loop-x-test.false
 
-pub join-spec : {M : Type 1} → statement M
-join-spec =
+pub join_spec : {M : Type 1} → statement M
+join_spec =
     tie.close
     (tie.spec
-    invariant-loop
-    decreases-loop
+    invariant-loop-x
+    decreases-loop-x
     loop-holds
     sub-x
     cast-x

@@ -11,17 +11,8 @@ use Rattle.questions.proofs.meeting.holds_row.Statement.{statement}
 use Rattle.questions.proofs.meeting.holds_row.Tie as tie
 
 -- ---- the places, named
-abbrev entry : tie.After-struct-known → tie.Start
-entry c = c.before.before.before.before.before.before.before
-
-abbrev read : tie.After-shared-slice-known7 → tie.Start
-read c = entry c.before
-
-abbrev third : tie.Else3 → tie.After-shared-slice-known7
-third c = c.before.before.before
-
-abbrev fourth : tie.Else4 → tie.Else3
-fourth c = c.before.before
+abbrev read : tie.After-shared_slice_known-7-1 → tie.Start
+read c = c.before.before.before.before.before.before.before.before
 
 record Facts (s : tie.Start) : Type 0 where
   pub low : 1 ≤ s.args.j.0
@@ -44,85 +35,78 @@ facts s =
     }
 
 -- the parent that was read, one of 1 to i
-record Parent (c : tie.Else3) : Type 0 where
-  pub some : at (read (third c)).args.parents.now (read (third c)).args.j.0 ≢ 0
-  pub high : at (read (third c)).args.parents.now (read (third c)).args.j.0 ≤ (read (third c)).args.i.0
+record Parent (c : tie.Else-row-p) : Type 0 where
+  pub some : at c.args.parents.now c.args.j.0 ≢ 0
+  pub high : at c.args.parents.now c.args.j.0 ≤ c.args.i.0
 
-parent : (c : tie.Else3) → Parent c
-parent c = record { some = c.before.if2.false; high = c.if3.false }
+parent : (c : tie.Else-row-p) → Parent c
+parent c = record { some = c.if-p-eq0.false; high = c.if-row-p.false }
 
-sub-k : tie.Need-overflow-sub-k
-sub-k c = (facts (entry c)).low
+sub-k : tie.Need-overflow_sub-k
+sub-k c = (facts c.before.before.before.before.before.before.before).low
 
-cast-k : tie.Need-overflow-cast-k
-cast-k c = let f = facts (entry c) in omega arith
+cast-k : tie.Need-overflow_cast-k
+cast-k c = let f = facts c.before.before.before.before.before.before.before in omega arith
 
-mul-p : tie.Need-overflow-mul-p
-mul-p c = let f = facts (entry c) in omega arith
+mul-p : tie.Need-offset_bounds-parents-k
+mul-p c = let f = facts c.before.before.before.before.before.before.before in omega arith
 
-shared-slice-read-p : tie.Need-shared-slice-read-p
-shared-slice-read-p c = let f = facts (read c) in omega arith
+shared-slice-read-p : tie.Need-bounds-parents-k
+shared-slice-read-p c = let f = facts c.before.before.before.before.before.before.before.before in omega arith
 
-cast-p : tie.Need-overflow-cast-p
-cast-p c = omega (arith, c.shared-slice-known7.given ((read c).args.j.0 - 1))
+cast-p : tie.Need-overflow_cast-p
+cast-p c = omega (arith, c.shared_slice_known-7-1.given (c.args.j.0 - 1))
 
-returns : tie.Need-returns
+returns : tie.Need-returns-then-p-row
 returns c =
-    let s = read c.before in
-    let f = facts s in
-    λ r t k. row-parent t s.args.i.0 s.args.j.0 f.low f.below f.high c.if1.true
+    let f = facts c.before.before.before.before.before.before.before.before.before in
+    λ r t k. row-parent t c.args.i.0 c.args.j.0 f.low f.below f.high c.if-p-row.true
 
-returns-2 : tie.Need-returns-2
+returns-2 : tie.Need-returns-then-p-eq0
 returns-2 c =
-    let s = read c.before.before in
-    let f = facts s in
-    λ r t k. row-root t s.args.i.0 s.args.j.0 f.low f.below f.high c.if2.true
+    let f = facts c.before.before.before.before.before.before.before.before.before.before in
+    λ r t k. row-root t c.args.i.0 c.args.j.0 f.low f.below f.high c.if-p-eq0.true
 
-returns-3 : tie.Need-returns-3
+returns-3 : tie.Need-returns-then-row-p
 returns-3 c =
-    let s = read c.before.before.before in
-    let f = facts s in
-    λ r t k. row-above t s.args.i.0 s.args.j.0 f.low f.below f.high c.if3.true
+    let f = facts c.before.before.before.before.before.before.before.before.before.before.before in
+    λ r t k. row-above t c.args.i.0 c.args.j.0 f.low f.below f.high c.if-row-p.true
 
-sub-if4 : tie.Need-overflow-sub-if4
+sub-if4 : tie.Need-overflow_sub-p
 sub-if4 c = omega (arith, (parent c).some)
 
-cast-if4 : tie.Need-overflow-cast-if4
-cast-if4 c = let f = facts (read (third c)) in omega (arith, (parent c).high)
+cast-if4 : tie.Need-overflow_cast-p-2
+cast-if4 c = let f = facts c.before.before.before.before.before.before.before.before.before.before.before in omega (arith, (parent c).high)
 
-mul-if4 : tie.Need-overflow-mul-if4
-mul-if4 c = let f = facts (read (third c)) in omega (arith, (parent c).high)
+mul-if4 : tie.Need-offset_bounds-work-p
+mul-if4 c = let f = facts c.before.before.before.before.before.before.before.before.before.before.before in omega (arith, (parent c).high)
 
-shared-slice-read-if4 : tie.Need-shared-slice-read-if4
-shared-slice-read-if4 c = let f = facts (read (third c.before)) in omega (arith, (parent c.before).some, (parent c.before).high)
+shared-slice-read-if4 : tie.Need-bounds-work-p
+shared-slice-read-if4 c = let f = facts c.before.before.before.before.before.before.before.before.before.before.before.before in omega (arith, (parent c.before).some, (parent c.before).high)
 
-returns-4 : tie.Need-returns-4
+returns-4 : tie.Need-returns-then-work-p-eq0
 returns-4 c =
-    let e = c.before.before in
-    let s = read (third e) in
-    let f = facts s in
-    λ r t k. row-unmarked t s.args.i.0 s.args.j.0 f.low f.below f.high s.args.work.now k (parent e).some (parent e).high c.if4.true
+    let f = facts c.before.before.before.before.before.before.before.before.before.before.before.before.before in
+    λ r t k. row-unmarked t c.args.i.0 c.args.j.0 f.low f.below f.high c.args.work.now k (parent c.before.before).some (parent c.before.before).high c.if-work-p-eq0.true
 
-mul-t14 : tie.Need-overflow-mul-t14
-mul-t14 c = let f = facts (read (third (fourth c))) in omega arith
+mul-t14 : tie.Need-offset_bounds-heads-k
+mul-t14 c = let f = facts c.before.before.before.before.before.before.before.before.before.before.before.before.before in omega arith
 
-shared-slice-read-t13 : tie.Need-shared-slice-read-t13
-shared-slice-read-t13 c = let f = facts (read (third (fourth c.before))) in omega arith
+shared-slice-read-t13 : tie.Need-bounds-heads-k
+shared-slice-read-t13 c = let f = facts c.before.before.before.before.before.before.before.before.before.before.before.before.before.before in omega arith
 
-count-at-requires : tie.Need-count-at-requires
+count-at-requires : tie.Need-count_at-n-requires
 count-at-requires c κs =
-    let s = read (third (fourth c.before)) in
-    let f = facts s in
-    can-count s.pre.0.ask s.args.j.0 f.low (omega (arith, f.below, f.high))
+    let f = facts c.before.before.before.before.before.before.before.before.before.before.before.before.before.before in
+    can-count c.requires.0.ask c.args.j.0 f.low (omega (arith, f.below, f.high))
 
-returns-5 : tie.Need-returns-5
+returns-5 : tie.Need-returns
 returns-5 c =
-    let s = read (third (fourth c.before.before)) in
-    let f = facts s in
-    λ r t k. row-counted t s.args.i.0 s.args.j.0 f.low f.below f.high c.count_at.result c.count_at.ensures
+    let f = facts c.before.before.before.before.before.before.before.before.before.before.before.before.before.before.before in
+    λ r t k. row-counted t c.args.i.0 c.args.j.0 f.low f.below f.high c.count_at-n.result c.count_at-n.ensures
 
-pub holds-row-spec : {M : Type 1} → statement M
-holds-row-spec =
+pub holds_row_spec : {M : Type 1} → statement M
+holds_row_spec =
     tie.close
     (tie.spec
     sub-k

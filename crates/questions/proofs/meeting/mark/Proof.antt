@@ -7,31 +7,22 @@ use Rattle.questions.proofs.Marking.{Marking, marking-start, marking-short, mark
 use Rattle.questions.proofs.meeting.mark.Statement.{statement}
 use Rattle.questions.proofs.meeting.mark.Tie as tie
 
-abbrev invariant-loop : tie.invariant-loop
-invariant-loop heads parents rows counts next work₀ i top n₀ j₀ work n j = Marking heads parents rows counts next work₀ top work n j
+abbrev invariant-loop-j : tie.invariant-loop-j
+invariant-loop-j heads parents rows counts next work₀ i top n₀ j₀ work n j = Marking heads parents rows counts next work₀ top work n j
 
-abbrev decreases-loop : tie.decreases-loop
-decreases-loop heads parents rows counts next work₀ i top n₀ j₀ work n j = j
+abbrev decreases-loop-j : tie.decreases-loop-j
+decreases-loop-j heads parents rows counts next work₀ i top n₀ j₀ work n j = j
 
 -- ---- the places, named
-abbrev start : tie.After-slice-known invariant-loop decreases-loop → tie.Start invariant-loop decreases-loop
-start c = c.before.before.before.before.before.before
-
-abbrev entry : tie.At-loop invariant-loop decreases-loop → tie.Start invariant-loop decreases-loop
-entry c = start c.before
-
-abbrev turn : tie.After-holds-row invariant-loop decreases-loop → tie.In-loop invariant-loop decreases-loop
-turn c = c.before.before
-
 -- row i is one of 1 to m, and the work table has a place for each column, before and after row i is marked
-record Facts (s : tie.Start invariant-loop decreases-loop) : Type 0 where
+record Facts (s : tie.Start invariant-loop-j decreases-loop-j) : Type 0 where
   pub low : 1 ≤ s.args.i.0
   pub high : s.args.i.0 ≤ length s.args.heads.now
   pub room : length s.args.heads.now ≤ length s.args.work.now
   pub room-marked : length s.args.heads.now ≤ length (set s.args.work.now (s.args.i.0 - 1) 1)
   pub narrow : length s.args.heads.now ≤ 4096
 
-facts : (s : tie.Start invariant-loop decreases-loop) → Facts s
+facts : (s : tie.Start invariant-loop-j decreases-loop-j) → Facts s
 facts s =
     let p = s.requires in
     record {
@@ -43,22 +34,21 @@ facts s =
     }
 
 -- column j is one of 1 to i - 1
-record Here (c : tie.In-loop invariant-loop decreases-loop) : Type 0 where
-  pub low : 1 ≤ c.before.loop.j
-  pub below : c.before.loop.j < (entry c.before).args.i.0
-  pub high : (entry c.before).args.i.0 ≤ length (entry c.before).args.heads.now
-  pub room : length (entry c.before).args.heads.now ≤ length c.before.loop.work
-  pub few : c.before.loop.n ≤ 4096
-  pub narrow : length (entry c.before).args.heads.now ≤ 4096
+record Here (c : tie.In-loop-j invariant-loop-j decreases-loop-j) : Type 0 where
+  pub low : 1 ≤ c.loop-j.j
+  pub below : c.loop-j.j < c.args.i.0
+  pub high : c.args.i.0 ≤ length c.args.heads.now
+  pub room : length c.args.heads.now ≤ length c.loop-j.work
+  pub few : c.loop-j.n ≤ 4096
+  pub narrow : length c.args.heads.now ≤ 4096
 
-here : (c : tie.In-loop invariant-loop decreases-loop) → Here c
+here : (c : tie.In-loop-j invariant-loop-j decreases-loop-j) → Here c
 here c =
-    let s = entry c.before in
-    let f = facts s in
-    let i = s.args.i.0 in
-    let v = c.before.loop.invariant in
+    let f = facts c.before.before.before.before.before.before.before.before in
+    let i = c.args.i.0 in
+    let v = c.loop-j.invariant in
     record {
-      low = omega (arith, c.loop-test.true);
+      low = omega (arith, c.loop-j-test.true);
       below = v.below;
       high = f.high;
       room = omega (arith, f.room-marked, marking-long i f.low f.high f.room-marked v);
@@ -66,93 +56,88 @@ here c =
       narrow = f.narrow;
     }
 
-sub-work : tie.Need-overflow-sub-work invariant-loop decreases-loop
-sub-work c = (facts (start c)).low
+sub-work : tie.Need-overflow_sub-work invariant-loop-j decreases-loop-j
+sub-work c = (facts c.before.before.before.before.before.before).low
 
-cast-work : tie.Need-overflow-cast-work invariant-loop decreases-loop
-cast-work c = let f = facts (start c) in omega arith
+cast-work : tie.Need-overflow_cast-work invariant-loop-j decreases-loop-j
+cast-work c = let f = facts c.before.before.before.before.before.before in omega arith
 
-mul-work : tie.Need-overflow-mul-work invariant-loop decreases-loop
-mul-work c = let f = facts (start c) in omega arith
+mul-work : tie.Need-offset_bounds-work-top invariant-loop-j decreases-loop-j
+mul-work c = let f = facts c.before.before.before.before.before.before in omega arith
 
-slice-write-work : tie.Need-slice-write-work invariant-loop decreases-loop
-slice-write-work c = let f = facts (start c) in omega arith
+slice-write-work : tie.Need-bounds-work-top invariant-loop-j decreases-loop-j
+slice-write-work c = let f = facts c.before.before.before.before.before.before in omega arith
 
-sub-j : tie.Need-overflow-sub-j invariant-loop decreases-loop
-sub-j c = (facts (start c)).low
+sub-j : tie.Need-overflow_sub-j invariant-loop-j decreases-loop-j
+sub-j c = (facts c.before.before.before.before.before.before).low
 
-loop-holds : tie.Need-loop-init invariant-loop decreases-loop
+loop-holds : tie.Need-loop-j-init invariant-loop-j decreases-loop-j
 loop-holds c =
-    let s = start c in
-    let f = facts s in
-    marking-start s.args.i.0 f.low f.high s.args.work.now f.room s.pre.0.zero
+    let f = facts c.before.before.before.before.before.before in
+    marking-start c.args.i.0 f.low f.high c.args.work.now f.room c.requires.0.zero
 
-holds-row-requires : tie.Need-holds-row-requires invariant-loop decreases-loop
-holds-row-requires c κs = let h = here c.before in ((entry c.before.before).pre.0.climb, h.low, h.below, h.high, h.room)
+holds-row-requires : tie.Need-holds_row-requires invariant-loop-j decreases-loop-j
+holds-row-requires c κs = let h = here c in (c.requires.0.climb, h.low, h.below, h.high, h.room)
 
-sub-work-2 : tie.Need-overflow-sub-work-2 invariant-loop decreases-loop
-sub-work-2 c = (here (turn c.before)).low
+sub-work-2 : tie.Need-overflow_sub-work-then-holds_row invariant-loop-j decreases-loop-j
+sub-work-2 c = (here c.before.before).low
 
-cast-work-2 : tie.Need-overflow-cast-work-2 invariant-loop decreases-loop
-cast-work-2 c = let h = here (turn c.before) in omega arith
+cast-work-2 : tie.Need-overflow_cast-work-then-holds_row invariant-loop-j decreases-loop-j
+cast-work-2 c = let h = here c.before.before in omega arith
 
-mul-work-2 : tie.Need-overflow-mul-work-2 invariant-loop decreases-loop
-mul-work-2 c = let h = here (turn c.before) in omega arith
+mul-work-2 : tie.Need-offset_bounds-work-j invariant-loop-j decreases-loop-j
+mul-work-2 c = let h = here c.before.before in omega arith
 
-slice-write-work-2 : tie.Need-slice-write-work-2 invariant-loop decreases-loop
-slice-write-work-2 c = let h = here (turn c.before) in omega arith
+slice-write-work-2 : tie.Need-bounds-work-j invariant-loop-j decreases-loop-j
+slice-write-work-2 c = let h = here c.before.before in omega arith
 
-add-n : tie.Need-overflow-add-n invariant-loop decreases-loop
-add-n c = let h = here (turn c.before) in omega arith
+add-n : tie.Need-overflow_add-n invariant-loop-j decreases-loop-j
+add-n c = let h = here c.before.before in omega arith
 
-sub-j-2 : tie.Need-overflow-sub-j-2 invariant-loop decreases-loop
-sub-j-2 c = (here (turn c.before)).low
+sub-j-2 : tie.Need-overflow_sub-j-then-holds_row invariant-loop-j decreases-loop-j
+sub-j-2 c = (here c.before.before).low
 
-loop-less : tie.Need-loop-smaller invariant-loop decreases-loop
-loop-less c = let h = here (turn c.before) in omega arith
+loop-less : tie.Need-loop-j-smaller-then-holds_row invariant-loop-j decreases-loop-j
+loop-less c = let h = here c.before.before in omega arith
 
-loop-again : tie.Need-loop-preserved invariant-loop decreases-loop
+loop-again : tie.Need-loop-j-preserved-then-holds_row invariant-loop-j decreases-loop-j
 loop-again c =
-    let l = turn c.before in
-    let f = facts (entry l.before) in
-    marking-take (entry l.before).args.i.0 f.low f.high f.room-marked l.before.loop.inv (here l).low
-    (λ r t k. sym (c.before.holds_row.ensures r t k) ∙ c.if1.true)
+    let f = facts c.before.before.before.before.before.before.before.before.before.before in
+    marking-take c.args.i.0 f.low f.high f.room-marked c.loop-j.invariant (here c.before.before).low
+    (λ r t k. sym (c.holds_row.ensures r t k) ∙ c.if-holds_row.true)
 
-sub-j-3 : tie.Need-overflow-sub-j-3 invariant-loop decreases-loop
-sub-j-3 c = (here (turn c.before)).low
+sub-j-3 : tie.Need-overflow_sub-j-else-holds_row invariant-loop-j decreases-loop-j
+sub-j-3 c = (here c.before.before).low
 
-loop-less-2 : tie.Need-loop-smaller-2 invariant-loop decreases-loop
-loop-less-2 c = let h = here (turn c.before) in omega arith
+loop-less-2 : tie.Need-loop-j-smaller invariant-loop-j decreases-loop-j
+loop-less-2 c = let h = here c.before.before in omega arith
 
-loop-again-2 : tie.Need-loop-preserved-2 invariant-loop decreases-loop
+loop-again-2 : tie.Need-loop-j-preserved invariant-loop-j decreases-loop-j
 loop-again-2 c =
-    let l = turn c.before in
-    let f = facts (entry l.before) in
-    marking-pass (entry l.before).args.i.0 f.low f.high f.room-marked l.before.loop.inv (here l).low
-    (λ r t k. sym (c.before.holds_row.ensures r t k) ∙ c.if1.false)
+    let f = facts c.before.before.before.before.before.before.before.before.before.before in
+    marking-pass c.args.i.0 f.low f.high f.room-marked c.loop-j.invariant (here c.before.before).low
+    (λ r t k. sym (c.holds_row.ensures r t k) ∙ c.if-holds_row.false)
 
-same_length : tie.Need-same-length invariant-loop decreases-loop
+same_length : tie.Need-shape_of-work invariant-loop-j decreases-loop-j
 same_length c =
-    let s = entry c.before in
-    let f = facts s in
-    marking-long s.args.i.0 f.low f.high f.room-marked c.before.loop.invariant ∙ length-set s.args.work.now (s.args.i.0 - 1) 1
+    let f = facts c.before.before.before.before.before.before.before.before in
+    marking-long c.args.i.0 f.low f.high f.room-marked c.loop-j.invariant ∙ length-set c.args.work.now (c.args.i.0 - 1) 1
 
-returns : tie.Need-returns invariant-loop decreases-loop
+returns : tie.Need-returns invariant-loop-j decreases-loop-j
 returns c =
-    let s = entry c.before in
-    let f = facts s in
-    let i = s.args.i.0 in
-    let v = c.before.loop.invariant in (
-      marking-number i f.low f.high f.room-marked v c.loop-test.false,
-      (λ r t. marking-all i f.low f.high f.room-marked v c.loop-test.false r t, marking-only i f.low v),
+    let f = facts c.before.before.before.before.before.before.before.before in
+    let i = c.args.i.0 in
+    let v = c.loop-j.invariant in (
+      marking-number i f.low f.high f.room-marked v c.loop-j-test.false,
+      (λ r t. marking-all i f.low f.high f.room-marked v c.loop-j-test.false r t, marking-only i f.low v),
     )
 
 pub mark_spec : {M : Type 1} → statement M
 mark_spec =
     tie.close
     (tie.spec
-    invariant-loop
-    decreases-loop
+    invariant-loop-j
+    decreases-loop-j
     sub-work
     cast-work
     mul-work
