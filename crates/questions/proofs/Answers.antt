@@ -83,8 +83,8 @@ module _ (hs rs cs ns : List ℕ) (i j : ℕ) where
   first-row : {x : Refusal} → row_refusal (length hs) i ≡ x → (r : Register) → ColumnsFor hs rs cs ns r → both r ≡ or_else x (row_refusal r.m j)
   first-row h r f = ap (λ (y : Refusal). or_else y (row_refusal r.m j)) (row_at f.size i h)
 
-  pub next_row : row_refusal (length hs) i ≡ refusal 17 0 → Finds (ColumnsFor hs rs cs ns) (ask_next_row i j) (record { number = 17; row = 0; multiplicity = 0 })
-  next_row h = plain-refused (ColumnsFor hs rs cs ns) (ask_next_row i j) (λ r. refl) 17 refl (λ r f. first-row h r f)
+  pub next_row_lem : row_refusal (length hs) i ≡ refusal 17 0 → Finds (ColumnsFor hs rs cs ns) (ask_next_row i j) (record { number = 17; row = 0; multiplicity = 0 })
+  next_row_lem h = plain-refused (ColumnsFor hs rs cs ns) (ask_next_row i j) (λ r. refl) 17 refl (λ r f. first-row h r f)
 
   module _ (a : row_refusal (length hs) i ≡ accepted) where
     pub next-column : row_refusal (length hs) j ≡ refusal 17 0 → Finds (ColumnsFor hs rs cs ns) (ask_next_row i j) (record { number = 17; row = 0; multiplicity = 0 })

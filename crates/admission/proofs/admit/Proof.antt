@@ -29,7 +29,7 @@ read-through-requires c κs =
     admit-reads (state_at c.before.before.before.before.before.before.before.before.before.before.before.before.before) (tables_at c.before.before.before.before.before.before.before.before.before.before.before.before.before) c.args.work.now c.args.lists c.early-number.ensures c.if-number-ne0.false
 
 same-length-2 : tie.Need-shape_of-work-then-read_through
-same-length-2 c = c.read_through.auto.free
+same-length-2 c = c.read_through.auto.work
 
 returns-2 : tie.Need-returns-then-read_through
 returns-2 c =
@@ -37,7 +37,7 @@ returns-2 c =
     c.read_through.ensures.1 c.if-read_through.true
 
 same-length-3 : tie.Need-shape_of-work
-same-length-3 c = c.read_through.auto.free
+same-length-3 c = c.read_through.auto.work
 
 returns-3 : tie.Need-returns
 returns-3 c =

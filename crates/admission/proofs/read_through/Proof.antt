@@ -27,8 +27,8 @@ state_at s = state_of s.args.state
 abbrev tables_at : tie.Start → Tables
 tables_at s = tables_of s.args.heads.now s.args.parents.now s.args.rows.now s.args.counts.now s.args.next.now s.args.book_heads.now s.args.book_rows.now s.args.book_next.now s.args.windows.now
 
-lengths : (c : tie.After-read_through-arg-1) → Cut (state_at c.before.before.before.before.before.before.before.before.before.before.before.before.before.before.before.before.before.before.before) (tables_at c.before.before.before.before.before.before.before.before.before.before.before.before.before.before.before.before.before.before.before)
-lengths c = cut (state_at c.before.before.before.before.before.before.before.before.before.before.before.before.before.before.before.before.before.before.before) (tables_at c.before.before.before.before.before.before.before.before.before.before.before.before.before.before.before.before.before.before.before) c.requires.long
+lengths : (c : tie.After-slice_known-2-1) → Cut (state_of c.args.state) (tables_of c.args.heads.now c.args.parents.now c.args.rows.now c.args.counts.now c.args.next.now c.args.book_heads.now c.args.book_rows.now c.args.book_next.now c.args.windows.now)
+lengths c = cut _ _ c.requires.long
 
 -- the work table that is read with
 ready-is : (c : tie.After-make_ready) →

@@ -17,26 +17,8 @@ use Rattle.exchange.proofs.exchange.Tie as tie
 
 -- ---- the places, named
 
-abbrev start : tie.After-save-parents-arg2 → tie.Start
-start c = c.before.before.before.before.before.before.before.before.before.before.before.before
-
-abbrev saved : tie.After-none-moves → tie.After-save-parents
+abbrev saved : tie.After-none_moves → tie.After-save_parents
 saved c = c.before.before.before
-
-abbrev alone : tie.After-leave-all-arg5 → tie.Then1
-alone c = c.before.before.before.before.before
-
-abbrev left : tie.After-slice-known11 → tie.After-leave-all
-left c = c.before.before.before.before.before.before.before.before.before.before
-
-abbrev both : tie.After-save-records-arg4 → tie.Else1
-both c = c.before.before.before.before
-
-abbrev kept : tie.After-swap-arg5 → tie.After-save-records
-kept c = c.before.before.before.before.before.before.before
-
-abbrev swapped : tie.After-z → tie.After-swap
-swapped c = c.before.before.before.before.before.before.before.before.before.before.before
 
 -- what the laws ask, at the start
 abbrev Asked : tie.After-save-parents-arg2 → Type 0
@@ -52,106 +34,93 @@ asked c = can-swap (start c).requires (start c).args.after
 
 -- multiplicities have 16 bits
 small : (c : tie.After-save-parents-arg2) → (k : ℕ) → get_or (start c).args.counts.now k 0 < 65536
-small c k = omega (arith, c.before.before.before.before.before.before.before.before.slice-known3.given k)
+small c k = omega (arith, c.before.before.before.before.before.before.before.before.slice_known-3-1.given k)
 
-mul-save-parents : tie.Need-overflow-mul-save-parents
+mul-save-parents : tie.Need-overflow_mul-m
 mul-save-parents c = omega (arith, (can-save-parents (asked c)).inside)
 
-add-save-parents : tie.Need-overflow-add-save-parents
+add-save-parents : tie.Need-overflow_add-m
 add-save-parents c = omega (arith, (can-save-parents (asked c)).inside)
 
-mul-save-parents-2 : tie.Need-overflow-mul-save-parents-2
+mul-save-parents-2 : tie.Need-overflow_mul-f
 mul-save-parents-2 c = omega (arith, (can-save-parents (asked c)).inside)
 
-add-save-parents-2 : tie.Need-overflow-add-save-parents-2
+add-save-parents-2 : tie.Need-overflow_add-m-2
 add-save-parents-2 c = omega (arith, (can-save-parents (asked c)).inside)
 
-save-parents-requires : tie.Need-save-parents-requires
+save-parents-requires : tie.Need-save_parents-requires
 save-parents-requires c κs = can-save-parents (asked c)
 
-none-moves-requires : tie.Need-none-moves-requires
-none-moves-requires c κs = can-scan (start c.before.before.before).requires
+none-moves-requires : tie.Need-none_moves-requires
+none-moves-requires c κs = can-scan c.requires
 
 -- ---- none enters
 
-leave-all-requires : tie.Need-leave-all-requires
+leave-all-requires : tie.Need-leave_all-z-requires
 leave-all-requires c κs =
-    let p = saved (alone c).before in
-    let q = asked p.before in
-    some-leave-all (can-leave-all (can-after q (parents-only q p.save-parents.ensures))) (can-scan (start p.before).requires)
+    let q = asked c in
+    some-leave-all (can-leave-all (can-after q (parents-only q c.save_parents.ensures))) (can-scan c.requires)
 
-same_length : tie.Need-same-length
-same_length c = (left c).leave-all.auto.1.0
+same_length : tie.Need-shape_of-parents-then-none_moves
+same_length c = c.leave_all-z.auto.parents
 
-same-length-2 : tie.Need-same-length-2
-same-length-2 c = (left c).leave-all.auto.1.1.0
+same-length-2 : tie.Need-shape_of-rows-then-none_moves
+same-length-2 c = c.leave_all-z.auto.rows
 
-same-length-3 : tie.Need-same-length-3
-same-length-3 c = (left c).leave-all.auto.1.1.1.0
+same-length-3 : tie.Need-shape_of-counts-then-none_moves
+same-length-3 c = c.leave_all-z.auto.counts
 
-same-length-4 : tie.Need-same-length-4
-same-length-4 c = (left c).leave-all.auto.1.1.1.1.0
+same-length-4 : tie.Need-shape_of-next-then-none_moves
+same-length-4 c = c.leave_all-z.auto.next
 
-same-length-5 : tie.Need-same-length-5
-same-length-5 c = (left c).leave-all.auto.1.1.1.1.1.1.1.1.1.0 ∙ (saved (alone (left c).before).before).save-parents.auto.1.0
+same-length-5 : tie.Need-shape_of-work-then-none_moves
+same-length-5 c = c.leave_all-z.auto.work ∙ c.save_parents.auto.work
 
-returns : tie.Need-returns
+returns : tie.Need-returns-then-none_moves
 returns c =
-    let l = left c in
-    let t = alone l.before in
-    let n = t.before in
-    let p = saved n in
-    let q = asked p.before in
-    finished-leaving q p.save-parents.ensures (eqb-true _ _ (sym n.none_moves.ensures ∙ t.if1.taken))
-    (l.leave-all.ensures _ _ (can-leave-all (can-after q (parents-only q p.save-parents.ensures))))
+    let q = asked c in
+    finished-leaving q c.save_parents.ensures (eqb-true _ _ (sym c.none_moves.ensures ∙ c.if-none_moves.true))
+    (c.leave_all-z.ensures _ _ (can-leave-all (can-after q (parents-only q c.save_parents.ensures))))
 
 -- ---- some enter
 
-mul-save-records : tie.Need-overflow-mul-save-records
-mul-save-records c = omega (arith, (start (saved (both c).before).before).requires.long)
+mul-save-records : tie.Need-overflow_mul-m-2
+mul-save-records c = omega (arith, c.requires.long)
 
-add-save-records : tie.Need-overflow-add-save-records
-add-save-records c = omega (arith, (start (saved (both c).before).before).requires.long)
+add-save-records : tie.Need-overflow_add-m-3
+add-save-records c = omega (arith, c.requires.long)
 
-save-records-requires : tie.Need-save-records-requires
+save-records-requires : tie.Need-save_records-requires
 save-records-requires c κs =
-    let p = saved (both c).before in
-    let q = asked p.before in
-    can-save-records (can-after q (parents-only q p.save-parents.ensures)) (small p.before)
+    let q = asked c in
+    can-save-records (can-after q (parents-only q c.save_parents.ensures)) (small c)
 
-swap-requires : tie.Need-swap-requires
+swap-requires : tie.Need-swap-x-requires
 swap-requires c κs =
-    let r = kept c in
-    let p = saved (both r.before).before in
-    some-swap (asked p.before) (can-scan (start p.before).requires) p.save-parents.ensures r.save-records.ensures
+    some-swap (asked c) (can-scan c.requires) c.save_parents.ensures c.save_records.ensures
 
-same-length-6 : tie.Need-same-length-6
-same-length-6 c = (swapped c).swap.auto.1.0
+same-length-6 : tie.Need-shape_of-parents
+same-length-6 c = c.swap-x.auto.parents
 
-same-length-7 : tie.Need-same-length-7
-same-length-7 c = (swapped c).swap.auto.1.1.0
+same-length-7 : tie.Need-shape_of-rows
+same-length-7 c = c.swap-x.auto.rows
 
-same-length-8 : tie.Need-same-length-8
-same-length-8 c = (swapped c).swap.auto.1.1.1.0
+same-length-8 : tie.Need-shape_of-counts
+same-length-8 c = c.swap-x.auto.counts
 
-same-length-9 : tie.Need-same-length-9
-same-length-9 c = (swapped c).swap.auto.1.1.1.1.0
+same-length-9 : tie.Need-shape_of-next
+same-length-9 c = c.swap-x.auto.next
 
-same-length-10 : tie.Need-same-length-10
+same-length-10 : tie.Need-shape_of-work
 same-length-10 c =
-    let x = swapped c in
-    let r = kept x.before in
-    x.swap.kept.1.1.1.1.1.1.1.1.1.0 ∙ r.save-records.kept.1.1.1.0 ∙ (saved (both r.before).before).save-parents.auto.1.0
+    c.swap-x.auto.work ∙ c.save_records.auto.work ∙ c.save_parents.auto.work
 
-returns-2 : tie.Need-returns-2
+returns-2 : tie.Need-returns
 returns-2 c =
-    let x = swapped c in
-    let r = kept x.before in
-    let p = saved (both r.before).before in
-    finished-both (asked p.before) p.save-parents.ensures r.save-records.ensures x.swap.ensures
+    finished-both (asked c) c.save_parents.ensures c.save_records.ensures c.swap-x.ensures
 
-pub exchange-spec : {M : Type 1} → statement M
-exchange-spec =
+pub exchange_spec : {M : Type 1} → statement M
+exchange_spec =
     tie.close
     (tie.spec
     mul-save-parents

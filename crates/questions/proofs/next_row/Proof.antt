@@ -11,7 +11,7 @@ use Rattle.columns.proofs.Search.{first-high}
 use Rattle.calls.specs.Refusals.{accepted, row_refusal}
 use Rattle.questions.proofs.Replies.{row_out, row_in}
 use Rattle.questions.proofs.Finding.{ends-before, goes_on}
-use Rattle.questions.proofs.Answers.{next_row, next-column, next-answer}
+use Rattle.questions.proofs.Answers.{next_row_lem, next-column, next-answer}
 use Rattle.questions.proofs.next_row.Statement.{statement}
 use Rattle.questions.proofs.next_row.Tie as tie
 
@@ -46,7 +46,7 @@ row-outside-requires c κs = search rules
 returns : tie.Need-returns-then-row_outside
 returns c =
     let a = c.args in
-    next_row a.heads.now a.rows.now a.counts.now a.next.now a.i.0 a.j.0
+    next_row_lem a.heads.now a.rows.now a.counts.now a.next.now a.i.0 a.j.0
     (row_out (length a.heads.now) a.i.0 c.row_outside.ensures c.if-row_outside.true)
 
 row-outside-requires-2 : tie.Need-row_outside-requires-2

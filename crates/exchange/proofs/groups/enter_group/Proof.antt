@@ -14,134 +14,111 @@ use Rattle.exchange.proofs.groups.enter_group.Tie as tie
 
 -- ---- the places, named
 
-abbrev filled : tie.After-plan-enter-arg5 → tie.After-booked-starts
-filled c = c.before.before.before.before.before.before
-
-abbrev first : tie.After-booked-starts → tie.Start
-first c = c.before.before.before.before.before.before.before.before.before.before.before.before
-
-abbrev start : tie.After-starts3 → tie.Start
-start c = first (filled c.before)
-
-abbrev planned : tie.After-slice-known6 → tie.After-plan-enter
+abbrev planned : tie.After-slice_known-6-1 → tie.After-plan_enter-plan
 planned c = c.before.before
 
-abbrev fitting : tie.After-gather-arg2 → tie.Then1
-fitting c = c.before.before
-
-abbrev gathered : tie.After-write-plan-arg5 → tie.After-gather
+abbrev gathered : tie.After-write_plan-arg-then-plan-4-1 → tie.After-gather
 gathered c = c.before.before.before.before.before.before.before
 
-abbrev written : tie.After-slice-known12 → tie.After-write-plan
+abbrev written : tie.After-slice_known-then-plan-6-1 → tie.After-write_plan-z
 written c = c.before.before.before.before.before.before.before.before.before.before
 
 -- ---- the starts, filled in
 
-array-borrow-prefix-starts : tie.Need-array-borrow-prefix-starts
-array-borrow-prefix-starts c = (enter-few c.before.before.before.before.before.before.before.before.before.before.requires.can).0
+array-borrow-prefix-starts : tie.Need-slice_bounds-starts-end
+array-borrow-prefix-starts c = (enter-few c.requires.can).0
 
-slice-aggregate-booked-starts : tie.Need-slice-aggregate-booked-starts
-slice-aggregate-booked-starts c = sym (length-take-le _ _ (array-borrow-prefix-starts c.before))
+slice-aggregate-booked-starts : tie.Need-slice_bounds-booked_starts-end
+slice-aggregate-booked-starts c = sym (length-take-le _ _ (array-borrow-prefix-starts c))
 
-booked-starts-requires : tie.Need-booked-starts-requires
+booked-starts-requires : tie.Need-booked_starts-requires
 booked-starts-requires c κs =
-    (length-take-le _ _ (array-borrow-prefix-starts c.before), (enter-few c.before.before.before.before.before.before.before.before.before.before.before.requires.can).1)
+    (length-take-le _ _ (array-borrow-prefix-starts c), (enter-few c.requires.can).1)
 
-filled-long : (c : tie.After-booked-starts) → length c.booked-starts.new.1.1.1.0 ≡ length (first c).args.ids.now
-filled-long c = c.booked-starts.auto.1.1.1.0 ∙ length-take-le _ _ (array-borrow-prefix-starts c.before.before)
+filled-long : (c : tie.After-booked_starts) → length c.booked_starts.new.starts ≡ length c.args.ids.now
+filled-long c = c.booked_starts.auto.starts ∙ length-take-le _ _ (array-borrow-prefix-starts c)
 
-array-share-prefix-starts : tie.Need-array-share-prefix-starts
+array-share-prefix-starts : tie.Need-slice_bounds-starts-end-2
 array-share-prefix-starts c =
-    let d = filled c in
-    let n = length (first d).args.ids.now in filled_within n d.booked-starts.last.1.1.1.0 (drop n (replicate {A = ℕ} 64 0)) (filled-long d)
+    let n = length c.args.ids.now in filled_within n c.booked_starts.new.starts (drop n (replicate {A = ℕ} 64 0)) (filled-long c.before.before)
 
-slice-aggregate-plan-enter : tie.Need-slice-aggregate-plan-enter
-slice-aggregate-plan-enter c = sym (length-take-le _ _ (array-share-prefix-starts c.before))
+slice-aggregate-plan-enter : tie.Need-slice_bounds-plan_enter-end
+slice-aggregate-plan-enter c = sym (length-take-le _ _ (array-share-prefix-starts c))
 
 -- the starts as they are lent
-abbrev lent : tie.After-booked-starts → List ℕ
-lent c = let n = length (first c).args.ids.now in take n (c.booked-starts.new.1.1.1.0 ++ drop n (replicate {A = ℕ} 64 0))
+abbrev lent : tie.After-booked_starts → List ℕ
+lent c = let n = length c.args.ids.now in take n (c.booked_starts.new.starts ++ drop n (replicate {A = ℕ} 64 0))
 
-lent_is : (c : tie.After-booked-starts) → lent c ≡ booked_starts (tables_of (first c).args.book-heads.now (first c).args.book-rows.now (first c).args.book-next.now) (first c).args.ids.now
-lent_is c = take_at _ _ _ (filled-long c) ∙ c.booked-starts.ensures (first c).args.book-next.now (first c).requires.can.book-sized
+lent_is : (c : tie.After-booked_starts) → lent c ≡ booked_starts (tables_of c.args.book_heads.now c.args.book_rows.now c.args.book_next.now) c.args.ids.now
+lent_is c = take_at _ _ _ (filled-long c) ∙ c.booked_starts.ensures c.args.book_next.now c.requires.can.book-sized
 
-plan-enter-requires : tie.Need-plan-enter-requires
-plan-enter-requires c κs = let p = (start c).requires in record { R = p.R; W = p.W; can = whole-enter (lent_is (filled c.before)) p.can }
+plan-enter-requires : tie.Need-plan_enter-plan-requires
+plan-enter-requires c κs = let p = c.requires in record { R = p.R; W = p.W; can = whole-enter (lent_is c.before.before.before) p.can }
 
 -- ---- where it fits
 
-mul-gather : tie.Need-overflow-mul-gather
-mul-gather c = let k = (start (planned (fitting c).before).before).requires.can.can in omega (arith, k.m-bound, k.f-bound)
+mul-gather : tie.Need-overflow_mul-m
+mul-gather c = let k = c.requires.can.can in omega (arith, k.m-bound, k.f-bound)
 
-add-gather : tie.Need-overflow-add-gather
-add-gather c = let k = (start (planned (fitting c).before).before).requires.can.can in omega (arith, k.m-bound, k.f-bound)
+add-gather : tie.Need-overflow_add-m
+add-gather c = let k = c.requires.can.can in omega (arith, k.m-bound, k.f-bound)
 
-mul-gather-2 : tie.Need-overflow-mul-gather-2
-mul-gather-2 c = let k = (start (planned (fitting c).before).before).requires.can.can in omega (arith, k.m-bound, k.f-bound)
+mul-gather-2 : tie.Need-overflow_mul-f
+mul-gather-2 c = let k = c.requires.can.can in omega (arith, k.m-bound, k.f-bound)
 
-add-gather-2 : tie.Need-overflow-add-gather-2
-add-gather-2 c = let k = (start (planned (fitting c).before).before).requires.can.can in omega (arith, k.m-bound, k.f-bound)
+add-gather-2 : tie.Need-overflow_add-m-then-plan
+add-gather-2 c = let k = c.requires.can.can in omega (arith, k.m-bound, k.f-bound)
 
 gather-requires : tie.Need-gather-requires
 gather-requires c κs =
-    let t = fitting c in
-    let p = planned t.before in
-    enter-gather (start p.before).requires.can (lent_is (filled p.before.before)) p.plan-enter.ensures t.if1.taken
+    enter-gather c.requires.can (lent_is c.before.before.before.before.before.before.before.before.before) c.plan_enter-plan.ensures c.if-plan.true
 
-write-plan-requires : tie.Need-write-plan-requires
+write-plan-requires : tie.Need-write_plan-z-requires
 write-plan-requires c κs =
-    let g = gathered c in
-    let t = fitting g.before in
-    let p = planned t.before in
-    enter-write (start p.before).requires.can (lent_is (filled p.before.before)) p.plan-enter.ensures t.if1.taken g.gather.ensures
+    enter-write c.requires.can (lent_is c.before.before.before.before.before.before.before.before.before.before.before.before.before.before.before.before.before.before) c.plan_enter-plan.ensures c.if-plan.true c.gather.ensures
 
-same_length : tie.Need-same-length
-same_length c = (written c).write-plan.auto.1.0
+same_length : tie.Need-shape_of-parents-then-plan
+same_length c = c.write_plan-z.auto.parents
 
-same-length-2 : tie.Need-same-length-2
-same-length-2 c = (written c).write-plan.auto.1.1.0
+same-length-2 : tie.Need-shape_of-rows-then-plan
+same-length-2 c = c.write_plan-z.auto.rows
 
-same-length-3 : tie.Need-same-length-3
-same-length-3 c = (written c).write-plan.auto.1.1.1.0
+same-length-3 : tie.Need-shape_of-counts-then-plan
+same-length-3 c = c.write_plan-z.auto.counts
 
-same-length-4 : tie.Need-same-length-4
-same-length-4 c = (written c).write-plan.auto.1.1.1.1.0
+same-length-4 : tie.Need-shape_of-next-then-plan
+same-length-4 c = c.write_plan-z.auto.next
 
-same-length-5 : tie.Need-same-length-5
+same-length-5 : tie.Need-shape_of-work-then-plan
 same-length-5 c =
-    let g = gathered (written c).before in
-    (written c).write-plan.auto.1.1.1.1.1.0 ∙ g.gather.kept.1.1.0 ∙ (planned (fitting g.before).before).plan-enter.auto.1.1.1.1.1.1.1.1.0
+    c.write_plan-z.auto.work ∙ c.gather.auto.work ∙ c.plan_enter-plan.auto.work
 
-returns : tie.Need-returns
+returns : tie.Need-returns-then-plan
 returns c = λ N W can.
-    let w = written c in
-    let g = gathered w.before in
-    let t = fitting g.before in
-    let p = planned t.before in
-    group-entered can (lent_is (filled p.before.before)) p.plan-enter.ensures t.if1.taken g.gather.ensures w.write-plan.ensures w.write-plan.kept.1.1.1.1.0
+    group-entered can (lent_is c.before.before.before.before.before.before.before.before.before.before.before.before.before.before.before.before.before.before.before.before.before.before.before.before.before.before.before.before.before) c.plan_enter-plan.ensures c.if-plan.true c.gather.ensures c.write_plan-z.ensures c.write_plan-z.auto.next
 
 -- ---- where it does not
 
-same-length-6 : tie.Need-same-length-6
+same-length-6 : tie.Need-shape_of-parents
 same-length-6 c = refl
 
-same-length-7 : tie.Need-same-length-7
+same-length-7 : tie.Need-shape_of-rows
 same-length-7 c = refl
 
-same-length-8 : tie.Need-same-length-8
+same-length-8 : tie.Need-shape_of-counts
 same-length-8 c = refl
 
-same-length-9 : tie.Need-same-length-9
+same-length-9 : tie.Need-shape_of-next
 same-length-9 c = refl
 
-same-length-10 : tie.Need-same-length-10
-same-length-10 c = (planned c.before).plan-enter.auto.1.1.1.1.1.1.1.1.0
+same-length-10 : tie.Need-shape_of-work
+same-length-10 c = c.plan_enter-plan.auto.work
 
-returns-2 : tie.Need-returns-2
-returns-2 c = λ N W can. group-halted can (lent_is (filled (planned c.before).before.before)) (planned c.before).plan-enter.ensures c.if1.false
+returns-2 : tie.Need-returns
+returns-2 c = λ N W can. group-halted can (lent_is c.before.before.before.before.before.before.before) c.plan_enter-plan.ensures c.if-plan.false
 
-pub enter-group-spec : {M : Type 1} → statement M
-enter-group-spec =
+pub enter_group_spec : {M : Type 1} → statement M
+enter_group_spec =
     tie.close
     (tie.spec
     array-borrow-prefix-starts

@@ -16,109 +16,87 @@ use Rattle.exchange.proofs.Leaving.{Leaving, leaving-start, leaving-some, leavin
 use Rattle.exchange.proofs.groups.leave_all.Statement.{statement}
 use Rattle.exchange.proofs.groups.leave_all.Tie as tie
 
-abbrev invariant-loop : tie.invariant-loop
-invariant-loop heads parents₀ rows₀ counts₀ next₀ book-heads book-rows book-next windows work₀ minute other i₀ z₀ parents rows counts next work i z =
+abbrev invariant-loop-group : tie.invariant-loop-group
+invariant-loop-group heads parents₀ rows₀ counts₀ next₀ book-heads book-rows book-next windows work₀ minute other i₀ z₀ parents rows counts next work i z =
     Scanned book-heads (moves_from windows (length book-heads) minute other) i.0 ×
     ((R A : List Column) →
     CanLeaveAll (stored_of heads parents₀ rows₀ counts₀ next₀ z₀.0) (tables_of book-heads book-rows book-next) (moving_ids book-heads windows minute other) work₀ R A →
     Leaving R A (stored_of heads parents₀ rows₀ counts₀ next₀ z₀.0) (stored_of heads parents rows counts next z.0) work₀ work
     (gone book-heads (moves_from windows (length book-heads) minute other) i.0))
 
-abbrev decreases-loop : tie.decreases-loop
-decreases-loop heads parents₀ rows₀ counts₀ next₀ book-heads book-rows book-next windows work₀ minute other i₀ z₀ parents rows counts next work i z =
+abbrev decreases-loop-group : tie.decreases-loop-group
+decreases-loop-group heads parents₀ rows₀ counts₀ next₀ book-heads book-rows book-next windows work₀ minute other i₀ z₀ parents rows counts next work i z =
     length (ids_on book-heads (moves_from windows (length book-heads) minute other) i.0)
 
 -- ---- the places, named
 
-abbrev entry : tie.At-loop invariant-loop decreases-loop → tie.Start invariant-loop decreases-loop
-entry c = c.before.before.before.before.before.before.before.before.before.before.before
-
-abbrev collected : tie.After-group2 invariant-loop decreases-loop → tie.After-collect invariant-loop decreases-loop
+abbrev collected : tie.After-group-in-loop-group-1 invariant-loop-group decreases-loop-group → tie.After-collect-g invariant-loop-group decreases-loop-group
 collected c = c.before
 
-abbrev lent : tie.After-group3 invariant-loop decreases-loop → tie.Else1 invariant-loop decreases-loop
-lent c = c.before.before.before.before.before.before
-
-abbrev called : tie.After-i invariant-loop decreases-loop → tie.After-leave-group invariant-loop decreases-loop
-called c = c.before.before.before.before.before.before.before.before.before.before.before
-
-abbrev turn : tie.After-collect invariant-loop decreases-loop → tie.At-loop invariant-loop decreases-loop
-turn c = c.before.before
-
-loop-holds : tie.Need-loop-init invariant-loop decreases-loop
+loop-holds : tie.Need-loop-group-init invariant-loop-group decreases-loop-group
 loop-holds c = (scanned-start _ _, λ R A can. leaving-start can (none-gone _ _))
 
 -- ---- a group is collected
 
-slice-aggregate-collect : tie.Need-slice-aggregate-collect invariant-loop decreases-loop
+slice-aggregate-collect : tie.Need-slice_bounds-collect-end invariant-loop-group decreases-loop-group
 slice-aggregate-collect c = refl
 
-collect-requires : tie.Need-collect-requires invariant-loop decreases-loop
-collect-requires c κs = let l = c.before in can-go-on l.loop.invariant.0 (entry l).requires.scan
+collect-requires : tie.Need-collect-g-requires invariant-loop-group decreases-loop-group
+collect-requires c κs = can-go-on c.loop-group.invariant.0 c.requires.scan
 
 -- ---- none is left
 
-same_length : tie.Need-same-length invariant-loop decreases-loop
-same_length c = let l = turn (collected c.before) in let p = (entry l).pre in moved-parents p.can.go.sized (l.loop.inv.1 p.R p.A p.can)
+same_length : tie.Need-shape_of-parents-then-k-eq0 invariant-loop-group decreases-loop-group
+same_length c = let p = c.requires in moved-parents p.can.go.sized (c.loop-group.invariant.1 p.R p.A p.can)
 
-same-length-2 : tie.Need-same-length-2 invariant-loop decreases-loop
-same-length-2 c = let l = turn (collected c.before) in let p = (entry l).pre in moved-rows p.can.go.sized (l.loop.inv.1 p.R p.A p.can)
+same-length-2 : tie.Need-shape_of-rows-then-k-eq0 invariant-loop-group decreases-loop-group
+same-length-2 c = let p = c.requires in moved-rows p.can.go.sized (c.loop-group.invariant.1 p.R p.A p.can)
 
-same-length-3 : tie.Need-same-length-3 invariant-loop decreases-loop
-same-length-3 c = let l = turn (collected c.before) in let p = (entry l).pre in moved-counts p.can.go.sized (l.loop.inv.1 p.R p.A p.can)
+same-length-3 : tie.Need-shape_of-counts-then-k-eq0 invariant-loop-group decreases-loop-group
+same-length-3 c = let p = c.requires in moved-counts p.can.go.sized (c.loop-group.invariant.1 p.R p.A p.can)
 
-same-length-4 : tie.Need-same-length-4 invariant-loop decreases-loop
-same-length-4 c = let l = turn (collected c.before) in let p = (entry l).pre in (l.loop.inv.1 p.R p.A p.can).long
+same-length-4 : tie.Need-shape_of-next-then-k-eq0 invariant-loop-group decreases-loop-group
+same-length-4 c = let p = c.requires in (c.loop-group.invariant.1 p.R p.A p.can).long
 
-same-length-5 : tie.Need-same-length-5 invariant-loop decreases-loop
-same-length-5 c = let l = turn (collected c.before) in let p = (entry l).pre in (l.loop.inv.1 p.R p.A p.can).gathers.only.same_length
+same-length-5 : tie.Need-shape_of-work-then-k-eq0 invariant-loop-group decreases-loop-group
+same-length-5 c = let p = c.requires in (c.loop-group.invariant.1 p.R p.A p.can).gathers.only.same_length
 
-returns : tie.Need-returns invariant-loop decreases-loop
+returns : tie.Need-returns-then-k-eq0 invariant-loop-group decreases-loop-group
 returns c =
-    let g = collected c.before in
-    let l = turn g in
-    λ R A can. leaving-end can (l.loop.inv.1 R A can) (scanned-end l.loop.inv.0 g.collect.ensures c.if1.true (omega arith))
+    λ R A can. leaving-end can (c.loop-group.invariant.1 R A can) (scanned-end c.loop-group.invariant.0 c.collect-g.ensures c.if-k-eq0.true (omega arith))
 
 -- ---- it leaves
 
-array-share-prefix-group : tie.Need-array-share-prefix-group invariant-loop decreases-loop
-array-share-prefix-group c = let g = c.before.before.before.before.before.before.before in omega (arith, g.collect.ensures.count_fits, g.collect.ensures.same_length)
+array-share-prefix-group : tie.Need-slice_bounds-group-end invariant-loop-group decreases-loop-group
+array-share-prefix-group c = omega (arith, c.collect-g.ensures.count_fits, c.collect-g.ensures.same_length)
 
-slice-aggregate-leave-group : tie.Need-slice-aggregate-leave-group invariant-loop decreases-loop
-slice-aggregate-leave-group c = let g = collected (lent c).before in sym (part_length (turn g).loop.inv.0 g.collect.ensures)
+slice-aggregate-leave-group : tie.Need-slice_bounds-leave_group-end invariant-loop-group decreases-loop-group
+slice-aggregate-leave-group c = sym (part_length c.loop-group.invariant.0 c.collect-g.ensures)
 
-leave-group-requires : tie.Need-leave-group-requires invariant-loop decreases-loop
+leave-group-requires : tie.Need-leave_group-z-requires invariant-loop-group decreases-loop-group
 leave-group-requires c κs =
-    let h = lent c in
-    let g = collected h.before in
-    let l = turn g in
-    let p = (entry l).pre in
-    leaving-some p.can (l.loop.inv.1 p.R p.A p.can) (collected-ends l.loop.inv.0 g.collect.ensures (omega (arith, h.if1.left)) (omega arith))
-    (collected-is l.loop.inv.0 g.collect.ensures)
+    let p = c.requires in
+    leaving-some p.can (c.loop-group.invariant.1 p.R p.A p.can) (collected-ends c.loop-group.invariant.0 c.collect-g.ensures (omega (arith, c.if-k-eq0.false)) (omega arith))
+    (collected-is c.loop-group.invariant.0 c.collect-g.ensures)
 
-loop-less : tie.Need-loop-smaller invariant-loop decreases-loop
+loop-less : tie.Need-loop-group-smaller invariant-loop-group decreases-loop-group
 loop-less c =
-    let h = lent (called c).before in
-    let g = collected h.before in
-    scanned-less (turn g).loop.inv.0 g.collect.ensures (omega (arith, h.if1.left))
+    scanned-less c.loop-group.invariant.0 c.collect-g.ensures (omega (arith, c.if-k-eq0.false))
 
-loop-again : tie.Need-loop-preserved invariant-loop decreases-loop
+loop-again : tie.Need-loop-group-preserved invariant-loop-group decreases-loop-group
 loop-again c =
-    let d = called c in
-    let h = lent d.before in
-    let g = collected h.before in
-    let l = turn g in (
-      scanned-next l.loop.inv.0 g.collect.ensures,
-      λ R A can. leaving-turn can (l.loop.inv.1 R A can) (collected-ends l.loop.inv.0 g.collect.ensures (omega (arith, h.if1.left)) (omega arith))
-          (collected-is l.loop.inv.0 g.collect.ensures) d.leave-group.ensures,
+    (
+      scanned-next c.loop-group.invariant.0 c.collect-g.ensures,
+      λ R A can. leaving-turn can (c.loop-group.invariant.1 R A can) (collected-ends c.loop-group.invariant.0 c.collect-g.ensures (omega (arith, c.if-k-eq0.false)) (omega arith))
+          (collected-is c.loop-group.invariant.0 c.collect-g.ensures) c.leave_group-z.ensures,
     )
 
-pub leave-all-spec : {M : Type 1} → statement M
-leave-all-spec =
+pub leave_all_spec : {M : Type 1} → statement M
+leave_all_spec =
     tie.close
     (tie.spec
-    invariant-loop
-    decreases-loop
+    invariant-loop-group
+    decreases-loop-group
     loop-holds
     slice-aggregate-collect
     collect-requires

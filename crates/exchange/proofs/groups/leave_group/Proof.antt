@@ -14,104 +14,88 @@ use Rattle.exchange.proofs.groups.leave_group.Tie as tie
 
 -- ---- the places, named
 
-abbrev filled : tie.After-plan-remove-arg5 → tie.After-booked-starts
-filled c = c.before.before.before.before.before.before
-
-abbrev first : tie.After-booked-starts → tie.Start
-first c = c.before.before.before.before.before.before.before.before.before.before.before.before
-
-abbrev start : tie.After-starts3 → tie.Start
-start c = first (filled c.before)
-
-abbrev planned : tie.After-gather-arg2 → tie.After-plan-remove
+abbrev planned : tie.After-gather-arg-2-1 → tie.After-plan_remove-plan
 planned c = c.before.before.before.before
 
-abbrev gathered : tie.After-write-plan-arg5 → tie.After-gather
+abbrev gathered : tie.After-write_plan-arg-5-1 → tie.After-gather
 gathered c = c.before.before.before.before.before.before.before
 
-abbrev written : tie.After-slice-known12 → tie.After-write-plan
+abbrev written : tie.After-slice_known-12-1 → tie.After-write_plan
 written c = c.before.before.before.before.before.before.before.before.before.before
 
 -- ---- the starts, filled in
 
-array-borrow-prefix-starts : tie.Need-array-borrow-prefix-starts
-array-borrow-prefix-starts c = (leave-few c.before.before.before.before.before.before.before.before.before.before.requires.can).0
+array-borrow-prefix-starts : tie.Need-slice_bounds-starts-end
+array-borrow-prefix-starts c = (leave-few c.requires.can).0
 
-slice-aggregate-booked-starts : tie.Need-slice-aggregate-booked-starts
-slice-aggregate-booked-starts c = sym (length-take-le _ _ (array-borrow-prefix-starts c.before))
+slice-aggregate-booked-starts : tie.Need-slice_bounds-booked_starts-end
+slice-aggregate-booked-starts c = sym (length-take-le _ _ (array-borrow-prefix-starts c))
 
-booked-starts-requires : tie.Need-booked-starts-requires
+booked-starts-requires : tie.Need-booked_starts-requires
 booked-starts-requires c κs =
-    (length-take-le _ _ (array-borrow-prefix-starts c.before), (leave-few c.before.before.before.before.before.before.before.before.before.before.before.requires.can).1)
+    (length-take-le _ _ (array-borrow-prefix-starts c), (leave-few c.requires.can).1)
 
-filled-long : (c : tie.After-booked-starts) → length c.booked-starts.new.1.1.1.0 ≡ length (first c).args.ids.now
-filled-long c = c.booked-starts.auto.1.1.1.0 ∙ length-take-le _ _ (array-borrow-prefix-starts c.before.before)
+filled-long : (c : tie.After-booked_starts) → length c.booked_starts.new.starts ≡ length c.args.ids.now
+filled-long c = c.booked_starts.auto.starts ∙ length-take-le _ _ (array-borrow-prefix-starts c)
 
-array-share-prefix-starts : tie.Need-array-share-prefix-starts
+array-share-prefix-starts : tie.Need-slice_bounds-starts-end-2
 array-share-prefix-starts c =
-    let d = filled c in
-    let n = length (first d).args.ids.now in filled_within n d.booked-starts.last.1.1.1.0 (drop n (replicate {A = ℕ} 64 0)) (filled-long d)
+    let n = length c.args.ids.now in filled_within n c.booked_starts.new.starts (drop n (replicate {A = ℕ} 64 0)) (filled-long c.before.before)
 
-slice-aggregate-plan-remove : tie.Need-slice-aggregate-plan-remove
-slice-aggregate-plan-remove c = sym (length-take-le _ _ (array-share-prefix-starts c.before))
+slice-aggregate-plan-remove : tie.Need-slice_bounds-plan_remove-end
+slice-aggregate-plan-remove c = sym (length-take-le _ _ (array-share-prefix-starts c))
 
 -- the starts as they are lent
-abbrev lent : tie.After-booked-starts → List ℕ
-lent c = let n = length (first c).args.ids.now in take n (c.booked-starts.new.1.1.1.0 ++ drop n (replicate {A = ℕ} 64 0))
+abbrev lent : tie.After-booked_starts → List ℕ
+lent c = let n = length c.args.ids.now in take n (c.booked_starts.new.starts ++ drop n (replicate {A = ℕ} 64 0))
 
-lent_is : (c : tie.After-booked-starts) → lent c ≡ booked_starts (tables_of (first c).args.book-heads.now (first c).args.book-rows.now (first c).args.book-next.now) (first c).args.ids.now
-lent_is c = take_at _ _ _ (filled-long c) ∙ c.booked-starts.ensures (first c).args.book-next.now (first c).requires.can.book-sized
+lent_is : (c : tie.After-booked_starts) → lent c ≡ booked_starts (tables_of c.args.book_heads.now c.args.book_rows.now c.args.book_next.now) c.args.ids.now
+lent_is c = take_at _ _ _ (filled-long c) ∙ c.booked_starts.ensures c.args.book_next.now c.requires.can.book-sized
 
-plan-remove-requires : tie.Need-plan-remove-requires
-plan-remove-requires c κs = some-remove (start c).requires.can (lent_is (filled c.before))
+plan-remove-requires : tie.Need-plan_remove-plan-requires
+plan-remove-requires c κs = some-remove c.requires.can (lent_is c.before.before.before)
 
-mul-gather : tie.Need-overflow-mul-gather
-mul-gather c = let k = (start (planned c).before).requires.can.can in omega (arith, k.m-bound, k.f-bound)
+mul-gather : tie.Need-overflow_mul-m
+mul-gather c = let k = c.requires.can.can in omega (arith, k.m-bound, k.f-bound)
 
-add-gather : tie.Need-overflow-add-gather
-add-gather c = let k = (start (planned c).before).requires.can.can in omega (arith, k.m-bound, k.f-bound)
+add-gather : tie.Need-overflow_add-m
+add-gather c = let k = c.requires.can.can in omega (arith, k.m-bound, k.f-bound)
 
-mul-gather-2 : tie.Need-overflow-mul-gather-2
-mul-gather-2 c = let k = (start (planned c).before).requires.can.can in omega (arith, k.m-bound, k.f-bound)
+mul-gather-2 : tie.Need-overflow_mul-f
+mul-gather-2 c = let k = c.requires.can.can in omega (arith, k.m-bound, k.f-bound)
 
-add-gather-2 : tie.Need-overflow-add-gather-2
-add-gather-2 c = let k = (start (planned c).before).requires.can.can in omega (arith, k.m-bound, k.f-bound)
+add-gather-2 : tie.Need-overflow_add-m-2
+add-gather-2 c = let k = c.requires.can.can in omega (arith, k.m-bound, k.f-bound)
 
 gather-requires : tie.Need-gather-requires
-gather-requires c κs = let p = planned c in leave-gather (start p.before).requires.can (lent_is (filled p.before.before)) p.plan-remove.ensures
+gather-requires c κs = leave-gather c.requires.can (lent_is c.before.before.before.before.before.before.before.before) c.plan_remove-plan.ensures
 
-write-plan-requires : tie.Need-write-plan-requires
+write-plan-requires : tie.Need-write_plan-requires
 write-plan-requires c κs =
-    let g = gathered c in
-    let p = planned g.before in
-    leave-write (start p.before).requires.can (lent_is (filled p.before.before)) p.plan-remove.ensures g.gather.ensures
+    leave-write c.requires.can (lent_is c.before.before.before.before.before.before.before.before.before.before.before.before.before.before.before.before.before) c.plan_remove-plan.ensures c.gather.ensures
 
-same_length : tie.Need-same-length
-same_length c = (written c).write-plan.auto.1.0
+same_length : tie.Need-shape_of-parents
+same_length c = c.write_plan.auto.parents
 
-same-length-2 : tie.Need-same-length-2
-same-length-2 c = (written c).write-plan.auto.1.1.0
+same-length-2 : tie.Need-shape_of-rows
+same-length-2 c = c.write_plan.auto.rows
 
-same-length-3 : tie.Need-same-length-3
-same-length-3 c = (written c).write-plan.auto.1.1.1.0
+same-length-3 : tie.Need-shape_of-counts
+same-length-3 c = c.write_plan.auto.counts
 
-same-length-4 : tie.Need-same-length-4
-same-length-4 c = (written c).write-plan.auto.1.1.1.1.0
+same-length-4 : tie.Need-shape_of-next
+same-length-4 c = c.write_plan.auto.next
 
-same-length-5 : tie.Need-same-length-5
+same-length-5 : tie.Need-shape_of-work
 same-length-5 c =
-    let g = gathered (written c).before in
-    (written c).write-plan.auto.1.1.1.1.1.0 ∙ g.gather.kept.1.1.0 ∙ (planned g.before).plan-remove.auto.1.1.1.1.1.1.1.1.0
+    c.write_plan.auto.work ∙ c.gather.auto.work ∙ c.plan_remove-plan.auto.work
 
 returns : tie.Need-returns
 returns c = λ N W can.
-    let w = written c in
-    let g = gathered w.before in
-    let p = planned g.before in
-    group-left can (lent_is (filled p.before.before)) p.plan-remove.ensures g.gather.ensures w.write-plan.ensures w.write-plan.kept.1.1.1.1.0
+    group-left can (lent_is c.before.before.before.before.before.before.before.before.before.before.before.before.before.before.before.before.before.before.before.before.before.before.before.before.before.before.before.before) c.plan_remove-plan.ensures c.gather.ensures c.write_plan.ensures c.write_plan.auto.next
 
-pub leave-group-spec : {M : Type 1} → statement M
-leave-group-spec =
+pub leave_group_spec : {M : Type 1} → statement M
+leave_group_spec =
     tie.close
     (tie.spec
     array-borrow-prefix-starts
