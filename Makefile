@@ -1,6 +1,6 @@
 # make check               prove the listing program and all below it, and run it on the example
 # make test                the gate (rt ci), then header, C examples, Rust and Python packages, an installation, the pictures, paths in proofs, crates.txt, what nothing uses, and the toolchain's identity;
-#                          the last line counts what passed, if all did. RT_JOBS: how many crates or edits the gate checks at a time
+#                          the last line counts what passed, if all did
 # make install PREFIX=DIR  archive, header and pkg-config file
 # make shared              target/shared/libnigvalds.so, for Python
 # make bench               the library beside plain C, tables of ratios
@@ -13,17 +13,16 @@ VERSION = $(shell sed -n 's/^\#define NIGVALDS_VERSION "\(.*\)"$$/\1/p' include/
 EXAMPLE = crates/listing/stdin crates/listing/stdout
 STATES = host/examples/drawing.out
 TRY = $(CURDIR)/target/try
-RT_JOBS ?= 6
 TESTS = test-header test-c test-rust test-python test-install test-picture test-paths test-crates test-streams test-unused test-toolchain
 MAKEFLAGS += --no-print-directory
 
 check:
-	tools/progress rt check listing
-	target/bin/listing < crates/listing/stdin
+	tools/progress check listing
+	@cd crates/listing && rt run < stdin 2> $(CURDIR)/target/log/run.log || { cat $(CURDIR)/target/log/run.log >&2; exit 1; }
 
-# The gate removes target/ first, so the rest waits for it. Its own last line comes last.
+# The gate takes all processors, so the rest waits for it. Its own last line comes last.
 test:
-	@RT_JOBS=$(RT_JOBS) tools/gate && $(MAKE) -j2 -O $(TESTS) && tail -n 1 target/log/gate.log
+	@tools/gate && $(MAKE) -j2 -O $(TESTS) && tail -n 1 target/log/gate.log
 
 test-header: $(ARCHIVE)
 	tools/check-header $(ARCHIVE)
@@ -77,7 +76,7 @@ archive: $(ARCHIVE)
 
 # Proves the library first.
 $(ARCHIVE): crates.txt $(wildcard crates/*/src/*.rt)
-	tools/progress rt staticlib nigvalds
+	tools/archive nigvalds
 
 shared: $(SHARED)
 

@@ -1,5 +1,5 @@
 // Links the archive of the proved library: that of NIGVALDS_LIB_DIR, otherwise target/staticlib/libnigvalds.a of the repository. Where the latter is missing,
-// `rt staticlib nigvalds` proves the library and writes it.
+// `tools/archive nigvalds` proves the library and writes it.
 mod archive;
 
 use std::path::Path;
@@ -13,8 +13,8 @@ fn main() {
     println!("cargo:rerun-if-changed=build");
     let folder = chosen.as_deref().map(Path::new);
     if folder.is_none() && archive::find(None, repository).is_err() {
-        // Without the toolchain nothing runs, and the message below says so.
-        let _ = Command::new("rt").args(["staticlib", "nigvalds"]).current_dir(repository).status();
+        // Without the toolchain nothing is written, and the message below says so.
+        let _ = Command::new(repository.join("tools/archive")).arg("nigvalds").status();
     }
     println!("cargo:rustc-env=NIGVALDS_INTERFACE={}", archive::INTERFACE);
     match archive::find(folder, repository).and_then(|found| archive::fits(&found).map(|()| found)) {

@@ -48,8 +48,8 @@ same-length-10 c = (ran c).open.auto.1.1.1.1.1.1.1.1.1.1.1.1.1.1.1.1.0
 returns : tie.Need-returns
 returns c = opened-step (ran c).open.result c.opened-from.result c.opened-from.ensures (ran c).open.ensures
 
-pub nigvalds-open-0-7-spec : {M : Type 1} → statement M
-nigvalds-open-0-7-spec =
+pub nigvalds_open_0_7_spec : {M : Type 1} → statement M
+nigvalds_open_0_7_spec =
     tie.close
     (tie.spec
     open-requires

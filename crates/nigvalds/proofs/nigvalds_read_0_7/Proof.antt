@@ -15,5 +15,5 @@ read-from-requires c κs = search rules
 returns : tie.Need-returns
 returns c = c.read-from.ensures ∙ ap read_from c.before.entry_at.ensures
 
-pub nigvalds-read-0-7-spec : {M : Type 1} → statement M
-nigvalds-read-0-7-spec = tie.close (tie.spec entry-at-requires read-from-requires returns)
+pub nigvalds_read_0_7_spec : {M : Type 1} → statement M
+nigvalds_read_0_7_spec = tie.close (tie.spec entry-at-requires read-from-requires returns)
