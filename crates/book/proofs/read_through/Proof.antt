@@ -2,7 +2,6 @@
 -- Assumes nothing.
 use mathlib.Core.Path.{◌≡◌, sym, ◌∙◌}
 use borrow.Author.Rules.{rules}
-use borrow.Author.Tests.{not-true, not-false}
 use lib.ListN.{length}
 use Rattle.book.specs.Walks.{Walked}
 use Rattle.book.proofs.Reading.{comparing, reading-shared, reading-zeros, reading-free}
@@ -12,9 +11,6 @@ use Rattle.book.proofs.read_through.Tie as tie
 -- ---- the places, named: the walk of all columns, cut or ended
 abbrev cut : tie.In_default → tie.After-walk_columns
 cut c = c.before.before.before
-
-abbrev ended : tie.In-Ended → tie.After-walk_columns
-ended c = c.before.before.before
 
 -- what is known once all columns were walked
 all-walked : (c : tie.In-Ended) → Walked c.args.heads.now c.args.rows.now c.args.next.now c.walk_columns.new.scratch c.args.m

@@ -19,12 +19,6 @@ decreases-loop-i heads rows next scratch₀ m c n₀ i₀ scratch n i = length h
 abbrev turn : tie.After-walk_column invariant-loop-i decreases-loop-i → tie.In-loop-i invariant-loop-i decreases-loop-i
 turn d = d.before.before.before
 
-abbrev cut : tie.In-Cut invariant-loop-i decreases-loop-i → tie.After-walk_column invariant-loop-i decreases-loop-i
-cut c = c.before
-
-abbrev ended : tie.After-name-arg-in-Ended-1 invariant-loop-i decreases-loop-i → tie.After-walk_column invariant-loop-i decreases-loop-i
-ended c = c.before.before
-
 loop-holds : tie.Need-loop-i-init invariant-loop-i decreases-loop-i
 loop-holds c = through-start
 

@@ -4,7 +4,6 @@ use mathlib.Core.List.{List}
 use Prim.Native.Nat.{ℕ, ◌+◌, ◌*◌}
 use native.Mathlib.Omega.{arith}
 use lib.ListN.{length}
-use borrow.Author.Tests.{not-true, not-false}
 use Rattle.soundness.proofs.Preparing.{booking-can, booking-only, booking-unsound, booking-answer}
 use Rattle.soundness.proofs.read_booked.Statement.{statement}
 use Rattle.soundness.proofs.read_booked.Tie as tie

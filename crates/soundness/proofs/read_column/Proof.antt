@@ -18,9 +18,6 @@ use Rattle.soundness.proofs.read_column.Statement.{statement}
 use Rattle.soundness.proofs.read_column.Tie as tie
 
 -- ---- the places, named
-abbrev compared : tie.After-shared_slice_known-in-Ended-1 → tie.In-Ended
-compared c = c.before.before
-
 abbrev stored : tie.Start → Stored
 stored e = stored_of e.args.heads.now e.args.parents.now e.args.rows.now e.args.counts.now e.args.next.now e.args.free.0
 

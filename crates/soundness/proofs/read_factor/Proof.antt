@@ -2,7 +2,6 @@
 -- that they do not have (last-shared and last-answer of proofs/ReadThrough.antt). Assumes nothing.
 use mathlib.Core.Path.{sym}
 use native.Mathlib.Omega.{arith}
-use borrow.Author.Tests.{not-true, not-false}
 use Rattle.soundness.proofs.Columns.{first-state, first_some}
 use Rattle.soundness.proofs.ReadThrough.{some_after, last-compare, last_within, last-can, last-shared, last-answer}
 use borrow.Author.Rules.{rules}
@@ -10,9 +9,6 @@ use Rattle.soundness.proofs.read_factor.Statement.{statement}
 use Rattle.soundness.proofs.read_factor.Tie as tie
 
 -- ---- the places, named
-abbrev compared : tie.After-are_apart → tie.In-Ended
-compared c = c.before
-
 read-columns-requires : tie.Need-read_columns-requires
 read-columns-requires c κs = first_some c.requires
 

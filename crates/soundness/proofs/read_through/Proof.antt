@@ -2,7 +2,6 @@
 -- (proofs/Preparing.antt). Assumes nothing.
 use mathlib.Core.Path.{sym, ◌∙◌}
 use native.Mathlib.Omega.{arith}
-use borrow.Author.Tests.{not-true, not-false}
 use Rattle.soundness.proofs.Preparing.{preparing-booked, preparing-only, preparing-unsound, preparing-list, preparing-done, preparing-answer, preparing-end}
 use Rattle.soundness.proofs.read_through.Statement.{statement}
 use Rattle.soundness.proofs.read_through.Tie as tie

@@ -3,7 +3,6 @@ use mathlib.Core.Path.{◌≡◌, refl, sym, ◌∙◌}
 use mathlib.Core.Bool.{true, false}
 use lib.ListN.{length}
 use borrow.Author.Rules.{rules}
-use borrow.Author.Tests.{not-true, not-false}
 use Rattle.book.specs.Book.{is_booked}
 use Rattle.windows.specs.Windows.{counts_at}
 use Rattle.windows.proofs.moves.Statement.{statement}

@@ -4,7 +4,6 @@ use mathlib.Core.Logic.{⊎_elim}
 use Prim.Native.Nat.{◌-◌, ◌≤◌, ◌<◌}
 use native.Mathlib.Omega.{arith}
 use lib.ListN.{length}
-use borrow.Author.Tests.{not-false}
 use Rattle.free_chain.specs.Pieces.{RunsTo}
 use Rattle.free_chain.proofs.Leading.{run-start, run-four, run_join}
 use Rattle.free_chain.proofs.pieces.run_end.Statement.{statement}

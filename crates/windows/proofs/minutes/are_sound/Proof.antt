@@ -3,7 +3,6 @@ use mathlib.Core.Path.{sym, ◌∙◌}
 use Prim.Native.Nat.{◌+◌, ◌-◌}
 use native.Mathlib.Omega.{arith}
 use lib.ListN.{length}
-use borrow.Author.Tests.{not-true, not-false}
 use Rattle.windows.proofs.Judging.{Judging, judging-start, judging-turn, judging-broken, judging-end}
 use Rattle.windows.proofs.minutes.are_sound.Statement.{statement}
 use Rattle.windows.proofs.minutes.are_sound.Tie as tie
