@@ -21,20 +21,20 @@ abbrev saved : tie.After-none_moves → tie.After-save_parents
 saved c = c.before.before.before
 
 -- what the laws ask, at the start
-abbrev Asked : tie.After-save-parents-arg2 → Type 0
+abbrev Asked : tie.After-save_parents-arg-1 → Type 0
 Asked c =
-    let a = (start c).args in
-    let b = tables_of a.book-heads.now a.book-rows.now a.book-next.now in
+    let a = c.args in
+    let b = tables_of a.book_heads.now a.book_rows.now a.book_next.now in
     CanSwap (stored_of a.heads.now a.parents.now a.rows.now a.counts.now a.next.now a.free.0) b
-    (moving_ids a.book-heads.now a.windows.now a.before a.after) (moving_ids a.book-heads.now a.windows.now a.after a.before) a.work.now
+    (moving_ids a.book_heads.now a.windows.now a.before a.after) (moving_ids a.book_heads.now a.windows.now a.after a.before) a.work.now
     (staying b a.windows.now a.before a.after) (leaving b a.windows.now a.before a.after) (entering b a.windows.now a.before a.after)
 
-asked : (c : tie.After-save-parents-arg2) → Asked c
-asked c = can-swap (start c).requires (start c).args.after
+asked : (c : tie.After-save_parents-arg-1) → Asked c
+asked c = can-swap c.requires c.args.after
 
 -- multiplicities have 16 bits
-small : (c : tie.After-save-parents-arg2) → (k : ℕ) → get_or (start c).args.counts.now k 0 < 65536
-small c k = omega (arith, c.before.before.before.before.before.before.before.before.slice_known-3-1.given k)
+small : (c : tie.After-save_parents-arg-1) → (k : ℕ) → get_or c.args.counts.now k 0 < 65536
+small c k = omega (arith, c.slice_known-3-1.given k)
 
 mul-save-parents : tie.Need-overflow_mul-m
 mul-save-parents c = omega (arith, (can-save-parents (asked c)).inside)
@@ -58,7 +58,7 @@ none-moves-requires c κs = can-scan c.requires
 
 leave-all-requires : tie.Need-leave_all-z-requires
 leave-all-requires c κs =
-    let q = asked c in
+    let q = asked c.before.before.before.before.before.before.before.before.before.before in
     some-leave-all (can-leave-all (can-after q (parents-only q c.save_parents.ensures))) (can-scan c.requires)
 
 same_length : tie.Need-shape_of-parents-then-none_moves
@@ -78,7 +78,7 @@ same-length-5 c = c.leave_all-z.auto.work ∙ c.save_parents.auto.work
 
 returns : tie.Need-returns-then-none_moves
 returns c =
-    let q = asked c in
+    let q = asked c.before.before.before.before.before.before.before.before.before.before.before.before.before.before.before.before.before.before.before.before.before in
     finished-leaving q c.save_parents.ensures (eqb-true _ _ (sym c.none_moves.ensures ∙ c.if-none_moves.true))
     (c.leave_all-z.ensures _ _ (can-leave-all (can-after q (parents-only q c.save_parents.ensures))))
 
@@ -92,12 +92,12 @@ add-save-records c = omega (arith, c.requires.long)
 
 save-records-requires : tie.Need-save_records-requires
 save-records-requires c κs =
-    let q = asked c in
-    can-save-records (can-after q (parents-only q c.save_parents.ensures)) (small c)
+    let q = asked c.before.before.before.before.before.before in
+    can-save-records (can-after q (parents-only q c.save_parents.ensures)) (small c.before.before.before.before.before.before)
 
 swap-requires : tie.Need-swap-x-requires
 swap-requires c κs =
-    some-swap (asked c) (can-scan c.requires) c.save_parents.ensures c.save_records.ensures
+    some-swap (asked c.before.before.before.before.before.before.before.before.before.before.before.before.before.before) (can-scan c.requires) c.save_parents.ensures c.save_records.ensures
 
 same-length-6 : tie.Need-shape_of-parents
 same-length-6 c = c.swap-x.auto.parents
@@ -117,7 +117,7 @@ same-length-10 c =
 
 returns-2 : tie.Need-returns
 returns-2 c =
-    finished-both (asked c) c.save_parents.ensures c.save_records.ensures c.swap-x.ensures
+    finished-both (asked c.before.before.before.before.before.before.before.before.before.before.before.before.before.before.before.before.before.before.before.before.before.before.before.before.before.before) c.save_parents.ensures c.save_records.ensures c.swap-x.ensures
 
 pub exchange_spec : {M : Type 1} → statement M
 exchange_spec =

@@ -111,7 +111,7 @@ same-length-10 c =
 returns-2 : tie.Need-returns-then-not-x invariant-loop-group decreases-loop-group
 returns-2 c =
     λ R B can. entering-stop can (c.loop-group.invariant.1 R B can) (collected-ends c.loop-group.invariant.0 c.collect-g.ensures (omega (arith, c.if-k-eq0.false)) (omega arith))
-    (collected-is c.loop-group.invariant.0 c.collect-g.ensures) c.enter_group-x.ensures c.if-not-x.true
+    (collected-is c.loop-group.invariant.0 c.collect-g.ensures) c.enter_group-x.ensures (not-true _ c.if-not-x.true)
 
 -- ---- it fits
 
@@ -124,7 +124,7 @@ loop-again c =
     (
       scanned-next c.loop-group.invariant.0 c.collect-g.ensures,
       λ R B can. entering-turn can (c.loop-group.invariant.1 R B can) (collected-ends c.loop-group.invariant.0 c.collect-g.ensures (omega (arith, c.if-k-eq0.false)) (omega arith))
-          (collected-is c.loop-group.invariant.0 c.collect-g.ensures) c.enter_group-x.ensures c.if-not-x.false,
+          (collected-is c.loop-group.invariant.0 c.collect-g.ensures) c.enter_group-x.ensures (not-false _ c.if-not-x.false),
     )
 
 pub enter_all_spec : {M : Type 1} → statement M

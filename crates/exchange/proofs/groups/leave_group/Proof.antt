@@ -29,21 +29,21 @@ array-borrow-prefix-starts : tie.Need-slice_bounds-starts-end
 array-borrow-prefix-starts c = (leave-few c.requires.can).0
 
 slice-aggregate-booked-starts : tie.Need-slice_bounds-booked_starts-end
-slice-aggregate-booked-starts c = sym (length-take-le _ _ (array-borrow-prefix-starts c))
+slice-aggregate-booked-starts c = sym (length-take-le _ _ (array-borrow-prefix-starts c.before))
 
 booked-starts-requires : tie.Need-booked_starts-requires
 booked-starts-requires c κs =
-    (length-take-le _ _ (array-borrow-prefix-starts c), (leave-few c.requires.can).1)
+    (length-take-le _ _ (array-borrow-prefix-starts c.before), (leave-few c.requires.can).1)
 
 filled-long : (c : tie.After-booked_starts) → length c.booked_starts.new.starts ≡ length c.args.ids.now
-filled-long c = c.booked_starts.auto.starts ∙ length-take-le _ _ (array-borrow-prefix-starts c)
+filled-long c = c.booked_starts.auto.starts ∙ length-take-le _ _ (array-borrow-prefix-starts c.before.before)
 
 array-share-prefix-starts : tie.Need-slice_bounds-starts-end-2
 array-share-prefix-starts c =
     let n = length c.args.ids.now in filled_within n c.booked_starts.new.starts (drop n (replicate {A = ℕ} 64 0)) (filled-long c.before.before)
 
 slice-aggregate-plan-remove : tie.Need-slice_bounds-plan_remove-end
-slice-aggregate-plan-remove c = sym (length-take-le _ _ (array-share-prefix-starts c))
+slice-aggregate-plan-remove c = sym (length-take-le _ _ (array-share-prefix-starts c.before))
 
 -- the starts as they are lent
 abbrev lent : tie.After-booked_starts → List ℕ
