@@ -2,7 +2,7 @@
 // and fixes everything lent: it finds numbers 1 to 6 by the admission of `factor`, and hands on to its unchecked twin. That cuts the tables to their sizes, judges the batch
 // and writes it where no number refuses it; it costs what the batch touches. Its premise is that sizes are in range, tables and lists long enough, tables sound, and the
 // first W work places zero: a caller that has proved its tables sound uses it.
-ghost use Rattle.tables.specs.Lent.{tables_in, tables_out, tables_now};
+ghost use Rattle.tables.specs.Tables.{tables_of};
 ghost use Rattle.calls.specs.Lent.{report_in, report_out, adding_of, removing_of};
 ghost use Rattle.factor.specs.Entries.{state_of};
 ghost use Rattle.answers.specs.Answers.{CanChange, ChangeTransition, UncheckedChange};
@@ -32,7 +32,7 @@ pub fn add(
     firsts: &[u32],
     seconds: &[u32],
 ) -> Changed
-    ensures { ChangeTransition factor (tables_in heads parents rows counts next book_heads book_rows book_next windows) (adding_of ids row_counts row_list firsts seconds) (report_in work touched labels) result (report_out work touched labels) (tables_out heads parents rows counts next book_heads book_rows book_next windows) }
+    ensures { ChangeTransition factor (tables_of heads.now parents.old rows.old counts.old next.old book_heads.old book_rows.old book_next.old windows.old) (adding_of ids row_counts row_list firsts seconds) (report_in work touched labels) result (report_out work touched labels) (tables_of heads.now parents.new rows.new counts.new next.new book_heads.new book_rows.new book_next.new windows.new) }
 {
     let short = early_refusals::short_lists(touched, labels, factor.m);
     let number = factor.admit(
@@ -64,7 +64,7 @@ pub fn remove(
     labels: &mut [u16],
     ids: &[u32],
 ) -> Changed
-    ensures { ChangeTransition factor (tables_in heads parents rows counts next book_heads book_rows book_next windows) (removing_of ids) (report_in work touched labels) result (report_out work touched labels) (tables_out heads parents rows counts next book_heads book_rows book_next windows) }
+    ensures { ChangeTransition factor (tables_of heads.now parents.old rows.old counts.old next.old book_heads.old book_rows.old book_next.old windows.old) (removing_of ids) (report_in work touched labels) result (report_out work touched labels) (tables_of heads.now parents.new rows.new counts.new next.new book_heads.new book_rows.new book_next.new windows.new) }
 {
     let short = early_refusals::short_lists(touched, labels, factor.m);
     let number = factor.admit(
@@ -100,8 +100,8 @@ pub fn add_unchecked(
     firsts: &[u32],
     seconds: &[u32],
 ) -> Changed
-    requires { CanChange (state_of factor) (tables_now heads parents rows counts next book_heads book_rows book_next windows) work.old touched.old labels.old }
-    ensures { UncheckedChange factor (tables_in heads parents rows counts next book_heads book_rows book_next windows) (adding_of ids row_counts row_list firsts seconds) (report_in work touched labels) result (report_out work touched labels) (tables_out heads parents rows counts next book_heads book_rows book_next windows) }
+    requires { CanChange (state_of factor) (tables_of heads.now parents.old rows.old counts.old next.old book_heads.old book_rows.old book_next.old windows.old) work.old touched.old labels.old }
+    ensures { UncheckedChange factor (tables_of heads.now parents.old rows.old counts.old next.old book_heads.old book_rows.old book_next.old windows.old) (adding_of ids row_counts row_list firsts seconds) (report_in work touched labels) result (report_out work touched labels) (tables_of heads.now parents.new rows.new counts.new next.new book_heads.new book_rows.new book_next.new windows.new) }
 {
     let m = factor.m as usize;
     let n = factor.n as usize;
@@ -178,8 +178,8 @@ pub fn remove_unchecked(
     labels: &mut [u16],
     ids: &[u32],
 ) -> Changed
-    requires { CanChange (state_of factor) (tables_now heads parents rows counts next book_heads book_rows book_next windows) work.old touched.old labels.old }
-    ensures { UncheckedChange factor (tables_in heads parents rows counts next book_heads book_rows book_next windows) (removing_of ids) (report_in work touched labels) result (report_out work touched labels) (tables_out heads parents rows counts next book_heads book_rows book_next windows) }
+    requires { CanChange (state_of factor) (tables_of heads.now parents.old rows.old counts.old next.old book_heads.old book_rows.old book_next.old windows.old) work.old touched.old labels.old }
+    ensures { UncheckedChange factor (tables_of heads.now parents.old rows.old counts.old next.old book_heads.old book_rows.old book_next.old windows.old) (removing_of ids) (report_in work touched labels) result (report_out work touched labels) (tables_of heads.now parents.new rows.new counts.new next.new book_heads.new book_rows.new book_next.new windows.new) }
 {
     let m = factor.m as usize;
     let n = factor.n as usize;

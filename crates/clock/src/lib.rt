@@ -2,7 +2,7 @@
 // numbers 1 to 6 by the admission of `factor`, and hands on to its unchecked twin. That cuts the tables to their sizes; columns that fall outside their windows leave the
 // stored columns, then those that begin to count enter, as one change (`exchange`); where it does not fit, 16, and every table is as before. Then the report, and the work
 // table cleared. Costs n for the windows, F for a saved copy where somebody enters, and the touched paths. Its premise is that of the unchecked changes in `changes`.
-ghost use Rattle.tables.specs.Lent.{tables_in, tables_out, tables_now};
+ghost use Rattle.tables.specs.Tables.{tables_of};
 ghost use Rattle.calls.specs.Lent.{report_in, report_out};
 ghost use Rattle.calls.specs.Calls.Change.{setting};
 ghost use Rattle.factor.specs.Entries.{state_of};
@@ -31,7 +31,7 @@ pub fn set_clock(
     labels: &mut [u16],
     minute: u32,
 ) -> Changed
-    ensures { ChangeTransition factor (tables_in heads parents rows counts next book_heads book_rows book_next windows) (setting minute) (report_in work touched labels) result (report_out work touched labels) (tables_out heads parents rows counts next book_heads book_rows book_next windows) }
+    ensures { ChangeTransition factor (tables_of heads.now parents.old rows.old counts.old next.old book_heads.now book_rows.now book_next.now windows.now) (setting minute) (report_in work touched labels) result (report_out work touched labels) (tables_of heads.now parents.new rows.new counts.new next.new book_heads.now book_rows.now book_next.now windows.now) }
 {
     let short = early_refusals::short_lists(touched, labels, factor.m);
     let number = factor.admit(
@@ -75,8 +75,8 @@ pub fn set_clock_unchecked(
     labels: &mut [u16],
     minute: u32,
 ) -> Changed
-    requires { CanChange (state_of factor) (tables_now heads parents rows counts next book_heads book_rows book_next windows) work.old touched.old labels.old }
-    ensures { UncheckedChange factor (tables_in heads parents rows counts next book_heads book_rows book_next windows) (setting minute) (report_in work touched labels) result (report_out work touched labels) (tables_out heads parents rows counts next book_heads book_rows book_next windows) }
+    requires { CanChange (state_of factor) (tables_of heads.now parents.old rows.old counts.old next.old book_heads.now book_rows.now book_next.now windows.now) work.old touched.old labels.old }
+    ensures { UncheckedChange factor (tables_of heads.now parents.old rows.old counts.old next.old book_heads.now book_rows.now book_next.now windows.now) (setting minute) (report_in work touched labels) result (report_out work touched labels) (tables_of heads.now parents.new rows.new counts.new next.new book_heads.now book_rows.now book_next.now windows.now) }
 {
     let m = factor.m as usize;
     let n = factor.n as usize;

@@ -2,8 +2,8 @@
 // Each refuses unusable input by number and fixes everything lent; an opening writes all tables, the others none but the work table. Numbers 1 to 6 and 20 are found by
 // `admission`, what an opening writes is written by `opening`. A caller that has proved its tables sound uses the unchecked twins of unchecked.rt.
 ghost use Rattle.symbolic.specs.Grades.{limits_of};
-ghost use Rattle.tables.specs.Tables.{sizes_of};
-ghost use Rattle.tables.specs.Lent.{tables_in, tables_out};
+ghost use Rattle.tables.specs.Tables.{tables_of, sizes_of};
+ghost use Rattle.tables.specs.Lent.{tables_in};
 ghost use Rattle.questions.specs.Asked.{reply_of, found_of};
 ghost use Rattle.calls.specs.Calls.{call_of};
 ghost use Rattle.calls.specs.Calls.Entry.{checking, asking};
@@ -74,7 +74,7 @@ impl Factor {
         windows: &mut [u32],
         work: &mut [u32],
     ) -> Opening
-        ensures { OpenStep (sizes_of m n f c) (limits_of grade2 grade3 grade4) (tables_in heads parents rows counts next book_heads book_rows book_next windows) work.old result (tables_out heads parents rows counts next book_heads book_rows book_next windows) work.new }
+        ensures { OpenStep (sizes_of m n f c) (limits_of grade2 grade3 grade4) (tables_of heads.old parents.old rows.old counts.old next.old book_heads.old book_rows.old book_next.old windows.old) work.old result (tables_of heads.new parents.new rows.new counts.new next.new book_heads.new book_rows.new book_next.new windows.new) work.new }
     {
         let records = early_refusals::default_records(m, f);
         let limits = early_refusals::limits::default_limits(grade2, grade3, grade4);

@@ -1,12 +1,11 @@
 // The commands that change the factor: open, add and drop, each with the line of its answer.
+ghost use Rattle.listing_memory.specs.Memory.{memory_of};
 ghost use Rattle.std.specs.Prelude.{[], ◌∷◌, ◌≤◌, length, take};
 ghost use Rattle.calls.specs.Calls.Change.{adding, removing};
-ghost use Rattle.tables.specs.Tables.{sizes_of};
-ghost use Rattle.tables.specs.Lent.{tables_in, tables_out};
+ghost use Rattle.tables.specs.Tables.{tables_of, sizes_of};
 ghost use Rattle.answers.specs.Answers.{changed_answer};
 ghost use Rattle.listing_text.specs.Text.{Written};
 ghost use Rattle.listing_answers.specs.Listing.{BatchAnswered, IsReady, OpenPrinted, Answers};
-ghost use Rattle.listing_memory.specs.Lent.{memory_in, memory_out, memory_now};
 ghost use Rattle.listing_show.specs.Showing.{answer_line};
 
 use answers::Changed;
@@ -45,7 +44,7 @@ pub fn open_line(
     c: u32,
 ) -> Printed
     requires { 40 ≤ length out.old }
-    ensures { OpenPrinted (sizes_of m n f c) (tables_in heads parents rows counts next book_heads book_rows book_next windows) work.old factor out.old (tables_out heads parents rows counts next book_heads book_rows book_next windows) work.new out.new result }
+    ensures { OpenPrinted (sizes_of m n f c) (tables_of heads.old parents.old rows.old counts.old next.old book_heads.old book_rows.old book_next.old windows.old) work.old factor out.old (tables_of heads.new parents.new rows.new counts.new next.new book_heads.new book_rows.new book_next.new windows.new) work.new out.new result }
 {
     let opened = Factor::open(
         m, n, f, c, 0, 0, 0, heads, parents, rows, counts, next, book_heads, book_rows, book_next,
@@ -76,8 +75,8 @@ pub fn add_line(
 ) -> Printed
     requires room { 40 ≤ length out.old }
     requires listed { count ≤ length list.now }
-    requires usable { IsReady (memory_now factor heads parents rows counts next book_heads book_rows book_next windows work touched labels) }
-    ensures { Answers (BatchAnswered (memory_in factor heads parents rows counts next book_heads book_rows book_next windows work touched labels) (adding (id ∷ []) (count ∷ []) (take count list.now) (0 ∷ []) (0 ∷ []))) out.old out.new result (memory_out result.factor heads parents rows counts next book_heads book_rows book_next windows work touched labels) }
+    requires usable { IsReady (memory_of factor (tables_of heads.old parents.old rows.old counts.old next.old book_heads.old book_rows.old book_next.old windows.old) work.old touched.old labels.old) }
+    ensures { Answers (BatchAnswered (memory_of factor (tables_of heads.old parents.old rows.old counts.old next.old book_heads.old book_rows.old book_next.old windows.old) work.old touched.old labels.old) (adding (id ∷ []) (count ∷ []) (take count list.now) (0 ∷ []) (0 ∷ []))) out.old out.new result (memory_of result.factor (tables_of heads.new parents.new rows.new counts.new next.new book_heads.new book_rows.new book_next.new windows.new) work.new touched.new labels.new) }
 {
     if factor.m == 0 {
         let end = text::no_line(out, 0, 1, 0);
@@ -132,8 +131,8 @@ pub fn drop_line(
     id: u32,
 ) -> Printed
     requires room { 40 ≤ length out.old }
-    requires usable { IsReady (memory_now factor heads parents rows counts next book_heads book_rows book_next windows work touched labels) }
-    ensures { Answers (BatchAnswered (memory_in factor heads parents rows counts next book_heads book_rows book_next windows work touched labels) (removing (id ∷ []))) out.old out.new result (memory_out result.factor heads parents rows counts next book_heads book_rows book_next windows work touched labels) }
+    requires usable { IsReady (memory_of factor (tables_of heads.now parents.old rows.old counts.old next.old book_heads.old book_rows.old book_next.old windows.old) work.old touched.old labels.old) }
+    ensures { Answers (BatchAnswered (memory_of factor (tables_of heads.now parents.old rows.old counts.old next.old book_heads.old book_rows.old book_next.old windows.old) work.old touched.old labels.old) (removing (id ∷ []))) out.old out.new result (memory_of result.factor (tables_of heads.now parents.new rows.new counts.new next.new book_heads.new book_rows.new book_next.new windows.new) work.new touched.new labels.new) }
 {
     if factor.m == 0 {
         let end = text::no_line(out, 0, 1, 0);

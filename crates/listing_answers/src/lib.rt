@@ -2,9 +2,10 @@
 // calls the unchecked entries, whose premise holds from an accepted opening on.
 mod changing;
 
+ghost use Rattle.listing_memory.specs.Memory.{memory_of};
+ghost use Rattle.tables.specs.Tables.{tables_of};
 ghost use Rattle.std.specs.Prelude.{◌≤◌, length};
 ghost use Rattle.listing_answers.specs.Listing.{Ready, Answered, Answers};
-ghost use Rattle.listing_memory.specs.Lent.{memory_in, memory_out, memory_now};
 
 use factor::Factor;
 use listing_memory::Printed;
@@ -32,9 +33,9 @@ pub fn answer(
 ) -> Printed
     requires places { 1000 ≤ length list.old }
     requires room { 91520 ≤ length out.old }
-    requires ready { Ready (memory_now factor heads parents rows counts next book_heads book_rows book_next windows work touched labels) }
-    ensures answered { Answers (Answered (memory_in factor heads parents rows counts next book_heads book_rows book_next windows work touched labels) line.now) out.old out.new result (memory_out result.factor heads parents rows counts next book_heads book_rows book_next windows work touched labels) }
-    ensures ready { Ready (memory_out result.factor heads parents rows counts next book_heads book_rows book_next windows work touched labels) }
+    requires ready { Ready (memory_of factor (tables_of heads.old parents.old rows.old counts.old next.old book_heads.old book_rows.old book_next.old windows.old) work.old touched.old labels.old) }
+    ensures answered { Answers (Answered (memory_of factor (tables_of heads.old parents.old rows.old counts.old next.old book_heads.old book_rows.old book_next.old windows.old) work.old touched.old labels.old) line.now) out.old out.new result (memory_of result.factor (tables_of heads.new parents.new rows.new counts.new next.new book_heads.new book_rows.new book_next.new windows.new) work.new touched.new labels.new) }
+    ensures ready { Ready (memory_of result.factor (tables_of heads.new parents.new rows.new counts.new next.new book_heads.new book_rows.new book_next.new windows.new) work.new touched.new labels.new) }
 {
     let asked = command::parse(line, list);
     match asked {

@@ -1,9 +1,10 @@
 // The listing program: reads standard input in pieces of any size, answers it line by line, and writes the answers of a piece together. The tables serve m 64,
 // n 256, F 2,048 and C 2,048. What is proved of the whole program is `Listed`: it reads until no read gives any more, and the bytes handed to the output are the
 // answers, in order, to the lines of all bytes that the reads gave, the last line among them if it lacks its newline.
+ghost use Rattle.listing_memory.specs.Memory.{memory_of};
+ghost use Rattle.tables.specs.Tables.{tables_of};
 ghost use Rattle.std.specs.Prelude.{◌≡◌, [], ◌≤◌, length};
 ghost use Rattle.listing_answers.specs.Listing.{Ready};
-ghost use Rattle.listing_memory.specs.Lent.{memory_in, memory_now};
 ghost use Rattle.streams.specs.Passing.{Passed};
 ghost use Rattle.listing_loop.specs.Running.{AllAnswered, Listed};
 
@@ -35,11 +36,11 @@ fn serve(
 ) -> Streams
     requires places { 1000 ≤ length list.old }
     requires room { 91520 ≤ length out.old }
-    requires ready { Ready (memory_now factor heads parents rows counts next book_heads book_rows book_next windows work touched labels) }
+    requires ready { Ready (memory_of factor (tables_of heads.old parents.old rows.old counts.old next.old book_heads.old book_rows.old book_next.old windows.old) work.old touched.old labels.old) }
     requires line { length line.old ≡ 2000 }
     requires piece { length piece.old ≡ 4096 }
     requires fresh { Passed streams [] [] }
-    ensures { AllAnswered (memory_in factor heads parents rows counts next book_heads book_rows book_next windows work touched labels) result }
+    ensures { AllAnswered (memory_of factor (tables_of heads.old parents.old rows.old counts.old next.old book_heads.old book_rows.old book_next.old windows.old) work.old touched.old labels.old) result }
 {
     let begun = Input {
         streams,

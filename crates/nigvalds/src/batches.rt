@@ -1,5 +1,5 @@
 // Batches and the clock for hosts.
-ghost use Rattle.tables.specs.Lent.{tables_in, tables_out};
+ghost use Rattle.tables.specs.Tables.{tables_of};
 ghost use Rattle.calls.specs.Calls.Change.{setting};
 ghost use Rattle.calls.specs.Lent.{report_in, report_out, adding_of, removing_of};
 ghost use Rattle.answers.specs.Answers.{ChangeTransition};
@@ -29,7 +29,7 @@ pub extern "C" fn nigvalds_add_0_7(
     firsts: &[u32],
     seconds: &[u32],
 ) -> Changed
-    ensures { ChangeTransition factor (tables_in heads parents rows counts next book_heads book_rows book_next windows) (adding_of ids row_counts row_list firsts seconds) (report_in work touched labels) result (report_out work touched labels) (tables_out heads parents rows counts next book_heads book_rows book_next windows) }
+    ensures { ChangeTransition factor (tables_of heads.now parents.old rows.old counts.old next.old book_heads.old book_rows.old book_next.old windows.old) (adding_of ids row_counts row_list firsts seconds) (report_in work touched labels) result (report_out work touched labels) (tables_of heads.now parents.new rows.new counts.new next.new book_heads.new book_rows.new book_next.new windows.new) }
 {
     changes::add(
         factor, heads, parents, rows, counts, next, book_heads, book_rows, book_next, windows,
@@ -55,7 +55,7 @@ pub extern "C" fn nigvalds_remove_0_7(
     labels: &mut [u16],
     ids: &[u32],
 ) -> Changed
-    ensures { ChangeTransition factor (tables_in heads parents rows counts next book_heads book_rows book_next windows) (removing_of ids) (report_in work touched labels) result (report_out work touched labels) (tables_out heads parents rows counts next book_heads book_rows book_next windows) }
+    ensures { ChangeTransition factor (tables_of heads.now parents.old rows.old counts.old next.old book_heads.old book_rows.old book_next.old windows.old) (removing_of ids) (report_in work touched labels) result (report_out work touched labels) (tables_of heads.now parents.new rows.new counts.new next.new book_heads.new book_rows.new book_next.new windows.new) }
 {
     changes::remove(
         factor, heads, parents, rows, counts, next, book_heads, book_rows, book_next, windows,
@@ -81,7 +81,7 @@ pub extern "C" fn nigvalds_set_clock_0_7(
     labels: &mut [u16],
     minute: u32,
 ) -> Changed
-    ensures { ChangeTransition factor (tables_in heads parents rows counts next book_heads book_rows book_next windows) (setting minute) (report_in work touched labels) result (report_out work touched labels) (tables_out heads parents rows counts next book_heads book_rows book_next windows) }
+    ensures { ChangeTransition factor (tables_of heads.now parents.old rows.old counts.old next.old book_heads.old book_rows.old book_next.old windows.old) (setting minute) (report_in work touched labels) result (report_out work touched labels) (tables_of heads.now parents.new rows.new counts.new next.new book_heads.new book_rows.new book_next.new windows.new) }
 {
     clock::set_clock(
         factor, heads, parents, rows, counts, next, book_heads, book_rows, book_next, windows,

@@ -3,8 +3,7 @@
 ghost use Rattle.std.specs.Prelude.{◌≡◌};
 ghost use Rattle.reader.specs.Reading.{entry_at};
 ghost use Rattle.symbolic.specs.Grades.{limits_of};
-ghost use Rattle.tables.specs.Tables.{sizes_of};
-ghost use Rattle.tables.specs.Lent.{tables_in, tables_out};
+ghost use Rattle.tables.specs.Tables.{tables_of, sizes_of};
 ghost use Rattle.crossing.specs.Crossing.{OpenedStep, read_from};
 
 mod asking;
@@ -36,7 +35,7 @@ pub extern "C" fn nigvalds_open_0_7(
     windows: &mut [u32],
     work: &mut [u32],
 ) -> Opened
-    ensures { OpenedStep (sizes_of m n f c) (limits_of grade2 grade3 grade4) (tables_in heads parents rows counts next book_heads book_rows book_next windows) work.old result (tables_out heads parents rows counts next book_heads book_rows book_next windows) work.new }
+    ensures { OpenedStep (sizes_of m n f c) (limits_of grade2 grade3 grade4) (tables_of heads.old parents.old rows.old counts.old next.old book_heads.old book_rows.old book_next.old windows.old) work.old result (tables_of heads.new parents.new rows.new counts.new next.new book_heads.new book_rows.new book_next.new windows.new) work.new }
 {
     let x = Factor::open(
         m, n, f, c, grade2, grade3, grade4, heads, parents, rows, counts, next, book_heads,

@@ -1,7 +1,6 @@
 // What an accepted opening writes, within the sizes: the tables of L, those of the book, and zeros in the windows and the work table. Places beyond the sizes are as
 // lent.
-ghost use Rattle.tables.specs.Tables.{sizes_of};
-ghost use Rattle.tables.specs.Lent.{tables_in, tables_out, tables_now};
+ghost use Rattle.tables.specs.Tables.{tables_of, sizes_of};
 ghost use Rattle.admission.specs.Admission.{HasPlaces};
 ghost use Rattle.opening.specs.Written.{HoldColumns, ColumnsWritten, HoldBook, BookWritten, OpeningWritten};
 
@@ -28,8 +27,8 @@ pub fn write(
     f: u32,
     c: u32,
 ) -> Heads
-    requires { HasPlaces (sizes_of m n f c) (tables_now heads parents rows counts next book_heads book_rows book_next windows) work.old }
-    ensures { OpeningWritten (sizes_of m n f c) (tables_in heads parents rows counts next book_heads book_rows book_next windows) work.old (tables_out heads parents rows counts next book_heads book_rows book_next windows) work.new result.0.0 result.1.0 }
+    requires { HasPlaces (sizes_of m n f c) (tables_of heads.old parents.old rows.old counts.old next.old book_heads.old book_rows.old book_next.old windows.old) work.old }
+    ensures { OpeningWritten (sizes_of m n f c) (tables_of heads.old parents.old rows.old counts.old next.old book_heads.old book_rows.old book_next.old windows.old) work.old (tables_of heads.new parents.new rows.new counts.new next.new book_heads.new book_rows.new book_next.new windows.new) work.new result.0.0 result.1.0 }
 {
     let free = write_columns(heads, parents, rows, counts, next, m, f);
     let book_free = write_book(book_heads, book_rows, book_next, n, c);

@@ -1,5 +1,5 @@
 // An accepted batch written to sound tables, from the plan in the work table: the report, the stored columns, then the batch's columns into the book or out of it.
-ghost use Rattle.tables.specs.Lent.{tables_in, tables_out, tables_now};
+ghost use Rattle.tables.specs.Tables.{tables_of};
 ghost use Rattle.calls.specs.Lent.{report_in, report_out, adding_of, removing_of};
 ghost use Rattle.calls.specs.Calls.Change.{adding, removing};
 ghost use Rattle.writing.specs.Writing.{SomePlan, WritesPlan};
@@ -37,8 +37,8 @@ pub fn write_add(
     free: Rec,
     book_free: Rec,
 ) -> FreeHeads
-    requires { SomePlan (tables_now heads parents rows counts next book_heads book_rows book_next windows) free.0 book_free.0 (adding ids.now row_counts.now row_list.now firsts.now seconds.now) work.old touched.old labels.old plan }
-    ensures { WritesPlan (tables_in heads parents rows counts next book_heads book_rows book_next windows) free.0 book_free.0 (adding_of ids row_counts row_list firsts seconds) (report_in work touched labels) plan (tables_out heads parents rows counts next book_heads book_rows book_next windows) result (report_out work touched labels) }
+    requires { SomePlan (tables_of heads.now parents.old rows.old counts.old next.old book_heads.old book_rows.old book_next.old windows.old) free.0 book_free.0 (adding ids.now row_counts.now row_list.now firsts.now seconds.now) work.old touched.old labels.old plan }
+    ensures { WritesPlan (tables_of heads.now parents.old rows.old counts.old next.old book_heads.old book_rows.old book_next.old windows.old) free.0 book_free.0 (adding_of ids row_counts row_list firsts seconds) (report_in work touched labels) plan (tables_of heads.now parents.new rows.new counts.new next.new book_heads.new book_rows.new book_next.new windows.new) result (report_out work touched labels) }
 {
     let first = plan.first;
     commit::report(work, touched, labels, heads.len(), first);
@@ -74,8 +74,8 @@ pub fn write_remove(
     free: Rec,
     book_free: Rec,
 ) -> FreeHeads
-    requires { SomePlan (tables_now heads parents rows counts next book_heads book_rows book_next windows) free.0 book_free.0 (removing ids.now) work.old touched.old labels.old plan }
-    ensures { WritesPlan (tables_in heads parents rows counts next book_heads book_rows book_next windows) free.0 book_free.0 (removing_of ids) (report_in work touched labels) plan (tables_out heads parents rows counts next book_heads book_rows book_next windows) result (report_out work touched labels) }
+    requires { SomePlan (tables_of heads.now parents.old rows.old counts.old next.old book_heads.old book_rows.old book_next.old windows.old) free.0 book_free.0 (removing ids.now) work.old touched.old labels.old plan }
+    ensures { WritesPlan (tables_of heads.now parents.old rows.old counts.old next.old book_heads.old book_rows.old book_next.old windows.old) free.0 book_free.0 (removing_of ids) (report_in work touched labels) plan (tables_of heads.now parents.new rows.new counts.new next.new book_heads.new book_rows.new book_next.new windows.new) result (report_out work touched labels) }
 {
     let first = plan.first;
     commit::report(work, touched, labels, heads.len(), first);

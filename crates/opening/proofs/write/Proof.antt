@@ -8,76 +8,60 @@ use Rattle.opening.proofs.write.Statement.{statement}
 use Rattle.opening.proofs.write.Tie as tie
 
 -- ---- the places, named
-abbrev entry : tie.After-write-columns → tie.Start
-entry c = c.before.before.before.before.before.before.before.before.before.before.before.before.before.before.before.before
-
-abbrev columns : tie.After-write-book → tie.After-write-columns
-columns c = c.before.before.before.before.before.before.before.before.before.before.before.before.before.before
-
-abbrev booked : tie.After-clear → tie.After-write-book
-booked c = c.before.before.before.before.before.before.before.before
-
-abbrev listed : tie.After-clear-arg → tie.After-write-book
-listed c = c.before.before.before.before.before.before.before
-
-abbrev cleared : tie.After-work-need → tie.After-clear
+abbrev cleared : tie.After-work_need → tie.After-clear
 cleared c = c.before.before.before.before
 
-write-columns-requires : tie.Need-write-columns-requires
-write-columns-requires c κs = hold-columns c.before.before.before.before.before.before.before.before.before.before.before.before.before.before.before.requires
+write-columns-requires : tie.Need-write_columns-free-requires
+write-columns-requires c κs = hold-columns c.requires
 
-write-book-requires : tie.Need-write-book-requires
-write-book-requires c κs = hold-book (entry c.before.before.before.before.before.before.before.before.before.before.before.before.before).requires
+write-book-requires : tie.Need-write_book-book_free-requires
+write-book-requires c κs = hold-book c.requires
 
-mul-clear : tie.Need-overflow-mul-clear
-mul-clear c = let s = entry (columns (listed c)) in omega (arith, (in-range (sizes_of s.args.m s.args.n s.args.f s.args.c) s.pre.sizes).n-high)
+mul-clear : tie.Need-overflow_mul-n
+mul-clear c = omega (arith, (in-range (sizes_of c.args.m c.args.n c.args.f c.args.c) c.requires.sizes).n-high)
 
 clear-requires : tie.Need-clear-requires
-clear-requires c κs = hold-windows (entry (columns (listed c))).requires
+clear-requires c κs = hold-windows c.requires
 
-work-need-requires : tie.Need-work-need-requires
+work-need-requires : tie.Need-work_need-requires
 work-need-requires c κs = search rules
 
 clear-requires-2 : tie.Need-clear-requires-2
-clear-requires-2 c κs = omega (arith, c.work-need.ensures, (entry (columns (booked (cleared c)))).requires.room)
+clear-requires-2 c κs = omega (arith, c.work_need.ensures, c.requires.room)
 
-same_length : tie.Need-same-length
-same_length c = (columns (booked (cleared c.before.before.before))).write-columns.auto.0
+same_length : tie.Need-shape_of-heads
+same_length c = c.write_columns-free.auto.heads
 
-same-length-2 : tie.Need-same-length-2
-same-length-2 c = (columns (booked (cleared c.before.before.before))).write-columns.auto.1.0
+same-length-2 : tie.Need-shape_of-parents
+same-length-2 c = c.write_columns-free.auto.parents
 
-same-length-3 : tie.Need-same-length-3
-same-length-3 c = (columns (booked (cleared c.before.before.before))).write-columns.auto.1.1.0
+same-length-3 : tie.Need-shape_of-rows
+same-length-3 c = c.write_columns-free.auto.rows
 
-same-length-4 : tie.Need-same-length-4
-same-length-4 c = (columns (booked (cleared c.before.before.before))).write-columns.auto.1.1.1.0
+same-length-4 : tie.Need-shape_of-counts
+same-length-4 c = c.write_columns-free.auto.counts
 
-same-length-5 : tie.Need-same-length-5
-same-length-5 c = (columns (booked (cleared c.before.before.before))).write-columns.auto.1.1.1.1.0
+same-length-5 : tie.Need-shape_of-next
+same-length-5 c = c.write_columns-free.auto.next
 
-same-length-6 : tie.Need-same-length-6
-same-length-6 c = (booked (cleared c.before.before.before)).write-book.auto.0
+same-length-6 : tie.Need-shape_of-book_heads
+same-length-6 c = c.write_book-book_free.auto.book_heads
 
-same-length-7 : tie.Need-same-length-7
-same-length-7 c = (booked (cleared c.before.before.before)).write-book.auto.1.0
+same-length-7 : tie.Need-shape_of-book_rows
+same-length-7 c = c.write_book-book_free.auto.book_rows
 
-same-length-8 : tie.Need-same-length-8
-same-length-8 c = (booked (cleared c.before.before.before)).write-book.auto.1.1.0
+same-length-8 : tie.Need-shape_of-book_next
+same-length-8 c = c.write_book-book_free.auto.book_next
 
-same-length-9 : tie.Need-same-length-9
-same-length-9 c = (cleared c.before.before.before).clear.auto.0
+same-length-9 : tie.Need-shape_of-windows
+same-length-9 c = c.clear.auto.work
 
-same-length-10 : tie.Need-same-length-10
-same-length-10 c = c.before.before.clear2.auto.0
+same-length-10 : tie.Need-shape_of-work
+same-length-10 c = c.clear-2.auto.work
 
 returns : tie.Need-returns
 returns c =
-    let d = c.before.before in
-    let v = cleared d.before in
-    let b = booked v in
-    let a = columns b in
-    all-written (entry a).pre a.write-columns.ensures b.write-book.ensures v.clear.ensures d.clear2.ensures d.before.work-need.ensures
+    all-written c.requires c.write_columns-free.ensures c.write_book-book_free.ensures c.clear.ensures c.clear-2.ensures c.work_need.ensures
 
 pub write_spec : {M : Type 1} → statement M
 write_spec =

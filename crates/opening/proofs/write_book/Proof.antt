@@ -9,41 +9,41 @@ use Rattle.opening.proofs.write_book.Tie as tie
 abbrev entry : tie.After-open → tie.Start
 entry c = c.before.before.before.before.before.before.before
 
-slice-relend-prefix-open : tie.Need-slice-relend-prefix-open
+slice-relend-prefix-open : tie.Need-slice_bounds-open-end
 slice-relend-prefix-open c = c.before.before.before.requires.heads-long
 
-slice-aggregate-open : tie.Need-slice-aggregate-open
+slice-aggregate-open : tie.Need-slice_bounds-open-end-2
 slice-aggregate-open c = sym (length-take-le _ _ c.before.before.before.before.requires.heads-long)
 
-slice-relend-prefix-open-2 : tie.Need-slice-relend-prefix-open-2
+slice-relend-prefix-open-2 : tie.Need-slice_bounds-open-end-3
 slice-relend-prefix-open-2 c = c.before.before.before.before.requires.rows_long
 
-slice-aggregate-open-2 : tie.Need-slice-aggregate-open-2
+slice-aggregate-open-2 : tie.Need-slice_bounds-open-end-4
 slice-aggregate-open-2 c = sym (length-take-le _ _ c.before.before.before.before.before.requires.rows_long)
 
-slice-relend-prefix-open-3 : tie.Need-slice-relend-prefix-open-3
+slice-relend-prefix-open-3 : tie.Need-slice_bounds-open-end-5
 slice-relend-prefix-open-3 c = c.before.before.before.before.before.requires.next-long
 
-slice-aggregate-open-3 : tie.Need-slice-aggregate-open-3
+slice-aggregate-open-3 : tie.Need-slice_bounds-open-end-6
 slice-aggregate-open-3 c = sym (length-take-le _ _ c.before.before.before.before.before.before.requires.next-long)
 
 open-requires : tie.Need-open-requires
 open-requires c κs = book-opens c.before.before.before.before.before.before.requires
 
-same_length : tie.Need-same-length
+same_length : tie.Need-shape_of-book_heads
 same_length c = search rules
 
-same-length-2 : tie.Need-same-length-2
+same-length-2 : tie.Need-shape_of-book_rows
 same-length-2 c = search rules
 
-same-length-3 : tie.Need-same-length-3
+same-length-3 : tie.Need-shape_of-book_next
 same-length-3 c = search rules
 
 returns : tie.Need-returns
 returns c = let d : tie.After-open = c.before.before.before.before.before.before in book-written (entry d).requires d.«open».ensures
 
-pub write-book-spec : {M : Type 1} → statement M
-write-book-spec =
+pub write_book_spec : {M : Type 1} → statement M
+write_book_spec =
     tie.close
     (tie.spec
     slice-relend-prefix-open

@@ -18,127 +18,105 @@ use Rattle.writing.proofs.write_remove.Tie as tie
 
 -- ---- the places, named
 
-abbrev entry : tie.After-report-arg3 → tie.Start
-entry c = c.before.before.before.before.before.before.before.before.before.before.before.before.before.before.before.before.before
-
-abbrev reported : tie.After-write-plan-arg5 → tie.After-report
+abbrev reported : tie.After-write_plan-arg-5-1 → tie.After-report
 reported c = c.before.before.before.before.before.before.before.before.before
-
-abbrev wrote : tie.After-leave-columns-arg3 → tie.After-write-plan
-wrote c = c.before.before.before.before.before.before.before.before.before.before.before.before.before
-
-abbrev changed : tie.After-leave-arg → tie.After-leave-columns
-changed c = c.before.before.before.before.before.before.before
-
-abbrev minuted : tie.After-slice-known22 → tie.After-leave
-minuted c = c.before.before
 
 -- ---- the world and the change
 
 abbrev world_at : tie.Start → Limits → ℕ → World
 world_at s lim o =
-    cut_world (tables_of s.args.heads.now s.args.parents.now s.args.rows.now s.args.counts.now s.args.next.now s.args.book-heads.now s.args.book-rows.now s.args.book-next.now
+    cut_world (tables_of s.args.heads.now s.args.parents.now s.args.rows.now s.args.counts.now s.args.next.now s.args.book_heads.now s.args.book_rows.now s.args.book_next.now
     s.args.windows.now)
-    lim o s.args.free.0 s.args.book-free.0
+    lim o s.args.free.0 s.args.book_free.0
 
 abbrev change_at : tie.Start → Change
 change_at s = removing s.args.ids.now
 
 report-requires : tie.Need-report-requires
 report-requires c κs =
-    let s = entry c in
-    let r : Register = booked_in (world_at s s.pre.limits s.pre.clock) in
-    let k : Change = change_at s in
+    let r : Register = booked_in (world_at c.before.before.before.before.before.before.before.before.before.before.before.before.before.before.before.before c.requires.limits c.requires.clock) in
+    let k : Change = change_at c.before.before.before.before.before.before.before.before.before.before.before.before.before.before.before.before in
     record {
-      L = factor_of (length s.args.heads.now) (live r);
-      L' = factor_of (length s.args.heads.now) (live (effect r k).register);
+      L = factor_of (length c.args.heads.now) (live r);
+      L' = factor_of (length c.args.heads.now) (live (effect r k).register);
       label = (effect r k).label;
       columns = touched_by r k;
-      used = s.args.plan.used;
-      can = report-can s.pre.can;
+      used = c.args.plan.used;
+      can = report-can c.requires.can;
     }
 
-write-plan-requires : tie.Need-write-plan-requires
+write-plan-requires : tie.Need-write_plan-z-requires
 write-plan-requires c κs =
-    let s = entry (reported c).before in
-    let r : Register = booked_in (world_at s s.pre.limits s.pre.clock) in
-    let k : Change = change_at s in
+    let r : Register = booked_in (world_at c.before.before.before.before.before.before.before.before.before.before.before.before.before.before.before.before.before.before.before.before.before.before.before.before.before.before c.requires.limits c.requires.clock) in
+    let k : Change = change_at c.before.before.before.before.before.before.before.before.before.before.before.before.before.before.before.before.before.before.before.before.before.before.before.before.before.before in
     record {
       cs = live r;
       ds = live (effect r k).register;
       label = (effect r k).label;
       columns = touched_by r k;
-      before = s.pre.before;
-      count = s.args.plan.count;
-      entries = s.args.plan.entries;
-      can = write-can s.pre.can;
+      before = c.requires.before;
+      count = c.args.plan.count;
+      entries = c.args.plan.entries;
+      can = write-can c.requires.can;
     }
 
-leave-columns-requires : tie.Need-leave-columns-requires
+leave-columns-requires : tie.Need-leave_columns-y-requires
 leave-columns-requires c κs =
-    let s = entry (reported (wrote c).before).before in
-    let p = s.pre.can in
-    record { m = length s.args.heads.now; can = leave-can p.can.find s.args.ids.now p.accepted }
+    let p = c.requires.can in
+    record { m = length c.args.heads.now; can = leave-can p.can.find c.args.ids.now p.accepted }
 
 leave-requires : tie.Need-leave-requires
 leave-requires c κs =
-    let y = changed c in
-    let s = entry (reported (wrote y.before).before).before in
-    let p = s.pre.can in
-    leave-minutes p.can.find s.args.ids.now p.accepted y.leave-columns.kept.0
+    let p = c.requires.can in
+    leave-minutes p.can.find c.args.ids.now p.accepted c.leave_columns-y.auto.book_heads
 
-same_length : tie.Need-same-length
-same_length c = (wrote (changed (minuted c).before).before).write-plan.auto.1.0
+same_length : tie.Need-shape_of-parents
+same_length c = c.write_plan-z.auto.parents
 
-same-length-2 : tie.Need-same-length-2
-same-length-2 c = (wrote (changed (minuted c).before).before).write-plan.auto.1.1.0
+same-length-2 : tie.Need-shape_of-rows
+same-length-2 c = c.write_plan-z.auto.rows
 
-same-length-3 : tie.Need-same-length-3
-same-length-3 c = (wrote (changed (minuted c).before).before).write-plan.auto.1.1.1.0
+same-length-3 : tie.Need-shape_of-counts
+same-length-3 c = c.write_plan-z.auto.counts
 
-same-length-4 : tie.Need-same-length-4
-same-length-4 c = (wrote (changed (minuted c).before).before).write-plan.auto.1.1.1.1.0
+same-length-4 : tie.Need-shape_of-next
+same-length-4 c = c.write_plan-z.auto.next
 
-same-length-5 : tie.Need-same-length-5
-same-length-5 c = (changed (minuted c).before).leave-columns.auto.0
+same-length-5 : tie.Need-shape_of-book_heads
+same-length-5 c = c.leave_columns-y.auto.book_heads
 
-same-length-6 : tie.Need-same-length-6
-same-length-6 c = (changed (minuted c).before).leave-columns.auto.1.0
+same-length-6 : tie.Need-shape_of-book_rows
+same-length-6 c = c.leave_columns-y.auto.book_rows
 
-same-length-7 : tie.Need-same-length-7
-same-length-7 c = (changed (minuted c).before).leave-columns.auto.1.1.0
+same-length-7 : tie.Need-shape_of-book_next
+same-length-7 c = c.leave_columns-y.auto.book_next
 
-same-length-8 : tie.Need-same-length-8
-same-length-8 c = (minuted c).leave.auto.0
+same-length-8 : tie.Need-shape_of-windows
+same-length-8 c = c.leave.auto.windows
 
-same-length-9 : tie.Need-same-length-9
-same-length-9 c = (wrote (changed (minuted c).before).before).write-plan.auto.1.1.1.1.1.0
+same-length-9 : tie.Need-shape_of-work
+same-length-9 c = c.write_plan-z.auto.work
 
-same-length-10 : tie.Need-same-length-10
-same-length-10 c = (reported (wrote (changed (minuted c).before).before).before).report.auto.1.0
+same-length-10 : tie.Need-shape_of-touched
+same-length-10 c = c.report.auto.touched
 
-same-length-11 : tie.Need-same-length-11
-same-length-11 c = (reported (wrote (changed (minuted c).before).before).before).report.auto.1.1.0
+same-length-11 : tie.Need-shape_of-labels
+same-length-11 c = c.report.auto.labels
 
 returns : tie.Need-returns
 returns c lim o w can =
-    let z = minuted c in
-    let y = changed z.before in
-    let x = wrote y.before in
-    let p = reported x.before in
-    let s = entry p.before in
-    let r : Register = booked_in (world_at s lim o) in
-    let k : Change = change_at s in
-    let m : ℕ = length s.args.heads.now in
-    batch-written can refl x.write-plan.kept.1.1.1.1.0
-    (p.report.ensures (factor_of m (live r)) (factor_of m (live (effect r k).register)) (effect r k).label (touched_by r k) s.args.plan.used (report-can can))
-    (x.write-plan.ensures (live r) (live (effect r k).register) (effect r k).label (touched_by r k) w s.args.plan.count s.args.plan.entries (write-can can))
-    (left_after can.can.find s.args.ids.now can.accepted
-    (y.leave-columns.ensures (length s.args.heads.now) (leave-can can.can.find s.args.ids.now can.accepted))
-    y.leave-columns.kept.0 z.leave.ensures)
+    let r : Register = booked_in (world_at c.before.before.before.before.before.before.before.before.before.before.before.before.before.before.before.before.before.before.before.before.before.before.before.before.before.before.before.before.before.before.before.before.before.before.before.before.before.before.before.before.before.before.before.before.before.before.before.before.before.before.before lim o) in
+    let k : Change = change_at c.before.before.before.before.before.before.before.before.before.before.before.before.before.before.before.before.before.before.before.before.before.before.before.before.before.before.before.before.before.before.before.before.before.before.before.before.before.before.before.before.before.before.before.before.before.before.before.before.before.before.before in
+    let m : ℕ = length c.args.heads.now in
+    batch-written can refl c.write_plan-z.auto.next
+    (c.report.ensures (factor_of m (live r)) (factor_of m (live (effect r k).register)) (effect r k).label (touched_by r k) c.args.plan.used (report-can can))
+    (c.write_plan-z.ensures (live r) (live (effect r k).register) (effect r k).label (touched_by r k) w c.args.plan.count c.args.plan.entries (write-can can))
+    (left_after can.can.find c.args.ids.now can.accepted
+    (c.leave_columns-y.ensures (length c.args.heads.now) (leave-can can.can.find c.args.ids.now can.accepted))
+    c.leave_columns-y.auto.book_heads c.leave.ensures)
 
-pub write-remove-spec : {M : Type 1} → statement M
-write-remove-spec =
+pub write_remove_spec : {M : Type 1} → statement M
+write_remove_spec =
     tie.close
     (tie.spec
     report-requires
