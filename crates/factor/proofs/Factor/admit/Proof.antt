@@ -4,23 +4,20 @@ use Rattle.admission.proofs.Admitting.{admitted-as}
 use Rattle.factor.proofs.Factor.admit.Statement.{statement}
 use Rattle.factor.proofs.Factor.admit.Tie as tie
 
-abbrev stated : tie.After-admit → tie.After-state
-stated c = c.before.before
-
 state-requires : tie.Need-state-requires
 state-requires c κs = search rules
 
 admit-requires : tie.Need-admit-requires
 admit-requires c κs = search rules
 
-same_length : tie.Need-same-length
-same_length c = c.before.before.admit.auto.1.1.1.1.1.1.1.1.1.1.0
+same_length : tie.Need-shape_of-work
+same_length c = c.admit.auto.work
 
 returns : tie.Need-returns
-returns c = let d : tie.After-admit = c.before.before in admitted-as (stated d).state.ensures d.admit.ensures
+returns c = admitted-as c.state.ensures c.admit.ensures
 
-pub admit-spec : {M : Type 1} → statement M
-admit-spec =
+pub admit_spec : {M : Type 1} → statement M
+admit_spec =
     tie.close
     (tie.spec
     state-requires

@@ -10,48 +10,37 @@ use Rattle.factor.proofs.Factor.column.Statement.{statement}
 use Rattle.factor.proofs.Factor.column.Tie as tie
 
 -- ---- the places, named
-abbrev entry : tie.After-admit → tie.Start
-entry c = c.before.before.before.before.before.before.before.before.before.before.before.before.before
-
-abbrev passed : tie.Else1 → tie.After-admit
-passed c = c.before.before.before
-
 abbrev state_at : tie.Start → State
 state_at s = state_of s.args.self
 
 abbrev tables_at : tie.Start → Tables
-tables_at s = tables_of s.args.heads.now s.args.parents.now s.args.rows.now s.args.counts.now s.args.next.now s.args.book-heads.now s.args.book-rows.now s.args.book-next.now s.args.windows.now
+tables_at s = tables_of s.args.heads.now s.args.parents.now s.args.rows.now s.args.counts.now s.args.next.now s.args.book_heads.now s.args.book_rows.now s.args.book_next.now s.args.windows.now
 
-admit-requires : tie.Need-admit-requires
+admit-requires : tie.Need-admit-number-requires
 admit-requires c κs = search rules
 
-same_length : tie.Need-same-length
-same_length c = c.before.before.before.admit.auto.1.1.1.1.1.1.1.1.1.1.0
+same_length : tie.Need-shape_of-work-then-number-ne0
+same_length c = c.admit-number.auto.work
 
-returns : tie.Need-returns
+returns : tie.Need-returns-then-number-ne0
 returns c =
-    let d : tie.After-admit = c.before.before.before in
-    let s : tie.Start = entry d in
-    refused-early (admits-ask (state_at s) (tables_at s) (ask_column s.args.j.0) s.args.place (work_and_list s.args.work.now s.args.list.now)) d.admit.ensures c.if1.true refl
+    refused-early (admits-ask (state_at c.before.before.before.before.before.before.before.before.before.before.before.before.before.before.before.before) (tables_at c.before.before.before.before.before.before.before.before.before.before.before.before.before.before.before.before) (ask_column c.args.j.0) c.args.place (work_and_list c.args.work.now c.args.list.now)) c.admit-number.ensures c.if-number-ne0.true refl
 
-column-unchecked-requires : tie.Need-column-unchecked-requires
-column-unchecked-requires c κs = admitted-usable (passed c.before).admit.ensures c.before.if1.false
+column-unchecked-requires : tie.Need-column_unchecked-requires
+column-unchecked-requires c κs = admitted-usable c.admit-number.ensures c.if-number-ne0.false
 
-same-length-2 : tie.Need-same-length-2
-same-length-2 c = (passed c.before.before.before.before).admit.auto.1.1.1.1.1.1.1.1.1.1.0
+same-length-2 : tie.Need-shape_of-work
+same-length-2 c = c.admit-number.auto.work
 
-same-length-3 : tie.Need-same-length-3
-same-length-3 c = c.before.before.column-unchecked.auto.1.1.1.1.1.1.1.1.1.1.0
+same-length-3 : tie.Need-shape_of-list
+same-length-3 c = c.column_unchecked.auto.list
 
-returns-2 : tie.Need-returns-2
+returns-2 : tie.Need-returns
 returns-2 c =
-    let u : tie.After-column-unchecked = c.before.before in
-    let e : tie.Else1 = u.before.before in
-    let s : tie.Start = entry (passed e) in
-    list-step (state_at s) (tables_at s) s.args.work.now (passed e).admit.ensures e.if1.false (ask_column s.args.j.0) s.args.place s.args.list.now u.column-unchecked.ensures.0 u.column-unchecked.ensures.1
+    list-step (state_at c.before.before.before.before.before.before.before.before.before.before.before.before.before.before.before.before.before.before.before.before) (tables_at c.before.before.before.before.before.before.before.before.before.before.before.before.before.before.before.before.before.before.before.before) c.args.work.now c.admit-number.ensures c.if-number-ne0.false (ask_column c.args.j.0) c.args.place c.args.list.now c.column_unchecked.ensures.0 c.column_unchecked.ensures.1
 
-pub column-spec : {M : Type 1} → statement M
-column-spec =
+pub column_spec : {M : Type 1} → statement M
+column_spec =
     tie.close
     (tie.spec
     admit-requires

@@ -8,34 +8,30 @@ use Rattle.factor.proofs.Using.{usable-follow, usable-parents}
 use Rattle.factor.proofs.Factor.common_unchecked.Statement.{statement}
 use Rattle.factor.proofs.Factor.common_unchecked.Tie as tie
 
-abbrev entry : tie.After-common-arg → tie.Start
-entry c = c.before.before.before.before.before.before.before.before.before.before.before.before
-
 abbrev state_at : tie.Start → State
 state_at s = state_of s.args.self
 
 abbrev tables_at : tie.Start → Tables
-tables_at s = tables_of s.args.heads.now s.args.parents.now s.args.rows.now s.args.counts.now s.args.next.now s.args.book-heads.now s.args.book-rows.now s.args.book-next.now s.args.windows.now
+tables_at s = tables_of s.args.heads.now s.args.parents.now s.args.rows.now s.args.counts.now s.args.next.now s.args.book_heads.now s.args.book_rows.now s.args.book_next.now s.args.windows.now
 
-lengths : (c : tie.After-common-arg) → Cut (state_at (entry c)) (tables_at (entry c))
-lengths c = let s : tie.Start = entry c in cut (state_at s) (tables_at s) s.pre.long
+lengths : (c : tie.After-struct_known-1) → Cut (state_of c.args.self) (tables_of c.args.heads.now c.args.parents.now c.args.rows.now c.args.counts.now c.args.next.now c.args.book_heads.now c.args.book_rows.now c.args.book_next.now c.args.windows.now)
+lengths c = cut _ _ c.requires.long
 
-cast-m : tie.Need-overflow-cast-m
+cast-m : tie.Need-overflow_cast-m
 cast-m c = search rules
 
-slice-aggregate-common : tie.Need-slice-aggregate-common
+slice-aggregate-common : tie.Need-slice_bounds-common-end
 slice-aggregate-common c = sym (lengths c).parents
 
 common-requires : tie.Need-common-requires
-common-requires c κs = usable-follow (entry c).requires
+common-requires c κs = usable-follow c.requires
 
 returns : tie.Need-returns
 returns c =
-    let s : tie.Start = entry c.before in
-    c.common.ensures (register_of (state_at s) (tables_at s)) (usable-parents s.pre)
+    c.common.ensures (register_of (state_at c.before.before.before.before.before.before.before.before.before.before.before.before) (tables_at c.before.before.before.before.before.before.before.before.before.before.before.before)) (usable-parents c.requires)
 
-pub common-unchecked-spec : {M : Type 1} → statement M
-common-unchecked-spec =
+pub common_unchecked_spec : {M : Type 1} → statement M
+common_unchecked_spec =
     tie.close
     (tie.spec
     cast-m

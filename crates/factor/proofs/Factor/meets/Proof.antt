@@ -10,54 +10,37 @@ use Rattle.factor.proofs.Factor.meets.Statement.{statement}
 use Rattle.factor.proofs.Factor.meets.Tie as tie
 
 -- ---- the places, named
-abbrev entry : tie.After-admit → tie.Start
-entry c = c.before.before.before.before.before.before.before.before.before.before.before.before.before
-
-abbrev passed : tie.Else1 → tie.After-admit
-passed c = c.before.before.before
-
 abbrev state_at : tie.Start → State
 state_at s = state_of s.args.self
 
 abbrev tables_at : tie.Start → Tables
-tables_at s = tables_of s.args.heads.now s.args.parents.now s.args.rows.now s.args.counts.now s.args.next.now s.args.book-heads.now s.args.book-rows.now s.args.book-next.now s.args.windows.now
+tables_at s = tables_of s.args.heads.now s.args.parents.now s.args.rows.now s.args.counts.now s.args.next.now s.args.book_heads.now s.args.book_rows.now s.args.book_next.now s.args.windows.now
 
-admit-requires : tie.Need-admit-requires
+admit-requires : tie.Need-admit-number-requires
 admit-requires c κs = search rules
 
-same_length : tie.Need-same-length
-same_length c = c.before.before.before.admit.auto.1.1.1.1.1.1.1.1.1.1.0
+same_length : tie.Need-shape_of-work-then-number-ne0
+same_length c = c.admit-number.auto.work
 
-returns : tie.Need-returns
+returns : tie.Need-returns-then-number-ne0
 returns c =
-    let d : tie.After-admit = c.before.before.before in
-    let s : tie.Start = entry d in
-    refused-early (admits-ask (state_at s) (tables_at s) (ask_meets s.args.i.0) s.args.place (work_and_list s.args.work.now s.args.list.now)) d.admit.ensures c.if1.true refl
+    refused-early (admits-ask (state_at c.before.before.before.before.before.before.before.before.before.before.before.before.before.before.before.before) (tables_at c.before.before.before.before.before.before.before.before.before.before.before.before.before.before.before.before) (ask_meets c.args.i.0) c.args.place (work_and_list c.args.work.now c.args.list.now)) c.admit-number.ensures c.if-number-ne0.true refl
 
-abbrev admitted : tie.After-meets-unchecked → tie.Else1
-admitted c = c.before.before.before
+meets-unchecked-requires : tie.Need-meets_unchecked-requires
+meets-unchecked-requires c κs = admitted-use c.admit-number.ensures c.if-number-ne0.false
 
-abbrev ran : tie.After-slice-known5 → tie.After-meets-unchecked
-ran c = c.before.before.before.before
+same-length-2 : tie.Need-shape_of-work
+same-length-2 c = c.meets_unchecked.auto.work ∙ c.admit-number.auto.work
 
-meets-unchecked-requires : tie.Need-meets-unchecked-requires
-meets-unchecked-requires c κs = let e : tie.Else1 = c.before.before in admitted-use (passed e).admit.ensures e.if1.false
+same-length-3 : tie.Need-shape_of-list
+same-length-3 c = c.meets_unchecked.auto.list
 
-same-length-2 : tie.Need-same-length-2
-same-length-2 c = (ran c).meets-unchecked.auto.1.1.1.1.1.1.1.1.1.1.0 ∙ (passed (admitted (ran c))).admit.auto.1.1.1.1.1.1.1.1.1.1.0
-
-same-length-3 : tie.Need-same-length-3
-same-length-3 c = (ran c).meets-unchecked.auto.1.1.1.1.1.1.1.1.1.1.1.0
-
-returns-2 : tie.Need-returns-2
+returns-2 : tie.Need-returns
 returns-2 c =
-    let u : tie.After-meets-unchecked = ran c in
-    let e : tie.Else1 = admitted u in
-    let s : tie.Start = entry (passed e) in
-    kept_step (state_at s) (tables_at s) s.args.work.now (passed e).admit.ensures e.if1.left (ask_meets s.args.i.0) s.args.place s.args.list.now u.meets-unchecked.ensures.0 u.meets-unchecked.ensures.1.0 u.meets-unchecked.ensures.1.1
+    kept_step (state_at c.before.before.before.before.before.before.before.before.before.before.before.before.before.before.before.before.before.before.before.before.before.before.before) (tables_at c.before.before.before.before.before.before.before.before.before.before.before.before.before.before.before.before.before.before.before.before.before.before.before) c.args.work.now c.admit-number.ensures c.if-number-ne0.false (ask_meets c.args.i.0) c.args.place c.args.list.now c.meets_unchecked.ensures.0 c.meets_unchecked.ensures.1.0 c.meets_unchecked.ensures.1.1
 
-pub meets-spec : {M : Type 1} → statement M
-meets-spec =
+pub meets_spec : {M : Type 1} → statement M
+meets_spec =
     tie.close
     (tie.spec
     admit-requires

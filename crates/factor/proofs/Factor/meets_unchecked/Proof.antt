@@ -8,59 +8,54 @@ use Rattle.factor.proofs.Using.{usable-tree, usable-meet}
 use Rattle.factor.proofs.Factor.meets_unchecked.Statement.{statement}
 use Rattle.factor.proofs.Factor.meets_unchecked.Tie as tie
 
-abbrev entry : tie.After-meets-arg → tie.Start
-entry c = c.before.before.before.before.before.before.before.before.before.before.before.before.before.before
-
 abbrev state_at : tie.Start → State
 state_at s = state_of s.args.self
 
 abbrev tables_at : tie.Start → Tables
-tables_at s = tables_of s.args.heads.now s.args.parents.now s.args.rows.now s.args.counts.now s.args.next.now s.args.book-heads.now s.args.book-rows.now s.args.book-next.now s.args.windows.now
+tables_at s = tables_of s.args.heads.now s.args.parents.now s.args.rows.now s.args.counts.now s.args.next.now s.args.book_heads.now s.args.book_rows.now s.args.book_next.now s.args.windows.now
 
-lengths : (c : tie.After-meets-arg) → Cut (state_at (entry c)) (tables_at (entry c))
-lengths c = let s : tie.Start = entry c in cut (state_at s) (tables_at s) s.pre.usable.long
+lengths : (c : tie.After-struct_known-2-1) → Cut (state_at c.before.before.before.before.before.before.before.before.before.before.before.before.before) (tables_at c.before.before.before.before.before.before.before.before.before.before.before.before.before)
+lengths c = cut (state_at c.before.before.before.before.before.before.before.before.before.before.before.before.before) (tables_at c.before.before.before.before.before.before.before.before.before.before.before.before.before) c.requires.usable.long
 
-cast-m : tie.Need-overflow-cast-m
+cast-m : tie.Need-overflow_cast-m
 cast-m c = search rules
 
-cast_f : tie.Need-overflow-cast-f
+cast_f : tie.Need-overflow_cast-f
 cast_f c = search rules
 
-slice-aggregate-meets : tie.Need-slice-aggregate-meets
+slice-aggregate-meets : tie.Need-slice_bounds-meets-end
 slice-aggregate-meets c = sym (lengths c).heads
 
-slice-aggregate-meets-2 : tie.Need-slice-aggregate-meets-2
-slice-aggregate-meets-2 c = sym (lengths c.before).parents
+slice-aggregate-meets-2 : tie.Need-slice_bounds-meets-end-2
+slice-aggregate-meets-2 c = sym (lengths c).parents
 
-slice-aggregate-meets-3 : tie.Need-slice-aggregate-meets-3
-slice-aggregate-meets-3 c = sym (lengths c.before.before).rows
+slice-aggregate-meets-3 : tie.Need-slice_bounds-meets-end-3
+slice-aggregate-meets-3 c = sym (lengths c).rows
 
-slice-aggregate-meets-4 : tie.Need-slice-aggregate-meets-4
-slice-aggregate-meets-4 c = sym (lengths c.before.before.before).counts
+slice-aggregate-meets-4 : tie.Need-slice_bounds-meets-end-4
+slice-aggregate-meets-4 c = sym (lengths c).counts
 
-slice-aggregate-meets-5 : tie.Need-slice-aggregate-meets-5
-slice-aggregate-meets-5 c = sym (lengths c.before.before.before.before).next
+slice-aggregate-meets-5 : tie.Need-slice_bounds-meets-end-5
+slice-aggregate-meets-5 c = sym (lengths c).next
 
 meets-requires : tie.Need-meets-requires
 meets-requires c κs =
-    let p = (entry c.before.before.before.before.before.before).requires in
+    let p = c.requires in
     usable-meet p.usable p.room p.zero
 
-same_length : tie.Need-same-length
+same_length : tie.Need-shape_of-work
 same_length c = search rules
 
-same-length-2 : tie.Need-same-length-2
+same-length-2 : tie.Need-shape_of-list
 same-length-2 c = search rules
 
 returns : tie.Need-returns
 returns c =
-    let d : tie.After-meets = c.before.before.before.before in
-    let s : tie.Start = entry d.before.before.before.before.before.before.before in
-    let u = usable-tree s.pre.usable in
-    (d.meets.ensures.0 (register_of (state_at s) (tables_at s)) u, (d.meets.ensures.1.0 (register_of (state_at s) (tables_at s)) u, d.meets.ensures.1.1))
+    let u = usable-tree c.requires.usable in
+    (c.meets.ensures.0 (register_of (state_at c.before.before.before.before.before.before.before.before.before.before.before.before.before.before.before.before.before.before.before.before) (tables_at c.before.before.before.before.before.before.before.before.before.before.before.before.before.before.before.before.before.before.before.before)) u, (c.meets.ensures.1.0 (register_of (state_at c.before.before.before.before.before.before.before.before.before.before.before.before.before.before.before.before.before.before.before.before) (tables_at c.before.before.before.before.before.before.before.before.before.before.before.before.before.before.before.before.before.before.before.before)) u, c.meets.ensures.1.1))
 
-pub meets-unchecked-spec : {M : Type 1} → statement M
-meets-unchecked-spec =
+pub meets_unchecked_spec : {M : Type 1} → statement M
+meets_unchecked_spec =
     tie.close
     (tie.spec
     cast-m
