@@ -9,5 +9,5 @@ accepted-requires c κs = search rules
 returns : tie.Need-returns
 returns c = record { numbers-are = c.accepted.ensures.numbers-are; record_is = c.accepted.ensures.record_is }
 
-pub clocked-spec : {M : Type 1} → statement M
-clocked-spec = tie.close (tie.spec accepted-requires returns)
+pub clocked_spec : {M : Type 1} → statement M
+clocked_spec = tie.close (tie.spec accepted-requires returns)

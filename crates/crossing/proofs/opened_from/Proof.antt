@@ -6,17 +6,17 @@ use Rattle.crossing.specs.Crossing.{opened_from}
 use Rattle.crossing.proofs.opened_from.Statement.{statement}
 use Rattle.crossing.proofs.opened_from.Tie as tie
 
-enum-known-x : tie.Need-enum-known-x
+enum-known-x : tie.Need-enum_known-x
 enum-known-x c = search rules
 
-enum-known-x-2 : tie.Need-enum-known-x-2
+enum-known-x-2 : tie.Need-enum_known-x-in-Refused-1
 enum-known-x-2 c = search rules
 
-returns : tie.Need-returns
-returns c = sym (ap opened_from c.before.x.given.1)
+returns : tie.Need-returns-in-Opened
+returns c = sym (ap opened_from c.in-Opened.is)
 
-returns-2 : tie.Need-returns-2
-returns-2 c = sym (ap opened_from c.before.x2.given.1)
+returns-2 : tie.Need-returns-in-Refused
+returns-2 c = sym (ap opened_from c.in-Refused.is)
 
-pub opened-from-spec : {M : Type 1} → statement M
-opened-from-spec = tie.close (tie.spec enum-known-x enum-known-x-2 returns returns-2)
+pub opened_from_spec : {M : Type 1} → statement M
+opened_from_spec = tie.close (tie.spec enum-known-x enum-known-x-2 returns returns-2)

@@ -6,23 +6,23 @@ use Rattle.crossing.specs.Crossing.{read_from}
 use Rattle.crossing.proofs.read_from.Statement.{statement}
 use Rattle.crossing.proofs.read_from.Tie as tie
 
-enum-known-x : tie.Need-enum-known-x
+enum-known-x : tie.Need-enum_known-x
 enum-known-x c = search rules
 
-cast-t6 : tie.Need-overflow-cast-t6
+cast-t6 : tie.Need-overflow_cast-result
 cast-t6 c = search rules
 
-cast-t7 : tie.Need-overflow-cast-t7
+cast-t7 : tie.Need-overflow_cast-result-in-Of
 cast-t7 c = search rules
 
-enum_told : tie.Need-enum-told
+enum_told : tie.Need-enum_told-1
 enum_told c = search rules
 
-returns : tie.Need-returns
-returns c = sym (ap read_from c.before.x.given.1)
+returns : tie.Need-returns-in-Of
+returns c = sym (ap read_from c.in-Of.is)
 
-returns-2 : tie.Need-returns-2
-returns-2 c = sym (ap read_from c.enum_told.given.1)
+returns-2 : tie.Need-returns-in-End
+returns-2 c = sym (ap read_from c.in-End.is)
 
-pub read-from-spec : {M : Type 1} → statement M
-read-from-spec = tie.close (tie.spec enum-known-x cast-t6 cast-t7 enum_told returns returns-2)
+pub read_from_spec : {M : Type 1} → statement M
+read_from_spec = tie.close (tie.spec enum-known-x cast-t6 cast-t7 enum_told returns returns-2)
