@@ -11,128 +11,104 @@ use Rattle.changes.proofs.add.Tie as tie
 
 -- ---- the places, named
 
-abbrev listed : tie.After-admit → tie.After-short-lists
-listed c = c.before.before.before.before.before.before.before.before.before.before
-
-abbrev entry : tie.After-short-lists → tie.Start
-entry c = c.before.before.before.before.before.before.before.before.before.before.before.before.before.before.before.before.before.before.before.before
-
-abbrev passed : tie.Else1 → tie.After-admit
-passed c = c.before.before.before
-
-abbrev handed : tie.After-add-unchecked-arg11 → tie.Else1
+abbrev handed : tie.After-add_unchecked-arg-11-1 → tie.Else-number-ne0
 handed c = c.before.before.before.before.before.before.before.before.before.before.before
-
-abbrev ran : tie.After-slice-known23 → tie.After-add-unchecked
-ran c = c.before.before.before.before.before.before.before.before.before.before.before.before.before.before.before.before.before.before.before.before.before.before
 
 abbrev state_at : tie.Start → State
 state_at s = state_of s.args.factor
 
 abbrev tables_at : tie.Start → Tables
-tables_at s = tables_of s.args.heads.now s.args.parents.now s.args.rows.now s.args.counts.now s.args.next.now s.args.book-heads.now s.args.book-rows.now s.args.book-next.now s.args.windows.now
+tables_at s = tables_of s.args.heads.now s.args.parents.now s.args.rows.now s.args.counts.now s.args.next.now s.args.book_heads.now s.args.book_rows.now s.args.book_next.now s.args.windows.now
 
-short-lists-requires : tie.Need-short-lists-requires
+short-lists-requires : tie.Need-short_lists-short-requires
 short-lists-requires c κs = search rules
 
-admit-requires : tie.Need-admit-requires
+admit-requires : tie.Need-admit-number-requires
 admit-requires c κs = search rules
 
 refused-requires : tie.Need-refused-requires
 refused-requires c κs = search rules
 
-same_length : tie.Need-same-length
+same_length : tie.Need-shape_of-parents-then-number-ne0
 same_length c = refl
 
-same-length-2 : tie.Need-same-length-2
+same-length-2 : tie.Need-shape_of-rows-then-number-ne0
 same-length-2 c = refl
 
-same-length-3 : tie.Need-same-length-3
+same-length-3 : tie.Need-shape_of-counts-then-number-ne0
 same-length-3 c = refl
 
-same-length-4 : tie.Need-same-length-4
+same-length-4 : tie.Need-shape_of-next-then-number-ne0
 same-length-4 c = refl
 
-same-length-5 : tie.Need-same-length-5
+same-length-5 : tie.Need-shape_of-book_heads-then-number-ne0
 same-length-5 c = refl
 
-same-length-6 : tie.Need-same-length-6
+same-length-6 : tie.Need-shape_of-book_rows-then-number-ne0
 same-length-6 c = refl
 
-same-length-7 : tie.Need-same-length-7
+same-length-7 : tie.Need-shape_of-book_next-then-number-ne0
 same-length-7 c = refl
 
-same-length-8 : tie.Need-same-length-8
+same-length-8 : tie.Need-shape_of-windows-then-number-ne0
 same-length-8 c = refl
 
-same-length-9 : tie.Need-same-length-9
-same-length-9 c = c.before.before.before.before.admit.auto.1.1.1.1.1.1.1.1.1.1.0
+same-length-9 : tie.Need-shape_of-work-then-number-ne0
+same-length-9 c = c.admit-number.auto.work
 
-same-length-10 : tie.Need-same-length-10
+same-length-10 : tie.Need-shape_of-touched-then-number-ne0
 same-length-10 c = refl
 
-same-length-11 : tie.Need-same-length-11
+same-length-11 : tie.Need-shape_of-labels-then-number-ne0
 same-length-11 c = refl
 
-returns : tie.Need-returns
+returns : tie.Need-returns-then-number-ne0
 returns c =
-    let d : tie.After-admit = c.before.before.before.before in
-    let h : tie.After-short-lists = listed d in
-    let s : tie.Start = entry h in
-    change-refused s.args.factor (tables_at s) (admits-change (state_at s) (tables_at s) s.args.work.now s.args.touched.now s.args.labels.now h.short-lists.ensures (adding s.args.ids.now s.args.row_counts.now s.args.row_list.now s.args.firsts.now s.args.seconds.now)) d.admit.ensures
-    c.before.if1.true (report_lists d.admit.new.1.1.1.1.1.1.1.1.1.1.0 s.args.touched.now s.args.labels.now) refl c.refused.ensures
+    change-refused c.args.factor (tables_at c.before.before.before.before.before.before.before.before.before.before.before.before.before.before.before.before.before.before.before.before.before.before.before.before) (admits-change (state_at c.before.before.before.before.before.before.before.before.before.before.before.before.before.before.before.before.before.before.before.before.before.before.before.before) (tables_at c.before.before.before.before.before.before.before.before.before.before.before.before.before.before.before.before.before.before.before.before.before.before.before.before) c.args.work.now c.args.touched.now c.args.labels.now c.short_lists-short.ensures (adding c.args.ids.now c.args.row_counts.now c.args.row_list.now c.args.firsts.now c.args.seconds.now)) c.admit-number.ensures
+    c.if-number-ne0.true (report_lists c.admit-number.new.work c.args.touched.now c.args.labels.now) refl c.refused.ensures
 
-add-unchecked-requires : tie.Need-add-unchecked-requires
+add-unchecked-requires : tie.Need-add_unchecked-requires
 add-unchecked-requires c κs =
-    let e : tie.Else1 = handed c in
-    let d : tie.After-admit = passed e in
-    let h : tie.After-short-lists = listed d in
-    let s : tie.Start = entry h in
-    admitted-can (state_at s) (tables_at s) s.args.work.now s.args.touched.now s.args.labels.now h.short-lists.ensures d.admit.ensures e.if1.left
+    admitted-can (state_at c.before.before.before.before.before.before.before.before.before.before.before.before.before.before.before.before.before.before.before.before.before.before.before.before.before.before.before.before.before.before.before.before.before.before) (tables_at c.before.before.before.before.before.before.before.before.before.before.before.before.before.before.before.before.before.before.before.before.before.before.before.before.before.before.before.before.before.before.before.before.before.before) c.args.work.now c.args.touched.now c.args.labels.now c.short_lists-short.ensures c.admit-number.ensures c.if-number-ne0.false
 
-same-length-12 : tie.Need-same-length-12
-same-length-12 c = (ran c).add-unchecked.auto.1.1.0
+same-length-12 : tie.Need-shape_of-parents
+same-length-12 c = c.add_unchecked.auto.parents
 
-same-length-13 : tie.Need-same-length-13
-same-length-13 c = (ran c).add-unchecked.auto.1.1.1.0
+same-length-13 : tie.Need-shape_of-rows
+same-length-13 c = c.add_unchecked.auto.rows
 
-same-length-14 : tie.Need-same-length-14
-same-length-14 c = (ran c).add-unchecked.auto.1.1.1.1.0
+same-length-14 : tie.Need-shape_of-counts
+same-length-14 c = c.add_unchecked.auto.counts
 
-same-length-15 : tie.Need-same-length-15
-same-length-15 c = (ran c).add-unchecked.auto.1.1.1.1.1.0
+same-length-15 : tie.Need-shape_of-next
+same-length-15 c = c.add_unchecked.auto.next
 
-same-length-16 : tie.Need-same-length-16
-same-length-16 c = (ran c).add-unchecked.auto.1.1.1.1.1.1.0
+same-length-16 : tie.Need-shape_of-book_heads
+same-length-16 c = c.add_unchecked.auto.book_heads
 
-same-length-17 : tie.Need-same-length-17
-same-length-17 c = (ran c).add-unchecked.auto.1.1.1.1.1.1.1.0
+same-length-17 : tie.Need-shape_of-book_rows
+same-length-17 c = c.add_unchecked.auto.book_rows
 
-same-length-18 : tie.Need-same-length-18
-same-length-18 c = (ran c).add-unchecked.auto.1.1.1.1.1.1.1.1.0
+same-length-18 : tie.Need-shape_of-book_next
+same-length-18 c = c.add_unchecked.auto.book_next
 
-same-length-19 : tie.Need-same-length-19
-same-length-19 c = (ran c).add-unchecked.auto.1.1.1.1.1.1.1.1.1.0
+same-length-19 : tie.Need-shape_of-windows
+same-length-19 c = c.add_unchecked.auto.windows
 
-same-length-20 : tie.Need-same-length-20
-same-length-20 c = (ran c).add-unchecked.auto.1.1.1.1.1.1.1.1.1.1.0 ∙ (passed (handed (ran c).before)).admit.auto.1.1.1.1.1.1.1.1.1.1.0
+same-length-20 : tie.Need-shape_of-work
+same-length-20 c = c.add_unchecked.auto.work ∙ c.admit-number.auto.work
 
-same-length-21 : tie.Need-same-length-21
-same-length-21 c = (ran c).add-unchecked.auto.1.1.1.1.1.1.1.1.1.1.1.0
+same-length-21 : tie.Need-shape_of-touched
+same-length-21 c = c.add_unchecked.auto.touched
 
-same-length-22 : tie.Need-same-length-22
-same-length-22 c = (ran c).add-unchecked.auto.1.1.1.1.1.1.1.1.1.1.1.1.0
+same-length-22 : tie.Need-shape_of-labels
+same-length-22 c = c.add_unchecked.auto.labels
 
-returns-2 : tie.Need-returns-2
+returns-2 : tie.Need-returns
 returns-2 c =
-    let u : tie.After-add-unchecked = ran c in
-    let e : tie.Else1 = handed u.before in
-    let d : tie.After-admit = passed e in
-    let h : tie.After-short-lists = listed d in
-    let s : tie.Start = entry h in
-    let t : Tables = tables_of s.args.heads.now u.add-unchecked.last.1.1.0 u.add-unchecked.last.1.1.1.0 u.add-unchecked.last.1.1.1.1.0 u.add-unchecked.last.1.1.1.1.1.0 u.add-unchecked.last.1.1.1.1.1.1.0 u.add-unchecked.last.1.1.1.1.1.1.1.0 u.add-unchecked.last.1.1.1.1.1.1.1.1.0 u.add-unchecked.last.1.1.1.1.1.1.1.1.1.0 in
-    changed-whole (state_at s) (tables_at s) s.args.work.now s.args.touched.now s.args.labels.now h.short-lists.ensures d.admit.ensures e.if1.left (adding s.args.ids.now s.args.row_counts.now s.args.row_list.now s.args.firsts.now s.args.seconds.now)
-    (changed_answer u.add-unchecked.result) (report_lists u.add-unchecked.last.1.1.1.1.1.1.1.1.1.1.0 u.add-unchecked.last.1.1.1.1.1.1.1.1.1.1.1.0 u.add-unchecked.last.1.1.1.1.1.1.1.1.1.1.1.1.0) (world_of u.add-unchecked.result.factor t) u.add-unchecked.ensures
+    let t : Tables = tables_of c.args.heads.now c.add_unchecked.new.parents c.add_unchecked.new.rows c.add_unchecked.new.counts c.add_unchecked.new.next c.add_unchecked.new.book_heads c.add_unchecked.new.book_rows c.add_unchecked.new.book_next c.add_unchecked.new.windows in
+    changed-whole (state_at c.before.before.before.before.before.before.before.before.before.before.before.before.before.before.before.before.before.before.before.before.before.before.before.before.before.before.before.before.before.before.before.before.before.before.before.before.before.before.before.before.before.before.before.before.before.before.before.before.before.before.before.before.before.before.before.before.before) (tables_at c.before.before.before.before.before.before.before.before.before.before.before.before.before.before.before.before.before.before.before.before.before.before.before.before.before.before.before.before.before.before.before.before.before.before.before.before.before.before.before.before.before.before.before.before.before.before.before.before.before.before.before.before.before.before.before.before.before) c.args.work.now c.args.touched.now c.args.labels.now c.short_lists-short.ensures c.admit-number.ensures c.if-number-ne0.false (adding c.args.ids.now c.args.row_counts.now c.args.row_list.now c.args.firsts.now c.args.seconds.now)
+    (changed_answer c.add_unchecked.result) (report_lists c.add_unchecked.new.work c.add_unchecked.new.touched c.add_unchecked.new.labels) (world_of c.add_unchecked.result.factor t) c.add_unchecked.ensures
 
 pub add_spec : {M : Type 1} → statement M
 add_spec =

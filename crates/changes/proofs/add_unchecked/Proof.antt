@@ -20,250 +20,223 @@ use Rattle.changes.proofs.add_unchecked.Tie as tie
 
 -- ---- the places, named
 
-abbrev entry : tie.After-judge-add-arg → tie.Start
-entry c = c.before.before.before.before.before.before.before.before.before.before.before.before.before.before.before.before.before.before.before.before.before.before
-
-abbrev judging : tie.After-judge-add → tie.After-judge-add-arg
-judging c = c.before.before.before.before.before.before.before.before
-
-abbrev judged : tie.Else1 → tie.After-judge-add
+abbrev judged : tie.Else-found-ne0 → tie.After-judge_add-verdict
 judged c = c.before.before.before.before.before
-
-abbrev writing : tie.After-write-add-arg → tie.After-judge-add-arg
-writing c = judging (judged c.before.before)
-
-abbrev lent : tie.After-write-add-arg12 → tie.Else1
-lent c = c.before.before.before.before.before.before.before.before.before.before.before.before.before
-
-abbrev wrote : tie.After-accepted → tie.After-write-add
-wrote c = c.before.before.before.before.before.before.before.before.before.before.before.before.before.before.before.before.before.before.before.before.before.before.before
 
 abbrev state_at : tie.Start → State
 state_at s = state_of s.args.factor
 
 abbrev tables_at : tie.Start → Tables
-tables_at s = tables_of s.args.heads.now s.args.parents.now s.args.rows.now s.args.counts.now s.args.next.now s.args.book-heads.now s.args.book-rows.now s.args.book-next.now s.args.windows.now
+tables_at s = tables_of s.args.heads.now s.args.parents.now s.args.rows.now s.args.counts.now s.args.next.now s.args.book_heads.now s.args.book_rows.now s.args.book_next.now s.args.windows.now
 
 abbrev change_at : tie.Start → Change
 change_at s = adding s.args.ids.now s.args.row_counts.now s.args.row_list.now s.args.firsts.now s.args.seconds.now
 
-lengths : (c : tie.After-judge-add-arg) → Cut (state_at (entry c)) (tables_at (entry c))
-lengths c = let s : tie.Start = entry c in cut (state_at s) (tables_at s) s.pre.can-use.usable.long
+lengths : (c : tie.After-struct_known-4-1) → Cut (state_at c.before.before.before.before.before.before.before.before.before.before.before.before.before.before.before.before.before.before.before.before.before) (tables_at c.before.before.before.before.before.before.before.before.before.before.before.before.before.before.before.before.before.before.before.before.before)
+lengths c = cut (state_at c.before.before.before.before.before.before.before.before.before.before.before.before.before.before.before.before.before.before.before.before.before) (tables_at c.before.before.before.before.before.before.before.before.before.before.before.before.before.before.before.before.before.before.before.before.before) c.requires.can-use.usable.long
 
-long : (c : tie.After-judge-add-arg) → Long (state_at (entry c)).sizes (tables_at (entry c))
-long c = let s : tie.Start = entry c in change-long s.args.factor (tables_at s) s.pre
+long : (c : tie.After-struct_known-4-1) → Long (state_at c.before.before.before.before.before.before.before.before.before.before.before.before.before.before.before.before.before.before.before.before.before).sizes (tables_at c.before.before.before.before.before.before.before.before.before.before.before.before.before.before.before.before.before.before.before.before.before)
+long c = change-long c.args.factor (tables_at c.before.before.before.before.before.before.before.before.before.before.before.before.before.before.before.before.before.before.before.before.before) c.requires
 
 -- the verdict
-verdict : (c : tie.After-judge-add) →
-    let s = entry (judging c) in
-    Judged (world_cut s.args.factor (tables_at s)) (change_at s) s.args.work.now c.judge-add.new.1.1.1.1.1.1.1.0 c.judge-add.result
+verdict : (c : tie.After-judge_add-verdict) →
+    Judged (world_cut c.args.factor (tables_at c.before.before.before.before.before.before.before.before.before.before.before.before.before.before.before.before.before.before.before.before.before.before.before)) (change_at c.before.before.before.before.before.before.before.before.before.before.before.before.before.before.before.before.before.before.before.before.before.before.before) c.args.work.now c.judge_add-verdict.new.work c.judge_add-verdict.result
 verdict c =
-    let s = entry (judging c) in
-    c.judge-add.ensures (state_at s).limits (take s.args.factor.c s.args.book-rows.now) (take (2 * s.args.factor.n) s.args.windows.now) (change-can s.args.factor (tables_at s) s.pre).find
+    c.judge_add-verdict.ensures (state_at c.before.before.before.before.before.before.before.before.before.before.before.before.before.before.before.before.before.before.before.before.before.before.before).limits (take c.args.factor.c c.args.book_rows.now) (take (2 * c.args.factor.n) c.args.windows.now) (change-can c.args.factor (tables_at c.before.before.before.before.before.before.before.before.before.before.before.before.before.before.before.before.before.before.before.before.before.before.before) c.requires).find
 
-cast-m : tie.Need-overflow-cast-m
+cast-m : tie.Need-overflow_cast-m
 cast-m c = search rules
 
-cast-n : tie.Need-overflow-cast-n
+cast-n : tie.Need-overflow_cast-n
 cast-n c = search rules
 
-cast_f : tie.Need-overflow-cast-f
+cast_f : tie.Need-overflow_cast-f
 cast_f c = search rules
 
-cast-c : tie.Need-overflow-cast-c
+cast-c : tie.Need-overflow_cast-c
 cast-c c = search rules
 
 -- ---- judged
 
-slice-aggregate-judge-add : tie.Need-slice-aggregate-judge-add
+slice-aggregate-judge-add : tie.Need-slice_bounds-judge_add-end
 slice-aggregate-judge-add c = sym (lengths c).heads
 
-slice-reshare-prefix-judge-add : tie.Need-slice-reshare-prefix-judge-add
+slice-reshare-prefix-judge-add : tie.Need-slice_bounds-judge_add-end-2
 slice-reshare-prefix-judge-add c = (long c).parents
 
-slice-aggregate-judge-add-2 : tie.Need-slice-aggregate-judge-add-2
-slice-aggregate-judge-add-2 c = sym (lengths c.before).parents
+slice-aggregate-judge-add-2 : tie.Need-slice_bounds-judge_add-end-3
+slice-aggregate-judge-add-2 c = sym (lengths c).parents
 
-slice-reshare-prefix-judge-add-2 : tie.Need-slice-reshare-prefix-judge-add-2
-slice-reshare-prefix-judge-add-2 c = (long c.before).rows
+slice-reshare-prefix-judge-add-2 : tie.Need-slice_bounds-judge_add-end-4
+slice-reshare-prefix-judge-add-2 c = (long c).rows
 
-slice-aggregate-judge-add-3 : tie.Need-slice-aggregate-judge-add-3
-slice-aggregate-judge-add-3 c = sym (lengths c.before.before).rows
+slice-aggregate-judge-add-3 : tie.Need-slice_bounds-judge_add-end-5
+slice-aggregate-judge-add-3 c = sym (lengths c).rows
 
-slice-reshare-prefix-judge-add-3 : tie.Need-slice-reshare-prefix-judge-add-3
-slice-reshare-prefix-judge-add-3 c = (long c.before.before).counts
+slice-reshare-prefix-judge-add-3 : tie.Need-slice_bounds-judge_add-end-6
+slice-reshare-prefix-judge-add-3 c = (long c).counts
 
-slice-aggregate-judge-add-4 : tie.Need-slice-aggregate-judge-add-4
-slice-aggregate-judge-add-4 c = sym (lengths c.before.before.before).counts
+slice-aggregate-judge-add-4 : tie.Need-slice_bounds-judge_add-end-7
+slice-aggregate-judge-add-4 c = sym (lengths c).counts
 
-slice-reshare-prefix-judge-add-4 : tie.Need-slice-reshare-prefix-judge-add-4
-slice-reshare-prefix-judge-add-4 c = (long c.before.before.before).next
+slice-reshare-prefix-judge-add-4 : tie.Need-slice_bounds-judge_add-end-8
+slice-reshare-prefix-judge-add-4 c = (long c).next
 
-slice-aggregate-judge-add-5 : tie.Need-slice-aggregate-judge-add-5
-slice-aggregate-judge-add-5 c = sym (lengths c.before.before.before.before).next
+slice-aggregate-judge-add-5 : tie.Need-slice_bounds-judge_add-end-9
+slice-aggregate-judge-add-5 c = sym (lengths c).next
 
-slice-reshare-prefix-judge-add-5 : tie.Need-slice-reshare-prefix-judge-add-5
-slice-reshare-prefix-judge-add-5 c = (long c.before.before.before.before).book_heads
+slice-reshare-prefix-judge-add-5 : tie.Need-slice_bounds-judge_add-end-10
+slice-reshare-prefix-judge-add-5 c = (long c).book_heads
 
-slice-aggregate-judge-add-6 : tie.Need-slice-aggregate-judge-add-6
-slice-aggregate-judge-add-6 c = sym (lengths c.before.before.before.before.before).book_heads
+slice-aggregate-judge-add-6 : tie.Need-slice_bounds-judge_add-end-11
+slice-aggregate-judge-add-6 c = sym (lengths c).book_heads
 
-slice-reshare-prefix-judge-add-6 : tie.Need-slice-reshare-prefix-judge-add-6
-slice-reshare-prefix-judge-add-6 c = (long c.before.before.before.before.before).book_next
+slice-reshare-prefix-judge-add-6 : tie.Need-slice_bounds-judge_add-end-12
+slice-reshare-prefix-judge-add-6 c = (long c).book_next
 
-slice-aggregate-judge-add-7 : tie.Need-slice-aggregate-judge-add-7
-slice-aggregate-judge-add-7 c = sym (lengths c.before.before.before.before.before.before).book_next
+slice-aggregate-judge-add-7 : tie.Need-slice_bounds-judge_add-end-13
+slice-aggregate-judge-add-7 c = sym (lengths c).book_next
 
-judge-add-requires : tie.Need-judge-add-requires
+judge-add-requires : tie.Need-judge_add-verdict-requires
 judge-add-requires c κs =
-    let s = entry c.before.before.before.before.before.before.before in
-    record { limits = (state_at s).limits; book-rows = take s.args.factor.c s.args.book-rows.now; windows = take (2 * s.args.factor.n) s.args.windows.now; can = (change-can s.args.factor (tables_at s) s.pre).find }
+    record { limits = (state_at c.before.before.before.before.before.before.before.before.before.before.before.before.before.before.before.before.before.before.before.before.before.before).limits; book-rows = take c.args.factor.c c.args.book_rows.now; windows = take (2 * c.args.factor.n) c.args.windows.now; can = (change-can c.args.factor (tables_at c.before.before.before.before.before.before.before.before.before.before.before.before.before.before.before.before.before.before.before.before.before.before) c.requires).find }
 
 -- ---- refused
 
 refused-requires : tie.Need-refused-requires
 refused-requires c κs = tt
 
-same_length : tie.Need-same-length
+same_length : tie.Need-shape_of-parents-then-found-ne0
 same_length c = refl
 
-same-length-2 : tie.Need-same-length-2
+same-length-2 : tie.Need-shape_of-rows-then-found-ne0
 same-length-2 c = refl
 
-same-length-3 : tie.Need-same-length-3
+same-length-3 : tie.Need-shape_of-counts-then-found-ne0
 same-length-3 c = refl
 
-same-length-4 : tie.Need-same-length-4
+same-length-4 : tie.Need-shape_of-next-then-found-ne0
 same-length-4 c = refl
 
-same-length-5 : tie.Need-same-length-5
+same-length-5 : tie.Need-shape_of-book_heads-then-found-ne0
 same-length-5 c = refl
 
-same-length-6 : tie.Need-same-length-6
+same-length-6 : tie.Need-shape_of-book_next-then-found-ne0
 same-length-6 c = refl
 
-same-length-7 : tie.Need-same-length-7
-same-length-7 c = c.before.before.before.before.before.before.judge-add.auto.1.1.1.1.1.1.1.0
+same-length-7 : tie.Need-shape_of-work-then-found-ne0
+same-length-7 c = c.judge_add-verdict.auto.work
 
-returns : tie.Need-returns
+returns : tie.Need-returns-then-found-ne0
 returns c =
-    let x = c.before.before.before.before.before.before in
-    let s = entry (judging x) in
-    batch-refused s.args.factor (tables_at s) s.pre (verdict x) c.before.if1.true c.refused.ensures
+    batch-refused c.args.factor (tables_at c.before.before.before.before.before.before.before.before.before.before.before.before.before.before.before.before.before.before.before.before.before.before.before.before.before.before.before.before.before) c.requires (verdict c.before.before.before.before.before.before) c.if-found-ne0.true c.refused.ensures
 
 -- ---- written
 
-slice-aggregate-write-add : tie.Need-slice-aggregate-write-add
-slice-aggregate-write-add c = sym (lengths (writing c)).heads
+slice-aggregate-write-add : tie.Need-slice_bounds-write_add-end
+slice-aggregate-write-add c = sym (lengths c.before.before.before.before.before.before.before.before).heads
 
-slice-relend-prefix-write-add : tie.Need-slice-relend-prefix-write-add
-slice-relend-prefix-write-add c = (long (writing c)).parents
+slice-relend-prefix-write-add : tie.Need-slice_bounds-write_add-end-2
+slice-relend-prefix-write-add c = (long c.before.before.before.before.before.before.before.before).parents
 
-slice-aggregate-write-add-2 : tie.Need-slice-aggregate-write-add-2
-slice-aggregate-write-add-2 c = sym (lengths (writing c.before)).parents
+slice-aggregate-write-add-2 : tie.Need-slice_bounds-write_add-end-3
+slice-aggregate-write-add-2 c = sym (lengths c.before.before.before.before.before.before.before.before.before).parents
 
-slice-relend-prefix-write-add-2 : tie.Need-slice-relend-prefix-write-add-2
-slice-relend-prefix-write-add-2 c = (long (writing c.before)).rows
+slice-relend-prefix-write-add-2 : tie.Need-slice_bounds-write_add-end-4
+slice-relend-prefix-write-add-2 c = (long c.before.before.before.before.before.before.before.before.before).rows
 
-slice-aggregate-write-add-3 : tie.Need-slice-aggregate-write-add-3
-slice-aggregate-write-add-3 c = sym (lengths (writing c.before.before)).rows
+slice-aggregate-write-add-3 : tie.Need-slice_bounds-write_add-end-5
+slice-aggregate-write-add-3 c = sym (lengths c.before.before.before.before.before.before.before.before.before.before).rows
 
-slice-relend-prefix-write-add-3 : tie.Need-slice-relend-prefix-write-add-3
-slice-relend-prefix-write-add-3 c = (long (writing c.before.before)).counts
+slice-relend-prefix-write-add-3 : tie.Need-slice_bounds-write_add-end-6
+slice-relend-prefix-write-add-3 c = (long c.before.before.before.before.before.before.before.before.before.before).counts
 
-slice-aggregate-write-add-4 : tie.Need-slice-aggregate-write-add-4
-slice-aggregate-write-add-4 c = sym (lengths (writing c.before.before.before)).counts
+slice-aggregate-write-add-4 : tie.Need-slice_bounds-write_add-end-7
+slice-aggregate-write-add-4 c = sym (lengths c.before.before.before.before.before.before.before.before.before.before.before).counts
 
-slice-relend-prefix-write-add-4 : tie.Need-slice-relend-prefix-write-add-4
-slice-relend-prefix-write-add-4 c = (long (writing c.before.before.before)).next
+slice-relend-prefix-write-add-4 : tie.Need-slice_bounds-write_add-end-8
+slice-relend-prefix-write-add-4 c = (long c.before.before.before.before.before.before.before.before.before.before.before).next
 
-slice-aggregate-write-add-5 : tie.Need-slice-aggregate-write-add-5
-slice-aggregate-write-add-5 c = sym (lengths (writing c.before.before.before.before)).next
+slice-aggregate-write-add-5 : tie.Need-slice_bounds-write_add-end-9
+slice-aggregate-write-add-5 c = sym (lengths c.before.before.before.before.before.before.before.before.before.before.before.before).next
 
-slice-relend-prefix-write-add-5 : tie.Need-slice-relend-prefix-write-add-5
-slice-relend-prefix-write-add-5 c = (long (writing c.before.before.before.before)).book_heads
+slice-relend-prefix-write-add-5 : tie.Need-slice_bounds-write_add-end-10
+slice-relend-prefix-write-add-5 c = (long c.before.before.before.before.before.before.before.before.before.before.before.before).book_heads
 
-slice-aggregate-write-add-6 : tie.Need-slice-aggregate-write-add-6
-slice-aggregate-write-add-6 c = sym (lengths (writing c.before.before.before.before.before)).book_heads
+slice-aggregate-write-add-6 : tie.Need-slice_bounds-write_add-end-11
+slice-aggregate-write-add-6 c = sym (lengths c.before.before.before.before.before.before.before.before.before.before.before.before.before).book_heads
 
-slice-relend-prefix-write-add-6 : tie.Need-slice-relend-prefix-write-add-6
-slice-relend-prefix-write-add-6 c = (long (writing c.before.before.before.before.before)).book_rows
+slice-relend-prefix-write-add-6 : tie.Need-slice_bounds-write_add-end-12
+slice-relend-prefix-write-add-6 c = (long c.before.before.before.before.before.before.before.before.before.before.before.before.before).book_rows
 
-slice-aggregate-write-add-7 : tie.Need-slice-aggregate-write-add-7
-slice-aggregate-write-add-7 c = sym (lengths (writing c.before.before.before.before.before.before)).book_rows
+slice-aggregate-write-add-7 : tie.Need-slice_bounds-write_add-end-13
+slice-aggregate-write-add-7 c = sym (lengths c.before.before.before.before.before.before.before.before.before.before.before.before.before.before).book_rows
 
-slice-relend-prefix-write-add-7 : tie.Need-slice-relend-prefix-write-add-7
-slice-relend-prefix-write-add-7 c = (long (writing c.before.before.before.before.before.before)).book_next
+slice-relend-prefix-write-add-7 : tie.Need-slice_bounds-write_add-end-14
+slice-relend-prefix-write-add-7 c = (long c.before.before.before.before.before.before.before.before.before.before.before.before.before.before).book_next
 
-slice-aggregate-write-add-8 : tie.Need-slice-aggregate-write-add-8
-slice-aggregate-write-add-8 c = sym (lengths (writing c.before.before.before.before.before.before.before)).book_next
+slice-aggregate-write-add-8 : tie.Need-slice_bounds-write_add-end-15
+slice-aggregate-write-add-8 c = sym (lengths c.before.before.before.before.before.before.before.before.before.before.before.before.before.before.before).book_next
 
-mul-write-add : tie.Need-overflow-mul-write-add
-mul-write-add c = let s = entry (writing c.before.before.before.before.before.before.before) in omega (arith, (sizes-facts (state_at s).sizes (ap is_accepted s.pre.can-use.usable.sizes)).n-high)
+mul-write-add : tie.Need-overflow_mul-n
+mul-write-add c = omega (arith, (sizes-facts (state_at c.before.before.before.before.before.before.before.before.before.before.before.before.before.before.before.before.before.before.before.before.before.before.before.before.before.before.before.before.before.before.before.before.before.before.before.before).sizes (ap is_accepted c.requires.can-use.usable.sizes)).n-high)
 
-slice-relend-prefix-write-add-8 : tie.Need-slice-relend-prefix-write-add-8
-slice-relend-prefix-write-add-8 c = (long (writing c.before.before.before.before.before.before.before)).windows
+slice-relend-prefix-write-add-8 : tie.Need-slice_bounds-write_add-end-16
+slice-relend-prefix-write-add-8 c = (long c.before.before.before.before.before.before.before.before.before.before.before.before.before.before.before).windows
 
-slice-aggregate-write-add-9 : tie.Need-slice-aggregate-write-add-9
-slice-aggregate-write-add-9 c = sym (lengths (writing c.before.before.before.before.before.before.before.before)).windows
+slice-aggregate-write-add-9 : tie.Need-slice_bounds-write_add-end-17
+slice-aggregate-write-add-9 c = sym (lengths c.before.before.before.before.before.before.before.before.before.before.before.before.before.before.before.before).windows
 
-write-add-requires : tie.Need-write-add-requires
+write-add-requires : tie.Need-write_add-after-requires
 write-add-requires c κs =
-    let e = lent c in
-    let x = judged e in
-    let s = entry (judging x) in
-    record { limits = (state_at s).limits; clock = s.args.factor.clock; before = s.args.work.now; can = batch-can s.args.factor (tables_at s) s.pre (verdict x) e.if1.left }
+    record { limits = (state_at c.before.before.before.before.before.before.before.before.before.before.before.before.before.before.before.before.before.before.before.before.before.before.before.before.before.before.before.before.before.before.before.before.before.before.before.before.before.before.before.before).limits; clock = c.args.factor.clock; before = c.args.work.now; can = batch-can c.args.factor (tables_at c.before.before.before.before.before.before.before.before.before.before.before.before.before.before.before.before.before.before.before.before.before.before.before.before.before.before.before.before.before.before.before.before.before.before.before.before.before.before.before.before) c.requires (verdict c.before.before.before.before.before.before.before.before.before.before.before.before.before.before.before.before.before) c.if-found-ne0.false }
 
 accepted-requires : tie.Need-accepted-requires
 accepted-requires c κs = tt
 
 -- the start of an accepted batch
 abbrev start : tie.After-accepted → tie.Start
-start c = entry (judging (judged (lent (wrote c).before)))
+start c = c.before.before.before.before.before.before.before.before.before.before.before.before.before.before.before.before.before.before.before.before.before.before.before.before.before.before.before.before.before.before.before.before.before.before.before.before.before.before.before.before.before.before.before.before.before.before.before.before.before.before.before.before.before.before.before.before.before.before.before.before.before.before.before.before.before.before
 
-same-length-8 : tie.Need-same-length-8
-same-length-8 c = let s = start c in joined_length s.args.factor.m s.args.parents.now (wrote c).write-add.new.1.0 (wrote c).write-add.auto.1.0
+same-length-8 : tie.Need-shape_of-parents
+same-length-8 c = joined_length c.args.factor.m c.args.parents.now c.write_add-after.new.parents c.write_add-after.auto.parents
 
-same-length-9 : tie.Need-same-length-9
-same-length-9 c = let s = start c in joined_length s.args.factor.f s.args.rows.now (wrote c).write-add.new.1.1.0 (wrote c).write-add.auto.1.1.0
+same-length-9 : tie.Need-shape_of-rows
+same-length-9 c = joined_length c.args.factor.f c.args.rows.now c.write_add-after.new.rows c.write_add-after.auto.rows
 
-same-length-10 : tie.Need-same-length-10
-same-length-10 c = let s = start c in joined_length s.args.factor.f s.args.counts.now (wrote c).write-add.new.1.1.1.0 (wrote c).write-add.auto.1.1.1.0
+same-length-10 : tie.Need-shape_of-counts
+same-length-10 c = joined_length c.args.factor.f c.args.counts.now c.write_add-after.new.counts c.write_add-after.auto.counts
 
-same-length-11 : tie.Need-same-length-11
-same-length-11 c = let s = start c in joined_length s.args.factor.f s.args.next.now (wrote c).write-add.new.1.1.1.1.0 (wrote c).write-add.auto.1.1.1.1.0
+same-length-11 : tie.Need-shape_of-next
+same-length-11 c = joined_length c.args.factor.f c.args.next.now c.write_add-after.new.next c.write_add-after.auto.next
 
-same-length-12 : tie.Need-same-length-12
-same-length-12 c = let s = start c in joined_length s.args.factor.n s.args.book-heads.now (wrote c).write-add.new.1.1.1.1.1.0 (wrote c).write-add.auto.1.1.1.1.1.0
+same-length-12 : tie.Need-shape_of-book_heads
+same-length-12 c = joined_length c.args.factor.n c.args.book_heads.now c.write_add-after.new.book_heads c.write_add-after.auto.book_heads
 
-same-length-13 : tie.Need-same-length-13
-same-length-13 c = let s = start c in joined_length s.args.factor.c s.args.book-rows.now (wrote c).write-add.new.1.1.1.1.1.1.0 (wrote c).write-add.auto.1.1.1.1.1.1.0
+same-length-13 : tie.Need-shape_of-book_rows
+same-length-13 c = joined_length c.args.factor.c c.args.book_rows.now c.write_add-after.new.book_rows c.write_add-after.auto.book_rows
 
-same-length-14 : tie.Need-same-length-14
-same-length-14 c = let s = start c in joined_length s.args.factor.c s.args.book-next.now (wrote c).write-add.new.1.1.1.1.1.1.1.0 (wrote c).write-add.auto.1.1.1.1.1.1.1.0
+same-length-14 : tie.Need-shape_of-book_next
+same-length-14 c = joined_length c.args.factor.c c.args.book_next.now c.write_add-after.new.book_next c.write_add-after.auto.book_next
 
-same-length-15 : tie.Need-same-length-15
-same-length-15 c = let s = start c in joined_length (2 * s.args.factor.n) s.args.windows.now (wrote c).write-add.new.1.1.1.1.1.1.1.1.0 (wrote c).write-add.auto.1.1.1.1.1.1.1.1.0
+same-length-15 : tie.Need-shape_of-windows
+same-length-15 c = joined_length (2 * c.args.factor.n) c.args.windows.now c.write_add-after.new.windows c.write_add-after.auto.windows
 
-same-length-16 : tie.Need-same-length-16
-same-length-16 c = (wrote c).write-add.auto.1.1.1.1.1.1.1.1.1.0 ∙ (judged (lent (wrote c).before)).judge-add.auto.1.1.1.1.1.1.1.0
+same-length-16 : tie.Need-shape_of-work
+same-length-16 c = c.write_add-after.auto.work ∙ c.judge_add-verdict.auto.work
 
-same-length-17 : tie.Need-same-length-17
-same-length-17 c = (wrote c).write-add.auto.1.1.1.1.1.1.1.1.1.1.0
+same-length-17 : tie.Need-shape_of-touched
+same-length-17 c = c.write_add-after.auto.touched
 
-same-length-18 : tie.Need-same-length-18
-same-length-18 c = (wrote c).write-add.auto.1.1.1.1.1.1.1.1.1.1.1.0
+same-length-18 : tie.Need-shape_of-labels
+same-length-18 c = c.write_add-after.auto.labels
 
-returns-2 : tie.Need-returns-2
+returns-2 : tie.Need-returns
 returns-2 c =
-    let y = wrote c in
-    let e = lent y.before in
-    let x = judged e in
-    let s = entry (judging x) in
-    let t : Tables = tables_of (take s.args.factor.m s.args.heads.now) y.write-add.last.1.0 y.write-add.last.1.1.0 y.write-add.last.1.1.1.0 y.write-add.last.1.1.1.1.0 y.write-add.last.1.1.1.1.1.0 y.write-add.last.1.1.1.1.1.1.0 y.write-add.last.1.1.1.1.1.1.1.0 y.write-add.last.1.1.1.1.1.1.1.1.0 in
-    let can = batch-can s.args.factor (tables_at s) s.pre (verdict x) e.if1.left in
-    batch-taken s.args.factor (tables_at s) s.pre (verdict x) e.if1.left t y.write-add.result.free.0 y.write-add.result.book_free.0
-    (y.write-add.ensures (state_at s).limits s.args.factor.clock s.args.work.now can) refl c.accepted.ensures
+    let t : Tables = tables_of (take c.args.factor.m c.args.heads.now) c.write_add-after.new.parents c.write_add-after.new.rows c.write_add-after.new.counts c.write_add-after.new.next c.write_add-after.new.book_heads c.write_add-after.new.book_rows c.write_add-after.new.book_next c.write_add-after.new.windows in
+    let can = batch-can c.args.factor (tables_at c.before.before.before.before.before.before.before.before.before.before.before.before.before.before.before.before.before.before.before.before.before.before.before.before.before.before.before.before.before.before.before.before.before.before.before.before.before.before.before.before.before.before.before.before.before.before.before.before.before.before.before.before.before.before.before.before.before.before.before.before.before.before.before.before.before.before) c.requires (verdict c.before.before.before.before.before.before.before.before.before.before.before.before.before.before.before.before.before.before.before.before.before.before.before.before.before.before.before.before.before.before.before.before.before.before.before.before.before.before.before.before.before.before.before) c.if-found-ne0.false in
+    batch-taken c.args.factor (tables_at c.before.before.before.before.before.before.before.before.before.before.before.before.before.before.before.before.before.before.before.before.before.before.before.before.before.before.before.before.before.before.before.before.before.before.before.before.before.before.before.before.before.before.before.before.before.before.before.before.before.before.before.before.before.before.before.before.before.before.before.before.before.before.before.before.before.before) c.requires (verdict c.before.before.before.before.before.before.before.before.before.before.before.before.before.before.before.before.before.before.before.before.before.before.before.before.before.before.before.before.before.before.before.before.before.before.before.before.before.before.before.before.before.before.before) c.if-found-ne0.false t c.write_add-after.result.free.0 c.write_add-after.result.book_free.0
+    (c.write_add-after.ensures (state_at c.before.before.before.before.before.before.before.before.before.before.before.before.before.before.before.before.before.before.before.before.before.before.before.before.before.before.before.before.before.before.before.before.before.before.before.before.before.before.before.before.before.before.before.before.before.before.before.before.before.before.before.before.before.before.before.before.before.before.before.before.before.before.before.before.before.before).limits c.args.factor.clock c.args.work.now can) refl c.accepted.ensures
 
 pub add_unchecked_spec : {M : Type 1} → statement M
 add_unchecked_spec =

@@ -5,50 +5,50 @@ use Rattle.clock.proofs.clear.Tie as tie
 
 -- ---- the places, named
 
-abbrev in-saved : tie.After-clear-arg → tie.Start
+abbrev in-saved : tie.After-clear-arg-1 → tie.Start
 in-saved c = c.before.before.before
 
-abbrev in-gathered : tie.After-clear-arg2 → tie.Start
+abbrev in-gathered : tie.After-clear-arg-else-saved-1 → tie.Start
 in-gathered c = c.before.before.before
 
-mul-clear : tie.Need-overflow-mul-clear
+mul-clear : tie.Need-overflow_mul-m
 mul-clear c = omega (arith, (in-saved c).requires.m-bound)
 
-add-clear : tie.Need-overflow-add-clear
+add-clear : tie.Need-overflow_add-m
 add-clear c = omega (arith, (in-saved c).requires.m-bound, (in-saved c).requires.f-bound)
 
-mul-clear-2 : tie.Need-overflow-mul-clear-2
+mul-clear-2 : tie.Need-overflow_mul-f
 mul-clear-2 c = omega (arith, (in-saved c).requires.f-bound)
 
 clear-requires : tie.Need-clear-requires
 clear-requires c κs = omega (arith, (in-saved c).requires.long)
 
-mul-clear-3 : tie.Need-overflow-mul-clear-3
+mul-clear-3 : tie.Need-overflow_mul-m-else-saved
 mul-clear-3 c = omega (arith, (in-gathered c).requires.m-bound)
 
-add-clear-2 : tie.Need-overflow-add-clear-2
+add-clear-2 : tie.Need-overflow_add-m-else-saved
 add-clear-2 c = omega (arith, (in-gathered c).requires.m-bound, (in-gathered c).requires.f-bound)
 
-mul-clear-4 : tie.Need-overflow-mul-clear-4
+mul-clear-4 : tie.Need-overflow_mul-f-else-saved
 mul-clear-4 c = omega (arith, (in-gathered c).requires.f-bound)
 
-add-clear-3 : tie.Need-overflow-add-clear-3
+add-clear-3 : tie.Need-overflow_add-m-else-saved-2
 add-clear-3 c = omega (arith, (in-gathered c).requires.m-bound, (in-gathered c).requires.f-bound)
 
-clear-requires-2 : tie.Need-clear-requires-2
+clear-requires-2 : tie.Need-clear-requires-else-saved
 clear-requires-2 c κs = omega (arith, (in-gathered c).requires.long, (in-gathered c).requires.room)
 
-same_length : tie.Need-same-length
-same_length c = c.before.before.clear.auto.0
+same_length : tie.Need-shape_of-work-then-saved
+same_length c = c.before.before.clear.auto.work
 
-returns : tie.Need-returns
-returns c = let k = c.before.before in rw k.before.before.if1.true k.clear.ensures
+returns : tie.Need-returns-then-saved
+returns c = let k = c.before.before in rw k.before.before.if-saved.true k.clear.ensures
 
-same-length-2 : tie.Need-same-length-2
-same-length-2 c = c.before.before.clear2.auto.0
+same-length-2 : tie.Need-shape_of-work-else-saved
+same-length-2 c = c.before.before.clear-else-saved.auto.work
 
-returns-2 : tie.Need-returns-2
-returns-2 c = let k = c.before.before in rw k.before.before.if1.false k.clear2.ensures
+returns-2 : tie.Need-returns-else-saved
+returns-2 c = let k = c.before.before in rw k.before.before.if-saved.false k.clear-else-saved.ensures
 
 pub clear_spec : {M : Type 1} → statement M
 clear_spec =

@@ -16,128 +16,96 @@ use Rattle.listing_show.proofs.Showing.{head-fits, head-within, line-whole}
 use Rattle.listing_show.proofs.show_column.Statement.{statement}
 use Rattle.listing_show.proofs.show_column.Tie as tie
 
-abbrev start : tie.After-parent-unchecked → tie.Start
-start c = c.before.before.before.before.before.before.before.before.before.before.before.before
-
-abbrev parented : tie.After-column-unchecked → tie.After-parent-unchecked
-parented c = c.before.before
-
-abbrev columned : tie.After-show-head → tie.After-column-unchecked
-columned c = c.before.before.before.before
-
-abbrev headed : tie.After-show-pairs → tie.After-show-head
-headed c = c.before.before.before.before.before.before
-
-abbrev paired : tie.After-line-end → tie.After-show-pairs
-paired c = c.before.before.before.before
-
 abbrev register : tie.Start → Register
 register s =
     let a = s.args in
-    register_of (state_of a.factor) (tables_of a.heads.now a.parents.now a.rows.now a.counts.now a.next.now a.book-heads.now a.book-rows.now a.book-next.now a.windows.now)
+    register_of (state_of a.factor) (tables_of a.heads.now a.parents.now a.rows.now a.counts.now a.next.now a.book_heads.now a.book_rows.now a.book_next.now a.windows.now)
 
 -- the parent that was asked for
-parent_is : (c : tie.After-parent-unchecked) → c.parent-unchecked.result.value ≡ parent_of (factor_for (register (start c))) (start c).args.j
+parent_is : (c : tie.After-parent_unchecked-parent) → c.parent_unchecked-parent.result.value ≡ parent_of (factor_for (register c.before.before.before.before.before.before.before.before.before.before.before.before)) c.args.j
 parent_is c =
-    let s = start c in
-    parent-answered (register s) s.args.j s.pre.low s.pre.high c.parent-unchecked.result c.parent-unchecked.ensures
+    parent-answered (register c.before.before.before.before.before.before.before.before.before.before.before.before) c.args.j c.requires.low c.requires.high c.parent_unchecked-parent.result c.parent_unchecked-parent.ensures
 
-parent-known : (c : tie.After-parent-unchecked) → c.parent-unchecked.result.value < 2 ^ 32
-parent-known c = omega (arith, c.parent-unchecked.type-inv)
+parent-known : (c : tie.After-parent_unchecked-parent) → c.parent_unchecked-parent.result.value < 2 ^ 32
+parent-known c = omega (arith, c.parent_unchecked-parent.type_inv)
 
-record Column (c : tie.After-column-unchecked) : Type 0 where
-  pub value : c.column-unchecked.result.value ≡ size_of (column_at (factor_for (register (start (parented c)))) (start (parented c)).args.j)
-  pub few : c.column-unchecked.result.value ≤ 64
-  pub listed : take (2 * c.column-unchecked.result.value) c.column-unchecked.new.1.1.1.1.1.1.1.1.1.1.0 ≡ column_list (register (start (parented c))) (start (parented c)).args.j
+record Column (c : tie.After-column_unchecked-column) : Type 0 where
+  pub value : c.column_unchecked-column.result.value ≡ size_of (column_at (factor_for (register c.before.before.before.before.before.before.before.before.before.before.before.before.before.before)) c.args.j)
+  pub few : c.column_unchecked-column.result.value ≤ 64
+  pub listed : take (2 * c.column_unchecked-column.result.value) c.column_unchecked-column.new.list ≡ column_list (register c.before.before.before.before.before.before.before.before.before.before.before.before.before.before) c.args.j
 
-column : (c : tie.After-column-unchecked) → Column c
+column : (c : tie.After-column_unchecked-column) → Column c
 column c =
-    let s = start (parented c) in
-    let r = register s in
-    let j = s.args.j in
-    let room : length (column_list r j) ≤ length s.args.list.now =
-    omega (arith, entries-places r j s.pre.low s.pre.high, entries-most r j s.pre.low s.pre.high, s.pre.few, s.pre.entries) in
-    let v : c.column-unchecked.result.value ≡ size_of (column_at (factor_for r) j) =
-    column-answered r j s.pre.low s.pre.high c.column-unchecked.result s.args.list.now room c.column-unchecked.ensures.0 in
+    let r = register c.before.before.before.before.before.before.before.before.before.before.before.before.before.before in
+    let j = c.args.j in
+    let room : length (column_list r j) ≤ length c.args.list.now =
+    omega (arith, entries-places r j c.requires.low c.requires.high, entries-most r j c.requires.low c.requires.high, c.requires.few, c.requires.entries) in
+    let v : c.column_unchecked-column.result.value ≡ size_of (column_at (factor_for r) j) =
+    column-answered r j c.requires.low c.requires.high c.column_unchecked-column.result c.args.list.now room c.column_unchecked-column.ensures.0 in
     record {
       value = v;
-      few = omega (arith, v, entries-most r j s.pre.low s.pre.high, s.pre.few);
+      few = omega (arith, v, entries-most r j c.requires.low c.requires.high, c.requires.few);
       listed =
-          column-listed r j s.pre.low s.pre.high c.column-unchecked.result s.args.list.now room
-          c.column-unchecked.new.1.1.1.1.1.1.1.1.1.1.0 c.column-unchecked.ensures.1 c.column-unchecked.result.value v;
+          column-listed r j c.requires.low c.requires.high c.column_unchecked-column.result c.args.list.now room
+          c.column_unchecked-column.new.list c.column_unchecked-column.ensures.1 c.column_unchecked-column.result.value v;
     }
 
-head-most : (c : tie.After-show-head) → c.show-head.result ≤ (start (parented (columned c))).args.at + 21
+head-most : (c : tie.After-show_head-head) → c.show_head-head.result ≤ c.args.at + 21
 head-most c =
-    let p = parented (columned c) in
-    head-within c.show-head.ensures (omega (arith, (start p).fits.j, parent-known p)) (omega (arith, (start p).fits.j, parent-known p))
+    head-within c.show_head-head.ensures (omega (arith, c.ranges.j.fits, parent-known c.before.before.before.before.before.before)) (omega (arith, c.ranges.j.fits, parent-known c.before.before.before.before.before.before))
 
 -- the line but for its newline
-pairs-most : (c : tie.After-show-pairs) →
-    (c.show-pairs.result + 1 ≤ (start (parented (columned (headed c)))).args.at + 1430) ×
-    (length c.show-pairs.new.0 ≡ length (start (parented (columned (headed c)))).args.out.now) ×
-    ((start (parented (columned (headed c)))).args.at + 1430 ≤ length (start (parented (columned (headed c)))).args.out.now)
+pairs-most : (c : tie.After-show_pairs-end) →
+    (c.show_pairs-end.result + 1 ≤ c.args.at + 1430) ×
+    (length c.show_pairs-end.new.out ≡ length c.args.out.now) ×
+    (c.args.at + 1430 ≤ length c.args.out.now)
 pairs-most c =
-    let h = headed c in
-    let x = columned h in
-    let s = start (parented x) in
-    omega (arith, (column x).few, c.show-pairs.ensures.short, head-most h, h.show-head.kept.0, c.show-pairs.auto.0, s.pre.fits)
+    omega (arith, (column c.before.before.before.before.before.before.before.before.before).few, c.show_pairs-end.ensures.short, head-most c.before.before.before.before.before, c.show_head-head.auto.out, c.show_pairs-end.auto.out, c.requires.fits)
 
-parent-unchecked-requires : tie.Need-parent-unchecked-requires
+parent-unchecked-requires : tie.Need-parent_unchecked-parent-requires
 parent-unchecked-requires c κs = search rules
 
-column-unchecked-requires : tie.Need-column-unchecked-requires
+column-unchecked-requires : tie.Need-column_unchecked-column-requires
 column-unchecked-requires c κs = search rules
 
-show-head-requires : tie.Need-show-head-requires
+show-head-requires : tie.Need-show_head-head-requires
 show-head-requires c κs =
-    let p = parented c.before.before.before in
-    head-fits (omega (arith, (start p).fits.j, parent-known p)) (omega (arith, (start p).fits.j, parent-known p)) (omega (arith, (start p).pre.fits))
+    head-fits (omega (arith, c.ranges.j.fits, parent-known c.before.before.before.before.before)) (omega (arith, c.ranges.j.fits, parent-known c.before.before.before.before.before)) (omega (arith, c.requires.fits))
 
-cast-show-pairs : tie.Need-overflow-cast-show-pairs
+cast-show-pairs : tie.Need-overflow_cast-column
 cast-show-pairs c = search rules
 
-show-pairs-requires : tie.Need-show-pairs-requires
+show-pairs-requires : tie.Need-show_pairs-end-requires
 show-pairs-requires c κs =
-    let h = c.before.before.before.before.before in
-    let x = columned h in
-    let s = start (parented x) in
     record {
-      entries = omega (arith, (column x).few, s.pre.entries, x.column-unchecked.kept.1.1.1.1.1.1.1.1.1.1.0);
-      fits = omega (arith, (column x).few, s.pre.fits, head-most h, h.show-head.auto.0);
+      entries = omega (arith, (column c.before.before.before.before.before.before.before.before).few, c.requires.entries, c.column_unchecked-column.auto.list);
+      fits = omega (arith, (column c.before.before.before.before.before.before.before.before).few, c.requires.fits, head-most c.before.before.before.before, c.show_head-head.auto.out);
     }
 
-line-end-requires : tie.Need-line-end-requires
+line-end-requires : tie.Need-line_end-requires
 line-end-requires c κs =
-    let p = c.before.before.before in
-    record { room = omega (arith, pairs-most p) }
+    record { room = omega (arith, pairs-most c.before.before.before) }
 
-same_length : tie.Need-same-length
-same_length c = (columned (headed (paired c.before.before))).column-unchecked.auto.1.1.1.1.1.1.1.1.1.1.0
+same_length : tie.Need-shape_of-list
+same_length c = c.column_unchecked-column.auto.list
 
-same-length-2 : tie.Need-same-length-2
+same-length-2 : tie.Need-shape_of-out
 same-length-2 c =
-    let e = c.before.before in
-    omega (arith, e.line-end.auto.0, pairs-most (paired e))
+    omega (arith, c.line_end.auto.out, pairs-most c.before.before.before.before.before.before)
 
 returns : tie.Need-returns
 returns c =
-    let e = c.before.before in
-    let p = paired e in
-    let h = headed p in
-    let x = columned h in
-    let s = start (parented x) in
     record {
       line =
-          line-whole s.args.j (parent_of (factor_for (register s)) s.args.j) (column_list (register s) s.args.j)
-          (subst (λ (n : ℕ). Written s.args.out.now s.args.at (show_head s.args.j n) h.show-head.last.0 h.show-head.result) (parent_is (parented x)) h.show-head.ensures)
-          (subst (λ (es : List ℕ). Written h.show-head.last.0 h.show-head.result (show_pairs es) p.show-pairs.last.0 p.show-pairs.result) (column x).listed p.show-pairs.ensures.pairs)
-          e.line-end.ensures (omega (arith, pairs-most p)) h.show-head.kept.0;
-      short = omega (arith, e.line-end.ensures.next-is, pairs-most p);
+          line-whole c.args.j (parent_of (factor_for (register c.before.before.before.before.before.before.before.before.before.before.before.before.before.before.before.before.before.before.before.before.before.before.before.before.before.before.before.before.before)) c.args.j) (column_list (register c.before.before.before.before.before.before.before.before.before.before.before.before.before.before.before.before.before.before.before.before.before.before.before.before.before.before.before.before.before) c.args.j)
+          (subst (λ (n : ℕ). Written c.args.out.now c.args.at (show_head c.args.j n) c.show_head-head.new.out c.show_head-head.result) (parent_is c.before.before.before.before.before.before.before.before.before.before.before.before.before.before.before.before.before) c.show_head-head.ensures)
+          (subst (λ (es : List ℕ). Written c.show_head-head.new.out c.show_head-head.result (show_pairs es) c.show_pairs-end.new.out c.show_pairs-end.result) (column c.before.before.before.before.before.before.before.before.before.before.before.before.before.before.before).listed c.show_pairs-end.ensures.pairs)
+          c.line_end.ensures (omega (arith, pairs-most c.before.before.before.before.before.before)) c.show_head-head.auto.out;
+      short = omega (arith, c.line_end.ensures.next-is, pairs-most c.before.before.before.before.before.before);
     }
 
-pub show-column-spec : {M : Type 1} → statement M
-show-column-spec =
+pub show_column_spec : {M : Type 1} → statement M
+show_column_spec =
     tie.close
     (tie.spec
     parent-unchecked-requires
