@@ -81,7 +81,7 @@ pub extern "C" fn nigvalds_set_clock_0_7(
     labels: &mut [u16],
     minute: u32,
 ) -> Changed
-    ensures { ChangeTransition factor (tables_of heads.now parents.old rows.old counts.old next.old book_heads.old book_rows.old book_next.old windows.old) (setting minute) (report_in work touched labels) result (report_out work touched labels) (tables_of heads.now parents.new rows.new counts.new next.new book_heads.new book_rows.new book_next.new windows.new) }
+    ensures { ChangeTransition factor (tables_of heads.now parents.old rows.old counts.old next.old book_heads.now book_rows.now book_next.now windows.now) (setting minute) (report_in work touched labels) result (report_out work touched labels) (tables_of heads.now parents.new rows.new counts.new next.new book_heads.now book_rows.now book_next.now windows.now) }
 {
     clock::set_clock(
         factor, heads, parents, rows, counts, next, book_heads, book_rows, book_next, windows,

@@ -8,43 +8,37 @@ use Rattle.listing_show.proofs.Showing.{ok-fits, no-fits}
 use Rattle.listing_memory.proofs.opened_line.Statement.{statement}
 use Rattle.listing_memory.proofs.opened_line.Tie as tie
 
-enum-known-opened : tie.Need-enum-known-opened
+enum-known-opened : tie.Need-enum_known-opened
 enum-known-opened c = search rules
 
-ok-line-requires : tie.Need-ok-line-requires
-ok-line-requires c κs = ok-fits (omega arith) (omega arith) (omega arith) c.before.before.before.before.before.requires
+ok-line-requires : tie.Need-ok_line-end-requires
+ok-line-requires c κs = ok-fits (omega arith) (omega arith) (omega arith) c.requires
 
-enum-known-opened-2 : tie.Need-enum-known-opened-2
+enum-known-opened-2 : tie.Need-enum_known-opened-in-Refused-1
 enum-known-opened-2 c = search rules
 
-no-line-requires : tie.Need-no-line-requires
-no-line-requires c κs = no-fits (omega (arith, c.before.known-told2.given)) (omega arith) c.before.before.before.before.before.requires
+no-line-requires : tie.Need-no_line-end-requires
+no-line-requires c κs = no-fits (omega (arith, c.in-Refused.known_told-in-Refused-1-own.given)) (omega arith) c.requires
 
-same_length : tie.Need-same-length
-same_length c = c.before.before.ok-line.auto.0
+same_length : tie.Need-shape_of-out-in-Opened
+same_length c = c.ok_line-end.auto.out
 
-returns : tie.Need-returns
+returns : tie.Need-returns-in-Opened
 returns c =
-    let o = c.before.before in
-    let k = o.before.before.before in
-    let s = k.before.before.before in
-    let y = k.opened.given.0.0 in
-    subst (λ (v : Opening). OpeningPrinted s.args.factor v s.args.out.now o.ok-line.new.0 (record { factor = y; end = o.ok-line.result })) (sym k.opened.given.1)
-    (record { factor-is = refl; line = o.ok-line.ensures })
+    let y = c.in-Opened.opened in
+    subst (λ (v : Opening). OpeningPrinted c.args.factor v c.args.out.now c.ok_line-end.new.out (record { factor = y; end = c.ok_line-end.result })) (sym c.in-Opened.is)
+    (record { factor-is = refl; line = c.ok_line-end.ensures })
 
-same-length-2 : tie.Need-same-length-2
-same-length-2 c = c.before.before.no_line.auto.0
+same-length-2 : tie.Need-shape_of-out-in-Refused
+same-length-2 c = c.no_line-end.auto.out
 
-returns-2 : tie.Need-returns-2
+returns-2 : tie.Need-returns-in-Refused
 returns-2 c =
-    let o = c.before.before in
-    let k = o.before.before.before in
-    let s = k.before.before.before in
-    subst (λ (v : Opening). OpeningPrinted s.args.factor v s.args.out.now o.no_line.new.0 (record { factor = s.args.factor; end = o.no_line.result })) (sym k.opened2.given.1)
-    (record { factor-is = refl; line = o.no_line.ensures })
+    subst (λ (v : Opening). OpeningPrinted c.args.factor v c.args.out.now c.no_line-end.new.out (record { factor = c.args.factor; end = c.no_line-end.result })) (sym c.in-Refused.is)
+    (record { factor-is = refl; line = c.no_line-end.ensures })
 
-pub opened-line-spec : {M : Type 1} → statement M
-opened-line-spec =
+pub opened_line_spec : {M : Type 1} → statement M
+opened_line_spec =
     tie.close
     (tie.spec
     enum-known-opened

@@ -5,48 +5,45 @@ use Rattle.crossing.proofs.Openings.{opened-step}
 use Rattle.nigvalds.proofs.nigvalds_open_0_7.Statement.{statement}
 use Rattle.nigvalds.proofs.nigvalds_open_0_7.Tie as tie
 
-open-requires : tie.Need-open-requires
+open-requires : tie.Need-open-x-requires
 open-requires c κs = search rules
 
-opened-from-requires : tie.Need-opened-from-requires
+opened-from-requires : tie.Need-opened_from-requires
 opened-from-requires c κs = search rules
 
 -- the place of the entry's call
-abbrev ran : tie.After-opened-from → tie.After-open
-ran c = c.before.before.before.before.before.before.before.before.before.before.before.before.before.before.before.before.before.before.before.before.before
+same_length : tie.Need-shape_of-heads
+same_length c = c.open-x.auto.heads
 
-same_length : tie.Need-same-length
-same_length c = (ran c).open.auto.1.1.1.1.1.1.1.0
+same-length-2 : tie.Need-shape_of-parents
+same-length-2 c = c.open-x.auto.parents
 
-same-length-2 : tie.Need-same-length-2
-same-length-2 c = (ran c).open.auto.1.1.1.1.1.1.1.1.0
+same-length-3 : tie.Need-shape_of-rows
+same-length-3 c = c.open-x.auto.rows
 
-same-length-3 : tie.Need-same-length-3
-same-length-3 c = (ran c).open.auto.1.1.1.1.1.1.1.1.1.0
+same-length-4 : tie.Need-shape_of-counts
+same-length-4 c = c.open-x.auto.counts
 
-same-length-4 : tie.Need-same-length-4
-same-length-4 c = (ran c).open.auto.1.1.1.1.1.1.1.1.1.1.0
+same-length-5 : tie.Need-shape_of-next
+same-length-5 c = c.open-x.auto.next
 
-same-length-5 : tie.Need-same-length-5
-same-length-5 c = (ran c).open.auto.1.1.1.1.1.1.1.1.1.1.1.0
+same-length-6 : tie.Need-shape_of-book_heads
+same-length-6 c = c.open-x.auto.book_heads
 
-same-length-6 : tie.Need-same-length-6
-same-length-6 c = (ran c).open.auto.1.1.1.1.1.1.1.1.1.1.1.1.0
+same-length-7 : tie.Need-shape_of-book_rows
+same-length-7 c = c.open-x.auto.book_rows
 
-same-length-7 : tie.Need-same-length-7
-same-length-7 c = (ran c).open.auto.1.1.1.1.1.1.1.1.1.1.1.1.1.0
+same-length-8 : tie.Need-shape_of-book_next
+same-length-8 c = c.open-x.auto.book_next
 
-same-length-8 : tie.Need-same-length-8
-same-length-8 c = (ran c).open.auto.1.1.1.1.1.1.1.1.1.1.1.1.1.1.0
+same-length-9 : tie.Need-shape_of-windows
+same-length-9 c = c.open-x.auto.windows
 
-same-length-9 : tie.Need-same-length-9
-same-length-9 c = (ran c).open.auto.1.1.1.1.1.1.1.1.1.1.1.1.1.1.1.0
-
-same-length-10 : tie.Need-same-length-10
-same-length-10 c = (ran c).open.auto.1.1.1.1.1.1.1.1.1.1.1.1.1.1.1.1.0
+same-length-10 : tie.Need-shape_of-work
+same-length-10 c = c.open-x.auto.work
 
 returns : tie.Need-returns
-returns c = opened-step (ran c).open.result c.opened-from.result c.opened-from.ensures (ran c).open.ensures
+returns c = opened-step c.open-x.result c.opened_from.result c.opened_from.ensures c.open-x.ensures
 
 pub nigvalds_open_0_7_spec : {M : Type 1} → statement M
 nigvalds_open_0_7_spec =
