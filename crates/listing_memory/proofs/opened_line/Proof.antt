@@ -25,7 +25,7 @@ same_length c = c.ok_line-end.auto.out
 
 returns : tie.Need-returns-in-Opened
 returns c =
-    let y = c.in-Opened.opened in
+    let y = c.in-Opened.fresh in
     subst (λ (v : Opening). OpeningPrinted c.args.factor v c.args.out.now c.ok_line-end.new.out (record { factor = y; end = c.ok_line-end.result })) (sym c.in-Opened.is)
     (record { factor-is = refl; line = c.ok_line-end.ensures })
 
