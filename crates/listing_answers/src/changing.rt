@@ -75,8 +75,8 @@ pub fn add_line(
 ) -> Printed
     requires room { 40 ≤ length out.old }
     requires listed { count ≤ length list.now }
-    requires usable { IsReady (memory_of factor (tables_of heads.old parents.old rows.old counts.old next.old book_heads.old book_rows.old book_next.old windows.old) work.old touched.old labels.old) }
-    ensures { Answers (BatchAnswered (memory_of factor (tables_of heads.old parents.old rows.old counts.old next.old book_heads.old book_rows.old book_next.old windows.old) work.old touched.old labels.old) (adding (id ∷ []) (count ∷ []) (take count list.now) (0 ∷ []) (0 ∷ []))) out.old out.new result (memory_of result.factor (tables_of heads.new parents.new rows.new counts.new next.new book_heads.new book_rows.new book_next.new windows.new) work.new touched.new labels.new) }
+    requires usable { IsReady (memory_of factor (tables_of heads.now parents.old rows.old counts.old next.old book_heads.old book_rows.old book_next.old windows.old) work.old touched.old labels.old) }
+    ensures { Answers (BatchAnswered (memory_of factor (tables_of heads.now parents.old rows.old counts.old next.old book_heads.old book_rows.old book_next.old windows.old) work.old touched.old labels.old) (adding (id ∷ []) (count ∷ []) (take count list.now) (0 ∷ []) (0 ∷ []))) out.old out.new result (memory_of result.factor (tables_of heads.now parents.new rows.new counts.new next.new book_heads.new book_rows.new book_next.new windows.new) work.new touched.new labels.new) }
 {
     if factor.m == 0 {
         let end = text::no_line(out, 0, 1, 0);

@@ -1,5 +1,7 @@
 // One line of the listing program's input to the bytes that it prints: `answer` is the command of the line, on a factor that is kept between lines. It
 // calls the unchecked entries, whose premise holds from an accepted opening on.
+#![tactic(auto)]
+
 mod changing;
 
 ghost use Rattle.listing_memory.specs.Memory.{memory_of};

@@ -19,115 +19,96 @@ use Rattle.listing_answers.proofs.changing.add_line.Tie as tie
 abbrev change : tie.Start → Change
 change s = adding (s.args.id ∷ []) (s.args.count ∷ []) (take s.args.count s.args.list.now) (0 ∷ []) (0 ∷ [])
 
-abbrev entry : tie.Else1 → tie.Start
-entry c = c.before.before.before.before.before.before.before.before.before.before.before.before.before.before.before.before
-
-abbrev entry-then : tie.Then1 → tie.Start
-entry-then c = c.before.before.before.before.before.before.before.before.before.before.before.before.before.before.before.before
-
-abbrev called : tie.After-changed-line → tie.After-add-unchecked
-called c = c.before.before.before.before.before.before.before.before.before.before.before.before.before.before.before.before.before.before.before.before.before.before.before.before.before
-
-abbrev chosen : tie.After-add-unchecked → tie.Else1
-chosen c = c.before.before.before.before.before.before.before.before.before.before.before.before.before.before.before.before.before
-
 abbrev tables : tie.Start → Tables
 tables s =
     let a = s.args in
-    tables_of a.heads.now a.parents.now a.rows.now a.counts.now a.next.now a.book-heads.now a.book-rows.now a.book-next.now a.windows.now
+    tables_of a.heads.now a.parents.now a.rows.now a.counts.now a.next.now a.book_heads.now a.book_rows.now a.book_next.now a.windows.now
 
 abbrev memory : tie.Start → Memory
 memory s = memory_of s.args.factor (tables s) s.args.work.now s.args.touched.now s.args.labels.now
 
-can : (c : tie.Else1) → CanChange (state_of (entry c).args.factor) (tables (entry c)) (entry c).args.work.now (entry c).args.touched.now (entry c).args.labels.now
-can c = ready-some (memory (entry c)) (entry c).requires.1.1 c.if1.false
+can : (c : tie.Else-factor-eq0) → CanChange (state_of c.args.factor) (tables c.before.before.before.before.before.before.before.before.before.before.before.before.before.before.before.before) c.args.work.now c.args.touched.now c.args.labels.now
+can c = ready-some (memory c.before.before.before.before.before.before.before.before.before.before.before.before.before.before.before.before) c.requires.1.1 c.if-factor-eq0.false
 
-no-line-requires : tie.Need-no-line-requires
-no-line-requires c κs = record { room = omega (arith, (entry-then c.before).requires.0, no_room 1 0 (omega arith) (omega arith)) }
+no-line-requires : tie.Need-no_line-end-requires
+no-line-requires c κs = record { room = omega (arith, c.requires.0, no_room 1 0 (omega arith) (omega arith)) }
 
-same_length : tie.Need-same-length
-same_length c = c.before.before.no_line.auto.0
+same_length : tie.Need-shape_of-out-then-factor-eq0
+same_length c = c.no_line-end.auto.out
 
-returns : tie.Need-returns
+returns : tie.Need-returns-then-factor-eq0
 returns c =
-    let o = c.before.before in
-    let t = o.before.before in
-    let s = entry-then t in
-    closed-changes s.args.factor (tables s) s.args.work.now s.args.touched.now s.args.labels.now s.args.out.now o.no_line.new.0 o.no_line.result
-    o.no_line.ensures (ready-none (memory s) s.pre.1.1 t.if1.true) (change s)
+    closed-changes c.args.factor (tables c.before.before.before.before.before.before.before.before.before.before.before.before.before.before.before.before.before.before.before.before) c.args.work.now c.args.touched.now c.args.labels.now c.args.out.now c.no_line-end.new.out c.no_line-end.result
+    c.no_line-end.ensures (ready-none (memory c.before.before.before.before.before.before.before.before.before.before.before.before.before.before.before.before.before.before.before.before) c.requires.1.1 c.if-factor-eq0.true) (change c.before.before.before.before.before.before.before.before.before.before.before.before.before.before.before.before.before.before.before.before)
 
-slice-aggregate-add-unchecked : tie.Need-slice-aggregate-add-unchecked
+slice-aggregate-add-unchecked : tie.Need-slice_bounds-add_unchecked-end
 slice-aggregate-add-unchecked c = search rules
 
-slice-aggregate-add-unchecked-2 : tie.Need-slice-aggregate-add-unchecked-2
+slice-aggregate-add-unchecked-2 : tie.Need-slice_bounds-add_unchecked-end-2
 slice-aggregate-add-unchecked-2 c = search rules
 
-slice-aggregate-add-unchecked-3 : tie.Need-slice-aggregate-add-unchecked-3
+slice-aggregate-add-unchecked-3 : tie.Need-slice_bounds-add_unchecked-end-3
 slice-aggregate-add-unchecked-3 c =
-    let s = entry c.before.before.before.before.before.before.before.before.before.before.before.before.before.before in
-    sym (length-take-le s.args.count s.args.list.now s.pre.1.0)
+    sym (length-take-le c.args.count c.args.list.now c.requires.1.0)
 
-slice-aggregate-add-unchecked-4 : tie.Need-slice-aggregate-add-unchecked-4
+slice-aggregate-add-unchecked-4 : tie.Need-slice_bounds-add_unchecked-end-4
 slice-aggregate-add-unchecked-4 c = search rules
 
-slice-aggregate-add-unchecked-5 : tie.Need-slice-aggregate-add-unchecked-5
+slice-aggregate-add-unchecked-5 : tie.Need-slice_bounds-add_unchecked-end-5
 slice-aggregate-add-unchecked-5 c = search rules
 
-add-unchecked-requires : tie.Need-add-unchecked-requires
-add-unchecked-requires c κs = can c.before.before.before.before.before.before.before.before.before.before.before.before.before.before.before.before
+add-unchecked-requires : tie.Need-add_unchecked-x-requires
+add-unchecked-requires c κs = can c.before.before.before.before.before.before.before.before.before.before.before.before.before.before.before
 
-changed-line-requires : tie.Need-changed-line-requires
-changed-line-requires c κs = (entry (chosen c.before.before.before.before.before.before.before.before.before.before.before.before.before.before.before.before.before.before.before.before.before.before.before.before)).requires.0
+changed-line-requires : tie.Need-changed_line-end-requires
+changed-line-requires c κs = c.requires.0
 
-same-length-2 : tie.Need-same-length-2
-same-length-2 c = (called c.before.before).add-unchecked.auto.1.1.0
+same-length-2 : tie.Need-shape_of-parents
+same-length-2 c = c.add_unchecked-x.auto.parents
 
-same-length-3 : tie.Need-same-length-3
-same-length-3 c = (called c.before.before).add-unchecked.auto.1.1.1.0
+same-length-3 : tie.Need-shape_of-rows
+same-length-3 c = c.add_unchecked-x.auto.rows
 
-same-length-4 : tie.Need-same-length-4
-same-length-4 c = (called c.before.before).add-unchecked.auto.1.1.1.1.0
+same-length-4 : tie.Need-shape_of-counts
+same-length-4 c = c.add_unchecked-x.auto.counts
 
-same-length-5 : tie.Need-same-length-5
-same-length-5 c = (called c.before.before).add-unchecked.auto.1.1.1.1.1.0
+same-length-5 : tie.Need-shape_of-next
+same-length-5 c = c.add_unchecked-x.auto.next
 
-same-length-6 : tie.Need-same-length-6
-same-length-6 c = (called c.before.before).add-unchecked.auto.1.1.1.1.1.1.0
+same-length-6 : tie.Need-shape_of-book_heads
+same-length-6 c = c.add_unchecked-x.auto.book_heads
 
-same-length-7 : tie.Need-same-length-7
-same-length-7 c = (called c.before.before).add-unchecked.auto.1.1.1.1.1.1.1.0
+same-length-7 : tie.Need-shape_of-book_rows
+same-length-7 c = c.add_unchecked-x.auto.book_rows
 
-same-length-8 : tie.Need-same-length-8
-same-length-8 c = (called c.before.before).add-unchecked.auto.1.1.1.1.1.1.1.1.0
+same-length-8 : tie.Need-shape_of-book_next
+same-length-8 c = c.add_unchecked-x.auto.book_next
 
-same-length-9 : tie.Need-same-length-9
-same-length-9 c = (called c.before.before).add-unchecked.auto.1.1.1.1.1.1.1.1.1.0
+same-length-9 : tie.Need-shape_of-windows
+same-length-9 c = c.add_unchecked-x.auto.windows
 
-same-length-10 : tie.Need-same-length-10
-same-length-10 c = (called c.before.before).add-unchecked.auto.1.1.1.1.1.1.1.1.1.1.0
+same-length-10 : tie.Need-shape_of-work
+same-length-10 c = c.add_unchecked-x.auto.work
 
-same-length-11 : tie.Need-same-length-11
-same-length-11 c = (called c.before.before).add-unchecked.auto.1.1.1.1.1.1.1.1.1.1.1.0
+same-length-11 : tie.Need-shape_of-touched
+same-length-11 c = c.add_unchecked-x.auto.touched
 
-same-length-12 : tie.Need-same-length-12
-same-length-12 c = (called c.before.before).add-unchecked.auto.1.1.1.1.1.1.1.1.1.1.1.1.0
+same-length-12 : tie.Need-shape_of-labels
+same-length-12 c = c.add_unchecked-x.auto.labels
 
-same-length-13 : tie.Need-same-length-13
-same-length-13 c = c.before.before.changed-line.auto.0
+same-length-13 : tie.Need-shape_of-out
+same-length-13 c = c.changed_line-end.auto.out
 
-returns-2 : tie.Need-returns-2
+returns-2 : tie.Need-returns
 returns-2 c =
-    let o = c.before.before in
-    let x = called o in
-    let l = x.add-unchecked.last in
-    let s = entry (chosen x) in
-    open-changes s.args.factor (tables s) s.args.work.now s.args.touched.now s.args.labels.now (can (chosen x)) x.add-unchecked.result
-    (tables_of s.args.heads.now l.1.1.0 l.1.1.1.0 l.1.1.1.1.0 l.1.1.1.1.1.0 l.1.1.1.1.1.1.0 l.1.1.1.1.1.1.1.0 l.1.1.1.1.1.1.1.1.0 l.1.1.1.1.1.1.1.1.1.0)
-    l.1.1.1.1.1.1.1.1.1.1.0 l.1.1.1.1.1.1.1.1.1.1.1.0 l.1.1.1.1.1.1.1.1.1.1.1.1.0 s.args.out.now o.changed-line.new.0 o.changed-line.result o.changed-line.ensures
-    x.add-unchecked.kept.1.1.1.1.1.1.1.1.1.1.1.0 x.add-unchecked.kept.1.1.1.1.1.1.1.1.1.1.1.1.0 (change s) x.add-unchecked.ensures
+    let l = c.add_unchecked-x.new in
+    open-changes c.args.factor (tables c.before.before.before.before.before.before.before.before.before.before.before.before.before.before.before.before.before.before.before.before.before.before.before.before.before.before.before.before.before.before.before.before.before.before.before.before.before.before.before.before.before.before.before.before.before.before.before.before.before.before.before.before.before.before.before.before.before.before.before) c.args.work.now c.args.touched.now c.args.labels.now (can c.before.before.before.before.before.before.before.before.before.before.before.before.before.before.before.before.before.before.before.before.before.before.before.before.before.before.before.before.before.before.before.before.before.before.before.before.before.before.before.before.before.before.before) c.add_unchecked-x.result
+    (tables_of c.args.heads.now l.parents l.rows l.counts l.next l.book_heads l.book_rows l.book_next l.windows)
+    l.work l.touched l.labels c.args.out.now c.changed_line-end.new.out c.changed_line-end.result c.changed_line-end.ensures
+    c.add_unchecked-x.auto.touched c.add_unchecked-x.auto.labels (change c.before.before.before.before.before.before.before.before.before.before.before.before.before.before.before.before.before.before.before.before.before.before.before.before.before.before.before.before.before.before.before.before.before.before.before.before.before.before.before.before.before.before.before.before.before.before.before.before.before.before.before.before.before.before.before.before.before.before.before) c.add_unchecked-x.ensures
 
-pub add-line-spec : {M : Type 1} → statement M
-add-line-spec =
+pub add_line_spec : {M : Type 1} → statement M
+add_line_spec =
     tie.close
     (tie.spec
     no-line-requires

@@ -5,62 +5,57 @@ use Rattle.listing_answers.proofs.changing.open_line.Tie as tie
 
 -- ---- the places, named
 
-abbrev entry : tie.After-open → tie.Start
-entry c = c.before.before.before.before.before.before.before.before.before.before.before.before.before.before.before.before.before.before.before.before.before.before
-
-abbrev opened : tie.After-opened-line-arg → tie.After-open
+abbrev opened : tie.After-opened_line-arg-1 → tie.After-open-opened
 opened c = c.before.before.before.before.before.before.before.before.before.before.before.before.before.before.before.before.before.before.before.before.before
 
-abbrev printed : tie.After-slice-known22 → tie.After-opened-line
+abbrev printed : tie.After-slice_known-22-1 → tie.After-opened_line
 printed c = c.before.before
 
-open-requires : tie.Need-open-requires
+open-requires : tie.Need-open-opened-requires
 open-requires c κs = search rules
 
-opened-line-requires : tie.Need-opened-line-requires
-opened-line-requires c κs = (entry (opened c)).requires
+opened-line-requires : tie.Need-opened_line-requires
+opened-line-requires c κs = c.requires
 
-same_length : tie.Need-same-length
-same_length c = (opened (printed c).before).open.auto.1.1.1.1.1.1.1.0
+same_length : tie.Need-shape_of-heads
+same_length c = c.open-opened.auto.heads
 
-same-length-2 : tie.Need-same-length-2
-same-length-2 c = (opened (printed c).before).open.auto.1.1.1.1.1.1.1.1.0
+same-length-2 : tie.Need-shape_of-parents
+same-length-2 c = c.open-opened.auto.parents
 
-same-length-3 : tie.Need-same-length-3
-same-length-3 c = (opened (printed c).before).open.auto.1.1.1.1.1.1.1.1.1.0
+same-length-3 : tie.Need-shape_of-rows
+same-length-3 c = c.open-opened.auto.rows
 
-same-length-4 : tie.Need-same-length-4
-same-length-4 c = (opened (printed c).before).open.auto.1.1.1.1.1.1.1.1.1.1.0
+same-length-4 : tie.Need-shape_of-counts
+same-length-4 c = c.open-opened.auto.counts
 
-same-length-5 : tie.Need-same-length-5
-same-length-5 c = (opened (printed c).before).open.auto.1.1.1.1.1.1.1.1.1.1.1.0
+same-length-5 : tie.Need-shape_of-next
+same-length-5 c = c.open-opened.auto.next
 
-same-length-6 : tie.Need-same-length-6
-same-length-6 c = (opened (printed c).before).open.auto.1.1.1.1.1.1.1.1.1.1.1.1.0
+same-length-6 : tie.Need-shape_of-book_heads
+same-length-6 c = c.open-opened.auto.book_heads
 
-same-length-7 : tie.Need-same-length-7
-same-length-7 c = (opened (printed c).before).open.auto.1.1.1.1.1.1.1.1.1.1.1.1.1.0
+same-length-7 : tie.Need-shape_of-book_rows
+same-length-7 c = c.open-opened.auto.book_rows
 
-same-length-8 : tie.Need-same-length-8
-same-length-8 c = (opened (printed c).before).open.auto.1.1.1.1.1.1.1.1.1.1.1.1.1.1.0
+same-length-8 : tie.Need-shape_of-book_next
+same-length-8 c = c.open-opened.auto.book_next
 
-same-length-9 : tie.Need-same-length-9
-same-length-9 c = (opened (printed c).before).open.auto.1.1.1.1.1.1.1.1.1.1.1.1.1.1.1.0
+same-length-9 : tie.Need-shape_of-windows
+same-length-9 c = c.open-opened.auto.windows
 
-same-length-10 : tie.Need-same-length-10
-same-length-10 c = (opened (printed c).before).open.auto.1.1.1.1.1.1.1.1.1.1.1.1.1.1.1.1.0
+same-length-10 : tie.Need-shape_of-work
+same-length-10 c = c.open-opened.auto.work
 
-same-length-11 : tie.Need-same-length-11
-same-length-11 c = (printed c).opened-line.auto.0
+same-length-11 : tie.Need-shape_of-out
+same-length-11 c = c.opened_line.auto.out
 
 returns : tie.Need-returns
 returns c =
-    let l = printed c in
-    let p = opened l.before in
-    record { opened = p.open.result; step = p.open.ensures; printed = l.opened-line.ensures }
+    record { opened = c.open-opened.result; step = c.open-opened.ensures; printed = c.opened_line.ensures }
 
-pub open-line-spec : {M : Type 1} → statement M
-open-line-spec =
+pub open_line_spec : {M : Type 1} → statement M
+open_line_spec =
     tie.close
     (tie.spec
     open-requires
