@@ -33,7 +33,7 @@ pub type Square = [u8; 4096];
 pub type Rows = [u16; 64];
 
 // The first entries of grades 2, 3 and 4.
-#[derive(Drop)]
+#[derive(Clone, Copy)]
 pub struct Limits {
     pub grade2: usize,
     pub grade3: usize,
@@ -41,7 +41,7 @@ pub struct Limits {
 }
 
 // What an opening fixes: rows, ids, factor records, book records, and the limits that grades are read from.
-#[derive(Drop)]
+#[derive(Clone, Copy)]
 pub struct Sizes {
     pub m: usize,
     pub n: usize,
@@ -51,21 +51,21 @@ pub struct Sizes {
 }
 
 // A number, 0 for none, and the position of the column that it is given for.
-#[derive(Drop)]
+#[derive(Clone, Copy)]
 pub struct Refusal {
     pub number: usize,
     pub position: usize,
 }
 
 // What opening gives: its number, and the sizes that serve from now on.
-#[derive(Drop)]
+#[derive(Clone, Copy)]
 pub struct Opened {
     pub number: usize,
     pub sizes: Sizes,
 }
 
 // What a batch gives.
-#[derive(Drop)]
+#[derive(Clone, Copy)]
 pub struct Answer {
     pub number: usize,
     pub position: usize,
@@ -75,14 +75,14 @@ pub struct Answer {
 }
 
 // What a question gives: its number, and a parent, a row or a number of places or entries.
-#[derive(Drop)]
+#[derive(Clone, Copy)]
 pub struct Reply {
     pub number: usize,
     pub value: usize,
 }
 
 // What the question for the next row gives: its number, the row and its multiplicity, both 0 for none.
-#[derive(Drop)]
+#[derive(Clone, Copy)]
 pub struct Found {
     pub number: usize,
     pub row: usize,

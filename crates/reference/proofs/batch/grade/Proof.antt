@@ -4,45 +4,45 @@ use Prim.Native.Nat.{◌≤◌}
 use Rattle.reference.proofs.batch.grade.Statement.{statement}
 use Rattle.reference.proofs.batch.grade.Tie as tie
 
-abbrev invariant-loop : tie.invariant-loop
-invariant-loop entries first grade₀ grade = grade ≤ 4
+abbrev invariant-loop-grade : tie.invariant-loop-grade
+invariant-loop-grade entries first grade₀ grade = grade ≤ 4
 
-abbrev decreases-loop : tie.decreases-loop
-decreases-loop entries first grade₀ grade = grade
+abbrev decreases-loop-grade : tie.decreases-loop-grade
+decreases-loop-grade entries first grade₀ grade = grade
 
-loop-holds : tie.Need-loop-init invariant-loop decreases-loop
+loop-holds : tie.Need-loop-grade-init invariant-loop-grade decreases-loop-grade
 loop-holds c = omega arith
 
-sub-if1 : tie.Need-overflow-sub-if1 invariant-loop decreases-loop
+sub-if1 : tie.Need-overflow_sub-grade invariant-loop-grade decreases-loop-grade
 sub-if1 c = omega arith
 
-mul-if1 : tie.Need-overflow-mul-if1 invariant-loop decreases-loop
+mul-if1 : tie.Need-offset_bounds-first-grade invariant-loop-grade decreases-loop-grade
 mul-if1 c = omega arith
 
-array-read-if1 : tie.Need-array-read-if1 invariant-loop decreases-loop
+array-read-if1 : tie.Need-bounds-first-grade invariant-loop-grade decreases-loop-grade
 array-read-if1 c = omega arith
 
-returns : tie.Need-returns invariant-loop decreases-loop
+returns : tie.Need-returns-then-first-grade invariant-loop-grade decreases-loop-grade
 returns c = omega arith
 
-sub-grade : tie.Need-overflow-sub-grade invariant-loop decreases-loop
+sub-grade : tie.Need-overflow_sub-grade-in-loop-grade invariant-loop-grade decreases-loop-grade
 sub-grade c = omega arith
 
-loop-less : tie.Need-loop-smaller invariant-loop decreases-loop
+loop-less : tie.Need-loop-grade-smaller invariant-loop-grade decreases-loop-grade
 loop-less c = omega arith
 
-loop-again : tie.Need-loop-preserved invariant-loop decreases-loop
+loop-again : tie.Need-loop-grade-preserved invariant-loop-grade decreases-loop-grade
 loop-again c = omega arith
 
-returns-2 : tie.Need-returns-2 invariant-loop decreases-loop
+returns-2 : tie.Need-returns invariant-loop-grade decreases-loop-grade
 returns-2 c = omega arith
 
-pub grade-spec : {M : Type 1} → statement M
-grade-spec =
+pub grade_spec : {M : Type 1} → statement M
+grade_spec =
     tie.close
     (tie.spec
-    invariant-loop
-    decreases-loop
+    invariant-loop-grade
+    decreases-loop-grade
     loop-holds
     sub-if1
     mul-if1

@@ -4,39 +4,39 @@ use Prim.Native.Nat.{◌+◌, ◌*◌, ◌-◌, ◌≤◌}
 use Rattle.reference.proofs.clock.entries.Statement.{statement}
 use Rattle.reference.proofs.clock.entries.Tie as tie
 
-abbrev invariant-loop : tie.invariant-loop
-invariant-loop before after marked m total₀ j₀ total j = (1 ≤ j) × (j ≤ m + 1) × (total + 64 ≤ 64 * j)
+abbrev invariant-loop-j : tie.invariant-loop-j
+invariant-loop-j before after marked m total₀ j₀ total j = (1 ≤ j) × (j ≤ m + 1) × (total + 64 ≤ 64 * j)
 
-abbrev decreases-loop : tie.decreases-loop
-decreases-loop before after marked m total₀ j₀ total j = m + 1 - j
+abbrev decreases-loop-j : tie.decreases-loop-j
+decreases-loop-j before after marked m total₀ j₀ total j = m + 1 - j
 
-loop-holds : tie.Need-loop-init invariant-loop decreases-loop
+loop-holds : tie.Need-loop-j-init invariant-loop-j decreases-loop-j
 loop-holds c = omega arith
 
-entries-at-requires : tie.Need-entries-at-requires invariant-loop decreases-loop
+entries-at-requires : tie.Need-entries_at-total-requires invariant-loop-j decreases-loop-j
 entries-at-requires c κs = omega arith
 
-add_total : tie.Need-overflow-add-total invariant-loop decreases-loop
+add_total : tie.Need-overflow_add-total invariant-loop-j decreases-loop-j
 add_total c = omega arith
 
-add-j : tie.Need-overflow-add-j invariant-loop decreases-loop
+add-j : tie.Need-overflow_add-j invariant-loop-j decreases-loop-j
 add-j c = omega arith
 
-loop-less : tie.Need-loop-smaller invariant-loop decreases-loop
+loop-less : tie.Need-loop-j-smaller invariant-loop-j decreases-loop-j
 loop-less c = omega arith
 
-loop-again : tie.Need-loop-preserved invariant-loop decreases-loop
+loop-again : tie.Need-loop-j-preserved invariant-loop-j decreases-loop-j
 loop-again c = omega arith
 
-returns : tie.Need-returns invariant-loop decreases-loop
+returns : tie.Need-returns invariant-loop-j decreases-loop-j
 returns c = omega arith
 
-pub entries-spec : {M : Type 1} → statement M
-entries-spec =
+pub entries_spec : {M : Type 1} → statement M
+entries_spec =
     tie.close
     (tie.spec
-    invariant-loop
-    decreases-loop
+    invariant-loop-j
+    decreases-loop-j
     loop-holds
     entries-at-requires
     add_total

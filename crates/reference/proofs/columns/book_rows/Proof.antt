@@ -4,39 +4,39 @@ use Prim.Native.Nat.{◌+◌, ◌*◌, ◌-◌, ◌≤◌}
 use Rattle.reference.proofs.columns.book_rows.Statement.{statement}
 use Rattle.reference.proofs.columns.book_rows.Tie as tie
 
-abbrev invariant-loop : tie.invariant-loop
-invariant-loop holds booked m n total₀ i₀ total i = (1 ≤ i) × (i ≤ n + 1) × (total + 64 ≤ 64 * i)
+abbrev invariant-loop-i : tie.invariant-loop-i
+invariant-loop-i holds booked m n total₀ i₀ total i = (1 ≤ i) × (i ≤ n + 1) × (total + 64 ≤ 64 * i)
 
-abbrev decreases-loop : tie.decreases-loop
-decreases-loop holds booked m n total₀ i₀ total i = n + 1 - i
+abbrev decreases-loop-i : tie.decreases-loop-i
+decreases-loop-i holds booked m n total₀ i₀ total i = n + 1 - i
 
-loop-holds : tie.Need-loop-init invariant-loop decreases-loop
+loop-holds : tie.Need-loop-i-init invariant-loop-i decreases-loop-i
 loop-holds c = omega arith
 
-row-count-requires : tie.Need-row-count-requires invariant-loop decreases-loop
+row-count-requires : tie.Need-row_count-total-requires invariant-loop-i decreases-loop-i
 row-count-requires c κs = omega arith
 
-add_total : tie.Need-overflow-add-total invariant-loop decreases-loop
+add_total : tie.Need-overflow_add-total invariant-loop-i decreases-loop-i
 add_total c = omega arith
 
-add-i : tie.Need-overflow-add-i invariant-loop decreases-loop
+add-i : tie.Need-overflow_add-i invariant-loop-i decreases-loop-i
 add-i c = omega arith
 
-loop-less : tie.Need-loop-smaller invariant-loop decreases-loop
+loop-less : tie.Need-loop-i-smaller invariant-loop-i decreases-loop-i
 loop-less c = omega arith
 
-loop-again : tie.Need-loop-preserved invariant-loop decreases-loop
+loop-again : tie.Need-loop-i-preserved invariant-loop-i decreases-loop-i
 loop-again c = omega arith
 
-returns : tie.Need-returns invariant-loop decreases-loop
+returns : tie.Need-returns invariant-loop-i decreases-loop-i
 returns c = omega arith
 
-pub book-rows-spec : {M : Type 1} → statement M
-book-rows-spec =
+pub book_rows_spec : {M : Type 1} → statement M
+book_rows_spec =
     tie.close
     (tie.spec
-    invariant-loop
-    decreases-loop
+    invariant-loop-i
+    decreases-loop-i
     loop-holds
     row-count-requires
     add_total

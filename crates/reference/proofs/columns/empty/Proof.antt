@@ -4,39 +4,39 @@ use Prim.Native.Nat.{◌-◌, ◌≤◌}
 use Rattle.reference.proofs.columns.empty.Statement.{statement}
 use Rattle.reference.proofs.columns.empty.Tie as tie
 
-abbrev invariant-loop : tie.invariant-loop
-invariant-loop holds₀ i j₀ holds j = (1 ≤ j) × (j ≤ 65)
+abbrev invariant-loop-j : tie.invariant-loop-j
+invariant-loop-j holds₀ i j₀ holds j = (1 ≤ j) × (j ≤ 65)
 
-abbrev decreases-loop : tie.decreases-loop
-decreases-loop holds₀ i j₀ holds j = 65 - j
+abbrev decreases-loop-j : tie.decreases-loop-j
+decreases-loop-j holds₀ i j₀ holds j = 65 - j
 
-loop-holds : tie.Need-loop-init invariant-loop decreases-loop
+loop-holds : tie.Need-loop-j-init invariant-loop-j decreases-loop-j
 loop-holds c = omega arith
 
-place-requires : tie.Need-place-requires invariant-loop decreases-loop
+place-requires : tie.Need-place-requires invariant-loop-j decreases-loop-j
 place-requires c κs = omega arith
 
-element-write-holds : tie.Need-element-write-init invariant-loop decreases-loop
+element-write-holds : tie.Need-bounds-holds-place invariant-loop-j decreases-loop-j
 element-write-holds c = omega arith
 
-add-j : tie.Need-overflow-add-j invariant-loop decreases-loop
+add-j : tie.Need-overflow_add-j invariant-loop-j decreases-loop-j
 add-j c = omega arith
 
-loop-less : tie.Need-loop-smaller invariant-loop decreases-loop
+loop-less : tie.Need-loop-j-smaller invariant-loop-j decreases-loop-j
 loop-less c = omega arith
 
-loop-again : tie.Need-loop-preserved invariant-loop decreases-loop
+loop-again : tie.Need-loop-j-preserved invariant-loop-j decreases-loop-j
 loop-again c = omega arith
 
-returns : tie.Need-returns invariant-loop decreases-loop
+returns : tie.Need-returns invariant-loop-j decreases-loop-j
 returns c = omega arith
 
-pub empty-spec : {M : Type 1} → statement M
-empty-spec =
+pub empty_spec : {M : Type 1} → statement M
+empty_spec =
     tie.close
     (tie.spec
-    invariant-loop
-    decreases-loop
+    invariant-loop-j
+    decreases-loop-j
     loop-holds
     place-requires
     element-write-holds

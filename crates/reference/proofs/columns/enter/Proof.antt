@@ -5,60 +5,60 @@ use lib.ListN.{length}
 use Rattle.reference.proofs.columns.enter.Statement.{statement}
 use Rattle.reference.proofs.columns.enter.Tie as tie
 
-abbrev invariant-loop : tie.invariant-loop
-invariant-loop holds₀ booked rows from count i at₀ taken₀ holds at taken = taken ≤ at
+abbrev invariant-loop-at : tie.invariant-loop-at
+invariant-loop-at holds₀ booked rows from count i at₀ taken₀ holds at taken = taken ≤ at
 
-abbrev decreases-loop : tie.decreases-loop
-decreases-loop holds₀ booked rows from count i at₀ taken₀ holds at taken = length rows - at
+abbrev decreases-loop-at : tie.decreases-loop-at
+decreases-loop-at holds₀ booked rows from count i at₀ taken₀ holds at taken = length rows - at
 
-empty-requires : tie.Need-empty-requires invariant-loop decreases-loop
+empty-requires : tie.Need-empty-requires invariant-loop-at decreases-loop-at
 empty-requires c κs = omega arith
 
-sub-booked : tie.Need-overflow-sub-booked invariant-loop decreases-loop
+sub-booked : tie.Need-overflow_sub-booked invariant-loop-at decreases-loop-at
 sub-booked c = omega arith
 
-element-write-booked : tie.Need-element-write-booked invariant-loop decreases-loop
+element-write-booked : tie.Need-bounds-booked-i invariant-loop-at decreases-loop-at
 element-write-booked c = omega arith
 
-loop-holds : tie.Need-loop-init invariant-loop decreases-loop
+loop-holds : tie.Need-loop-at-init invariant-loop-at decreases-loop-at
 loop-holds c = omega arith
 
-returns : tie.Need-returns invariant-loop decreases-loop
+returns : tie.Need-returns-then-taken-count invariant-loop-at decreases-loop-at
 returns c = omega arith
 
-mul_wide : tie.Need-overflow-mul-wide invariant-loop decreases-loop
+mul_wide : tie.Need-offset_bounds-rows-at invariant-loop-at decreases-loop-at
 mul_wide c = omega arith
 
-shared-slice-read-wide : tie.Need-shared-slice-read-wide invariant-loop decreases-loop
+shared-slice-read-wide : tie.Need-bounds-rows-at invariant-loop-at decreases-loop-at
 shared-slice-read-wide c = omega arith
 
-wide-requires : tie.Need-wide-requires invariant-loop decreases-loop
+wide-requires : tie.Need-wide-requires invariant-loop-at decreases-loop-at
 wide-requires c κs = omega arith
 
-take-row-requires : tie.Need-take-row-requires invariant-loop decreases-loop
+take-row-requires : tie.Need-take_row-requires invariant-loop-at decreases-loop-at
 take-row-requires c κs = omega arith
 
-add-taken : tie.Need-overflow-add-taken invariant-loop decreases-loop
+add-taken : tie.Need-overflow_add-taken invariant-loop-at decreases-loop-at
 add-taken c = omega arith
 
-add_at : tie.Need-overflow-add-at invariant-loop decreases-loop
+add_at : tie.Need-overflow_add-at invariant-loop-at decreases-loop-at
 add_at c = omega arith
 
-loop-less : tie.Need-loop-smaller invariant-loop decreases-loop
+loop-less : tie.Need-loop-at-smaller invariant-loop-at decreases-loop-at
 loop-less c = omega arith
 
-loop-again : tie.Need-loop-preserved invariant-loop decreases-loop
+loop-again : tie.Need-loop-at-preserved invariant-loop-at decreases-loop-at
 loop-again c = omega arith
 
-returns-2 : tie.Need-returns-2 invariant-loop decreases-loop
+returns-2 : tie.Need-returns invariant-loop-at decreases-loop-at
 returns-2 c = omega arith
 
 pub enter_spec : {M : Type 1} → statement M
 enter_spec =
     tie.close
     (tie.spec
-    invariant-loop
-    decreases-loop
+    invariant-loop-at
+    decreases-loop-at
     empty-requires
     sub-booked
     element-write-booked

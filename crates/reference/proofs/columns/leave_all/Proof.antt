@@ -4,31 +4,31 @@ use Prim.Native.Nat.{◌-◌, ◌≤◌}
 use Rattle.reference.proofs.columns.leave_all.Statement.{statement}
 use Rattle.reference.proofs.columns.leave_all.Tie as tie
 
-abbrev invariant-loop : tie.invariant-loop
-invariant-loop booked₀ i₀ booked i = (1 ≤ i) × (i ≤ 257)
+abbrev invariant-loop-i : tie.invariant-loop-i
+invariant-loop-i booked₀ i₀ booked i = (1 ≤ i) × (i ≤ 257)
 
-abbrev decreases-loop : tie.decreases-loop
-decreases-loop booked₀ i₀ booked i = 257 - i
+abbrev decreases-loop-i : tie.decreases-loop-i
+decreases-loop-i booked₀ i₀ booked i = 257 - i
 
-loop-holds : tie.Need-loop-init invariant-loop decreases-loop
+loop-holds : tie.Need-loop-i-init invariant-loop-i decreases-loop-i
 loop-holds c = omega arith
 
-leave-requires : tie.Need-leave-requires invariant-loop decreases-loop
+leave-requires : tie.Need-leave-requires invariant-loop-i decreases-loop-i
 leave-requires c κs = omega arith
 
-add-i : tie.Need-overflow-add-i invariant-loop decreases-loop
+add-i : tie.Need-overflow_add-i invariant-loop-i decreases-loop-i
 add-i c = omega arith
 
-loop-less : tie.Need-loop-smaller invariant-loop decreases-loop
+loop-less : tie.Need-loop-i-smaller invariant-loop-i decreases-loop-i
 loop-less c = omega arith
 
-loop-again : tie.Need-loop-preserved invariant-loop decreases-loop
+loop-again : tie.Need-loop-i-preserved invariant-loop-i decreases-loop-i
 loop-again c = omega arith
 
-returns : tie.Need-returns invariant-loop decreases-loop
+returns : tie.Need-returns invariant-loop-i decreases-loop-i
 returns c = omega arith
 
-pub leave-all-spec : {M : Type 1} → statement M
-leave-all-spec =
+pub leave_all_spec : {M : Type 1} → statement M
+leave_all_spec =
     tie.close
-    (tie.spec invariant-loop decreases-loop loop-holds leave-requires add-i loop-less loop-again returns)
+    (tie.spec invariant-loop-i decreases-loop-i loop-holds leave-requires add-i loop-less loop-again returns)

@@ -4,42 +4,42 @@ use Prim.Native.Nat.{◌+◌, ◌-◌, ◌≤◌}
 use Rattle.reference.proofs.columns.row_count.Statement.{statement}
 use Rattle.reference.proofs.columns.row_count.Tie as tie
 
-abbrev invariant-loop : tie.invariant-loop
-invariant-loop holds booked m i count₀ j₀ count j = (1 ≤ j) × (j ≤ m + 1) × (count + 1 ≤ j)
+abbrev invariant-loop-j : tie.invariant-loop-j
+invariant-loop-j holds booked m i count₀ j₀ count j = (1 ≤ j) × (j ≤ m + 1) × (count + 1 ≤ j)
 
-abbrev decreases-loop : tie.decreases-loop
-decreases-loop holds booked m i count₀ j₀ count j = m + 1 - j
+abbrev decreases-loop-j : tie.decreases-loop-j
+decreases-loop-j holds booked m i count₀ j₀ count j = m + 1 - j
 
-loop-holds : tie.Need-loop-init invariant-loop decreases-loop
+loop-holds : tie.Need-loop-j-init invariant-loop-j decreases-loop-j
 loop-holds c = omega arith
 
-has-row-requires : tie.Need-has-row-requires invariant-loop decreases-loop
+has-row-requires : tie.Need-has_row-requires invariant-loop-j decreases-loop-j
 has-row-requires c κs = omega arith
 
-one-requires : tie.Need-one-requires invariant-loop decreases-loop
+one-requires : tie.Need-one-count-requires invariant-loop-j decreases-loop-j
 one-requires c κs = omega arith
 
-add-count : tie.Need-overflow-add-count invariant-loop decreases-loop
+add-count : tie.Need-overflow_add-count invariant-loop-j decreases-loop-j
 add-count c = omega arith
 
-add-j : tie.Need-overflow-add-j invariant-loop decreases-loop
+add-j : tie.Need-overflow_add-j invariant-loop-j decreases-loop-j
 add-j c = omega arith
 
-loop-less : tie.Need-loop-smaller invariant-loop decreases-loop
+loop-less : tie.Need-loop-j-smaller invariant-loop-j decreases-loop-j
 loop-less c = omega arith
 
-loop-again : tie.Need-loop-preserved invariant-loop decreases-loop
+loop-again : tie.Need-loop-j-preserved invariant-loop-j decreases-loop-j
 loop-again c = omega arith
 
-returns : tie.Need-returns invariant-loop decreases-loop
+returns : tie.Need-returns invariant-loop-j decreases-loop-j
 returns c = omega arith
 
-pub row-count-spec : {M : Type 1} → statement M
-row-count-spec =
+pub row_count_spec : {M : Type 1} → statement M
+row_count_spec =
     tie.close
     (tie.spec
-    invariant-loop
-    decreases-loop
+    invariant-loop-j
+    decreases-loop-j
     loop-holds
     has-row-requires
     one-requires

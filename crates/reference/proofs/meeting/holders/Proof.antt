@@ -4,42 +4,42 @@ use Prim.Native.Nat.{◌+◌, ◌-◌, ◌≤◌}
 use Rattle.reference.proofs.meeting.holders.Statement.{statement}
 use Rattle.reference.proofs.meeting.holders.Tie as tie
 
-abbrev invariant-loop : tie.invariant-loop
-invariant-loop pattern m i count₀ j₀ count j = (1 ≤ j) × (j ≤ m + 1) × (count + 1 ≤ j)
+abbrev invariant-loop-j : tie.invariant-loop-j
+invariant-loop-j pattern m i count₀ j₀ count j = (1 ≤ j) × (j ≤ m + 1) × (count + 1 ≤ j)
 
-abbrev decreases-loop : tie.decreases-loop
-decreases-loop pattern m i count₀ j₀ count j = m + 1 - j
+abbrev decreases-loop-j : tie.decreases-loop-j
+decreases-loop-j pattern m i count₀ j₀ count j = m + 1 - j
 
-loop-holds : tie.Need-loop-init invariant-loop decreases-loop
+loop-holds : tie.Need-loop-j-init invariant-loop-j decreases-loop-j
 loop-holds c = omega arith
 
-is-in-requires : tie.Need-is-in-requires invariant-loop decreases-loop
+is-in-requires : tie.Need-is_in-requires invariant-loop-j decreases-loop-j
 is-in-requires c κs = omega arith
 
-one-requires : tie.Need-one-requires invariant-loop decreases-loop
+one-requires : tie.Need-one-count-requires invariant-loop-j decreases-loop-j
 one-requires c κs = omega arith
 
-add-count : tie.Need-overflow-add-count invariant-loop decreases-loop
+add-count : tie.Need-overflow_add-count invariant-loop-j decreases-loop-j
 add-count c = omega arith
 
-add-j : tie.Need-overflow-add-j invariant-loop decreases-loop
+add-j : tie.Need-overflow_add-j invariant-loop-j decreases-loop-j
 add-j c = omega arith
 
-loop-less : tie.Need-loop-smaller invariant-loop decreases-loop
+loop-less : tie.Need-loop-j-smaller invariant-loop-j decreases-loop-j
 loop-less c = omega arith
 
-loop-again : tie.Need-loop-preserved invariant-loop decreases-loop
+loop-again : tie.Need-loop-j-preserved invariant-loop-j decreases-loop-j
 loop-again c = omega arith
 
-returns : tie.Need-returns invariant-loop decreases-loop
+returns : tie.Need-returns invariant-loop-j decreases-loop-j
 returns c = omega arith
 
-pub holders-spec : {M : Type 1} → statement M
-holders-spec =
+pub holders_spec : {M : Type 1} → statement M
+holders_spec =
     tie.close
     (tie.spec
-    invariant-loop
-    decreases-loop
+    invariant-loop-j
+    decreases-loop-j
     loop-holds
     is-in-requires
     one-requires

@@ -5,48 +5,48 @@ use lib.ListN.{length}
 use Rattle.reference.proofs.meeting.is_on_all.Statement.{statement}
 use Rattle.reference.proofs.meeting.is_on_all.Tie as tie
 
-abbrev invariant-loop : tie.invariant-loop
-invariant-loop pattern row_list m k t₀ t = t ≤ length row_list
+abbrev invariant-loop-t : tie.invariant-loop-t
+invariant-loop-t pattern row_list m k t₀ t = t ≤ length row_list
 
-abbrev decreases-loop : tie.decreases-loop
-decreases-loop pattern row_list m k t₀ t = length row_list - t
+abbrev decreases-loop-t : tie.decreases-loop-t
+decreases-loop-t pattern row_list m k t₀ t = length row_list - t
 
-loop-holds : tie.Need-loop-init invariant-loop decreases-loop
+loop-holds : tie.Need-loop-t-init invariant-loop-t decreases-loop-t
 loop-holds c = omega arith
 
-mul_wide : tie.Need-overflow-mul-wide invariant-loop decreases-loop
+mul_wide : tie.Need-offset_bounds-row_list-t invariant-loop-t decreases-loop-t
 mul_wide c = omega arith
 
-shared-slice-read-wide : tie.Need-shared-slice-read-wide invariant-loop decreases-loop
+shared-slice-read-wide : tie.Need-bounds-row_list-t invariant-loop-t decreases-loop-t
 shared-slice-read-wide c = omega arith
 
-wide-requires : tie.Need-wide-requires invariant-loop decreases-loop
+wide-requires : tie.Need-wide-requires invariant-loop-t decreases-loop-t
 wide-requires c κs = omega arith
 
-has-on-path-requires : tie.Need-has-on-path-requires invariant-loop decreases-loop
+has-on-path-requires : tie.Need-has_on_path-requires invariant-loop-t decreases-loop-t
 has-on-path-requires c κs = omega arith
 
-returns : tie.Need-returns invariant-loop decreases-loop
+returns : tie.Need-returns-then-not-has_on_path invariant-loop-t decreases-loop-t
 returns c = omega arith
 
-add-t : tie.Need-overflow-add-t invariant-loop decreases-loop
+add-t : tie.Need-overflow_add-t invariant-loop-t decreases-loop-t
 add-t c = omega arith
 
-loop-less : tie.Need-loop-smaller invariant-loop decreases-loop
+loop-less : tie.Need-loop-t-smaller invariant-loop-t decreases-loop-t
 loop-less c = omega arith
 
-loop-again : tie.Need-loop-preserved invariant-loop decreases-loop
+loop-again : tie.Need-loop-t-preserved invariant-loop-t decreases-loop-t
 loop-again c = omega arith
 
-returns-2 : tie.Need-returns-2 invariant-loop decreases-loop
+returns-2 : tie.Need-returns invariant-loop-t decreases-loop-t
 returns-2 c = omega arith
 
-pub is-on-all-spec : {M : Type 1} → statement M
-is-on-all-spec =
+pub is_on_all_spec : {M : Type 1} → statement M
+is_on_all_spec =
     tie.close
     (tie.spec
-    invariant-loop
-    decreases-loop
+    invariant-loop-t
+    decreases-loop-t
     loop-holds
     mul_wide
     shared-slice-read-wide

@@ -4,42 +4,42 @@ use native.Mathlib.Omega.{arith}
 use Rattle.reference.proofs.meeting.is_on_path.Statement.{statement}
 use Rattle.reference.proofs.meeting.is_on_path.Tie as tie
 
-abbrev invariant-loop : tie.invariant-loop
-invariant-loop pattern m j k row₀ count₀ row count = (1 ≤ row) × (row ≤ 64) × (count ≤ m)
+abbrev invariant-loop-count : tie.invariant-loop-count
+invariant-loop-count pattern m j k row₀ count₀ row count = (1 ≤ row) × (row ≤ 64) × (count ≤ m)
 
-abbrev decreases-loop : tie.decreases-loop
-decreases-loop pattern m j k row₀ count₀ row count = m - count
+abbrev decreases-loop-count : tie.decreases-loop-count
+decreases-loop-count pattern m j k row₀ count₀ row count = m - count
 
-loop-holds : tie.Need-loop-init invariant-loop decreases-loop
+loop-holds : tie.Need-loop-count-init invariant-loop-count decreases-loop-count
 loop-holds c = omega arith
 
-returns : tie.Need-returns invariant-loop decreases-loop
+returns : tie.Need-returns-then-row-k invariant-loop-count decreases-loop-count
 returns c = omega arith
 
-parent-requires : tie.Need-parent-requires invariant-loop decreases-loop
+parent-requires : tie.Need-parent-row-requires invariant-loop-count decreases-loop-count
 parent-requires c κs = omega arith
 
-returns-2 : tie.Need-returns-2 invariant-loop decreases-loop
+returns-2 : tie.Need-returns-then-row-eq0 invariant-loop-count decreases-loop-count
 returns-2 c = omega arith
 
-add-count : tie.Need-overflow-add-count invariant-loop decreases-loop
+add-count : tie.Need-overflow_add-count invariant-loop-count decreases-loop-count
 add-count c = omega arith
 
-loop-less : tie.Need-loop-smaller invariant-loop decreases-loop
+loop-less : tie.Need-loop-count-smaller invariant-loop-count decreases-loop-count
 loop-less c = omega arith
 
-loop-again : tie.Need-loop-preserved invariant-loop decreases-loop
+loop-again : tie.Need-loop-count-preserved invariant-loop-count decreases-loop-count
 loop-again c = omega arith
 
-returns-3 : tie.Need-returns-3 invariant-loop decreases-loop
+returns-3 : tie.Need-returns invariant-loop-count decreases-loop-count
 returns-3 c = omega arith
 
-pub is-on-path-spec : {M : Type 1} → statement M
-is-on-path-spec =
+pub is_on_path_spec : {M : Type 1} → statement M
+is_on_path_spec =
     tie.close
     (tie.spec
-    invariant-loop
-    decreases-loop
+    invariant-loop-count
+    decreases-loop-count
     loop-holds
     returns
     parent-requires

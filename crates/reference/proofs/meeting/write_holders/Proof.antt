@@ -6,51 +6,51 @@ use lib.ListN.{length}
 use Rattle.reference.proofs.meeting.write_holders.Statement.{statement}
 use Rattle.reference.proofs.meeting.write_holders.Tie as tie
 
-abbrev invariant-loop : tie.invariant-loop
-invariant-loop pattern list₀ m at i k₀ j₀ list k j = (length list ≡ length list₀) × (k ≤ length list) × (1 ≤ j) × (j ≤ m + 1)
+abbrev invariant-loop-j : tie.invariant-loop-j
+invariant-loop-j pattern list₀ m at i k₀ j₀ list k j = (length list ≡ length list₀) × (k ≤ length list) × (1 ≤ j) × (j ≤ m + 1)
 
-abbrev decreases-loop : tie.decreases-loop
-decreases-loop pattern list₀ m at i k₀ j₀ list k j = m + 1 - j
+abbrev decreases-loop-j : tie.decreases-loop-j
+decreases-loop-j pattern list₀ m at i k₀ j₀ list k j = m + 1 - j
 
-loop-holds : tie.Need-loop-init invariant-loop decreases-loop
+loop-holds : tie.Need-loop-j-init invariant-loop-j decreases-loop-j
 loop-holds c = omega arith
 
-is-in-requires : tie.Need-is-in-requires invariant-loop decreases-loop
+is-in-requires : tie.Need-is_in-requires invariant-loop-j decreases-loop-j
 is-in-requires c κs = omega arith
 
-put-requires : tie.Need-put-requires invariant-loop decreases-loop
+put-requires : tie.Need-put-k-requires invariant-loop-j decreases-loop-j
 put-requires c κs = omega arith
 
-add-j : tie.Need-overflow-add-j invariant-loop decreases-loop
+add-j : tie.Need-overflow_add-j invariant-loop-j decreases-loop-j
 add-j c = omega arith
 
-loop-less : tie.Need-loop-smaller invariant-loop decreases-loop
+loop-less : tie.Need-loop-j-smaller-then-is_in invariant-loop-j decreases-loop-j
 loop-less c = omega arith
 
-loop-again : tie.Need-loop-preserved invariant-loop decreases-loop
+loop-again : tie.Need-loop-j-preserved-then-is_in invariant-loop-j decreases-loop-j
 loop-again c = omega arith
 
-add-j-2 : tie.Need-overflow-add-j-2 invariant-loop decreases-loop
+add-j-2 : tie.Need-overflow_add-j-else-is_in invariant-loop-j decreases-loop-j
 add-j-2 c = omega arith
 
-loop-less-2 : tie.Need-loop-smaller-2 invariant-loop decreases-loop
+loop-less-2 : tie.Need-loop-j-smaller invariant-loop-j decreases-loop-j
 loop-less-2 c = omega arith
 
-loop-again-2 : tie.Need-loop-preserved-2 invariant-loop decreases-loop
+loop-again-2 : tie.Need-loop-j-preserved invariant-loop-j decreases-loop-j
 loop-again-2 c = omega arith
 
-same_length : tie.Need-same-length invariant-loop decreases-loop
+same_length : tie.Need-shape_of-list invariant-loop-j decreases-loop-j
 same_length c = omega arith
 
-returns : tie.Need-returns invariant-loop decreases-loop
+returns : tie.Need-returns invariant-loop-j decreases-loop-j
 returns c = omega arith
 
-pub write-holders-spec : {M : Type 1} → statement M
-write-holders-spec =
+pub write_holders_spec : {M : Type 1} → statement M
+write_holders_spec =
     tie.close
     (tie.spec
-    invariant-loop
-    decreases-loop
+    invariant-loop-j
+    decreases-loop-j
     loop-holds
     is-in-requires
     put-requires

@@ -4,31 +4,31 @@ use Prim.Native.Nat.{◌+◌, ◌-◌, ◌≤◌}
 use Rattle.reference.proofs.pattern.join_all.Statement.{statement}
 use Rattle.reference.proofs.pattern.join_all.Tie as tie
 
-abbrev invariant-loop : tie.invariant-loop
-invariant-loop holds live near₀ m n a₀ near a = (1 ≤ a) × (a ≤ m + 1)
+abbrev invariant-loop-a : tie.invariant-loop-a
+invariant-loop-a holds live near₀ m n a₀ near a = (1 ≤ a) × (a ≤ m + 1)
 
-abbrev decreases-loop : tie.decreases-loop
-decreases-loop holds live near₀ m n a₀ near a = m + 1 - a
+abbrev decreases-loop-a : tie.decreases-loop-a
+decreases-loop-a holds live near₀ m n a₀ near a = m + 1 - a
 
-loop-holds : tie.Need-loop-init invariant-loop decreases-loop
+loop-holds : tie.Need-loop-a-init invariant-loop-a decreases-loop-a
 loop-holds c = omega arith
 
-join-requires : tie.Need-join-requires invariant-loop decreases-loop
+join-requires : tie.Need-join-requires invariant-loop-a decreases-loop-a
 join-requires c κs = omega arith
 
-add_a : tie.Need-overflow-add-a invariant-loop decreases-loop
+add_a : tie.Need-overflow_add-a invariant-loop-a decreases-loop-a
 add_a c = omega arith
 
-loop-less : tie.Need-loop-smaller invariant-loop decreases-loop
+loop-less : tie.Need-loop-a-smaller invariant-loop-a decreases-loop-a
 loop-less c = omega arith
 
-loop-again : tie.Need-loop-preserved invariant-loop decreases-loop
+loop-again : tie.Need-loop-a-preserved invariant-loop-a decreases-loop-a
 loop-again c = omega arith
 
-returns : tie.Need-returns invariant-loop decreases-loop
+returns : tie.Need-returns invariant-loop-a decreases-loop-a
 returns c = omega arith
 
-pub join-all-spec : {M : Type 1} → statement M
-join-all-spec =
+pub join_all_spec : {M : Type 1} → statement M
+join_all_spec =
     tie.close
-    (tie.spec invariant-loop decreases-loop loop-holds join-requires add_a loop-less loop-again returns)
+    (tie.spec invariant-loop-a decreases-loop-a loop-holds join-requires add_a loop-less loop-again returns)

@@ -4,45 +4,45 @@ use Prim.Native.Nat.{◌-◌, ◌≤◌}
 use Rattle.reference.proofs.pattern.reach.Statement.{statement}
 use Rattle.reference.proofs.pattern.reach.Tie as tie
 
-abbrev invariant-loop : tie.invariant-loop
-invariant-loop near reached₀ m j steps₀ reached steps = steps ≤ j
+abbrev invariant-loop-steps : tie.invariant-loop-steps
+invariant-loop-steps near reached₀ m j steps₀ reached steps = steps ≤ j
 
-abbrev decreases-loop : tie.decreases-loop
-decreases-loop near reached₀ m j steps₀ reached steps = j - steps
+abbrev decreases-loop-steps : tie.decreases-loop-steps
+decreases-loop-steps near reached₀ m j steps₀ reached steps = j - steps
 
-sub-reached : tie.Need-overflow-sub-reached invariant-loop decreases-loop
+sub-reached : tie.Need-overflow_sub-reached invariant-loop-steps decreases-loop-steps
 sub-reached c = omega arith
 
-element-write-reached : tie.Need-element-write-reached invariant-loop decreases-loop
+element-write-reached : tie.Need-bounds-reached-j invariant-loop-steps decreases-loop-steps
 element-write-reached c = omega arith
 
-loop-holds : tie.Need-loop-init invariant-loop decreases-loop
+loop-holds : tie.Need-loop-steps-init invariant-loop-steps decreases-loop-steps
 loop-holds c = omega arith
 
-step-requires : tie.Need-step-requires invariant-loop decreases-loop
+step-requires : tie.Need-step-requires invariant-loop-steps decreases-loop-steps
 step-requires c κs = omega arith
 
-returns : tie.Need-returns invariant-loop decreases-loop
+returns : tie.Need-returns-then-not-step invariant-loop-steps decreases-loop-steps
 returns c = omega arith
 
-add-steps : tie.Need-overflow-add-steps invariant-loop decreases-loop
+add-steps : tie.Need-overflow_add-steps invariant-loop-steps decreases-loop-steps
 add-steps c = omega arith
 
-loop-less : tie.Need-loop-smaller invariant-loop decreases-loop
+loop-less : tie.Need-loop-steps-smaller invariant-loop-steps decreases-loop-steps
 loop-less c = omega arith
 
-loop-again : tie.Need-loop-preserved invariant-loop decreases-loop
+loop-again : tie.Need-loop-steps-preserved invariant-loop-steps decreases-loop-steps
 loop-again c = omega arith
 
-returns-2 : tie.Need-returns-2 invariant-loop decreases-loop
+returns-2 : tie.Need-returns invariant-loop-steps decreases-loop-steps
 returns-2 c = omega arith
 
-pub reach-spec : {M : Type 1} → statement M
-reach-spec =
+pub reach_spec : {M : Type 1} → statement M
+reach_spec =
     tie.close
     (tie.spec
-    invariant-loop
-    decreases-loop
+    invariant-loop-steps
+    decreases-loop-steps
     sub-reached
     element-write-reached
     loop-holds

@@ -4,51 +4,51 @@ use Prim.Native.Nat.{◌+◌, ◌-◌, ◌≤◌}
 use Rattle.reference.proofs.pattern.write.Statement.{statement}
 use Rattle.reference.proofs.pattern.write.Tie as tie
 
-abbrev invariant-loop : tie.invariant-loop
-invariant-loop pattern₀ reached m j i₀ pattern i = (1 ≤ i) × (i ≤ m + 1)
+abbrev invariant-loop-i : tie.invariant-loop-i
+invariant-loop-i pattern₀ reached m j i₀ pattern i = (1 ≤ i) × (i ≤ m + 1)
 
-abbrev decreases-loop : tie.decreases-loop
-decreases-loop pattern₀ reached m j i₀ pattern i = m + 1 - i
+abbrev decreases-loop-i : tie.decreases-loop-i
+decreases-loop-i pattern₀ reached m j i₀ pattern i = m + 1 - i
 
-loop-holds : tie.Need-loop-init invariant-loop decreases-loop
+loop-holds : tie.Need-loop-i-init invariant-loop-i decreases-loop-i
 loop-holds c = omega arith
 
-place-requires : tie.Need-place-requires invariant-loop decreases-loop
+place-requires : tie.Need-place-requires invariant-loop-i decreases-loop-i
 place-requires c κs = omega arith
 
-element-write-pattern : tie.Need-element-write-pattern invariant-loop decreases-loop
+element-write-pattern : tie.Need-bounds-pattern-place invariant-loop-i decreases-loop-i
 element-write-pattern c = omega arith
 
-sub-pattern : tie.Need-overflow-sub-pattern invariant-loop decreases-loop
+sub-pattern : tie.Need-overflow_sub-pattern invariant-loop-i decreases-loop-i
 sub-pattern c = omega arith
 
-element-copy-out-pattern : tie.Need-element-copy-out-pattern invariant-loop decreases-loop
+element-copy-out-pattern : tie.Need-bounds-reached-i invariant-loop-i decreases-loop-i
 element-copy-out-pattern c = omega arith
 
-place-requires-2 : tie.Need-place-requires-2 invariant-loop decreases-loop
+place-requires-2 : tie.Need-place-requires-else-i-j invariant-loop-i decreases-loop-i
 place-requires-2 c κs = omega arith
 
-element-write-pattern-2 : tie.Need-element-write-pattern-2 invariant-loop decreases-loop
+element-write-pattern-2 : tie.Need-bounds-pattern-place-else-i-j invariant-loop-i decreases-loop-i
 element-write-pattern-2 c = omega arith
 
-add-i : tie.Need-overflow-add-i invariant-loop decreases-loop
+add-i : tie.Need-overflow_add-i invariant-loop-i decreases-loop-i
 add-i c = omega arith
 
-loop-less : tie.Need-loop-smaller invariant-loop decreases-loop
+loop-less : tie.Need-loop-i-smaller invariant-loop-i decreases-loop-i
 loop-less c = omega arith
 
-loop-again : tie.Need-loop-preserved invariant-loop decreases-loop
+loop-again : tie.Need-loop-i-preserved invariant-loop-i decreases-loop-i
 loop-again c = omega arith
 
-returns : tie.Need-returns invariant-loop decreases-loop
+returns : tie.Need-returns invariant-loop-i decreases-loop-i
 returns c = omega arith
 
 pub write_spec : {M : Type 1} → statement M
 write_spec =
     tie.close
     (tie.spec
-    invariant-loop
-    decreases-loop
+    invariant-loop-i
+    decreases-loop-i
     loop-holds
     place-requires
     element-write-pattern

@@ -4,42 +4,42 @@ use Prim.Native.Nat.{◌+◌, ◌-◌, ◌≤◌}
 use Rattle.reference.proofs.questions.first_from.Statement.{statement}
 use Rattle.reference.proofs.questions.first_from.Tie as tie
 
-abbrev invariant-loop : tie.invariant-loop
-invariant-loop holds live pattern sizes i j m k₀ k = 1 ≤ k
+abbrev invariant-loop-k : tie.invariant-loop-k
+invariant-loop-k holds live pattern sizes i j m k₀ k = 1 ≤ k
 
-abbrev decreases-loop : tie.decreases-loop
-decreases-loop holds live pattern sizes i j m k₀ k = m + 1 - k
+abbrev decreases-loop-k : tie.decreases-loop-k
+decreases-loop-k holds live pattern sizes i j m k₀ k = m + 1 - k
 
-loop-holds : tie.Need-loop-init invariant-loop decreases-loop
+loop-holds : tie.Need-loop-k-init invariant-loop-k decreases-loop-k
 loop-holds c = omega arith
 
-multiplicity-requires : tie.Need-multiplicity-requires invariant-loop decreases-loop
+multiplicity-requires : tie.Need-multiplicity-multiplicity-requires invariant-loop-k decreases-loop-k
 multiplicity-requires c κs = omega arith
 
-returns : tie.Need-returns invariant-loop decreases-loop
+returns : tie.Need-returns-then-multiplicity-ne0 invariant-loop-k decreases-loop-k
 returns c = omega arith
 
-add-k : tie.Need-overflow-add-k invariant-loop decreases-loop
+add-k : tie.Need-overflow_add-k invariant-loop-k decreases-loop-k
 add-k c = omega arith
 
-loop-less : tie.Need-loop-smaller invariant-loop decreases-loop
+loop-less : tie.Need-loop-k-smaller invariant-loop-k decreases-loop-k
 loop-less c = omega arith
 
-loop-again : tie.Need-loop-preserved invariant-loop decreases-loop
+loop-again : tie.Need-loop-k-preserved invariant-loop-k decreases-loop-k
 loop-again c = omega arith
 
-not-found-requires : tie.Need-not-found-requires invariant-loop decreases-loop
+not-found-requires : tie.Need-not_found-requires invariant-loop-k decreases-loop-k
 not-found-requires c κs = omega arith
 
-returns-2 : tie.Need-returns-2 invariant-loop decreases-loop
+returns-2 : tie.Need-returns invariant-loop-k decreases-loop-k
 returns-2 c = omega arith
 
-pub first-from-spec : {M : Type 1} → statement M
-first-from-spec =
+pub first_from_spec : {M : Type 1} → statement M
+first_from_spec =
     tie.close
     (tie.spec
-    invariant-loop
-    decreases-loop
+    invariant-loop-k
+    decreases-loop-k
     loop-holds
     multiplicity-requires
     returns

@@ -6,54 +6,54 @@ use lib.ListN.{length}
 use Rattle.reference.proofs.questions.write_column.Statement.{statement}
 use Rattle.reference.proofs.questions.write_column.Tie as tie
 
-abbrev invariant-loop : tie.invariant-loop
-invariant-loop holds live pattern list₀ sizes at j m k₀ i₀ list k i = (length list ≡ length list₀) × (k ≤ length list) × (1 ≤ i)
+abbrev invariant-loop-i : tie.invariant-loop-i
+invariant-loop-i holds live pattern list₀ sizes at j m k₀ i₀ list k i = (length list ≡ length list₀) × (k ≤ length list) × (1 ≤ i)
 
-abbrev decreases-loop : tie.decreases-loop
-decreases-loop holds live pattern list₀ sizes at j m k₀ i₀ list k i = m + 1 - i
+abbrev decreases-loop-i : tie.decreases-loop-i
+decreases-loop-i holds live pattern list₀ sizes at j m k₀ i₀ list k i = m + 1 - i
 
-loop-holds : tie.Need-loop-init invariant-loop decreases-loop
+loop-holds : tie.Need-loop-i-init invariant-loop-i decreases-loop-i
 loop-holds c = omega arith
 
-is-in-requires : tie.Need-is-in-requires invariant-loop decreases-loop
+is-in-requires : tie.Need-is_in-requires invariant-loop-i decreases-loop-i
 is-in-requires c κs = omega arith
 
-multiplicity-requires : tie.Need-multiplicity-requires invariant-loop decreases-loop
+multiplicity-requires : tie.Need-multiplicity-count-requires invariant-loop-i decreases-loop-i
 multiplicity-requires c κs = omega arith
 
-put-requires : tie.Need-put-requires invariant-loop decreases-loop
+put-requires : tie.Need-put-k-requires invariant-loop-i decreases-loop-i
 put-requires c κs = omega arith
 
-add-i : tie.Need-overflow-add-i invariant-loop decreases-loop
+add-i : tie.Need-overflow_add-i invariant-loop-i decreases-loop-i
 add-i c = omega arith
 
-loop-less : tie.Need-loop-smaller invariant-loop decreases-loop
+loop-less : tie.Need-loop-i-smaller-then-is_in invariant-loop-i decreases-loop-i
 loop-less c = omega arith
 
-loop-again : tie.Need-loop-preserved invariant-loop decreases-loop
+loop-again : tie.Need-loop-i-preserved-then-is_in invariant-loop-i decreases-loop-i
 loop-again c = omega arith
 
-add-i-2 : tie.Need-overflow-add-i-2 invariant-loop decreases-loop
+add-i-2 : tie.Need-overflow_add-i-else-is_in invariant-loop-i decreases-loop-i
 add-i-2 c = omega arith
 
-loop-less-2 : tie.Need-loop-smaller-2 invariant-loop decreases-loop
+loop-less-2 : tie.Need-loop-i-smaller invariant-loop-i decreases-loop-i
 loop-less-2 c = omega arith
 
-loop-again-2 : tie.Need-loop-preserved-2 invariant-loop decreases-loop
+loop-again-2 : tie.Need-loop-i-preserved invariant-loop-i decreases-loop-i
 loop-again-2 c = omega arith
 
-same_length : tie.Need-same-length invariant-loop decreases-loop
+same_length : tie.Need-shape_of-list invariant-loop-i decreases-loop-i
 same_length c = omega arith
 
-returns : tie.Need-returns invariant-loop decreases-loop
+returns : tie.Need-returns invariant-loop-i decreases-loop-i
 returns c = omega arith
 
-pub write-column-spec : {M : Type 1} → statement M
-write-column-spec =
+pub write_column_spec : {M : Type 1} → statement M
+write_column_spec =
     tie.close
     (tie.spec
-    invariant-loop
-    decreases-loop
+    invariant-loop-i
+    decreases-loop-i
     loop-holds
     is-in-requires
     multiplicity-requires

@@ -7,54 +7,54 @@ use lib.ListN.{length, length-set}
 use Rattle.reference.proofs.questions.write_path.Statement.{statement}
 use Rattle.reference.proofs.questions.write_path.Tie as tie
 
-abbrev invariant-loop : tie.invariant-loop
-invariant-loop pattern list₀ m at j row₀ k₀ list row k = (length list ≡ length list₀) × (row ≤ 64)
+abbrev invariant-loop-k : tie.invariant-loop-k
+invariant-loop-k pattern list₀ m at j row₀ k₀ list row k = (length list ≡ length list₀) × (row ≤ 64)
 
-abbrev decreases-loop : tie.decreases-loop
-decreases-loop pattern list₀ m at j row₀ k₀ list row k = length list - k
+abbrev decreases-loop-k : tie.decreases-loop-k
+decreases-loop-k pattern list₀ m at j row₀ k₀ list row k = length list - k
 
-loop-holds : tie.Need-loop-init invariant-loop decreases-loop
+loop-holds : tie.Need-loop-k-init invariant-loop-k decreases-loop-k
 loop-holds c = omega arith
 
-same_length : tie.Need-same-length invariant-loop decreases-loop
+same_length : tie.Need-shape_of-list-then-row-eq0 invariant-loop-k decreases-loop-k
 same_length c = omega arith
 
-returns : tie.Need-returns invariant-loop decreases-loop
+returns : tie.Need-returns-then-row-eq0 invariant-loop-k decreases-loop-k
 returns c = omega arith
 
-cast-list : tie.Need-overflow-cast-list invariant-loop decreases-loop
+cast-list : tie.Need-overflow_cast-list invariant-loop-k decreases-loop-k
 cast-list c = omega arith
 
-mul-list : tie.Need-overflow-mul-list invariant-loop decreases-loop
+mul-list : tie.Need-offset_bounds-list-k invariant-loop-k decreases-loop-k
 mul-list c = omega arith
 
-slice-write-list : tie.Need-slice-write-list invariant-loop decreases-loop
+slice-write-list : tie.Need-bounds-list-k invariant-loop-k decreases-loop-k
 slice-write-list c = omega arith
 
-parent-requires : tie.Need-parent-requires invariant-loop decreases-loop
+parent-requires : tie.Need-parent-row-requires invariant-loop-k decreases-loop-k
 parent-requires c κs = omega arith
 
-add-k : tie.Need-overflow-add-k invariant-loop decreases-loop
+add-k : tie.Need-overflow_add-k invariant-loop-k decreases-loop-k
 add-k c = omega arith
 
-loop-less : tie.Need-loop-smaller invariant-loop decreases-loop
+loop-less : tie.Need-loop-k-smaller invariant-loop-k decreases-loop-k
 loop-less c = simp length-set (omega arith)
 
-loop-again : tie.Need-loop-preserved invariant-loop decreases-loop
+loop-again : tie.Need-loop-k-preserved invariant-loop-k decreases-loop-k
 loop-again c = search rules
 
-same-length-2 : tie.Need-same-length-2 invariant-loop decreases-loop
+same-length-2 : tie.Need-shape_of-list invariant-loop-k decreases-loop-k
 same-length-2 c = omega arith
 
-returns-2 : tie.Need-returns-2 invariant-loop decreases-loop
+returns-2 : tie.Need-returns invariant-loop-k decreases-loop-k
 returns-2 c = omega arith
 
-pub write-path-spec : {M : Type 1} → statement M
-write-path-spec =
+pub write_path_spec : {M : Type 1} → statement M
+write_path_spec =
     tie.close
     (tie.spec
-    invariant-loop
-    decreases-loop
+    invariant-loop-k
+    decreases-loop-k
     loop-holds
     same_length
     returns

@@ -4,48 +4,48 @@ use Prim.Native.Nat.{◌-◌, ◌≤◌}
 use Rattle.reference.proofs.refusals.is_earlier.Statement.{statement}
 use Rattle.reference.proofs.refusals.is_earlier.Tie as tie
 
-abbrev invariant-loop : tie.invariant-loop
-invariant-loop ids t k₀ k = k ≤ t
+abbrev invariant-loop-k : tie.invariant-loop-k
+invariant-loop-k ids t k₀ k = k ≤ t
 
-abbrev decreases-loop : tie.decreases-loop
-decreases-loop ids t k₀ k = t - k
+abbrev decreases-loop-k : tie.decreases-loop-k
+decreases-loop-k ids t k₀ k = t - k
 
-loop-holds : tie.Need-loop-init invariant-loop decreases-loop
+loop-holds : tie.Need-loop-k-init invariant-loop-k decreases-loop-k
 loop-holds c = omega arith
 
-mul-if1 : tie.Need-overflow-mul-if1 invariant-loop decreases-loop
+mul-if1 : tie.Need-offset_bounds-ids-k invariant-loop-k decreases-loop-k
 mul-if1 c = omega arith
 
-shared-slice-read-if1 : tie.Need-shared-slice-read-if1 invariant-loop decreases-loop
+shared-slice-read-if1 : tie.Need-bounds-ids-k invariant-loop-k decreases-loop-k
 shared-slice-read-if1 c = omega arith
 
-mul-if1-2 : tie.Need-overflow-mul-if1-2 invariant-loop decreases-loop
+mul-if1-2 : tie.Need-offset_bounds-ids-t invariant-loop-k decreases-loop-k
 mul-if1-2 c = omega arith
 
-shared-slice-read-if1-2 : tie.Need-shared-slice-read-if1-2 invariant-loop decreases-loop
+shared-slice-read-if1-2 : tie.Need-bounds-ids-t invariant-loop-k decreases-loop-k
 shared-slice-read-if1-2 c = omega arith
 
-returns : tie.Need-returns invariant-loop decreases-loop
+returns : tie.Need-returns-then-ids-k invariant-loop-k decreases-loop-k
 returns c = omega arith
 
-add-k : tie.Need-overflow-add-k invariant-loop decreases-loop
+add-k : tie.Need-overflow_add-k invariant-loop-k decreases-loop-k
 add-k c = omega arith
 
-loop-less : tie.Need-loop-smaller invariant-loop decreases-loop
+loop-less : tie.Need-loop-k-smaller invariant-loop-k decreases-loop-k
 loop-less c = omega arith
 
-loop-again : tie.Need-loop-preserved invariant-loop decreases-loop
+loop-again : tie.Need-loop-k-preserved invariant-loop-k decreases-loop-k
 loop-again c = omega arith
 
-returns-2 : tie.Need-returns-2 invariant-loop decreases-loop
+returns-2 : tie.Need-returns invariant-loop-k decreases-loop-k
 returns-2 c = omega arith
 
-pub is-earlier-spec : {M : Type 1} → statement M
-is-earlier-spec =
+pub is_earlier_spec : {M : Type 1} → statement M
+is_earlier_spec =
     tie.close
     (tie.spec
-    invariant-loop
-    decreases-loop
+    invariant-loop-k
+    decreases-loop-k
     loop-holds
     mul-if1
     shared-slice-read-if1

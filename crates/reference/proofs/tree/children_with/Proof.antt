@@ -4,42 +4,42 @@ use Prim.Native.Nat.{◌+◌, ◌-◌, ◌≤◌}
 use Rattle.reference.proofs.tree.children_with.Statement.{statement}
 use Rattle.reference.proofs.tree.children_with.Tie as tie
 
-abbrev invariant-loop : tie.invariant-loop
-invariant-loop pattern m i j count₀ c₀ count c = (1 ≤ c) × (c ≤ m + 1) × (count + 1 ≤ c)
+abbrev invariant-loop-c : tie.invariant-loop-c
+invariant-loop-c pattern m i j count₀ c₀ count c = (1 ≤ c) × (c ≤ m + 1) × (count + 1 ≤ c)
 
-abbrev decreases-loop : tie.decreases-loop
-decreases-loop pattern m i j count₀ c₀ count c = m + 1 - c
+abbrev decreases-loop-c : tie.decreases-loop-c
+decreases-loop-c pattern m i j count₀ c₀ count c = m + 1 - c
 
-loop-holds : tie.Need-loop-init invariant-loop decreases-loop
+loop-holds : tie.Need-loop-c-init invariant-loop-c decreases-loop-c
 loop-holds c = omega arith
 
-is-child-with-requires : tie.Need-is-child-with-requires invariant-loop decreases-loop
+is-child-with-requires : tie.Need-is_child_with-requires invariant-loop-c decreases-loop-c
 is-child-with-requires c κs = omega arith
 
-one-requires : tie.Need-one-requires invariant-loop decreases-loop
+one-requires : tie.Need-one-count-requires invariant-loop-c decreases-loop-c
 one-requires c κs = omega arith
 
-add-count : tie.Need-overflow-add-count invariant-loop decreases-loop
+add-count : tie.Need-overflow_add-count invariant-loop-c decreases-loop-c
 add-count c = omega arith
 
-add-c : tie.Need-overflow-add-c invariant-loop decreases-loop
+add-c : tie.Need-overflow_add-c invariant-loop-c decreases-loop-c
 add-c c = omega arith
 
-loop-less : tie.Need-loop-smaller invariant-loop decreases-loop
+loop-less : tie.Need-loop-c-smaller invariant-loop-c decreases-loop-c
 loop-less c = omega arith
 
-loop-again : tie.Need-loop-preserved invariant-loop decreases-loop
+loop-again : tie.Need-loop-c-preserved invariant-loop-c decreases-loop-c
 loop-again c = omega arith
 
-returns : tie.Need-returns invariant-loop decreases-loop
+returns : tie.Need-returns invariant-loop-c decreases-loop-c
 returns c = omega arith
 
-pub children-with-spec : {M : Type 1} → statement M
-children-with-spec =
+pub children_with_spec : {M : Type 1} → statement M
+children_with_spec =
     tie.close
     (tie.spec
-    invariant-loop
-    decreases-loop
+    invariant-loop-c
+    decreases-loop-c
     loop-holds
     is-child-with-requires
     one-requires

@@ -4,42 +4,42 @@ use Prim.Native.Nat.{◌+◌, ◌-◌, ◌≤◌}
 use Rattle.reference.proofs.tree.size.Statement.{statement}
 use Rattle.reference.proofs.tree.size.Tie as tie
 
-abbrev invariant-loop : tie.invariant-loop
-invariant-loop pattern m j count₀ i₀ count i = (1 ≤ i) × (i ≤ m + 1) × (count + 1 ≤ i)
+abbrev invariant-loop-i : tie.invariant-loop-i
+invariant-loop-i pattern m j count₀ i₀ count i = (1 ≤ i) × (i ≤ m + 1) × (count + 1 ≤ i)
 
-abbrev decreases-loop : tie.decreases-loop
-decreases-loop pattern m j count₀ i₀ count i = m + 1 - i
+abbrev decreases-loop-i : tie.decreases-loop-i
+decreases-loop-i pattern m j count₀ i₀ count i = m + 1 - i
 
-loop-holds : tie.Need-loop-init invariant-loop decreases-loop
+loop-holds : tie.Need-loop-i-init invariant-loop-i decreases-loop-i
 loop-holds c = omega arith
 
-is-in-requires : tie.Need-is-in-requires invariant-loop decreases-loop
+is-in-requires : tie.Need-is_in-requires invariant-loop-i decreases-loop-i
 is-in-requires c κs = omega arith
 
-one-requires : tie.Need-one-requires invariant-loop decreases-loop
+one-requires : tie.Need-one-count-requires invariant-loop-i decreases-loop-i
 one-requires c κs = omega arith
 
-add-count : tie.Need-overflow-add-count invariant-loop decreases-loop
+add-count : tie.Need-overflow_add-count invariant-loop-i decreases-loop-i
 add-count c = omega arith
 
-add-i : tie.Need-overflow-add-i invariant-loop decreases-loop
+add-i : tie.Need-overflow_add-i invariant-loop-i decreases-loop-i
 add-i c = omega arith
 
-loop-less : tie.Need-loop-smaller invariant-loop decreases-loop
+loop-less : tie.Need-loop-i-smaller invariant-loop-i decreases-loop-i
 loop-less c = omega arith
 
-loop-again : tie.Need-loop-preserved invariant-loop decreases-loop
+loop-again : tie.Need-loop-i-preserved invariant-loop-i decreases-loop-i
 loop-again c = omega arith
 
-returns : tie.Need-returns invariant-loop decreases-loop
+returns : tie.Need-returns invariant-loop-i decreases-loop-i
 returns c = omega arith
 
-pub size-spec : {M : Type 1} → statement M
-size-spec =
+pub size_spec : {M : Type 1} → statement M
+size_spec =
     tie.close
     (tie.spec
-    invariant-loop
-    decreases-loop
+    invariant-loop-i
+    decreases-loop-i
     loop-holds
     is-in-requires
     one-requires

@@ -5,45 +5,45 @@ use lib.ListN.{length}
 use Rattle.reference.proofs.windows.leave.Statement.{statement}
 use Rattle.reference.proofs.windows.leave.Tie as tie
 
-abbrev invariant-loop : tie.invariant-loop
-invariant-loop windows₀ ids n t₀ windows t = t ≤ length ids
+abbrev invariant-loop-t : tie.invariant-loop-t
+invariant-loop-t windows₀ ids n t₀ windows t = t ≤ length ids
 
-abbrev decreases-loop : tie.decreases-loop
-decreases-loop windows₀ ids n t₀ windows t = length ids - t
+abbrev decreases-loop-t : tie.decreases-loop-t
+decreases-loop-t windows₀ ids n t₀ windows t = length ids - t
 
-loop-holds : tie.Need-loop-init invariant-loop decreases-loop
+loop-holds : tie.Need-loop-t-init invariant-loop-t decreases-loop-t
 loop-holds c = omega arith
 
-mul_wide : tie.Need-overflow-mul-wide invariant-loop decreases-loop
+mul_wide : tie.Need-offset_bounds-ids-t invariant-loop-t decreases-loop-t
 mul_wide c = omega arith
 
-shared-slice-read-wide : tie.Need-shared-slice-read-wide invariant-loop decreases-loop
+shared-slice-read-wide : tie.Need-bounds-ids-t invariant-loop-t decreases-loop-t
 shared-slice-read-wide c = omega arith
 
-wide-requires : tie.Need-wide-requires invariant-loop decreases-loop
+wide-requires : tie.Need-wide-requires invariant-loop-t decreases-loop-t
 wide-requires c κs = omega arith
 
-put-requires : tie.Need-put-requires invariant-loop decreases-loop
+put-requires : tie.Need-put-requires invariant-loop-t decreases-loop-t
 put-requires c κs = omega arith
 
-add-t : tie.Need-overflow-add-t invariant-loop decreases-loop
+add-t : tie.Need-overflow_add-t invariant-loop-t decreases-loop-t
 add-t c = omega arith
 
-loop-less : tie.Need-loop-smaller invariant-loop decreases-loop
+loop-less : tie.Need-loop-t-smaller invariant-loop-t decreases-loop-t
 loop-less c = omega arith
 
-loop-again : tie.Need-loop-preserved invariant-loop decreases-loop
+loop-again : tie.Need-loop-t-preserved invariant-loop-t decreases-loop-t
 loop-again c = omega arith
 
-returns : tie.Need-returns invariant-loop decreases-loop
+returns : tie.Need-returns invariant-loop-t decreases-loop-t
 returns c = omega arith
 
 pub leave_spec : {M : Type 1} → statement M
 leave_spec =
     tie.close
     (tie.spec
-    invariant-loop
-    decreases-loop
+    invariant-loop-t
+    decreases-loop-t
     loop-holds
     mul_wide
     shared-slice-read-wide

@@ -4,45 +4,45 @@ use Prim.Native.Nat.{◌-◌, ◌≤◌}
 use Rattle.reference.proofs.windows.mark_live.Statement.{statement}
 use Rattle.reference.proofs.windows.mark_live.Tie as tie
 
-abbrev invariant-loop : tie.invariant-loop
-invariant-loop booked windows live₀ minute i₀ live i = (1 ≤ i) × (i ≤ 257)
+abbrev invariant-loop-i : tie.invariant-loop-i
+invariant-loop-i booked windows live₀ minute i₀ live i = (1 ≤ i) × (i ≤ 257)
 
-abbrev decreases-loop : tie.decreases-loop
-decreases-loop booked windows live₀ minute i₀ live i = 257 - i
+abbrev decreases-loop-i : tie.decreases-loop-i
+decreases-loop-i booked windows live₀ minute i₀ live i = 257 - i
 
-loop-holds : tie.Need-loop-init invariant-loop decreases-loop
+loop-holds : tie.Need-loop-i-init invariant-loop-i decreases-loop-i
 loop-holds c = omega arith
 
-is-counted-requires : tie.Need-is-counted-requires invariant-loop decreases-loop
+is-counted-requires : tie.Need-is_counted-requires invariant-loop-i decreases-loop-i
 is-counted-requires c κs = omega arith
 
-mark-requires : tie.Need-mark-requires invariant-loop decreases-loop
+mark-requires : tie.Need-mark-requires invariant-loop-i decreases-loop-i
 mark-requires c κs = omega arith
 
-sub-live : tie.Need-overflow-sub-live invariant-loop decreases-loop
+sub-live : tie.Need-overflow_sub-live invariant-loop-i decreases-loop-i
 sub-live c = omega arith
 
-element-write-live : tie.Need-element-write-live invariant-loop decreases-loop
+element-write-live : tie.Need-bounds-live-i invariant-loop-i decreases-loop-i
 element-write-live c = omega arith
 
-add-i : tie.Need-overflow-add-i invariant-loop decreases-loop
+add-i : tie.Need-overflow_add-i invariant-loop-i decreases-loop-i
 add-i c = omega arith
 
-loop-less : tie.Need-loop-smaller invariant-loop decreases-loop
+loop-less : tie.Need-loop-i-smaller invariant-loop-i decreases-loop-i
 loop-less c = omega arith
 
-loop-again : tie.Need-loop-preserved invariant-loop decreases-loop
+loop-again : tie.Need-loop-i-preserved invariant-loop-i decreases-loop-i
 loop-again c = omega arith
 
-returns : tie.Need-returns invariant-loop decreases-loop
+returns : tie.Need-returns invariant-loop-i decreases-loop-i
 returns c = omega arith
 
-pub mark-live-spec : {M : Type 1} → statement M
-mark-live-spec =
+pub mark_live_spec : {M : Type 1} → statement M
+mark_live_spec =
     tie.close
     (tie.spec
-    invariant-loop
-    decreases-loop
+    invariant-loop-i
+    decreases-loop-i
     loop-holds
     is-counted-requires
     mark-requires
