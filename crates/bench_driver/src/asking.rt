@@ -11,7 +11,7 @@ use factor::Factor;
 
 // How a run of questions ended: the number that refused one or 0, the questions answered, and the sum of their values.
 #[repr(C)]
-#[derive(Drop)]
+#[derive(Clone, Copy)]
 pub struct Asked {
     pub number: u32,
     pub done: u32,

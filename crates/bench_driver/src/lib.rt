@@ -16,7 +16,7 @@ use factor::Factor;
 
 // How a run of batches or clock changes ended: the number that refused one or 0, how many are done, and the record after them.
 #[repr(C)]
-#[derive(Drop)]
+#[derive(Clone, Copy)]
 pub struct Ran {
     pub number: u32,
     pub done: u32,

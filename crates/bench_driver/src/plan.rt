@@ -4,7 +4,7 @@ ghost use Rattle.std.specs.Prelude.{◌<◌};
 ghost use Rattle.bench_driver.specs.Plans.{LiesIn, PartsIn};
 
 // The parts of the lists that a batch takes, and whether each list has its part.
-#[derive(Drop)]
+#[derive(Clone, Copy)]
 pub struct Parts {
     pub ids_in: bool,
     pub counts_in: bool,

@@ -12,7 +12,7 @@ use questions::{Found, Reply};
 
 // Tables for m 64, n 256, F 2,080 and C 2,048, and the record, with the clock. It stands last: a search for a table's length
 // does not get past its fields.
-#[derive(Drop)]
+#[derive(Clone, Copy)]
 pub struct Host {
     pub heads: [u32; 64],
     pub parents: [u16; 64],
@@ -27,14 +27,14 @@ pub struct Host {
 }
 
 // What an opening gives: its number, and the host from now on.
-#[derive(Drop)]
+#[derive(Clone, Copy)]
 pub struct Opened {
     pub number: u32,
     pub host: Host,
 }
 
 // What a change gives: its answer, the two lists, which hold 9 wherever it writes nothing, and the host after it.
-#[derive(Drop)]
+#[derive(Clone, Copy)]
 pub struct Batched {
     pub changed: Changed,
     pub touched: [u16; 64],

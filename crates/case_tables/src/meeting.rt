@@ -6,7 +6,7 @@ use questions::Reply;
 pub type Work = [u32; 12160];
 
 // What a question gives: its reply, and the work table, which holds 7 before it.
-#[derive(Drop)]
+#[derive(Clone, Copy)]
 pub struct Asked {
     pub reply: Reply,
     pub work: Work,

@@ -6,7 +6,7 @@ use pairs::draw::{chance, draw};
 // A minute for each of some columns; one more than the ids that a batch draws.
 pub type Minutes = [u32; 66];
 
-#[derive(Drop)]
+#[derive(Clone, Copy)]
 pub struct Window {
     pub first: u32,
     pub second: u32,

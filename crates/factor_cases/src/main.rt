@@ -10,7 +10,7 @@ use damage::{damaged, places};
 use factor::{Factor, Opening};
 
 // Tables for m 5, n 8, F 9 and C 16.
-#[derive(Drop)]
+#[derive(Clone, Copy)]
 struct Tables {
     heads: [u32; 5],
     parents: [u16; 5],

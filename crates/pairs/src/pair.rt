@@ -11,7 +11,7 @@ use reference::{Booked, Holds, Limits, Live, Sizes, Windows};
 // Limits as an opening takes them: the first entries of grades 2, 3 and 4.
 pub type Three = [u32; 3];
 
-#[derive(Drop)]
+#[derive(Clone, Copy)]
 pub struct Pair {
     pub host: Host,
     pub holds: Holds,

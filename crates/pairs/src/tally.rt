@@ -1,6 +1,6 @@
 // What the program counts, and its summary.
 
-#[derive(Drop)]
+#[derive(Clone, Copy)]
 pub struct Tally {
     // Calls on both.
     pub calls: u32,
@@ -31,7 +31,7 @@ pub struct Tally {
 }
 
 // Changes of the clock. A column moves if it counts at one of the two minutes and not at the other.
-#[derive(Drop)]
+#[derive(Clone, Copy)]
 pub struct Clock {
     // All of them, by their number, 0 to 21.
     pub numbers: [u32; 22],
