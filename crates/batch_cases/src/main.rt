@@ -1,6 +1,8 @@
 // Batches through the factor's public entries, as lines: the document's instances, grades by other limits, batches whose paths merge, a refusal of each
 // number, questions, columns with windows as the clock goes, and 64 columns of 256 rows each in a factor of 4,096 rows. A batch or a change of the clock gives
 // `ok touched entries grade`, then its touched columns and labels, or `no number position`.
+#![tactic(auto)]
+
 mod large;
 mod large_rows;
 mod large_shown;

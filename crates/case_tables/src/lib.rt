@@ -1,5 +1,7 @@
 // A factor of at most 64 rows with its tables, held by value: each public entry of the factor on them, for programs that run cases. The work table is
 // made anew for each call and holds no zeros before it. In changing.rt are additions, removals and the clock, in meeting.rt the questions about rows.
+#![tactic(auto)]
+
 pub mod changing;
 pub mod meeting;
 

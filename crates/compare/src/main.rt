@@ -1,6 +1,8 @@
 // Runs fixed and random histories of calls on the factor's public entries and on the second implementation, and compares after each call everything that it
 // answers, and after each opening or batch all that the tables hold. No column has a window, and the clock stays at 0. It prints a line for whatever differs, then how many
 // calls it ran.
+#![tactic(auto)]
+
 mod fixed;
 mod limits;
 mod random;

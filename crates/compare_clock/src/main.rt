@@ -1,6 +1,8 @@
 // Runs fixed and random histories of calls with windows and a clock that goes forward and back, on the factor's public entries and on the second implementation,
 // and compares after each call everything that it answers, and after each opening, batch or change of the clock all that the tables hold. It prints a line for
 // whatever differs, then how many calls it ran.
+#![tactic(auto)]
+
 mod crowd;
 mod fixed;
 mod large;

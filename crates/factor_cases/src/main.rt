@@ -2,6 +2,8 @@
 // of the grades, then every table one place at a time with several values, then the clock: a line for the limits, for each place and for the clock, a character
 // for each value, what `check` answers: '.' for sound, its number else; 'n', 'm' or 'c' where the next row of a column, the columns that meet a row, or the common
 // row of two, are not refused by the same number.
+#![tactic(auto)]
+
 mod answers;
 mod damage;
 

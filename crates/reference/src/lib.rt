@@ -2,6 +2,8 @@
 // multiplicities from the words of the definition, refusals from the table's words. It shares no code and no definition with the product.
 // The tables serve 64 rows and 256 ids: id i holds row j if place (i - 1) * 64 + (j - 1) is 1, and row i is in L_j if place (j - 1) * 64 + (i - 1) is;
 // the minutes of id i stand at places 2 * i - 2 and 2 * i - 1. Which columns are live is found anew, from these minutes and the clock, whenever it is asked.
+#![tactic(auto)]
+
 pub mod adding;
 pub mod batch;
 pub mod clock;

@@ -4,51 +4,51 @@ use borrow.Author.Rules.{rules}
 use Rattle.pairs.proofs.free.chain_length.Statement.{statement}
 use Rattle.pairs.proofs.free.chain_length.Tie as tie
 
-abbrev invariant-loop : tie.invariant-loop
-invariant-loop next head at₀ count₀ at count = count ≤ 2080
+abbrev invariant-loop-count : tie.invariant-loop-count
+invariant-loop-count next head at₀ count₀ at count = count ≤ 2080
 
-abbrev decreases-loop : tie.decreases-loop
-decreases-loop next head at₀ count₀ at count = 2080 - count
+abbrev decreases-loop-count : tie.decreases-loop-count
+decreases-loop-count next head at₀ count₀ at count = 2080 - count
 
-wide-requires : tie.Need-wide-requires invariant-loop decreases-loop
+wide-requires : tie.Need-wide-at-requires invariant-loop-count decreases-loop-count
 wide-requires c κs = search rules
 
-loop-holds : tie.Need-loop-init invariant-loop decreases-loop
+loop-holds : tie.Need-loop-count-init invariant-loop-count decreases-loop-count
 loop-holds c = search rules
 
-returns : tie.Need-returns invariant-loop decreases-loop
+returns : tie.Need-returns-then-at-lt1 invariant-loop-count decreases-loop-count
 returns c = search rules
 
-returns-2 : tie.Need-returns-2 invariant-loop decreases-loop
+returns-2 : tie.Need-returns-then-next-at invariant-loop-count decreases-loop-count
 returns-2 c = search rules
 
-mul_wide : tie.Need-overflow-mul-wide invariant-loop decreases-loop
+mul_wide : tie.Need-offset_bounds-next-at invariant-loop-count decreases-loop-count
 mul_wide c = search rules
 
-shared-slice-read-wide : tie.Need-shared-slice-read-wide invariant-loop decreases-loop
+shared-slice-read-wide : tie.Need-bounds-next-at invariant-loop-count decreases-loop-count
 shared-slice-read-wide c = search rules
 
-wide-requires-2 : tie.Need-wide-requires-2 invariant-loop decreases-loop
+wide-requires-2 : tie.Need-wide-at-requires-in-loop-count invariant-loop-count decreases-loop-count
 wide-requires-2 c κs = search rules
 
-add-count : tie.Need-overflow-add-count invariant-loop decreases-loop
+add-count : tie.Need-overflow_add-count invariant-loop-count decreases-loop-count
 add-count c = search rules
 
-loop-less : tie.Need-loop-smaller invariant-loop decreases-loop
+loop-less : tie.Need-loop-count-smaller invariant-loop-count decreases-loop-count
 loop-less c = search rules
 
-loop-again : tie.Need-loop-preserved invariant-loop decreases-loop
+loop-again : tie.Need-loop-count-preserved invariant-loop-count decreases-loop-count
 loop-again c = search rules
 
-returns-3 : tie.Need-returns-3 invariant-loop decreases-loop
+returns-3 : tie.Need-returns invariant-loop-count decreases-loop-count
 returns-3 c = search rules
 
-pub chain-length-spec : {M : Type 1} → statement M
-chain-length-spec =
+pub chain_length_spec : {M : Type 1} → statement M
+chain_length_spec =
     tie.close
     (tie.spec
-    invariant-loop
-    decreases-loop
+    invariant-loop-count
+    decreases-loop-count
     wide-requires
     loop-holds
     returns

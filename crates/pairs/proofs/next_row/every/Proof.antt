@@ -4,39 +4,39 @@ use borrow.Author.Rules.{rules}
 use Rattle.pairs.proofs.next_row.every.Statement.{statement}
 use Rattle.pairs.proofs.next_row.every.Tie as tie
 
-abbrev invariant-loop : tie.invariant-loop
-invariant-loop pattern m q₀ j₀ q j = j ≤ m + 2
+abbrev invariant-loop-j : tie.invariant-loop-j
+invariant-loop-j pattern m q₀ j₀ q j = j ≤ m + 2
 
-abbrev decreases-loop : tie.decreases-loop
-decreases-loop pattern m q₀ j₀ q j = m + 2 - j
+abbrev decreases-loop-j : tie.decreases-loop-j
+decreases-loop-j pattern m q₀ j₀ q j = m + 2 - j
 
-loop-holds : tie.Need-loop-init invariant-loop decreases-loop
+loop-holds : tie.Need-loop-j-init invariant-loop-j decreases-loop-j
 loop-holds c = search rules
 
-add-loop : tie.Need-overflow-add-loop invariant-loop decreases-loop
+add-loop : tie.Need-overflow_add-m invariant-loop-j decreases-loop-j
 add-loop c = search rules
 
-of-column-requires : tie.Need-of-column-requires invariant-loop decreases-loop
+of-column-requires : tie.Need-of_column-q-requires invariant-loop-j decreases-loop-j
 of-column-requires c κs = search rules
 
-add-j : tie.Need-overflow-add-j invariant-loop decreases-loop
+add-j : tie.Need-overflow_add-j invariant-loop-j decreases-loop-j
 add-j c = search rules
 
-loop-less : tie.Need-loop-smaller invariant-loop decreases-loop
+loop-less : tie.Need-loop-j-smaller invariant-loop-j decreases-loop-j
 loop-less c = search rules
 
-loop-again : tie.Need-loop-preserved invariant-loop decreases-loop
+loop-again : tie.Need-loop-j-preserved invariant-loop-j decreases-loop-j
 loop-again c = search rules
 
-returns : tie.Need-returns invariant-loop decreases-loop
+returns : tie.Need-returns invariant-loop-j decreases-loop-j
 returns c = search rules
 
-pub every-spec : {M : Type 1} → statement M
-every-spec =
+pub every_spec : {M : Type 1} → statement M
+every_spec =
     tie.close
     (tie.spec
-    invariant-loop
-    decreases-loop
+    invariant-loop-j
+    decreases-loop-j
     loop-holds
     add-loop
     of-column-requires

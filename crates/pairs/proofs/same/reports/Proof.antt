@@ -4,51 +4,51 @@ use borrow.Author.Rules.{rules}
 use Rattle.pairs.proofs.same.reports.Statement.{statement}
 use Rattle.pairs.proofs.same.reports.Tie as tie
 
-abbrev invariant-loop : tie.invariant-loop
-invariant-loop what ours theirs k₀ k = k ≤ 64
+abbrev invariant-loop-k : tie.invariant-loop-k
+invariant-loop-k what ours theirs k₀ k = k ≤ 64
 
-abbrev decreases-loop : tie.decreases-loop
-decreases-loop what ours theirs k₀ k = 64 - k
+abbrev decreases-loop-k : tie.decreases-loop-k
+decreases-loop-k what ours theirs k₀ k = 64 - k
 
-loop-holds : tie.Need-loop-init invariant-loop decreases-loop
+loop-holds : tie.Need-loop-k-init invariant-loop-k decreases-loop-k
 loop-holds c = search rules
 
-mul-short-places : tie.Need-overflow-mul-short-places invariant-loop decreases-loop
+mul-short-places : tie.Need-offset_bounds-ours-k invariant-loop-k decreases-loop-k
 mul-short-places c = search rules
 
-element-copy-out-short-places : tie.Need-element-copy-out-short-places invariant-loop decreases-loop
+element-copy-out-short-places : tie.Need-bounds-ours-k invariant-loop-k decreases-loop-k
 element-copy-out-short-places c = search rules
 
-mul-short-places-2 : tie.Need-overflow-mul-short-places-2 invariant-loop decreases-loop
+mul-short-places-2 : tie.Need-offset_bounds-theirs-k invariant-loop-k decreases-loop-k
 mul-short-places-2 c = search rules
 
-element-copy-out-short-places-2 : tie.Need-element-copy-out-short-places-2 invariant-loop decreases-loop
+element-copy-out-short-places-2 : tie.Need-bounds-theirs-k invariant-loop-k decreases-loop-k
 element-copy-out-short-places-2 c = search rules
 
-short-places-requires : tie.Need-short-places-requires invariant-loop decreases-loop
+short-places-requires : tie.Need-short_places-requires invariant-loop-k decreases-loop-k
 short-places-requires c κs = search rules
 
-returns : tie.Need-returns invariant-loop decreases-loop
+returns : tie.Need-returns-then-not-short_places invariant-loop-k decreases-loop-k
 returns c = search rules
 
-add-k : tie.Need-overflow-add-k invariant-loop decreases-loop
+add-k : tie.Need-overflow_add-k invariant-loop-k decreases-loop-k
 add-k c = search rules
 
-loop-less : tie.Need-loop-smaller invariant-loop decreases-loop
+loop-less : tie.Need-loop-k-smaller invariant-loop-k decreases-loop-k
 loop-less c = search rules
 
-loop-again : tie.Need-loop-preserved invariant-loop decreases-loop
+loop-again : tie.Need-loop-k-preserved invariant-loop-k decreases-loop-k
 loop-again c = search rules
 
-returns-2 : tie.Need-returns-2 invariant-loop decreases-loop
+returns-2 : tie.Need-returns invariant-loop-k decreases-loop-k
 returns-2 c = search rules
 
-pub reports-spec : {M : Type 1} → statement M
-reports-spec =
+pub reports_spec : {M : Type 1} → statement M
+reports_spec =
     tie.close
     (tie.spec
-    invariant-loop
-    decreases-loop
+    invariant-loop-k
+    decreases-loop-k
     loop-holds
     mul-short-places
     element-copy-out-short-places
