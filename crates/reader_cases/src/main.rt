@@ -1,6 +1,8 @@
 // Columns read through the reader, a line each: row:multiplicity of an entry, `end` at the end, for a given number of reads. Sound tables, those of {1, 3}
 // and {2, 3} after {1, 4} has left, with two free records; then the free records, record 0 and records past the tables; then tables whose first column
 // is a cycle, which gives entries for ever.
+#![tactic(auto)]
+
 ghost use Rattle.std.specs.Prelude.{◌≡◌};
 ghost use Rattle.reader.specs.Reading.{entry_at};
 
