@@ -1,6 +1,8 @@
 // Batches one after another through the unchecked entries, as a proved caller runs them, in setting.rt clock changes and in asking.rt questions, for the
 // benchmark alone: the tables are read through once, then each batch costs only what it touches. The batches have no windows. No part of the product's
 // interface.
+#![tactic(auto)]
+
 ghost use Rattle.std.specs.Prelude.{◌≡◌};
 ghost use Rattle.tables.specs.Tables.{tables_of};
 ghost use Rattle.factor.specs.Entries.{state_of};
