@@ -16,14 +16,6 @@ invariant-loop-k work₀ starts m flags k₀ work k = (k ≤ length starts) × (
 abbrev decreases-loop-k : tie.decreases-loop-k
 decreases-loop-k work₀ starts m flags k₀ work k = length starts - k
 
-abbrev start : tie.At-loop-k invariant-loop-k decreases-loop-k → tie.Start invariant-loop-k decreases-loop-k
-start c = c.before.before.before
-
--- what holds at the loop's test, for the columns of the premise
-hand : (c : tie.At-loop-k invariant-loop-k decreases-loop-k) →
-    StartsTo (start c).args.m (start c).args.flags (start c).requires.W (start c).args.work.now c.loop-k.work c.loop-k.k
-hand c = c.loop-k.invariant.1 (start c).requires.W (start c).requires.can
-
 loop-holds : tie.Need-loop-k-init invariant-loop-k decreases-loop-k
 loop-holds c = (omega arith, λ W can. starts_none can.bare)
 
@@ -37,10 +29,10 @@ add-mark-start : tie.Need-overflow_add-k invariant-loop-k decreases-loop-k
 add-mark-start c = omega arith
 
 cast-mark-start : tie.Need-overflow_cast-k invariant-loop-k decreases-loop-k
-cast-mark-start c = let l = c.before.before.before in omega (arith, (marking-row (start l).requires.can (hand l) c.before.before.loop-k-test.true).2)
+cast-mark-start c = omega (arith, (marking-row c.requires.can (c.loop-k.invariant.1 c.requires.W c.requires.can) c.loop-k-test.true).2)
 
 mark-start-requires : tie.Need-mark_start-requires invariant-loop-k decreases-loop-k
-mark-start-requires c κs = let l = c.before.before.before in marking-row (start l).requires.can (hand l) c.before.before.loop-k-test.true
+mark-start-requires c κs = marking-row c.requires.can (c.loop-k.invariant.1 c.requires.W c.requires.can) c.loop-k-test.true
 
 add-k : tie.Need-overflow_add-k-in-loop-k invariant-loop-k decreases-loop-k
 add-k c = omega arith
@@ -51,16 +43,14 @@ loop-less c = omega arith
 loop-again : tie.Need-loop-k-preserved invariant-loop-k decreases-loop-k
 loop-again c = (
   omega arith,
-  λ W can.
-      let t = c.before.before.before.before.before in
-      marking-next can (t.before.loop-k.invariant.1 W can) t.loop-k-test.true c.before.before.mark_start.ensures (omega arith),
+  λ W can. marking-next can (c.loop-k.invariant.1 W can) c.loop-k-test.true c.mark_start.ensures (omega arith),
 )
 
 same_length : tie.Need-shape_of-work invariant-loop-k decreases-loop-k
-same_length c = (hand c.before).same_length
+same_length c = (c.loop-k.invariant.1 c.requires.W c.requires.can).same_length
 
 returns : tie.Need-returns invariant-loop-k decreases-loop-k
-returns c = λ W can. marking-end can (c.before.loop-k.invariant.1 W can) c.before.loop-k.invariant.0 c.loop-k-test.false
+returns c = λ W can. marking-end can (c.loop-k.invariant.1 W can) c.loop-k.invariant.0 c.loop-k-test.false
 
 pub mark_starts_spec : {M : Type 1} → statement M
 mark_starts_spec =

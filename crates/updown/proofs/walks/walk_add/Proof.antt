@@ -1,7 +1,7 @@
 -- `updown::walks::walk_add` meets its contract: at the loop's test the walk is between two turns or has stopped, for all columns that the tables and the list
 -- suit; the measure is the rows left. Assumes nothing.
 use Rattle.updown.proofs.Looping.{Looping, loop-begins, loop-stops, loop-ends, loop-on, listed_start, listed-turning}
-use Rattle.updown.proofs.Turned.{Turning, turning-ready, family-ready, plan-ready, step-ready, turned}
+use Rattle.updown.proofs.Turned.{turning-ready, family-ready, plan-ready, step-ready, turned}
 use Rattle.updown.proofs.Seeking.{rows_left, rows-fewer, seeking-take}
 use Rattle.updown.specs.Starts.{CanWalkListed}
 use Rattle.pool.specs.Chains.{chain}
@@ -23,40 +23,6 @@ invariant-loop-walk heads parents rows counts next work₀ row_counts row_list s
 abbrev decreases-loop-walk : tie.decreases-loop-walk
 decreases-loop-walk heads parents rows counts next work₀ row_counts row_list starts m flags walk₀ work walk = rows_left m walk.fits walk.last.0
 
--- ---- places: the start, the loop's test, and before each call the call before it
-
-abbrev start : tie.At-loop-walk invariant-loop-walk decreases-loop-walk → tie.Start invariant-loop-walk decreases-loop-walk
-start c = c.before.before.before.before.before.before.before.before.before.before.before
-
--- ---- what holds there, for columns that can enter with the free records that the walk began with
-
-abbrev Enters : (c : tie.At-loop-walk invariant-loop-walk decreases-loop-walk) (R W : List Column) (lent : List ℕ) (free : ℕ) → Type 0
-Enters c R W lent free =
-    let s = c.args in
-    (c.walk_from-walk.result.avail.0 ≡ free) ×
-    CanWalkListed s.heads.now s.parents.now s.rows.now s.counts.now s.next.now lent s.work.now s.starts.now s.row_counts.now s.row_list.now s.m s.flags free R W
-
--- those of the premise
-given : (c : tie.At-loop-walk invariant-loop-walk decreases-loop-walk) → Enters c c.requires.R c.requires.W c.requires.work₀ c.args.free.0
-given c = (c.walk_from-walk.ensures.6, c.requires.can)
-
--- the loop's test
-looping : (c : tie.At-loop-walk invariant-loop-walk decreases-loop-walk) {R W : List Column} {lent : List ℕ} {free : ℕ} → Enters c R W lent free →
-    let s = c.args in
-    let l = c.loop-walk.walk in
-    Looping s.next.now lent c.loop-walk.work s.m s.flags (length (chain s.next.now free)) R W true
-    l.fits l.first.0 l.last.0 l.count l.entries l.used l.avail.0
-looping c {R} {W} {lent} {free} h = c.loop-walk.invariant R W lent free h.0 h.1
-
--- the turn after A
-turning : (c : tie.After-cases_b_and_c-arg-1 invariant-loop-walk decreases-loop-walk) {R W : List Column} {lent : List ℕ} {free : ℕ} → Enters c.before.before.before.before.before.before.before.before.before.before.before.before.before R W lent free →
-    let s = c.args in
-    let l = c.loop-walk.walk in
-    Turning s.next.now lent c.case_a_listed-n.new.work s.m s.flags R W true (length (chain s.next.now free)) c.case_a_listed-n.result
-    c.take_column-j.result.0 l.first.0 l.last.0 l.count l.entries l.used l.avail.0
-turning c h =
-    listed-turning h.1 (looping c.before.before.before.before.before.before.before.before.before.before.before.before.before h) c.loop-walk-test.true c.take_column-j.ensures c.if-j-eq0.false c.case_a_listed-n.ensures
-
 walk-from-requires : tie.Need-walk_from-walk-requires invariant-loop-walk decreases-loop-walk
 walk-from-requires c κs = search rules
 
@@ -65,41 +31,51 @@ loop-holds c = λ R W lent free e can. let t = c.walk_from-walk.ensures in loop-
 
 take-column-requires : tie.Need-take_column-j-requires invariant-loop-walk decreases-loop-walk
 take-column-requires c κs =
-    let h = given c.before.before.before in
-    seeking-take h.1.walk.setting ((looping c.before.before.before h).onward c.loop-walk-test.true)
+    let can = c.requires.can in
+    let l = c.loop-walk.invariant c.requires.R c.requires.W c.requires.work₀ c.args.free.0 c.walk_from-walk.ensures.6 can in
+    seeking-take can.walk.setting (l.onward c.loop-walk-test.true)
 
 same_length : tie.Need-shape_of-work-then-j-eq0 invariant-loop-walk decreases-loop-walk
 same_length c =
-    let h = given c.before.before.before.before.before.before.before.before in
-    ((loop-ends h.1.walk (looping c.before.before.before.before.before.before.before.before h) c.loop-walk-test.true c.take_column-j.ensures c.if-j-eq0.true).made c.loop-walk-test.true).walking.same_length ∙ sym h.1.walk.walking.same_length
+    let can = c.requires.can in
+    let l = c.loop-walk.invariant c.requires.R c.requires.W c.requires.work₀ c.args.free.0 c.walk_from-walk.ensures.6 can in
+    ((loop-ends can.walk l c.loop-walk-test.true c.take_column-j.ensures c.if-j-eq0.true).made c.loop-walk-test.true).walking.same_length ∙ sym can.walk.walking.same_length
 
 returns : tie.Need-returns-then-j-eq0 invariant-loop-walk decreases-loop-walk
-returns c = λ R W lent can. loop-ends can.walk (looping c.before.before.before.before.before.before.before.before ((given c.before.before.before.before.before.before.before.before).0, can)) c.loop-walk-test.true c.take_column-j.ensures c.if-j-eq0.true
+returns c = λ R W lent can. loop-ends can.walk (c.loop-walk.invariant R W lent c.args.free.0 c.walk_from-walk.ensures.6 can) c.loop-walk-test.true c.take_column-j.ensures c.if-j-eq0.true
 
 case-a-listed-requires : tie.Need-case_a_listed-n-requires invariant-loop-walk decreases-loop-walk
 case-a-listed-requires c κs =
-    let h = given c.before.before.before.before.before.before.before.before.before in
-    listed_start h.1 (looping c.before.before.before.before.before.before.before.before.before h) c.loop-walk-test.true c.take_column-j.ensures c.if-j-eq0.false
+    let can = c.requires.can in
+    let l = c.loop-walk.invariant c.requires.R c.requires.W c.requires.work₀ c.args.free.0 c.walk_from-walk.ensures.6 can in
+    listed_start can l c.loop-walk-test.true c.take_column-j.ensures c.if-j-eq0.false
 
 cases-b-and-c-requires : tie.Need-cases_b_and_c-n-requires invariant-loop-walk decreases-loop-walk
 cases-b-and-c-requires c κs =
-    let h = given c.before.before.before.before.before.before.before.before.before.before.before.before.before in
-    turning-ready h.1.walk.setting (turning c h)
+    let can = c.requires.can in
+    let l = c.loop-walk.invariant c.requires.R c.requires.W c.requires.work₀ c.args.free.0 c.walk_from-walk.ensures.6 can in
+    turning-ready can.walk.setting (listed-turning can l c.loop-walk-test.true c.take_column-j.ensures c.if-j-eq0.false c.case_a_listed-n.ensures)
 
 case-d-requires : tie.Need-case_d-n-requires invariant-loop-walk decreases-loop-walk
 case-d-requires c κs =
-    let h = given c.before.before.before.before.before.before.before.before.before.before.before.before.before.before.before.before.before in
-    family-ready h.1.walk.setting (turning c.before.before.before.before h) c.cases_b_and_c-n.ensures
+    let can = c.requires.can in
+    let l = c.loop-walk.invariant c.requires.R c.requires.W c.requires.work₀ c.args.free.0 c.walk_from-walk.ensures.6 can in
+    family-ready can.walk.setting (listed-turning can l c.loop-walk-test.true c.take_column-j.ensures c.if-j-eq0.false c.case_a_listed-n.ensures)
+    c.cases_b_and_c-n.ensures
 
 write-plan-requires : tie.Need-write_plan-e-requires invariant-loop-walk decreases-loop-walk
 write-plan-requires c κs =
-    let h = given c.before.before.before.before.before.before.before.before.before.before.before.before.before.before.before.before.before.before.before.before.before.before in
-    plan-ready h.1.walk.setting (turning c.before.before.before.before.before.before.before.before.before h) c.cases_b_and_c-n.ensures c.case_d-n.ensures
+    let can = c.requires.can in
+    let l = c.loop-walk.invariant c.requires.R c.requires.W c.requires.work₀ c.args.free.0 c.walk_from-walk.ensures.6 can in
+    plan-ready can.walk.setting (listed-turning can l c.loop-walk-test.true c.take_column-j.ensures c.if-j-eq0.false c.case_a_listed-n.ensures)
+    c.cases_b_and_c-n.ensures c.case_d-n.ensures
 
 step-up-requires : tie.Need-step_up-walk-requires invariant-loop-walk decreases-loop-walk
 step-up-requires c κs =
-    let h = given c.before.before.before.before.before.before.before.before.before.before.before.before.before.before.before.before.before.before.before.before.before.before.before.before.before.before in
-    step-ready h.1.walk.setting (turning c.before.before.before.before.before.before.before.before.before.before.before.before.before h) c.cases_b_and_c-n.ensures c.case_d-n.ensures c.write_plan-e.ensures
+    let can = c.requires.can in
+    let l = c.loop-walk.invariant c.requires.R c.requires.W c.requires.work₀ c.args.free.0 c.walk_from-walk.ensures.6 can in
+    step-ready can.walk.setting (listed-turning can l c.loop-walk-test.true c.take_column-j.ensures c.if-j-eq0.false c.case_a_listed-n.ensures)
+    c.cases_b_and_c-n.ensures c.case_d-n.ensures c.write_plan-e.ensures
 
 loop-less : tie.Need-loop-walk-smaller invariant-loop-walk decreases-loop-walk
 loop-less c =
@@ -108,18 +84,20 @@ loop-less c =
 
 loop-again : tie.Need-loop-walk-preserved invariant-loop-walk decreases-loop-walk
 loop-again c = λ R W lent free e can.
-    let t = turning c.before.before.before.before.before.before.before.before.before.before.before.before.before.before.before.before (e, can) in
-    loop-on can.walk (looping c.before.before.before.before.before.before.before.before.before.before.before.before.before.before.before.before.before.before.before.before.before.before.before.before.before.before.before.before.before (e, can)) c.loop-walk-test.true c.take_column-j.ensures c.if-j-eq0.false t
+    let l = c.loop-walk.invariant R W lent free e can in
+    let t = listed-turning can l c.loop-walk-test.true c.take_column-j.ensures c.if-j-eq0.false c.case_a_listed-n.ensures in
+    loop-on can.walk l c.loop-walk-test.true c.take_column-j.ensures c.if-j-eq0.false t
     (turned can.walk.setting t c.cases_b_and_c-n.ensures c.case_d-n.ensures c.write_plan-e.ensures
     c.step_up-walk.ensures)
 
 same-length-2 : tie.Need-shape_of-work invariant-loop-walk decreases-loop-walk
 same-length-2 c =
-    let h = given c.before in
-    ((looping c.before h).halted c.loop-walk-test.false).1.same_length ∙ sym h.1.walk.walking.same_length
+    let can = c.requires.can in
+    let l = c.loop-walk.invariant c.requires.R c.requires.W c.requires.work₀ c.args.free.0 c.walk_from-walk.ensures.6 can in
+    (l.halted c.loop-walk-test.false).1.same_length ∙ sym can.walk.walking.same_length
 
 returns-2 : tie.Need-returns invariant-loop-walk decreases-loop-walk
-returns-2 c = λ R W lent can. loop-stops (looping c.before ((given c.before).0, can)) c.loop-walk-test.false
+returns-2 c = λ R W lent can. loop-stops (c.loop-walk.invariant R W lent c.args.free.0 c.walk_from-walk.ensures.6 can) c.loop-walk-test.false
 
 pub walk_add_spec : {M : Type 1} → statement M
 walk_add_spec =
