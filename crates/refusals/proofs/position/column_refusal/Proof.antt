@@ -1,5 +1,4 @@
 -- `position::column_refusal` meets its contract: the id, whether it is booked, its count and rows, then its window. Assumes nothing.
-use mathlib.Core.Bool.{Bool}
 use native.Mathlib.Omega.{arith}
 use borrow.Author.Rules.{rules}
 use lib.ListN.{length, get_or, drop}
@@ -8,21 +7,13 @@ use Rattle.refusals.proofs.Parts.{id_range, column-id, column-live, column-count
 use Rattle.refusals.proofs.position.column_refusal.Statement.{statement}
 use Rattle.refusals.proofs.position.column_refusal.Tie as tie
 
-abbrev entry : tie.After-id_refusal-first → tie.Start
-entry c = c.before.before.before.before.before.before.before
-
-abbrev id_booked : tie.Start → Bool
-id_booked s = is_booked s.args.book_heads.now (get_or s.args.ids.now s.args.k 0)
-
 id-refusal-requires : tie.Need-id_refusal-first-requires
 id-refusal-requires c κs = search rules
 
 returns : tie.Need-returns-then-first-ne0
 returns c =
-    let i : tie.After-id_refusal-first = c.before in
-    let s : tie.Start = entry i in
-    column-id (length s.args.book_heads.now) (id_booked s) s.args.ids.now s.args.k i.id_refusal-first.ensures s.args.m s.args.row_counts.now
-    (drop s.args.from s.args.row_list.now) s.args.firsts.now s.args.seconds.now (λ e. omega (arith, c.if-first-ne0.true, e))
+    column-id (length c.args.book_heads.now) (is_booked c.args.book_heads.now (get_or c.args.ids.now c.args.k 0)) c.args.ids.now c.args.k c.id_refusal-first.ensures c.args.m c.args.row_counts.now
+    (drop c.args.from c.args.row_list.now) c.args.firsts.now c.args.seconds.now (λ e. omega (arith, c.if-first-ne0.true, e))
 
 mul-id : tie.Need-offset_bounds-ids-k
 mul-id c = search rules
@@ -32,16 +23,12 @@ shared-slice-read-id c = search rules
 
 is-booked-requires : tie.Need-is_booked-requires
 is-booked-requires c κs =
-    let i : tie.After-id_refusal-first = c.before.before in
-    let s : tie.Start = entry i in
-    id_range (length s.args.book_heads.now) s.args.ids.now s.args.k i.id_refusal-first.ensures c.before.if-first-ne0.false
+    id_range (length c.args.book_heads.now) c.args.ids.now c.args.k c.id_refusal-first.ensures c.if-first-ne0.false
 
 returns-2 : tie.Need-returns-then-is_booked
 returns-2 c =
-    let i : tie.After-id_refusal-first = c.before.before.before.before in
-    let s : tie.Start = entry i in
-    column-live (length s.args.book_heads.now) (id_booked s) s.args.ids.now s.args.k i.id_refusal-first.ensures s.args.m s.args.row_counts.now
-    (drop s.args.from s.args.row_list.now) s.args.firsts.now s.args.seconds.now c.before.before.before.if-first-ne0.false c.before.is_booked.ensures c.if-is_booked.true
+    column-live (length c.args.book_heads.now) (is_booked c.args.book_heads.now (get_or c.args.ids.now c.args.k 0)) c.args.ids.now c.args.k c.id_refusal-first.ensures c.args.m c.args.row_counts.now
+    (drop c.args.from c.args.row_list.now) c.args.firsts.now c.args.seconds.now c.if-first-ne0.false c.is_booked.ensures c.if-is_booked.true
 
 mul-count : tie.Need-offset_bounds-row_counts-k
 mul-count c = search rules
@@ -54,12 +41,9 @@ count-refusal-requires c κs = search rules
 
 returns-3 : tie.Need-returns-then-number-ne0
 returns-3 c =
-    let two : tie.Else-is_booked = c.before.before.before in
-    let i : tie.After-id_refusal-first = two.before.before.before.before in
-    let s : tie.Start = entry i in
-    column-count (length s.args.book_heads.now) (id_booked s) s.args.ids.now s.args.k i.id_refusal-first.ensures s.args.m s.args.row_counts.now
-    (drop s.args.from s.args.row_list.now) s.args.firsts.now s.args.seconds.now two.before.before.before.if-first-ne0.false two.before.is_booked.ensures two.if-is_booked.false
-    c.before.count_refusal-number.ensures c.if-number-ne0.true
+    column-count (length c.args.book_heads.now) (is_booked c.args.book_heads.now (get_or c.args.ids.now c.args.k 0)) c.args.ids.now c.args.k c.id_refusal-first.ensures c.args.m c.args.row_counts.now
+    (drop c.args.from c.args.row_list.now) c.args.firsts.now c.args.seconds.now c.if-first-ne0.false c.is_booked.ensures c.if-is_booked.false
+    c.count_refusal-number.ensures c.if-number-ne0.true
 
 mul-is-window : tie.Need-offset_bounds-firsts-k
 mul-is-window c = search rules
@@ -78,25 +62,15 @@ is-window-requires c κs = search rules
 
 returns-4 : tie.Need-returns-then-is_window
 returns-4 c =
-    let w : tie.After-is_window = c.before in
-    let three : tie.Else-number-ne0 = w.before.before.before in
-    let two : tie.Else-is_booked = three.before.before.before in
-    let i : tie.After-id_refusal-first = two.before.before.before.before in
-    let s : tie.Start = entry i in
-    column-window (length s.args.book_heads.now) (id_booked s) s.args.ids.now s.args.k i.id_refusal-first.ensures s.args.m s.args.row_counts.now
-    (drop s.args.from s.args.row_list.now) s.args.firsts.now s.args.seconds.now two.before.before.before.if-first-ne0.false two.before.is_booked.ensures two.if-is_booked.false
-    three.before.count_refusal-number.ensures three.if-number-ne0.false w.is_window.ensures c.if-is_window.true
+    column-window (length c.args.book_heads.now) (is_booked c.args.book_heads.now (get_or c.args.ids.now c.args.k 0)) c.args.ids.now c.args.k c.id_refusal-first.ensures c.args.m c.args.row_counts.now
+    (drop c.args.from c.args.row_list.now) c.args.firsts.now c.args.seconds.now c.if-first-ne0.false c.is_booked.ensures c.if-is_booked.false
+    c.count_refusal-number.ensures c.if-number-ne0.false c.is_window.ensures c.if-is_window.true
 
 returns-5 : tie.Need-returns
 returns-5 c =
-    let w : tie.After-is_window = c.before in
-    let three : tie.Else-number-ne0 = w.before.before.before in
-    let two : tie.Else-is_booked = three.before.before.before in
-    let i : tie.After-id_refusal-first = two.before.before.before.before in
-    let s : tie.Start = entry i in
-    column-late (length s.args.book_heads.now) (id_booked s) s.args.ids.now s.args.k i.id_refusal-first.ensures s.args.m s.args.row_counts.now
-    (drop s.args.from s.args.row_list.now) s.args.firsts.now s.args.seconds.now two.before.before.before.if-first-ne0.false two.before.is_booked.ensures two.if-is_booked.false
-    three.before.count_refusal-number.ensures three.if-number-ne0.false w.is_window.ensures c.if-is_window.false
+    column-late (length c.args.book_heads.now) (is_booked c.args.book_heads.now (get_or c.args.ids.now c.args.k 0)) c.args.ids.now c.args.k c.id_refusal-first.ensures c.args.m c.args.row_counts.now
+    (drop c.args.from c.args.row_list.now) c.args.firsts.now c.args.seconds.now c.if-first-ne0.false c.is_booked.ensures c.if-is_booked.false
+    c.count_refusal-number.ensures c.if-number-ne0.false c.is_window.ensures c.if-is_window.false
 
 pub column_refusal_spec : {M : Type 1} → statement M
 column_refusal_spec =
