@@ -13,61 +13,42 @@ invariant-loop-k m row_list k₀ k = NamedTo m row_list k
 abbrev decreases-loop-k : tie.decreases-loop-k
 decreases-loop-k m row_list k₀ k = length row_list - k
 
--- ---- the places, named
-abbrev start : tie.After-shape_outside invariant-loop-k decreases-loop-k → tie.Start invariant-loop-k decreases-loop-k
-start c = c.before.before
-
-abbrev counted : tie.At-loop-k invariant-loop-k decreases-loop-k → tie.Else-shape_outside invariant-loop-k decreases-loop-k
-counted c = c.before
-
-abbrev turn : tie.After-row_outside invariant-loop-k decreases-loop-k → tie.In-loop-k invariant-loop-k decreases-loop-k
-turn c = c.before.before
-
 shape-outside-requires : tie.Need-shape_outside-requires invariant-loop-k decreases-loop-k
 shape-outside-requires c κs = search rules
 
 returns : tie.Need-returns-then-shape_outside invariant-loop-k decreases-loop-k
-returns c = let a = (start c.before).args in named-shape a.m a.row_list.now c.before.shape_outside.ensures c.if-shape_outside.true
+returns c = named-shape c.args.m c.args.row_list.now c.shape_outside.ensures c.if-shape_outside.true
 
 loop-holds : tie.Need-loop-k-init invariant-loop-k decreases-loop-k
-loop-holds c = let a = (start c.before).args in named_start a.m a.row_list.now c.before.shape_outside.ensures
+loop-holds c = named_start c.args.m c.args.row_list.now c.shape_outside.ensures
 
 mul-row-outside : tie.Need-offset_bounds-row_list-k invariant-loop-k decreases-loop-k
 mul-row-outside c = search rules
 
 shared-slice-read-row-outside : tie.Need-bounds-row_list-k invariant-loop-k decreases-loop-k
-shared-slice-read-row-outside c = omega (arith, c.before.loop-k-test.true)
+shared-slice-read-row-outside c = omega (arith, c.loop-k-test.true)
 
 row-outside-requires : tie.Need-row_outside-requires invariant-loop-k decreases-loop-k
 row-outside-requires c κs = search rules
 
 returns-2 : tie.Need-returns-then-row_outside invariant-loop-k decreases-loop-k
 returns-2 c =
-    let t = turn c.before in
-    let e = counted t.before in
-    let a = (start e.before).args in
-    named-outside a.m a.row_list.now e.before.shape_outside.ensures e.if-shape_outside.false t.before.loop-k.invariant t.loop-k-test.true
-    c.before.row_outside.ensures c.if-row_outside.true
+    named-outside c.args.m c.args.row_list.now c.shape_outside.ensures c.if-shape_outside.false c.loop-k.invariant c.loop-k-test.true c.row_outside.ensures
+    c.if-row_outside.true
 
 add-k : tie.Need-overflow_add-k invariant-loop-k decreases-loop-k
 add-k c = search rules
 
 loop-less : tie.Need-loop-k-smaller invariant-loop-k decreases-loop-k
-loop-less c = omega (arith, (turn c.before).loop-k-test.true)
+loop-less c = omega (arith, c.loop-k-test.true)
 
 loop-again : tie.Need-loop-k-preserved invariant-loop-k decreases-loop-k
 loop-again c =
-    let t = turn c.before in
-    let e = counted t.before in
-    let a = (start e.before).args in
-    named_more a.m a.row_list.now e.before.shape_outside.ensures e.if-shape_outside.false t.before.loop-k.invariant t.loop-k-test.true
-    c.before.row_outside.ensures c.if-row_outside.false
+    named_more c.args.m c.args.row_list.now c.shape_outside.ensures c.if-shape_outside.false c.loop-k.invariant c.loop-k-test.true c.row_outside.ensures
+    c.if-row_outside.false
 
 returns-3 : tie.Need-returns invariant-loop-k decreases-loop-k
-returns-3 c =
-    let e = counted c.before in
-    let a = (start e.before).args in
-    named_end a.m a.row_list.now e.before.shape_outside.ensures e.if-shape_outside.false c.before.loop-k.invariant c.loop-k-test.false
+returns-3 c = named_end c.args.m c.args.row_list.now c.shape_outside.ensures c.if-shape_outside.false c.loop-k.invariant c.loop-k-test.false
 
 pub named_spec : {M : Type 1} → statement M
 named_spec =
