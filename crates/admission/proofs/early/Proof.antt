@@ -1,29 +1,27 @@
 -- `early` meets its contract: sizes, an opening's limits, tables, then the lists of a batch. Assumes nothing.
 use borrow.Author.Rules.{rules}
-use borrow.Author.Tests.{not-true, not-false}
-use Rattle.tables.specs.Tables.{Tables, Sizes, tables_of}
+use Rattle.tables.specs.Tables.{tables_of}
 use Rattle.state.specs.Record.{state_of}
 use Rattle.admission.proofs.Admitting.{early-sizes, early-limits, early-short, early-none, early-lists}
 use Rattle.admission.proofs.early.Statement.{statement}
 use Rattle.admission.proofs.early.Tie as tie
-
--- ---- the places, named
-abbrev sizes_at : tie.Start → Sizes
-sizes_at s = (state_of s.args.state).sizes
-
-abbrev tables_at : tie.Start → Tables
-tables_at s = tables_of s.args.heads.now s.args.parents.now s.args.rows.now s.args.counts.now s.args.next.now s.args.book_heads.now s.args.book_rows.now s.args.book_next.now s.args.windows.now
 
 sizes-requires : tie.Need-sizes-number-requires
 sizes-requires c κs = search rules
 
 returns : tie.Need-returns-then-number-ne0
 returns c =
-    early-sizes (sizes_at c.before.before.before.before.before.before.before.before.before.before.before.before) c.args.keeps_rule (tables_at c.before.before.before.before.before.before.before.before.before.before.before.before) c.args.work.now c.args.lists c.sizes-number.ensures c.if-number-ne0.true
+    early-sizes (state_of c.args.state).sizes
+    c.args.keeps_rule
+    (tables_of c.args.heads.now c.args.parents.now c.args.rows.now c.args.counts.now c.args.next.now c.args.book_heads.now c.args.book_rows.now c.args.book_next.now c.args.windows.now)
+    c.args.work.now c.args.lists c.sizes-number.ensures c.if-number-ne0.true
 
 returns-2 : tie.Need-returns-then-not-keeps_rule
 returns-2 c =
-    early-limits (sizes_at c.before.before.before.before.before.before.before.before.before.before.before.before.before) c.args.keeps_rule (tables_at c.before.before.before.before.before.before.before.before.before.before.before.before.before) c.args.work.now c.args.lists c.sizes-number.ensures c.if-number-ne0.false
+    early-limits (state_of c.args.state).sizes
+    c.args.keeps_rule
+    (tables_of c.args.heads.now c.args.parents.now c.args.rows.now c.args.counts.now c.args.next.now c.args.book_heads.now c.args.book_rows.now c.args.book_next.now c.args.windows.now)
+    c.args.work.now c.args.lists c.sizes-number.ensures c.if-number-ne0.false
     c.if-not-keeps_rule.true
 
 short-requires : tie.Need-short-requires
@@ -31,17 +29,26 @@ short-requires c κs = search rules
 
 returns-3 : tie.Need-returns-then-short
 returns-3 c =
-    early-short (sizes_at c.before.before.before.before.before.before.before.before.before.before.before.before.before.before.before) c.args.keeps_rule (tables_at c.before.before.before.before.before.before.before.before.before.before.before.before.before.before.before) c.args.work.now c.args.lists c.sizes-number.ensures c.if-number-ne0.false c.if-not-keeps_rule.false
+    early-short (state_of c.args.state).sizes
+    c.args.keeps_rule
+    (tables_of c.args.heads.now c.args.parents.now c.args.rows.now c.args.counts.now c.args.next.now c.args.book_heads.now c.args.book_rows.now c.args.book_next.now c.args.windows.now)
+    c.args.work.now c.args.lists c.sizes-number.ensures c.if-number-ne0.false c.if-not-keeps_rule.false
     c.short.ensures c.if-short.true
 
 returns-4 : tie.Need-returns-then-lists
 returns-4 c =
-    early-none (sizes_at c.before.before.before.before.before.before.before.before.before.before.before.before.before.before.before.before) c.args.keeps_rule (tables_at c.before.before.before.before.before.before.before.before.before.before.before.before.before.before.before.before) c.args.work.now c.args.lists c.sizes-number.ensures c.if-number-ne0.false c.if-not-keeps_rule.false
+    early-none (state_of c.args.state).sizes
+    c.args.keeps_rule
+    (tables_of c.args.heads.now c.args.parents.now c.args.rows.now c.args.counts.now c.args.next.now c.args.book_heads.now c.args.book_rows.now c.args.book_next.now c.args.windows.now)
+    c.args.work.now c.args.lists c.sizes-number.ensures c.if-number-ne0.false c.if-not-keeps_rule.false
     c.short.ensures c.if-short.false c.if-lists.true
 
 returns-5 : tie.Need-returns
 returns-5 c =
-    early-lists (sizes_at c.before.before.before.before.before.before.before.before.before.before.before.before.before.before.before.before) c.args.keeps_rule (tables_at c.before.before.before.before.before.before.before.before.before.before.before.before.before.before.before.before) c.args.work.now c.args.lists c.sizes-number.ensures c.if-number-ne0.false c.if-not-keeps_rule.false
+    early-lists (state_of c.args.state).sizes
+    c.args.keeps_rule
+    (tables_of c.args.heads.now c.args.parents.now c.args.rows.now c.args.counts.now c.args.next.now c.args.book_heads.now c.args.book_rows.now c.args.book_next.now c.args.windows.now)
+    c.args.work.now c.args.lists c.sizes-number.ensures c.if-number-ne0.false c.if-not-keeps_rule.false
     c.short.ensures c.if-short.false c.if-lists.false
 
 pub early_spec : {M : Type 1} → statement M

@@ -4,7 +4,6 @@
 use mathlib.Core.Path.{◌≡◌, sym, ◌∙◌}
 use native.Mathlib.Omega.{arith}
 use borrow.Author.Rules.{rules}
-use borrow.Author.Tests.{not-true, not-false}
 use Rattle.workspace.specs.Regions.{zero_first}
 use Rattle.soundness.specs.ReadThrough.{made_ready}
 use Rattle.tables.specs.Tables.{Tables, State, tables_of}

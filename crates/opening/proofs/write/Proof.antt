@@ -21,7 +21,7 @@ mul-clear : tie.Need-overflow_mul-n
 mul-clear c = omega (arith, (in-range (sizes_of c.args.m c.args.n c.args.f c.args.c) c.requires.sizes).n-high)
 
 clear-requires : tie.Need-clear-requires
-clear-requires c κs = hold-windows c.requires
+clear-requires c κs = omega (arith, hold-windows c.requires)
 
 work-need-requires : tie.Need-work_need-requires
 work-need-requires c κs = search rules
