@@ -4,42 +4,14 @@ use mathlib.Core.Path.{sym, ◌∙◌}
 use borrow.Author.Rules.{rules}
 use borrow.Author.Tests.{not-true, not-false}
 use lib.Seq.{length-take-le}
-use Rattle.tables.specs.Tables.{Tables, State, tables_of}
-use Rattle.tables.proofs.Tables.{Long}
-use Rattle.steps.proofs.Lifting.{cut_tables}
+use Rattle.tables.specs.Tables.{tables_of}
 use Rattle.factor.specs.Entries.{state_of}
-use Rattle.admission.proofs.Cutting.{Cut, cut}
+use Rattle.admission.proofs.Cutting.{cut}
 use Rattle.answers.proofs.Stepping.{change-long, change-can, joined_length}
 use Rattle.clock.proofs.Asking.{can-exchange}
-use Rattle.clock.proofs.Exchanging.{written, SameLengths}
 use Rattle.clock.proofs.Answering.{next-long, clock-clear, clock-refused, clock-report, clock-some, clock-taken}
 use Rattle.clock.proofs.set_clock_unchecked.Statement.{statement}
 use Rattle.clock.proofs.set_clock_unchecked.Tie as tie
-
--- ---- the places, named
-
-abbrev cleared : tie.After-clocked → tie.After-clear-2
-cleared c = c.before.before.before.before
-
-abbrev state_at : tie.Start → State
-state_at s = state_of s.args.factor
-
-abbrev tables_at : tie.Start → Tables
-tables_at s = tables_of s.args.heads.now s.args.parents.now s.args.rows.now s.args.counts.now s.args.next.now s.args.book_heads.now s.args.book_rows.now s.args.book_next.now s.args.windows.now
-
-lengths : (c : tie.After-struct_known-4-1) → Cut (state_at c.before.before.before.before.before.before.before.before.before.before.before.before.before.before.before.before) (tables_at c.before.before.before.before.before.before.before.before.before.before.before.before.before.before.before.before)
-lengths c = cut (state_at c.before.before.before.before.before.before.before.before.before.before.before.before.before.before.before.before) (tables_at c.before.before.before.before.before.before.before.before.before.before.before.before.before.before.before.before) c.requires.can-use.usable.long
-
-long : (c : tie.After-struct_known-4-1) → Long (state_at c.before.before.before.before.before.before.before.before.before.before.before.before.before.before.before.before).sizes (tables_at c.before.before.before.before.before.before.before.before.before.before.before.before.before.before.before.before)
-long c = change-long c.args.factor (tables_at c.before.before.before.before.before.before.before.before.before.before.before.before.before.before.before.before) c.requires
-
--- the exchange leaves lengths
-kept : (k : tie.After-exchange-x) →
-    let x = k.exchange-x.new in
-    SameLengths (cut_tables (state_at k.before.before.before.before.before.before.before.before.before.before.before.before.before.before.before.before.before.before.before.before.before.before).sizes (tables_at k.before.before.before.before.before.before.before.before.before.before.before.before.before.before.before.before.before.before.before.before.before.before)) (written (cut_tables (state_at k.before.before.before.before.before.before.before.before.before.before.before.before.before.before.before.before.before.before.before.before.before.before).sizes (tables_at k.before.before.before.before.before.before.before.before.before.before.before.before.before.before.before.before.before.before.before.before.before.before)) x.parents x.rows x.counts x.next)
-kept k =
-    let h = k.exchange-x.auto in
-    record { parents = h.parents; rows = h.rows; counts = h.counts; next = h.next }
 
 cast-m : tie.Need-overflow_cast-m
 cast-m c = search rules
@@ -56,55 +28,55 @@ cast-c c = search rules
 -- ---- exchanged
 
 slice-aggregate-exchange : tie.Need-slice_bounds-exchange-end
-slice-aggregate-exchange c = sym (lengths c).heads
+slice-aggregate-exchange c = sym (cut (state_of c.args.factor) (tables_of c.args.heads.now c.args.parents.now c.args.rows.now c.args.counts.now c.args.next.now c.args.book_heads.now c.args.book_rows.now c.args.book_next.now c.args.windows.now) c.requires.can-use.usable.long).heads
 
 slice-relend-prefix-exchange : tie.Need-slice_bounds-exchange-end-2
-slice-relend-prefix-exchange c = (long c).parents
+slice-relend-prefix-exchange c = (change-long c.args.factor (tables_of c.args.heads.now c.args.parents.now c.args.rows.now c.args.counts.now c.args.next.now c.args.book_heads.now c.args.book_rows.now c.args.book_next.now c.args.windows.now) c.requires).parents
 
 slice-aggregate-exchange-2 : tie.Need-slice_bounds-exchange-end-3
-slice-aggregate-exchange-2 c = sym (lengths c.before).parents
+slice-aggregate-exchange-2 c = sym (cut (state_of c.args.factor) (tables_of c.args.heads.now c.args.parents.now c.args.rows.now c.args.counts.now c.args.next.now c.args.book_heads.now c.args.book_rows.now c.args.book_next.now c.args.windows.now) c.requires.can-use.usable.long).parents
 
 slice-relend-prefix-exchange-2 : tie.Need-slice_bounds-exchange-end-4
-slice-relend-prefix-exchange-2 c = (long c.before).rows
+slice-relend-prefix-exchange-2 c = (change-long c.args.factor (tables_of c.args.heads.now c.args.parents.now c.args.rows.now c.args.counts.now c.args.next.now c.args.book_heads.now c.args.book_rows.now c.args.book_next.now c.args.windows.now) c.requires).rows
 
 slice-aggregate-exchange-3 : tie.Need-slice_bounds-exchange-end-5
-slice-aggregate-exchange-3 c = sym (lengths c.before.before).rows
+slice-aggregate-exchange-3 c = sym (cut (state_of c.args.factor) (tables_of c.args.heads.now c.args.parents.now c.args.rows.now c.args.counts.now c.args.next.now c.args.book_heads.now c.args.book_rows.now c.args.book_next.now c.args.windows.now) c.requires.can-use.usable.long).rows
 
 slice-relend-prefix-exchange-3 : tie.Need-slice_bounds-exchange-end-6
-slice-relend-prefix-exchange-3 c = (long c.before.before).counts
+slice-relend-prefix-exchange-3 c = (change-long c.args.factor (tables_of c.args.heads.now c.args.parents.now c.args.rows.now c.args.counts.now c.args.next.now c.args.book_heads.now c.args.book_rows.now c.args.book_next.now c.args.windows.now) c.requires).counts
 
 slice-aggregate-exchange-4 : tie.Need-slice_bounds-exchange-end-7
-slice-aggregate-exchange-4 c = sym (lengths c.before.before.before).counts
+slice-aggregate-exchange-4 c = sym (cut (state_of c.args.factor) (tables_of c.args.heads.now c.args.parents.now c.args.rows.now c.args.counts.now c.args.next.now c.args.book_heads.now c.args.book_rows.now c.args.book_next.now c.args.windows.now) c.requires.can-use.usable.long).counts
 
 slice-relend-prefix-exchange-4 : tie.Need-slice_bounds-exchange-end-8
-slice-relend-prefix-exchange-4 c = (long c.before.before.before).next
+slice-relend-prefix-exchange-4 c = (change-long c.args.factor (tables_of c.args.heads.now c.args.parents.now c.args.rows.now c.args.counts.now c.args.next.now c.args.book_heads.now c.args.book_rows.now c.args.book_next.now c.args.windows.now) c.requires).next
 
 slice-aggregate-exchange-5 : tie.Need-slice_bounds-exchange-end-9
-slice-aggregate-exchange-5 c = sym (lengths c.before.before.before.before).next
+slice-aggregate-exchange-5 c = sym (cut (state_of c.args.factor) (tables_of c.args.heads.now c.args.parents.now c.args.rows.now c.args.counts.now c.args.next.now c.args.book_heads.now c.args.book_rows.now c.args.book_next.now c.args.windows.now) c.requires.can-use.usable.long).next
 
 slice-aggregate-exchange-6 : tie.Need-slice_bounds-exchange-end-10
-slice-aggregate-exchange-6 c = sym (lengths c.before.before.before.before).book_heads
+slice-aggregate-exchange-6 c = sym (cut (state_of c.args.factor) (tables_of c.args.heads.now c.args.parents.now c.args.rows.now c.args.counts.now c.args.next.now c.args.book_heads.now c.args.book_rows.now c.args.book_next.now c.args.windows.now) c.requires.can-use.usable.long).book_heads
 
 slice-aggregate-exchange-7 : tie.Need-slice_bounds-exchange-end-11
-slice-aggregate-exchange-7 c = sym (lengths c.before.before.before.before).book_rows
+slice-aggregate-exchange-7 c = sym (cut (state_of c.args.factor) (tables_of c.args.heads.now c.args.parents.now c.args.rows.now c.args.counts.now c.args.next.now c.args.book_heads.now c.args.book_rows.now c.args.book_next.now c.args.windows.now) c.requires.can-use.usable.long).book_rows
 
 slice-aggregate-exchange-8 : tie.Need-slice_bounds-exchange-end-12
-slice-aggregate-exchange-8 c = sym (lengths c.before.before.before.before).book_next
+slice-aggregate-exchange-8 c = sym (cut (state_of c.args.factor) (tables_of c.args.heads.now c.args.parents.now c.args.rows.now c.args.counts.now c.args.next.now c.args.book_heads.now c.args.book_rows.now c.args.book_next.now c.args.windows.now) c.requires.can-use.usable.long).book_next
 
 mul-exchange : tie.Need-overflow_mul-n
 mul-exchange c = search rules
 
 slice-aggregate-exchange-9 : tie.Need-slice_bounds-exchange-end-13
-slice-aggregate-exchange-9 c = sym (lengths c.before.before.before.before).windows
+slice-aggregate-exchange-9 c = sym (cut (state_of c.args.factor) (tables_of c.args.heads.now c.args.parents.now c.args.rows.now c.args.counts.now c.args.next.now c.args.book_heads.now c.args.book_rows.now c.args.book_next.now c.args.windows.now) c.requires.can-use.usable.long).windows
 
 exchange-requires : tie.Need-exchange-x-requires
-exchange-requires c κs = can-exchange (change-can c.args.factor (tables_at c.before.before.before.before.before.before.before.before.before.before.before.before.before.before.before.before.before.before.before.before.before) c.requires).find
+exchange-requires c κs = can-exchange (change-can c.args.factor (tables_of c.args.heads.now c.args.parents.now c.args.rows.now c.args.counts.now c.args.next.now c.args.book_heads.now c.args.book_rows.now c.args.book_next.now c.args.windows.now) c.requires).find
 
 -- ---- it does not fit
 
 clear-requires : tie.Need-clear-requires
 clear-requires c κs =
-    clock-clear c.args.factor (tables_at c.before.before.before.before.before.before.before.before.before.before.before.before.before.before.before.before.before.before.before.before.before.before.before.before.before.before.before.before.before.before.before.before.before.before.before) c.requires c.args.minute (kept c.before.before.before.before.before.before.before.before.before.before.before.before.before) c.exchange-x.ensures
+    clock-clear c.args.factor (tables_of c.args.heads.now c.args.parents.now c.args.rows.now c.args.counts.now c.args.next.now c.args.book_heads.now c.args.book_rows.now c.args.book_next.now c.args.windows.now) c.requires c.args.minute (record { parents = c.exchange-x.auto.parents; rows = c.exchange-x.auto.rows; counts = c.exchange-x.auto.counts; next = c.exchange-x.auto.next }) c.exchange-x.ensures
 
 refused-requires : tie.Need-refused-requires
 refused-requires c κs = tt
@@ -126,28 +98,28 @@ same-length-5 c = c.clear.auto.work ∙ c.exchange-x.auto.work
 
 returns : tie.Need-returns-then-not-x
 returns c =
-    clock-refused c.args.factor (tables_at c.before.before.before.before.before.before.before.before.before.before.before.before.before.before.before.before.before.before.before.before.before.before.before.before.before.before.before.before.before.before.before.before.before.before.before.before.before.before.before) c.requires c.args.minute (kept c.before.before.before.before.before.before.before.before.before.before.before.before.before.before.before.before.before) c.exchange-x.ensures (not-true _ c.if-not-x.true) c.clear.ensures c.refused.ensures
+    clock-refused c.args.factor (tables_of c.args.heads.now c.args.parents.now c.args.rows.now c.args.counts.now c.args.next.now c.args.book_heads.now c.args.book_rows.now c.args.book_next.now c.args.windows.now) c.requires c.args.minute (record { parents = c.exchange-x.auto.parents; rows = c.exchange-x.auto.rows; counts = c.exchange-x.auto.counts; next = c.exchange-x.auto.next }) c.exchange-x.ensures (not-true c.exchange-x.result.fits c.if-not-x.true) c.clear.ensures c.refused.ensures
 
 -- ---- it fits
 
 slice-aggregate-report : tie.Need-slice_bounds-report-end
-slice-aggregate-report c = sym (lengths c.before.before.before.before.before.before.before.before.before.before.before.before.before.before.before.before.before.before).heads
+slice-aggregate-report c = sym (cut (state_of c.args.factor) (tables_of c.args.heads.now c.args.parents.now c.args.rows.now c.args.counts.now c.args.next.now c.args.book_heads.now c.args.book_rows.now c.args.book_next.now c.args.windows.now) c.requires.can-use.usable.long).heads
 
 slice-reshare-prefix-report : tie.Need-slice_bounds-report-end-2
 slice-reshare-prefix-report c =
-    next-long c.args.factor (tables_at c.before.before.before.before.before.before.before.before.before.before.before.before.before.before.before.before.before.before.before.before.before.before.before.before.before.before.before.before.before.before.before.before.before.before) c.requires c.args.minute (kept c.before.before.before.before.before.before.before.before.before.before.before.before) c.exchange-x.ensures
+    next-long c.args.factor (tables_of c.args.heads.now c.args.parents.now c.args.rows.now c.args.counts.now c.args.next.now c.args.book_heads.now c.args.book_rows.now c.args.book_next.now c.args.windows.now) c.requires c.args.minute (record { parents = c.exchange-x.auto.parents; rows = c.exchange-x.auto.rows; counts = c.exchange-x.auto.counts; next = c.exchange-x.auto.next }) c.exchange-x.ensures
 
 slice-aggregate-report-2 : tie.Need-slice_bounds-report-end-3
 slice-aggregate-report-2 c = sym (length-take-le _ _ (slice-reshare-prefix-report c))
 
 report-requires : tie.Need-report-report-requires
 report-requires c κs =
-    clock-some c.args.factor (tables_at c.before.before.before.before.before.before.before.before.before.before.before.before.before.before.before.before.before.before.before.before.before.before.before.before.before.before.before.before.before.before.before.before.before.before.before.before) c.requires c.args.minute (kept c.before.before.before.before.before.before.before.before.before.before.before.before.before.before) c.exchange-x.ensures (not-false _ c.if-not-x.false)
+    clock-some c.args.factor (tables_of c.args.heads.now c.args.parents.now c.args.rows.now c.args.counts.now c.args.next.now c.args.book_heads.now c.args.book_rows.now c.args.book_next.now c.args.windows.now) c.requires c.args.minute (record { parents = c.exchange-x.auto.parents; rows = c.exchange-x.auto.rows; counts = c.exchange-x.auto.counts; next = c.exchange-x.auto.next }) c.exchange-x.ensures (not-false c.exchange-x.result.fits c.if-not-x.false)
 
 -- where it fits, the place after the test
 clear-requires-2 : tie.Need-clear-requires-2
 clear-requires-2 c κs =
-    clock-clear c.args.factor (tables_at c.before.before.before.before.before.before.before.before.before.before.before.before.before.before.before.before.before.before.before.before.before.before.before.before.before.before.before.before.before.before.before.before.before.before.before.before.before.before.before.before.before.before) c.requires c.args.minute (kept c.before.before.before.before.before.before.before.before.before.before.before.before.before.before.before.before.before.before.before.before) c.exchange-x.ensures
+    clock-clear c.args.factor (tables_of c.args.heads.now c.args.parents.now c.args.rows.now c.args.counts.now c.args.next.now c.args.book_heads.now c.args.book_rows.now c.args.book_next.now c.args.windows.now) c.requires c.args.minute (record { parents = c.exchange-x.auto.parents; rows = c.exchange-x.auto.rows; counts = c.exchange-x.auto.counts; next = c.exchange-x.auto.next }) c.exchange-x.ensures
 
 clocked-requires : tie.Need-clocked-requires
 clocked-requires c κs = tt
@@ -175,8 +147,8 @@ same-length-12 c = c.report-report.auto.labels
 
 returns-2 : tie.Need-returns
 returns-2 c =
-    let x = clock-report c.args.factor (tables_at c.before.before.before.before.before.before.before.before.before.before.before.before.before.before.before.before.before.before.before.before.before.before.before.before.before.before.before.before.before.before.before.before.before.before.before.before.before.before.before.before.before.before.before.before.before.before.before) c.requires c.args.minute (kept c.before.before.before.before.before.before.before.before.before.before.before.before.before.before.before.before.before.before.before.before.before.before.before.before.before) c.exchange-x.ensures (not-false _ c.if-not-x.false) in
-    clock-taken c.args.factor (tables_at c.before.before.before.before.before.before.before.before.before.before.before.before.before.before.before.before.before.before.before.before.before.before.before.before.before.before.before.before.before.before.before.before.before.before.before.before.before.before.before.before.before.before.before.before.before.before.before) c.requires c.args.minute (kept c.before.before.before.before.before.before.before.before.before.before.before.before.before.before.before.before.before.before.before.before.before.before.before.before.before) c.exchange-x.ensures (not-false _ c.if-not-x.false) (c.report-report.ensures _ _ _ _ _ _ _ x) c.clear-2.ensures c.clocked.ensures
+    let x = clock-report c.args.factor (tables_of c.args.heads.now c.args.parents.now c.args.rows.now c.args.counts.now c.args.next.now c.args.book_heads.now c.args.book_rows.now c.args.book_next.now c.args.windows.now) c.requires c.args.minute (record { parents = c.exchange-x.auto.parents; rows = c.exchange-x.auto.rows; counts = c.exchange-x.auto.counts; next = c.exchange-x.auto.next }) c.exchange-x.ensures (not-false c.exchange-x.result.fits c.if-not-x.false) in
+    clock-taken c.args.factor (tables_of c.args.heads.now c.args.parents.now c.args.rows.now c.args.counts.now c.args.next.now c.args.book_heads.now c.args.book_rows.now c.args.book_next.now c.args.windows.now) c.requires c.args.minute (record { parents = c.exchange-x.auto.parents; rows = c.exchange-x.auto.rows; counts = c.exchange-x.auto.counts; next = c.exchange-x.auto.next }) c.exchange-x.ensures (not-false c.exchange-x.result.fits c.if-not-x.false) (c.report-report.ensures _ _ _ _ _ _ _ x) c.clear-2.ensures c.clocked.ensures
 
 pub set_clock_unchecked_spec : {M : Type 1} → statement M
 set_clock_unchecked_spec =
