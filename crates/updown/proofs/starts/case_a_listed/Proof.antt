@@ -23,13 +23,13 @@ slice-read-if1 : tie.Need-bounds-work-m
 slice-read-if1 c = search rules
 
 count-listed-requires : tie.Need-count_listed-requires
-count-listed-requires c κs = search rules
+count-listed-requires c κs = c.requires.0
 
 same_length : tie.Need-shape_of-work-then-work-m-eq-START_BIT
 same_length c = search rules
 
 returns : tie.Need-returns-then-work-m-eq-START_BIT
-returns c = λ R W h can bits. c.before.before.count_listed.ensures R W h can
+returns c = λ R W h can bits. c.count_listed.ensures R W h can
 
 returns-2 : tie.Need-returns
 returns-2 c = λ R W h can bits. started_none can bits c.if-work-m-eq-START_BIT.false
