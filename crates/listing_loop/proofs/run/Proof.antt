@@ -29,58 +29,58 @@ zero-lengths x =
       labels = length-replicate {A = ℕ} 64 0;
     }
 
-closed-requires : tie.Need-closed-requires
+closed-requires : tie.Need-closed-factor-requires
 closed-requires c κs = search rules
 
-start-requires : tie.Need-start-requires
+start-requires : tie.Need-start-streams-requires
 start-requires c κs = search rules
 
-slice-aggregate-serve : tie.Need-slice-aggregate-serve
+slice-aggregate-serve : tie.Need-slice_bounds-serve-end
 slice-aggregate-serve c = search rules
 
-slice-aggregate-serve-2 : tie.Need-slice-aggregate-serve-2
+slice-aggregate-serve-2 : tie.Need-slice_bounds-serve-end-2
 slice-aggregate-serve-2 c = search rules
 
-slice-aggregate-serve-3 : tie.Need-slice-aggregate-serve-3
+slice-aggregate-serve-3 : tie.Need-slice_bounds-serve-end-3
 slice-aggregate-serve-3 c = search rules
 
-slice-aggregate-serve-4 : tie.Need-slice-aggregate-serve-4
+slice-aggregate-serve-4 : tie.Need-slice_bounds-serve-end-4
 slice-aggregate-serve-4 c = search rules
 
-slice-aggregate-serve-5 : tie.Need-slice-aggregate-serve-5
+slice-aggregate-serve-5 : tie.Need-slice_bounds-serve-end-5
 slice-aggregate-serve-5 c = search rules
 
-slice-aggregate-serve-6 : tie.Need-slice-aggregate-serve-6
+slice-aggregate-serve-6 : tie.Need-slice_bounds-serve-end-6
 slice-aggregate-serve-6 c = search rules
 
-slice-aggregate-serve-7 : tie.Need-slice-aggregate-serve-7
+slice-aggregate-serve-7 : tie.Need-slice_bounds-serve-end-7
 slice-aggregate-serve-7 c = search rules
 
-slice-aggregate-serve-8 : tie.Need-slice-aggregate-serve-8
+slice-aggregate-serve-8 : tie.Need-slice_bounds-serve-end-8
 slice-aggregate-serve-8 c = search rules
 
-slice-aggregate-serve-9 : tie.Need-slice-aggregate-serve-9
+slice-aggregate-serve-9 : tie.Need-slice_bounds-serve-end-9
 slice-aggregate-serve-9 c = search rules
 
-slice-aggregate-serve-10 : tie.Need-slice-aggregate-serve-10
+slice-aggregate-serve-10 : tie.Need-slice_bounds-serve-end-10
 slice-aggregate-serve-10 c = search rules
 
-slice-aggregate-serve-11 : tie.Need-slice-aggregate-serve-11
+slice-aggregate-serve-11 : tie.Need-slice_bounds-serve-end-11
 slice-aggregate-serve-11 c = search rules
 
-slice-aggregate-serve-12 : tie.Need-slice-aggregate-serve-12
+slice-aggregate-serve-12 : tie.Need-slice_bounds-serve-end-12
 slice-aggregate-serve-12 c = search rules
 
-slice-aggregate-serve-13 : tie.Need-slice-aggregate-serve-13
+slice-aggregate-serve-13 : tie.Need-slice_bounds-serve-end-13
 slice-aggregate-serve-13 c = search rules
 
-slice-aggregate-serve-14 : tie.Need-slice-aggregate-serve-14
+slice-aggregate-serve-14 : tie.Need-slice_bounds-serve-end-14
 slice-aggregate-serve-14 c = search rules
 
-slice-aggregate-serve-15 : tie.Need-slice-aggregate-serve-15
+slice-aggregate-serve-15 : tie.Need-slice_bounds-serve-end-15
 slice-aggregate-serve-15 c = search rules
 
-slice-aggregate-serve-16 : tie.Need-slice-aggregate-serve-16
+slice-aggregate-serve-16 : tie.Need-slice_bounds-serve-end-16
 slice-aggregate-serve-16 c = search rules
 
 serve-requires : tie.Need-serve-requires
@@ -89,14 +89,14 @@ serve-requires c κs = (
   (
     omega (arith, length-replicate {A = ℕ} 131072 0),
     (
-      record { lengths = zero-lengths _; usable = inl c.before.before.before.before.before.before.before.before.before.before.before.before.before.before.before.before.before.closed.ensures },
-      (length-replicate {A = ℕ} 2000 0, (length-replicate {A = ℕ} 4096 0, c.before.before.before.before.before.before.before.before.before.before.before.before.before.before.before.before.start.ensures.passed)),
+      record { lengths = zero-lengths _; usable = inl c.closed-factor.ensures },
+      (length-replicate {A = ℕ} 2000 0, (length-replicate {A = ℕ} 4096 0, c.start-streams.ensures.passed)),
     ),
   ),
 )
 
 returns : tie.Need-returns
-returns c = listed c.before.before.before.before.before.before.before.before.before.before.before.before.before.before.before.before.serve.ensures (zero-lengths _) c.before.before.before.before.before.before.before.before.before.before.before.before.before.before.before.before.before.before.before.before.before.before.before.before.before.before.before.before.before.before.before.before.before.before.closed.ensures
+returns c = listed c.serve.ensures (zero-lengths _) c.closed-factor.ensures
 
 pub run_spec : {M : Type 1} → statement M
 run_spec =
