@@ -103,13 +103,13 @@ same-length-5 : tie.Need-shape_of-next invariant-loop-input decreases-loop-input
 same-length-5 c = c.loop-input.invariant.0.ready.lengths.next ∙ sym c.requires.1.1.0.lengths.next
 
 same-length-6 : tie.Need-shape_of-book_heads invariant-loop-input decreases-loop-input
-same-length-6 c = c.loop-input.invariant.0.ready.lengths.book-heads ∙ sym c.requires.1.1.0.lengths.book_heads
+same-length-6 c = c.loop-input.invariant.0.ready.lengths.book-heads ∙ sym c.requires.1.1.0.lengths.book-heads
 
 same-length-7 : tie.Need-shape_of-book_rows invariant-loop-input decreases-loop-input
-same-length-7 c = c.loop-input.invariant.0.ready.lengths.book-rows ∙ sym c.requires.1.1.0.lengths.book_rows
+same-length-7 c = c.loop-input.invariant.0.ready.lengths.book-rows ∙ sym c.requires.1.1.0.lengths.book-rows
 
 same-length-8 : tie.Need-shape_of-book_next invariant-loop-input decreases-loop-input
-same-length-8 c = c.loop-input.invariant.0.ready.lengths.book-next ∙ sym c.requires.1.1.0.lengths.book_next
+same-length-8 c = c.loop-input.invariant.0.ready.lengths.book-next ∙ sym c.requires.1.1.0.lengths.book-next
 
 same-length-9 : tie.Need-shape_of-windows invariant-loop-input decreases-loop-input
 same-length-9 c = c.loop-input.invariant.0.ready.lengths.windows ∙ sym c.requires.1.1.0.lengths.windows
