@@ -6,7 +6,7 @@ use native.Mathlib.Omega.{arith}
 use borrow.Author.Rules.{rules}
 use Rattle.workspace.specs.Regions.{zero_first}
 use Rattle.soundness.specs.ReadThrough.{made_ready}
-use Rattle.tables.specs.Tables.{Tables, State, tables_of}
+use Rattle.tables.specs.Tables.{State, tables_of}
 use Rattle.calls.specs.Refusals.{work_for}
 use Rattle.state.specs.Record.{state_of}
 use Rattle.admission.proofs.Cutting.{Cut, cut, read-unsound, read-limits, can-read-through, read-room, read-clears}
@@ -22,9 +22,6 @@ read c = c.before.before.before.before
 
 abbrev state_at : tie.Start → State
 state_at s = state_of s.args.state
-
-abbrev tables_at : tie.Start → Tables
-tables_at s = tables_of s.args.heads.now s.args.parents.now s.args.rows.now s.args.counts.now s.args.next.now s.args.book_heads.now s.args.book_rows.now s.args.book_next.now s.args.windows.now
 
 lengths : (c : tie.After-slice_known-2-1) → Cut (state_of c.args.state) (tables_of c.args.heads.now c.args.parents.now c.args.rows.now c.args.counts.now c.args.next.now c.args.book_heads.now c.args.book_rows.now c.args.book_next.now c.args.windows.now)
 lengths c = cut _ _ c.requires.long

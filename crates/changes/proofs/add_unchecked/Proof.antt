@@ -20,9 +20,6 @@ use Rattle.changes.proofs.add_unchecked.Tie as tie
 
 -- ---- the places, named
 
-abbrev judged : tie.Else-found-ne0 → tie.After-judge_add-verdict
-judged c = c.before.before.before.before.before
-
 abbrev state_at : tie.Start → State
 state_at s = state_of s.args.factor
 

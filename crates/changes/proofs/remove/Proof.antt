@@ -11,9 +11,6 @@ use Rattle.changes.proofs.remove.Tie as tie
 
 -- ---- the places, named
 
-abbrev handed : tie.After-remove_unchecked-arg-11-1 → tie.Else-number-ne0
-handed c = c.before.before.before.before.before.before.before.before.before.before.before
-
 abbrev state_at : tie.Start → State
 state_at s = state_of s.args.factor
 

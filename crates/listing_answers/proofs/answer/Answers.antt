@@ -1,7 +1,7 @@
 -- What the check does not find of `answer`: that the rows of an addition and a refused line have room, and that an opening and an addition answer the line's
 -- command (proofs/Answering.antt).
-use Rattle.std.proofs.Common.{sym, ◌∙◌, arith, take, ◌≡◌}
-use Rattle.tables.specs.Tables.{Tables, sizes_of, tables_of}
+use Rattle.std.proofs.Common.{sym, ◌∙◌, arith, take}
+use Rattle.tables.specs.Tables.{sizes_of, tables_of}
 use Rattle.listing_memory.specs.Memory.{memory_of}
 use Rattle.listing_show.proofs.Showing.{no-fits}
 use Rattle.listing_answers.proofs.Lines.{rows_fit, rows-listed}

@@ -8,9 +8,6 @@ use Rattle.opening.proofs.write.Statement.{statement}
 use Rattle.opening.proofs.write.Tie as tie
 
 -- ---- the places, named
-abbrev cleared : tie.After-work_need → tie.After-clear
-cleared c = c.before.before.before.before
-
 write-columns-requires : tie.Need-write_columns-free-requires
 write-columns-requires c κs = hold-columns c.requires
 

@@ -31,9 +31,6 @@ decreases-loop-group heads parents₀ rows₀ counts₀ next₀ book-heads book-
 
 -- ---- the places, named
 
-abbrev collected : tie.After-group-in-loop-group-1 invariant-loop-group decreases-loop-group → tie.After-collect-g invariant-loop-group decreases-loop-group
-collected c = c.before
-
 loop-holds : tie.Need-loop-group-init invariant-loop-group decreases-loop-group
 loop-holds c = (scanned-start _ _, λ R B can. entering-start can (none-gone _ _))
 

@@ -14,9 +14,6 @@ use Rattle.exchange.proofs.groups.enter_group.Tie as tie
 
 -- ---- the places, named
 
-abbrev planned : tie.After-slice_known-6-1 → tie.After-plan_enter-plan
-planned c = c.before.before
-
 abbrev gathered : tie.After-write_plan-arg-then-plan-4-1 → tie.After-gather
 gathered c = c.before.before.before.before.before.before.before
 

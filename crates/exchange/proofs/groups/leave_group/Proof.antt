@@ -14,9 +14,6 @@ use Rattle.exchange.proofs.groups.leave_group.Tie as tie
 
 -- ---- the places, named
 
-abbrev planned : tie.After-gather-arg-2-1 → tie.After-plan_remove-plan
-planned c = c.before.before.before.before
-
 abbrev gathered : tie.After-write_plan-arg-5-1 → tie.After-gather
 gathered c = c.before.before.before.before.before.before.before
 
