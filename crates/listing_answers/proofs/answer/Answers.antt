@@ -5,7 +5,7 @@ use Rattle.tables.specs.Tables.{sizes_of, tables_of}
 use Rattle.listing_memory.specs.Memory.{memory_of}
 use Rattle.listing_show.proofs.Showing.{no-fits}
 use Rattle.listing_answers.proofs.Lines.{rows_fit, rows-listed}
-use Rattle.listing_answers.proofs.Answering.{adds, opens}
+use Rattle.listing_answers.proofs.Answering.{unknown, shows, can-show, adds, opens}
 use Rattle.listing_answers.proofs.answer.Goals as goal
 
 pub add_line-requires-clause-listed : goal.add_line-requires-clause-listed
@@ -53,3 +53,23 @@ returns-in-Add-clause-answered c =
     adds a.line.now m c.in-Add.id c.in-Add.count (take c.in-Add.count c.parse-asked.new.rows) (sym c.parse-asked.ensures.command ∙ c.in-Add.is)
     (rows-listed a.line.now a.list.now c.parse-asked.new.rows c.in-Add.id c.in-Add.count (sym c.parse-asked.ensures.command ∙ c.in-Add.is) c.parse-asked.ensures.rows_are)
     c.add_line.ensures
+
+pub show-end-requires : goal.show-end-requires
+show-end-requires c =
+    let a = c.args in
+    can-show a.factor (tables_of a.heads.now a.parents.now a.rows.now a.counts.now a.next.now a.book_heads.now a.book_rows.now a.book_next.now a.windows.now) a.work.now a.touched.now a.labels.now
+    c.requires.ready (omega (arith, c.requires.places, c.parse-asked.auto.rows)) c.requires.room
+
+pub returns-in-Show-clause-answered : goal.returns-in-Show-clause-answered
+returns-in-Show-clause-answered c =
+    let a = c.args in
+    shows a.line.now
+    (memory_of a.factor (tables_of a.heads.now a.parents.now a.rows.now a.counts.now a.next.now a.book_heads.now a.book_rows.now a.book_next.now a.windows.now) a.work.now a.touched.now a.labels.now)
+    (sym c.parse-asked.ensures.command ∙ c.in-Show.is) c.requires.ready.usable c.show-end.ensures
+
+pub returns-in-Unknown-clause-answered : goal.returns-in-Unknown-clause-answered
+returns-in-Unknown-clause-answered c =
+    let a = c.args in
+    unknown a.line.now
+    (memory_of a.factor (tables_of a.heads.now a.parents.now a.rows.now a.counts.now a.next.now a.book_heads.now a.book_rows.now a.book_next.now a.windows.now) a.work.now a.touched.now a.labels.now)
+    (sym c.parse-asked.ensures.command ∙ c.in-Unknown.is) c.requires.ready.usable c.no_line-end.ensures
