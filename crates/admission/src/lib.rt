@@ -1,5 +1,7 @@
 // Numbers 1 to 6 and 20, of every call: sizes, limits, tables and lists by their lengths, then limits and tables read through within their sizes for number 6. The
 // first number in document 01's order is given, and from number 6 on the first W work places are zero.
+#![tactic(auto)]
+
 ghost use Rattle.std.specs.Prelude.{◌≡◌};
 ghost use Rattle.workspace.specs.Regions.{zero_first};
 ghost use Rattle.tables.specs.Tables.{is_sound};

@@ -1,5 +1,7 @@
 // What a change answers, with the record after it, and the three ways to make it: refused, accepted, accepted at a minute. In specs/ what a change of a factor asks and
 // promises (`CanChange`, `ChangeTransition`, `UncheckedChange`), in proofs/ how a checked change comes from its admission and an unchecked one from its step on cut tables.
+#![tactic(auto)]
+
 ghost use Rattle.calls.specs.Refusals.{refusal};
 ghost use Rattle.calls.specs.Steps.{refused_by};
 ghost use Rattle.steps.specs.Outcome.{reported_by, with_heads, at_minute};

@@ -1,6 +1,8 @@
 // The book of columns by id: a head for each id, chains of row and next, one free chain. In order: opening; reading the tables through, for any
 // contents; questions; a column added or removed, which leaves every other id's column and a sound book.
 // Other crates know the book by these promises alone.
+#![tactic(auto)]
+
 ghost use Rattle.std.specs.Prelude.{◌≡◌, ◌≢◌, ◌+◌, ◌≤◌, ◌<◌, leb, length, replicate};
 ghost use Rattle.lists.specs.Lists.{over};
 ghost use Rattle.pool.specs.Chains.{chain, Linked};

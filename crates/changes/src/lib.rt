@@ -2,6 +2,8 @@
 // and fixes everything lent: it finds numbers 1 to 6 by the admission of `factor`, and hands on to its unchecked twin. That cuts the tables to their sizes, judges the batch
 // and writes it where no number refuses it; it costs what the batch touches. Its premise is that sizes are in range, tables and lists long enough, tables sound, and the
 // first W work places zero: a caller that has proved its tables sound uses it.
+#![tactic(auto)]
+
 ghost use Rattle.tables.specs.Tables.{tables_of};
 ghost use Rattle.calls.specs.Lent.{report_in, report_out, adding_of, removing_of};
 ghost use Rattle.factor.specs.Entries.{state_of};

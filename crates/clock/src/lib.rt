@@ -2,6 +2,8 @@
 // numbers 1 to 6 by the admission of `factor`, and hands on to its unchecked twin. That cuts the tables to their sizes; columns that fall outside their windows leave the
 // stored columns, then those that begin to count enter, as one change (`exchange`); where it does not fit, 16, and every table is as before. Then the report, and the work
 // table cleared. Costs n for the windows, F for a saved copy where somebody enters, and the touched paths. Its premise is that of the unchecked changes in `changes`.
+#![tactic(auto)]
+
 ghost use Rattle.tables.specs.Tables.{tables_of};
 ghost use Rattle.calls.specs.Lent.{report_in, report_out};
 ghost use Rattle.calls.specs.Calls.Change.{setting};

@@ -1,5 +1,7 @@
 // The stored columns of L: fresh ones, the first record at or above a row, a row's multiplicity, a column copied out, and a planned change of one column, in one
 // walk of its chain. A chain's end is a premise, so no walk counts its turns.
+#![tactic(auto)]
+
 ghost use Rattle.std.specs.Prelude.{◌≡◌, List, ℕ, ◌≤◌, ◌<◌, length, replicate};
 ghost use Rattle.lists.specs.Lists.{at, over, up_from};
 ghost use Rattle.pool.specs.Chains.{chain};

@@ -1,6 +1,8 @@
 // A plan in the work table, made real: its columns gathered, where several plans are written one after another; reported; and written to the stored
 // columns of L, each touched column in one walk of its chain, then its new parent; that clears the plan from the work table. The cost is that of the
 // touched columns and their plans: no pass over m or the records.
+#![tactic(auto)]
+
 ghost use Rattle.std.specs.Prelude.{◌≡◌, List, ℕ, ◌+◌, length};
 ghost use Rattle.symbolic.specs.Factor.{FactorColumn};
 ghost use Rattle.workspace.specs.Layout.{plan_at};

@@ -1,6 +1,8 @@
 // Counting what the definition gives for a column of L, in the work table: the booked ids that count at a minute listed by smallest row, the children of a column listed, and the
 // rows that the diagonal, the children and the columns that start there bring, one more in the counter of each. The counters are the first m places;
 // each function that counts gives how many of them left 0, so that its caller knows the length of the column's chain before it walks it.
+#![tactic(auto)]
+
 ghost use Rattle.std.specs.Prelude.{◌≡◌, ◌+◌, ◌-◌, ◌*◌, ◌<◌, length};
 ghost use Rattle.workspace.specs.Regions.{region};
 ghost use Rattle.book.specs.Tally.{tallied, filled, booked_rows};

@@ -1,4 +1,6 @@
 // What an answer that is an enum becomes as it crosses to a host: an opening's answer and a reading, each as a struct of numbers that stands for just that answer.
+#![tactic(auto)]
+
 ghost use Rattle.std.specs.Prelude.{◌≡◌};
 ghost use Rattle.crossing.specs.Crossing.{opened_from, read_from};
 

@@ -1,6 +1,8 @@
 // Changes of one column's multiplicities while a batch is planned, as differences in the work table: rows are gathered in the buffer, rising, and counted
 // up or down. Regions of the work table: differences at 0, list of touched rows at m, buffer at 2 m, plan at 8 m. The crate `emission` turns what was
 // counted into the column's plan.
+#![tactic(auto)]
+
 ghost use Rattle.std.specs.Prelude.{◌≡◌, true, ◌&&◌, ◌||◌, not, ◌+◌, ◌-◌, ◌*◌, ◌≤◌, ◌<◌, ltb, length};
 ghost use Rattle.lists.specs.Lists.{among, rises, values_at};
 ghost use Rattle.workspace.specs.Layout.{plan_at};

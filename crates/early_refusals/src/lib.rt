@@ -1,5 +1,7 @@
 // The numbers that a call is refused by before a table is read, in their order: sizes and their default (1 to 4), the limits of grades (20, in limits.rt), tables
 // and lists that are too short (5). Two tests of a range come first, which later numbers ask too. Tables are shared, never written.
+#![tactic(auto)]
+
 ghost use Rattle.std.specs.Prelude.{◌≡◌, not};
 ghost use Rattle.tables.specs.Tables.{sizes_of, tables_of};
 ghost use Rattle.lists.specs.Lists.{is_in};

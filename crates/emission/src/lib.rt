@@ -1,6 +1,8 @@
 // The plan of one column from its differences: one walk of the column's chain against its touched rows, which costs no more than the two. The plan has
 // one entry for each row that changes; the walk also gives what the column counts for in the batch's entries and its parent after, and clears the differences
 // and the list.
+#![tactic(auto)]
+
 ghost use Rattle.std.specs.Prelude.{◌≡◌, ◌≢◌, ◌+◌, ◌*◌, ◌≤◌, ◌<◌, max, length, set};
 ghost use Rattle.lists.specs.Lists.{at};
 ghost use Rattle.workspace.specs.Layout.{plan_at};

@@ -1,5 +1,7 @@
 // Whether chains that end are apart, by their last records alone: the last record of each chain is kept by the chain's number, and named by it; a chain that
 // does not find its own name at its last record shares it with a later one. No place is cleared: only places that were written are read.
+#![tactic(auto)]
+
 ghost use Rattle.std.specs.Prelude.{◌≡◌};
 ghost use Rattle.workspace.specs.Regions.{region};
 ghost use Rattle.lists.specs.Lists.{Decides};

@@ -1,4 +1,6 @@
 // The columns of a batch enter the book, position by position with their part of the one list of rows, or leave it. The cost is that of their rows.
+#![tactic(auto)]
+
 ghost use Rattle.std.specs.Prelude.{ℕ};
 ghost use Rattle.book.specs.Book.{book_of};
 ghost use Rattle.entering.specs.Entering.{SomeEnter, CanEnter, Entered, SomeLeave, CanLeave, Left};

@@ -1,6 +1,8 @@
 // The clock goes from one minute to another: booked columns that count at the first and not at the second leave the stored columns of L, those that count at the
 // second and not at the first enter, as one change: in groups of at most 64, by rising id, those that leave first. Where the result does not fit, every table is as
 // before, place by place. Book and windows do not change.
+#![tactic(auto)]
+
 ghost use Rattle.std.specs.Prelude.{List, ℕ, length};
 ghost use Rattle.symbolic.specs.Columns.{Column};
 ghost use Rattle.tables.specs.Stored.{stored_of};

@@ -1,6 +1,8 @@
 // A factor's record, and the public entries that open it, check its tables and answer questions, two of these in meeting.rt; `changes` has those that add and remove, `clock` the one that sets the clock.
 // Each refuses unusable input by number and fixes everything lent; an opening writes all tables, the others none but the work table. Numbers 1 to 6 and 20 are found by
 // `admission`, what an opening writes is written by `opening`. A caller that has proved its tables sound uses the unchecked twins of unchecked.rt.
+#![tactic(auto)]
+
 ghost use Rattle.symbolic.specs.Grades.{limits_of};
 ghost use Rattle.tables.specs.Tables.{tables_of, sizes_of};
 ghost use Rattle.tables.specs.Lent.{tables_in};

@@ -1,4 +1,6 @@
 // The records of a pool that no column has: how many have row 0, by a pass in order, and whether the free chain has just so many, for any contents.
+#![tactic(auto)]
+
 ghost use Rattle.std.specs.Prelude.{◌≤◌, ◌≡◌, length};
 ghost use Rattle.lists.specs.Lists.{Decides, times};
 ghost use Rattle.pool.specs.Free.{FreeHas, zero_pairs};

@@ -1,5 +1,7 @@
 // A batch judged on sound tables before anything is written: its refusal is searched for, and where there is none its plan is made in the work table. Costs only the
 // touched paths.
+#![tactic(auto)]
+
 ghost use Rattle.std.specs.Prelude.{◌≡◌, false};
 ghost use Rattle.tables.specs.Lent.{tables_in, tables_now};
 ghost use Rattle.calls.specs.Lent.{adding_of, removing_of};

@@ -1,6 +1,8 @@
 // The listing program: reads standard input in pieces of any size, answers it line by line, and writes the answers of a piece together. The tables serve m 64,
 // n 256, F 2,048 and C 2,048. What is proved of the whole program is `Listed`: it reads until no read gives any more, and the bytes handed to the output are the
 // answers, in order, to the lines of all bytes that the reads gave, the last line among them if it lacks its newline.
+#![tactic(auto)]
+
 ghost use Rattle.listing_memory.specs.Memory.{memory_of};
 ghost use Rattle.tables.specs.Tables.{tables_of};
 ghost use Rattle.std.specs.Prelude.{◌≡◌, [], ◌≤◌, length};

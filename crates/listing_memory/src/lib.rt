@@ -1,5 +1,7 @@
 // What the listing program keeps between lines: a factor with its tables and lists, which serve document 01's sizes (proofs/Serving.antt), and which factor it is before any
 // opening (`closed`) and after one (`opened_line`).
+#![tactic(auto)]
+
 ghost use Rattle.std.specs.Prelude.{◌≡◌, ◌≤◌, length};
 ghost use Rattle.factor.specs.Entries.{state_of};
 ghost use Rattle.listing_show.specs.Showing.{no_state};

@@ -1,5 +1,7 @@
 // The lines of a shown factor: for each column its number, its parent, then its entries as row:multiplicity. `show` writes those of all columns, or the
 // refusal before an accepted opening.
+#![tactic(auto)]
+
 ghost use Rattle.std.specs.Prelude.{length};
 ghost use Rattle.tables.specs.Tables.{tables_of};
 ghost use Rattle.listing_text.specs.Text.{Written};

@@ -1,4 +1,6 @@
 // Multiplicities in 16-bit places, one or two for each record: how one is read and how it is written.
+#![tactic(auto)]
+
 ghost use Rattle.std.specs.Prelude.{◌≡◌, ◌<◌, length, get_or, set};
 ghost use Rattle.multiplicity.specs.Places.{multiplicities, count_end};
 

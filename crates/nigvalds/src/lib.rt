@@ -1,5 +1,7 @@
 // The library for hosts in C and Rust: every entry of the factor and the reader's step, and nothing besides. Each passes its arguments on; its contract is that of
 // the entry. Its name ends in the interface's version, so that hosts of another one do not link. An answer that is an enum crosses as a struct of numbers (`crossing`).
+#![tactic(auto)]
+
 ghost use Rattle.std.specs.Prelude.{◌≡◌};
 ghost use Rattle.reader.specs.Reading.{entry_at};
 ghost use Rattle.symbolic.specs.Grades.{limits_of};

@@ -1,5 +1,7 @@
 // What an accepted opening writes, within the sizes: the tables of L, those of the book, and zeros in the windows and the work table. Places beyond the sizes are as
 // lent.
+#![tactic(auto)]
+
 ghost use Rattle.tables.specs.Tables.{tables_of, sizes_of};
 ghost use Rattle.admission.specs.Admission.{HasPlaces};
 ghost use Rattle.opening.specs.Written.{HoldColumns, ColumnsWritten, HoldBook, BookWritten, OpeningWritten};

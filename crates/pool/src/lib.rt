@@ -1,5 +1,7 @@
 // Records linked by one `next` table, with chains from heads and one free chain: a record taken, given back, inserted or unlinked leaves every other
 // chain. What shows, for any contents of the table, that a pool is whole is in proofs/Apart.antt and proofs/Closed.antt.
+#![tactic(auto)]
+
 ghost use Rattle.std.specs.Prelude.{◌≡◌, ◌≤◌, ◌<◌, min, length};
 ghost use Rattle.lists.specs.Lists.{at, put};
 ghost use Rattle.pool.specs.Chains.{chain, Linked};

@@ -1,4 +1,6 @@
 // The numbers that a question is refused by: 7 and 17 for the rows it names, 18 for its list.
+#![tactic(auto)]
+
 ghost use Rattle.std.specs.Prelude.{◌≡◌, not};
 ghost use Rattle.calls.specs.Refusals.{is_accepted, row_refusal, named_refusal};
 ghost use Rattle.question_refusals.specs.Room.{NoRoom};

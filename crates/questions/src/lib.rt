@@ -1,5 +1,7 @@
 // Questions on sound stored columns: the next row, a parent, a path, a column; in meeting.rt the columns that meet a row, in ancestors.rt the common row of
 // some rows. A promise is for every register whose columns, or parents, or both, the tables hold.
+#![tactic(auto)]
+
 ghost use Rattle.std.specs.Prelude.{◌≡◌, ◌≤◌, length};
 ghost use Rattle.lists.specs.Lists.{over};
 ghost use Rattle.symbolic.specs.Columns.{Register};

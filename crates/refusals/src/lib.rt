@@ -1,5 +1,7 @@
 // The numbers that a batch is refused by before a plan is made, with their positions, found in their order: of an addition 7 to 15 and 21, of a removal 7 to 9
 // and 11. The book is shared, never written. position.rt has what is asked at one position.
+#![tactic(auto)]
+
 ghost use Rattle.std.specs.Prelude.{◌≡◌, not, ◌+◌, ◌≤◌, ◌<◌, length};
 ghost use Rattle.calls.specs.Refusals.{refusal, keep_step};
 ghost use Rattle.refusals.specs.Parts.{InStep};

@@ -1,5 +1,7 @@
 // Calls as text, for programs that run cases: a line names a call by its first word and has lists of numbers after it, with `/` between two lists. Whatever
 // the line holds, reading it ends and stays within line and lists.
+#![tactic(auto)]
+
 ghost use Rattle.std.specs.Prelude.{◌≤◌, length};
 
 // What was read of one list: how many numbers, and where the next list begins.

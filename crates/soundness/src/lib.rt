@@ -1,6 +1,8 @@
 // Decides number 6 as far as tables go: for any contents of all of them, whether they are sound at a clock, in time proportional to m + n + F + C. (The record's
 // limits are tested in `factor`.) Book and windows come first. Columns of L are read by rising number: what the definition gives for a column is counted from the
 // booked columns inside their windows and from its children, which were read before. Records are not marked: chains that end are apart if their last records are, and the free chain if its last record has row 0.
+#![tactic(auto)]
+
 ghost use Rattle.std.specs.Prelude.{◌≡◌, ◌+◌, ◌*◌, ◌-◌, ◌≤◌, length, get_or};
 ghost use Rattle.lists.specs.Lists.{Decides};
 ghost use Rattle.tables.specs.Stored.{stored_of};

@@ -1,4 +1,6 @@
 // A factor's record by value, as functions inside the library hand it on: sizes, free heads, limits and clock in one argument. `factor` has the record of hosts.
+#![tactic(auto)]
+
 use pool::Rec;
 
 // Sizes m, n, F and C; the free heads of L and of the book; from so many entries on a grade is 2, 3 and 4; the minute at which the clock stands.

@@ -1,5 +1,7 @@
 // The grade of a change's entries; in specs/ what a change on sound tables promises (`ChangeStep`), in proofs/ that such a step on tables cut to their sizes is one on the
 // tables that they are cut from.
+#![tactic(auto)]
+
 ghost use Rattle.std.specs.Prelude.{◌≡◌, leb};
 ghost use Rattle.lists.specs.Lists.{one};
 ghost use Rattle.symbolic.specs.Grades.{limits_of, grade_of};

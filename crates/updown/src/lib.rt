@@ -2,6 +2,8 @@
 // tables and writes only the work table; what it leaves there is each touched column's planned entries, label and new parent.
 // Both walk the tree of all columns, those of the batch among them: in it, a touched column stands in the queue of its parent, and, once that is done and
 // where its parent without the batch is another one, in that one's queue of lost children (removing: gained).
+#![tactic(auto)]
+
 ghost use Rattle.std.specs.Prelude.{List};
 ghost use Rattle.tables.specs.Stored.{stored_of};
 ghost use Rattle.symbolic.specs.Columns.{Column};

@@ -1,5 +1,7 @@
 // Windows of booked columns, two minutes for each id: which ids count at a minute, and the ids that count at one minute and not at another, collected in groups
 // by rising id. Reads the book's heads and the windows; `minutes` writes windows.
+#![tactic(auto)]
+
 ghost use Rattle.std.specs.Prelude.{◌≡◌, ◌&&◌, ◌+◌, ◌*◌, ◌≤◌, length};
 ghost use Rattle.symbolic.specs.Columns.{is_inside};
 ghost use Rattle.book.specs.Book.{is_booked};

@@ -1,6 +1,8 @@
 // The work table: one table of 32-bit places that is lent whole, with regions in it by start and length. A store in one region leaves the others, a
 // region that was cleared is zero, and a planned entry takes one place. Where the regions start is in specs/Layout.antt; functions take the whole
 // table and a start, since two parts of one table cannot be lent at once.
+#![tactic(auto)]
+
 ghost use Rattle.std.specs.Prelude.{◌≡◌, ◌+◌, ◌*◌, ◌≤◌, ◌<◌, length};
 ghost use Rattle.workspace.specs.Regions.{cleared};
 ghost use Rattle.workspace.specs.Layout.{work_need};

@@ -1,4 +1,6 @@
 // An accepted batch written to sound tables, from the plan in the work table: the report, the stored columns, then the batch's columns into the book or out of it.
+#![tactic(auto)]
+
 ghost use Rattle.tables.specs.Tables.{tables_of};
 ghost use Rattle.calls.specs.Lent.{report_in, report_out, adding_of, removing_of};
 ghost use Rattle.calls.specs.Calls.Change.{adding, removing};

@@ -33,17 +33,16 @@ next-line-requires c κs =
     record { within = omega arith; fits = omega arith; waits = omega arith; room = c.requires.1.0; piece-long = c.requires.1.1.1.1.0; line-long = c.requires.1.1.1.0 }
 
 loop-holds : tie.Need-loop-input-init invariant-loop-input decreases-loop-input
-loop-holds c =
-    (
-      record {
-        ready = c.requires.1.1.0;
-        list-long = refl;
-        out-long = refl;
-        line-long = c.next_line-input.auto.line ∙ c.requires.1.1.1.0;
-        piece-long = c.next_line-input.auto.piece ∙ c.requires.1.1.1.1.0;
-      },
-      given-next (given-start c.requires.1.1.1.1.1 c.args.piece.now c.args.out.now (memory_at c.before.before.before.before.before.before.before.before.before.before.before.before.before.before.before.before.before.before.before.before.before.before.before)) c.next_line-input.ensures,
-    )
+loop-holds c = (
+  record {
+    ready = c.requires.1.1.0;
+    list-long = refl;
+    out-long = refl;
+    line-long = c.next_line-input.auto.line ∙ c.requires.1.1.1.0;
+    piece-long = c.next_line-input.auto.piece ∙ c.requires.1.1.1.1.0;
+  },
+  given-next (given-start c.requires.1.1.1.1.1 c.args.piece.now c.args.out.now (memory_at c.before.before.before.before.before.before.before.before.before.before.before.before.before.before.before.before.before.before.before.before.before.before.before)) c.next_line-input.ensures,
+)
 
 sub-answer : tie.Need-slice_bounds-answer-count invariant-loop-input decreases-loop-input
 sub-answer c = found-waits c.loop-input.invariant.1

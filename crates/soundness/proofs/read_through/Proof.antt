@@ -14,11 +14,10 @@ same_length : tie.Need-shape_of-work-then-not-read_booked
 same_length c = (preparing-only c.requires c.read_booked.ensures.1).same_length
 
 returns : tie.Need-returns-then-not-read_booked
-returns c =
-    (
-      preparing-unsound c.requires c.args.clock c.read_booked.ensures.0 c.if-not-read_booked.true,
-      preparing-only c.requires c.read_booked.ensures.1,
-    )
+returns c = (
+  preparing-unsound c.requires c.args.clock c.read_booked.ensures.0 c.if-not-read_booked.true,
+  preparing-only c.requires c.read_booked.ensures.1,
+)
 
 mul-b : tie.Need-overflow_mul-b
 mul-b c = let p = c.requires in omega arith

@@ -117,12 +117,11 @@ loop-less c =
     scanned-less c.loop-group.invariant.0 c.collect-g.ensures (omega (arith, c.if-k-eq0.false))
 
 loop-again : tie.Need-loop-group-preserved invariant-loop-group decreases-loop-group
-loop-again c =
-    (
-      scanned-next c.loop-group.invariant.0 c.collect-g.ensures,
-      λ R B can. entering-turn can (c.loop-group.invariant.1 R B can) (collected-ends c.loop-group.invariant.0 c.collect-g.ensures (omega (arith, c.if-k-eq0.false)) (omega arith))
-          (collected-is c.loop-group.invariant.0 c.collect-g.ensures) c.enter_group-x.ensures (not-false _ c.if-not-x.false),
-    )
+loop-again c = (
+  scanned-next c.loop-group.invariant.0 c.collect-g.ensures,
+  λ R B can. entering-turn can (c.loop-group.invariant.1 R B can) (collected-ends c.loop-group.invariant.0 c.collect-g.ensures (omega (arith, c.if-k-eq0.false)) (omega arith))
+      (collected-is c.loop-group.invariant.0 c.collect-g.ensures) c.enter_group-x.ensures (not-false _ c.if-not-x.false),
+)
 
 pub enter_all_spec : {M : Type 1} → statement M
 enter_all_spec =

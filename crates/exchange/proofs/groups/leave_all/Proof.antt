@@ -81,12 +81,11 @@ loop-less c =
     scanned-less c.loop-group.invariant.0 c.collect-g.ensures (omega (arith, c.if-k-eq0.false))
 
 loop-again : tie.Need-loop-group-preserved invariant-loop-group decreases-loop-group
-loop-again c =
-    (
-      scanned-next c.loop-group.invariant.0 c.collect-g.ensures,
-      λ R A can. leaving-turn can (c.loop-group.invariant.1 R A can) (collected-ends c.loop-group.invariant.0 c.collect-g.ensures (omega (arith, c.if-k-eq0.false)) (omega arith))
-          (collected-is c.loop-group.invariant.0 c.collect-g.ensures) c.leave_group-z.ensures,
-    )
+loop-again c = (
+  scanned-next c.loop-group.invariant.0 c.collect-g.ensures,
+  λ R A can. leaving-turn can (c.loop-group.invariant.1 R A can) (collected-ends c.loop-group.invariant.0 c.collect-g.ensures (omega (arith, c.if-k-eq0.false)) (omega arith))
+      (collected-is c.loop-group.invariant.0 c.collect-g.ensures) c.leave_group-z.ensures,
+)
 
 pub leave_all_spec : {M : Type 1} → statement M
 leave_all_spec =
