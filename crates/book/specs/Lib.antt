@@ -3,3 +3,4 @@ pub mod Records
 pub mod Walks
 pub mod Entries
 pub mod Tally
+pub mod Views

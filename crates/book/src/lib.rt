@@ -22,6 +22,14 @@ pub struct Row(pub u32);
 #[derive(Clone, Copy)]
 pub struct Id(pub u32);
 
+// The book's tables, lent to be read: a head for each id, rows and nexts by record.
+#[derive(Clone, Copy)]
+pub struct BookView<'a> {
+    pub heads: &'a [u32],
+    pub rows: &'a [u16],
+    pub next: &'a [u32],
+}
+
 // Writes a book with no column, and gives the free head.
 pub fn open(heads: &mut [u32], rows: &mut [u16], next: &mut [u32]) -> Rec
     requires { (length rows.old ≡ length next.old) × (length next.old < 4294967295) }

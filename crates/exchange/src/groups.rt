@@ -10,8 +10,9 @@ ghost use Rattle.updown.specs.Entries.{CanAddBooked, SomeAddBooked};
 ghost use Rattle.windows.specs.Chosen.{CanCollect};
 ghost use Rattle.exchange.specs.Stages.{group_touches, CanLeave, SomeLeave, GroupDone, GroupEntered, moving_ids, CanLeaveAll, SomeLeaveAll, Moved, CanEnterAll, SomeEnterAll, EnteredAll};
 
-use book::Id;
+use book::{BookView, Id};
 use pool::Rec;
+use tables::ColumnsView;
 use updown::filling;
 use workspace::PLAN;
 
@@ -42,19 +43,19 @@ pub fn leave_group(
     let k = ids.len();
     let mut starts = [0u32; 64];
     filling::booked_starts(book_heads, book_rows, ids, &mut starts[..k]);
-    let plan = updown::plan_remove(
+    let columns = ColumnsView {
         heads,
         parents,
         rows,
         counts,
         next,
-        book_heads,
-        book_rows,
-        book_next,
-        work,
-        ids,
-        &starts[..k],
-    );
+    };
+    let book = BookView {
+        heads: book_heads,
+        rows: book_rows,
+        next: book_next,
+    };
+    let plan = updown::plan_remove(columns, book, work, ids, &starts[..k]);
     let m = heads.len();
     let f = next.len();
     commit::gather(heads, next, work, PLAN * m + f + 2 * f, plan.first);
@@ -83,20 +84,19 @@ pub fn enter_group(
     let k = ids.len();
     let mut starts = [0u32; 64];
     filling::booked_starts(book_heads, book_rows, ids, &mut starts[..k]);
-    let plan = updown::plan_enter(
+    let columns = ColumnsView {
         heads,
         parents,
         rows,
         counts,
         next,
-        book_heads,
-        book_rows,
-        book_next,
-        work,
-        ids,
-        &starts[..k],
-        free,
-    );
+    };
+    let book = BookView {
+        heads: book_heads,
+        rows: book_rows,
+        next: book_next,
+    };
+    let plan = updown::plan_enter(columns, book, work, ids, &starts[..k], free);
     if plan.fits {
         let m = heads.len();
         let f = next.len();

@@ -7,9 +7,10 @@ ghost use Rattle.tables.specs.Lent.{tables_in, tables_now};
 ghost use Rattle.calls.specs.Lent.{adding_of, removing_of};
 ghost use Rattle.judging.specs.Judging.{SomeRows, AddJudged, SomeFree, RemoveJudged};
 
-use book::Row;
+use book::{BookView, Row};
 use pool::Rec;
 use refusals::Refusal;
+use tables::ColumnsView;
 use updown::{Plan, filling};
 
 // What is found before anything is written: the refusal; where its number is 0, the plan.
@@ -84,18 +85,14 @@ pub fn judge_add(
     let mut starts = [0u32; 64];
     filling::listed_starts(row_counts, row_list, &mut starts[..k]);
     windows::minutes::hide_listed(firsts, seconds, clock, &mut starts[..k]);
-    let plan = updown::plan_add(
+    let columns = ColumnsView {
         heads,
         parents,
         rows,
         counts,
         next,
-        work,
-        row_counts,
-        row_list,
-        &starts[..k],
-        free,
-    );
+    };
+    let plan = updown::plan_add(columns, work, row_counts, row_list, &starts[..k], free);
     if plan.fits {
         return planned(plan);
     }
@@ -131,17 +128,17 @@ pub fn judge_remove(
     let mut starts = [0u32; 64];
     filling::booked_starts(book_heads, book_rows, ids, &mut starts[..k]);
     windows::minutes::hide_booked(windows, book_heads.len(), ids, clock, &mut starts[..k]);
-    planned(updown::plan_remove(
+    let columns = ColumnsView {
         heads,
         parents,
         rows,
         counts,
         next,
-        book_heads,
-        book_rows,
-        book_next,
-        work,
-        ids,
-        &starts[..k],
-    ))
+    };
+    let book = BookView {
+        heads: book_heads,
+        rows: book_rows,
+        next: book_next,
+    };
+    planned(updown::plan_remove(columns, book, work, ids, &starts[..k]))
 }

@@ -10,7 +10,7 @@ use native.Mathlib.Omega.{arith}
 use lib.Dec.{eqb}
 use lib.ListN.{length, get_or}
 use borrow.Author.Tests.{eq-eqb, ne_eqb}
-use Rattle.lists.specs.Lists.{at, sum_of, up_from}
+use Rattle.lists.specs.Lists.{sum_of, up_from}
 use Rattle.lists.proofs.Tests.{zero-or-pos}
 use Rattle.lists.proofs.Rising.{from_up}
 use Rattle.lists.proofs.Place.{values_length}

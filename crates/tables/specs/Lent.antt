@@ -1,9 +1,12 @@
 -- What a contract says of lists that are lent to be read: each as it is at the call (`tables_in`), and in a premise as it is (`tables_now`). Of tables that are lent to
 -- be written it says `tables_of heads.old ..` and `tables_of heads.new ..`. A later table enters here. Assumes nothing: these are definitions.
-use Rattle.std.specs.Prelude.{List, ℕ}
+use Rattle.std.specs.Prelude.{List, ℕ, ◌*◌, take}
 use Rattle.std.specs.Borrow.{Bor, MutBor}
 use denote.Triple.Both.{Both}
-use Rattle.tables.specs.Tables.{Tables, tables_of}
+use Rattle.tables.specs.Tables.{Tables, Sizes, tables_of}
+use Rattle.tables.specs.Stored.{Stored, stored_of}
+use Rattle.tables.specs.declared.ColumnsView.{ColumnsView}
+use Rattle.tables.specs.declared.TablesView.{TablesView}
 
 -- a list lent to a function to be read, at its entry and at its exit
 abbrev pub LentList : Type 0
@@ -21,3 +24,21 @@ tables_in hs ps rs cs ns bh br bn ws =
 -- the tables lent, in a premise
 abbrev pub tables_now : (heads parents rows counts next book_heads book_rows book_next windows : Bor (List ℕ)) → Tables
 tables_now hs ps rs cs ns bh br bn ws = tables_of hs.now ps.now rs.now cs.now ns.now bh.now br.now bn.now ws.now
+
+-- ---- tables that go together in one struct
+
+-- the stored columns of L that a struct lends, with a free head
+abbrev pub columns_viewed : ColumnsView → (free : ℕ) → Stored
+columns_viewed l f = stored_of l.heads.now l.parents.now l.rows.now l.counts.now l.next.now f
+
+-- the nine tables that a struct lends
+abbrev pub tables_viewed : TablesView → Tables
+tables_viewed l =
+    tables_of l.columns.heads.now l.columns.parents.now l.columns.rows.now l.columns.counts.now l.columns.next.now l.book.heads.now l.book.rows.now l.book.next.now
+    l.windows.now
+
+-- the tables within their sizes
+abbrev pub tables_cut : Sizes → Tables → Tables
+tables_cut l t =
+    tables_of (take l.m t.heads) (take l.m t.parents) (take l.f t.rows) (take l.f t.counts) (take l.f t.next) (take l.n t.book_heads) (take l.c t.book_rows)
+    (take l.c t.book_next) (take (2 * l.n) t.windows)

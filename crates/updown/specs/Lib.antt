@@ -7,3 +7,4 @@ pub mod SoFar
 pub mod Walks
 pub mod States
 pub mod Starts
+pub mod Views

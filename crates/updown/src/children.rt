@@ -8,12 +8,14 @@ ghost use Rattle.updown.specs.Marks.{end_at, other_at, passed_on};
 ghost use Rattle.symbolic.specs.Columns.{Column};
 ghost use Rattle.updown.specs.Turns.{other_parent};
 ghost use Rattle.updown.specs.SoFar.{nobody, children};
-ghost use Rattle.updown.specs.Walks.{Columns, Parents, Turn, TurnTo, TurnDone, SomeTurn, SomeTurnD, AtChild, Handled, SomeWaiting, SomeChild};
+ghost use Rattle.updown.specs.Walks.{Turn, TurnTo, TurnDone, SomeTurn, SomeTurnD, AtChild, Handled, SomeWaiting, SomeChild};
 ghost use Rattle.workspace.specs.Layout.{next_at, links_at, plan_at};
+ghost use Rattle.updown.specs.Views.{ColumnsIn, ParentsIn};
 
 use crate::PARENT_WEIGHT;
 use book::Row;
 use pool::Rec;
+use tables::ColumnsView;
 use workspace::{CHILDREN, GONE, LINKS, LOST, MARKS, NEW, NEXT, STARTS};
 
 // Where the plan of a column before the last touched one ends: where the plan of the next touched one starts.
@@ -62,35 +64,24 @@ fn case_b(work: &mut [u32], m: usize, n: usize, c: Row, adding: bool) -> usize
 }
 
 // C, for child c that j has with the batch alone: counts its rows with the batch, but for its own, up when adding, down when removing.
-fn case_c(
-    heads: &[u32],
-    rows: &[u16],
-    next: &[u32],
-    work: &mut [u32],
-    m: usize,
-    n: usize,
-    c: Row,
-    adding: bool,
-) -> usize
-    requires { SomeChild heads.now rows.now next.now work.old m n c.0 adding (λ j. j) }
-    ensures { (R W : List Column) (j used : ℕ) (handled : ℕ → Bool) → Columns heads.now rows.now next.now m R W adding → AtChild work.old m R W adding j used n j c.0 handled → other_parent m R c.0 ≢ j → Handled m R W adding work.old work.new result j c.0 handled }
+fn case_c(columns: ColumnsView, work: &mut [u32], m: usize, n: usize, c: Row, adding: bool) -> usize
+    requires { SomeChild columns.heads.now columns.rows.now columns.next.now work.old m n c.0 adding (λ j. j) }
+    ensures { (R W : List Column) (j used : ℕ) (handled : ℕ → Bool) → ColumnsIn columns.entry m R W adding → AtChild work.old m R W adding j used n j c.0 handled → other_parent m R c.0 ≢ j → Handled m R W adding work.old work.new result j c.0 handled }
 {
-    let r = second(heads, next, c);
+    let r = second(columns.heads, columns.next, c);
     if adding {
         let from = work[STARTS * m + (c.0 - 1) as usize] as usize;
         let to = plan_end(work, m, c);
-        let g = differences::gather_grown(rows, next, work, m, r, from, to);
+        let g = differences::gather_grown(columns.rows, columns.next, work, m, r, from, to);
         return differences::count_rows(work, m, n, g, true);
     }
-    let k = differences::gather_chain(rows, next, work, m, r);
+    let k = differences::gather_chain(columns.rows, columns.next, work, m, r);
     differences::count_rows(work, m, n, k, false)
 }
 
 // B if c is a child of j without the batch too, C if not.
 fn case_b_or_c(
-    heads: &[u32],
-    rows: &[u16],
-    next: &[u32],
+    columns: ColumnsView,
     work: &mut [u32],
     m: usize,
     n: usize,
@@ -98,37 +89,35 @@ fn case_b_or_c(
     kept: bool,
     adding: bool,
 ) -> usize
-    requires { SomeChild heads.now rows.now next.now work.old m n c.0 adding (λ j. j) }
-    ensures { (R W : List Column) (j used : ℕ) (handled : ℕ → Bool) → Columns heads.now rows.now next.now m R W adding → AtChild work.old m R W adding j used n j c.0 handled → kept ≡ eqb (other_parent m R c.0) j → Handled m R W adding work.old work.new result j c.0 handled }
+    requires { SomeChild columns.heads.now columns.rows.now columns.next.now work.old m n c.0 adding (λ j. j) }
+    ensures { (R W : List Column) (j used : ℕ) (handled : ℕ → Bool) → ColumnsIn columns.entry m R W adding → AtChild work.old m R W adding j used n j c.0 handled → kept ≡ eqb (other_parent m R c.0) j → Handled m R W adding work.old work.new result j c.0 handled }
 {
     if kept {
         return case_b(work, m, n, c, adding);
     }
-    case_c(heads, rows, next, work, m, n, c, adding)
+    case_c(columns, work, m, n, c, adding)
 }
 
 // D, for child c that j has without the batch alone: counts its rows without the batch, but for its own, down when adding, up when removing.
 fn lost_child(
-    heads: &[u32],
-    rows: &[u16],
-    next: &[u32],
+    columns: ColumnsView,
     work: &mut [u32],
     m: usize,
     n: usize,
     c: Row,
     adding: bool,
 ) -> usize
-    requires { SomeChild heads.now rows.now next.now work.old m n c.0 adding (λ j. m + j) }
-    ensures { (R W : List Column) (j used : ℕ) (handled : ℕ → Bool) → Columns heads.now rows.now next.now m R W adding → AtChild work.old m R W adding j used n (m + j) c.0 handled → Handled m R W adding work.old work.new result j c.0 handled }
+    requires { SomeChild columns.heads.now columns.rows.now columns.next.now work.old m n c.0 adding (λ j. m + j) }
+    ensures { (R W : List Column) (j used : ℕ) (handled : ℕ → Bool) → ColumnsIn columns.entry m R W adding → AtChild work.old m R W adding j used n (m + j) c.0 handled → Handled m R W adding work.old work.new result j c.0 handled }
 {
-    let r = second(heads, next, c);
+    let r = second(columns.heads, columns.next, c);
     if adding {
-        let g = differences::gather_chain(rows, next, work, m, r);
+        let g = differences::gather_chain(columns.rows, columns.next, work, m, r);
         return differences::count_rows(work, m, n, g, false);
     }
     let from = work[STARTS * m + (c.0 - 1) as usize] as usize;
     let to = plan_end(work, m, c);
-    let k = differences::gather_pruned(rows, next, work, m, r, from, to);
+    let k = differences::gather_pruned(columns.rows, columns.next, work, m, r, from, to);
     differences::count_rows(work, m, n, k, true)
 }
 
@@ -156,26 +145,23 @@ fn pass_on(work: &mut [u32], m: usize, c: Row, j: Row, other: Row) -> Row
 
 // B or C for each touched child that j has in the tree of all columns. Their queue is empty then.
 pub fn cases_b_and_c(
-    heads: &[u32],
-    parents: &[u16],
-    rows: &[u16],
-    next: &[u32],
+    columns: ColumnsView,
     work: &mut [u32],
     m: usize,
     n: usize,
     j: Row,
     adding: bool,
 ) -> usize
-    requires { SomeTurn heads.now parents.now rows.now next.now work.old m j.0 n adding }
-    ensures { (R W : List Column) (used : ℕ) → Columns heads.now rows.now next.now m R W adding → Parents parents.now m R W adding → Turn m R W adding work.old j.0 used n 0 nobody → TurnTo m R W adding work.old work.new j.0 used result (children m R W j.0) }
+    requires { SomeTurn columns.heads.now columns.parents.now columns.rows.now columns.next.now work.old m j.0 n adding }
+    ensures { (R W : List Column) (used : ℕ) → ColumnsIn columns.entry m R W adding → ParentsIn columns.entry m R W adding → Turn m R W adding work.old j.0 used n 0 nobody → TurnTo m R W adding work.old work.new j.0 used result (children m R W j.0) }
 {
     let head = CHILDREN * m + (j.0 - 1) as usize;
     let mut c = Row(work[head]);
     work[head] = 0;
     let mut l = n;
     while c.0 != 0 {
-        let other = other_parent(parents, work, m, c, adding);
-        l = case_b_or_c(heads, rows, next, work, m, l, c, other.0 == j.0, adding);
+        let other = other_parent(columns.parents, work, m, c, adding);
+        l = case_b_or_c(columns, work, m, l, c, other.0 == j.0, adding);
         c = pass_on(work, m, c, j, other);
     }
     l
@@ -183,24 +169,22 @@ pub fn cases_b_and_c(
 
 // D for each touched child that j has without the batch alone. Their queue is empty then.
 pub fn case_d(
-    heads: &[u32],
-    rows: &[u16],
-    next: &[u32],
+    columns: ColumnsView,
     work: &mut [u32],
     m: usize,
     n: usize,
     j: Row,
     adding: bool,
 ) -> usize
-    requires { SomeTurnD heads.now rows.now next.now work.old m j.0 n adding }
-    ensures { (R W : List Column) (used : ℕ) → Columns heads.now rows.now next.now m R W adding → Turn m R W adding work.old j.0 used n 0 (children m R W j.0) → TurnDone m R W adding work.old work.new j.0 used result }
+    requires { SomeTurnD columns.heads.now columns.rows.now columns.next.now work.old m j.0 n adding }
+    ensures { (R W : List Column) (used : ℕ) → ColumnsIn columns.entry m R W adding → Turn m R W adding work.old j.0 used n 0 (children m R W j.0) → TurnDone m R W adding work.old work.new j.0 used result }
 {
     let head = LOST * m + (j.0 - 1) as usize;
     let mut c = Row(work[head]);
     work[head] = 0;
     let mut l = n;
     while c.0 != 0 {
-        l = lost_child(heads, rows, next, work, m, l, c, adding);
+        l = lost_child(columns, work, m, l, c, adding);
         let i = LINKS * m + (c.0 - 1) as usize;
         c = Row(work[i]);
         work[i] = 0;

@@ -5,9 +5,9 @@
 #![tactic(auto)]
 
 ghost use Rattle.std.specs.Prelude.{List};
-ghost use Rattle.tables.specs.Stored.{stored_of};
+ghost use Rattle.tables.specs.Lent.{columns_viewed};
 ghost use Rattle.symbolic.specs.Columns.{Column};
-ghost use Rattle.book.specs.Book.{tables_of};
+ghost use Rattle.book.specs.Views.{book_viewed};
 ghost use Rattle.updown.specs.Entries.{CanAdd, SomeAdd, CanEnter, SomeEnter, AddPlanned, CanRemove, SomeRemove, RemovePlanned};
 ghost use Rattle.updown.specs.Starts.{CanEnd, Ended};
 
@@ -19,8 +19,9 @@ mod turns;
 mod walks;
 
 use crate::turns::Walk;
-use book::Row;
+use book::{BookView, Row};
 use pool::Rec;
+use tables::ColumnsView;
 use workspace::{FLAGS, PLAN, RECORD_PLACES};
 
 // A mark: a bit where a batch column starts, the label by one weight, the new parent by another.
@@ -69,94 +70,57 @@ fn plan_of(work: &mut [u32], m: usize, flags: usize, walk: Walk) -> Plan
 // Plans an addition: of the columns whose rows stand one after another in row_list, row_counts[k] of them each, beside the tables' columns; starts[k] is the
 // smallest row of each, 0 for one that counts no row. Where the records are too few the work table is as lent.
 pub fn plan_add(
-    heads: &[u32],
-    parents: &[u16],
-    rows: &[u16],
-    counts: &[u16],
-    next: &[u32],
+    columns: ColumnsView,
     work: &mut [u32],
     row_counts: &[u32],
     row_list: &[u32],
     starts: &[u32],
     free: Rec,
 ) -> Plan
-    requires { SomeAdd (stored_of heads.now parents.now rows.now counts.now next.now free.0) starts.now row_counts.now row_list.now work.old }
-    ensures { (R W : List Column) → CanAdd (stored_of heads.now parents.now rows.now counts.now next.now free.0) starts.now row_counts.now row_list.now work.old R W → AddPlanned (stored_of heads.now parents.now rows.now counts.now next.now free.0) R W work.old work.new result.fits result.first.0 result.count result.entries result.used }
+    requires { SomeAdd (columns_viewed columns free.0) starts.now row_counts.now row_list.now work.old }
+    ensures { (R W : List Column) → CanAdd (columns_viewed columns.entry free.0) starts.now row_counts.now row_list.now work.old R W → AddPlanned (columns_viewed columns.entry free.0) R W work.old work.new result.fits result.first.0 result.count result.entries result.used }
 {
-    let m = heads.len();
-    let flags = PLAN * m + RECORD_PLACES * next.len();
+    let m = columns.heads.len();
+    let flags = PLAN * m + RECORD_PLACES * columns.next.len();
     starts::mark_starts(work, starts, m, flags);
-    let walk = walks::walk_add(
-        heads, parents, rows, counts, next, work, row_counts, row_list, starts, m, flags, free,
-    );
+    let walk = walks::walk_add(columns, work, row_counts, row_list, starts, m, flags, free);
     plan_of(work, m, flags, walk)
 }
 
 // Plans an addition of booked columns: of those that the book has under ids, with the starts, beside the tables' columns. Where the records are too few the work
 // table is as lent.
 pub fn plan_enter(
-    heads: &[u32],
-    parents: &[u16],
-    rows: &[u16],
-    counts: &[u16],
-    next: &[u32],
-    book_heads: &[u32],
-    book_rows: &[u16],
-    book_next: &[u32],
+    columns: ColumnsView,
+    book: BookView,
     work: &mut [u32],
     ids: &[u32],
     starts: &[u32],
     free: Rec,
 ) -> Plan
-    requires { SomeEnter (stored_of heads.now parents.now rows.now counts.now next.now free.0) (tables_of book_heads.now book_rows.now book_next.now) starts.now ids.now work.old }
-    ensures { (R W : List Column) → CanEnter (stored_of heads.now parents.now rows.now counts.now next.now free.0) (tables_of book_heads.now book_rows.now book_next.now) starts.now ids.now work.old R W → AddPlanned (stored_of heads.now parents.now rows.now counts.now next.now free.0) R W work.old work.new result.fits result.first.0 result.count result.entries result.used }
+    requires { SomeEnter (columns_viewed columns free.0) (book_viewed book) starts.now ids.now work.old }
+    ensures { (R W : List Column) → CanEnter (columns_viewed columns.entry free.0) (book_viewed book.entry) starts.now ids.now work.old R W → AddPlanned (columns_viewed columns.entry free.0) R W work.old work.new result.fits result.first.0 result.count result.entries result.used }
 {
-    let m = heads.len();
-    let flags = PLAN * m + RECORD_PLACES * next.len();
+    let m = columns.heads.len();
+    let flags = PLAN * m + RECORD_PLACES * columns.next.len();
     starts::mark_starts(work, starts, m, flags);
-    let walk = walks::walk_booked(
-        heads, parents, rows, counts, next, book_heads, book_rows, book_next, work, ids, starts, m,
-        flags, free, true,
-    );
+    let walk = walks::walk_booked(columns, book, work, ids, starts, m, flags, free, true);
     plan_of(work, m, flags, walk)
 }
 
 // Plans a removal: of the columns that the book has under ids, with the starts, from the tables' columns. It always fits.
 pub fn plan_remove(
-    heads: &[u32],
-    parents: &[u16],
-    rows: &[u16],
-    counts: &[u16],
-    next: &[u32],
-    book_heads: &[u32],
-    book_rows: &[u16],
-    book_next: &[u32],
+    columns: ColumnsView,
+    book: BookView,
     work: &mut [u32],
     ids: &[u32],
     starts: &[u32],
 ) -> Plan
-    requires { SomeRemove (stored_of heads.now parents.now rows.now counts.now next.now 0) (tables_of book_heads.now book_rows.now book_next.now) starts.now ids.now work.old }
-    ensures { (R W : List Column) → CanRemove (stored_of heads.now parents.now rows.now counts.now next.now 0) (tables_of book_heads.now book_rows.now book_next.now) starts.now ids.now work.old R W → RemovePlanned (stored_of heads.now parents.now rows.now counts.now next.now 0) R W work.old work.new result.fits result.first.0 result.count result.entries result.used }
+    requires { SomeRemove (columns_viewed columns 0) (book_viewed book) starts.now ids.now work.old }
+    ensures { (R W : List Column) → CanRemove (columns_viewed columns.entry 0) (book_viewed book.entry) starts.now ids.now work.old R W → RemovePlanned (columns_viewed columns.entry 0) R W work.old work.new result.fits result.first.0 result.count result.entries result.used }
 {
-    let m = heads.len();
-    let flags = PLAN * m + RECORD_PLACES * next.len();
+    let m = columns.heads.len();
+    let flags = PLAN * m + RECORD_PLACES * columns.next.len();
     starts::mark_starts(work, starts, m, flags);
-    let walk = walks::walk_booked(
-        heads,
-        parents,
-        rows,
-        counts,
-        next,
-        book_heads,
-        book_rows,
-        book_next,
-        work,
-        ids,
-        starts,
-        m,
-        flags,
-        Rec(0),
-        false,
-    );
+    let walk = walks::walk_booked(columns, book, work, ids, starts, m, flags, Rec(0), false);
     plan_of(work, m, flags, walk)
 }

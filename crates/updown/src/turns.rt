@@ -7,14 +7,15 @@ ghost use Rattle.symbolic.specs.Factor.{column_at, size_of};
 ghost use Rattle.pool.specs.Chains.{chain};
 ghost use Rattle.updown.specs.Turns.{before};
 ghost use Rattle.updown.specs.SoFar.{IsDefinition};
-ghost use Rattle.updown.specs.States.{Multiplicities, Planned, SomePlanned};
-ghost use Rattle.updown.specs.Walks.{Columns};
+ghost use Rattle.updown.specs.States.{Planned, SomePlanned};
 ghost use Rattle.workspace.specs.Layout.{plan_at};
+ghost use Rattle.updown.specs.Views.{ColumnsIn, MultiplicitiesIn};
 
 use crate::{LABEL_WEIGHT, PARENT_WEIGHT, marks};
 use book::Row;
 use emission::Emission;
 use pool::Rec;
+use tables::ColumnsView;
 use workspace::{CHILDREN, LINKS, MARKS, NEXT, STARTS};
 
 // How far a walk came: whether all fits, the first and the last touched column, their number, the entries, the places of the plan, the free records left.
@@ -72,10 +73,7 @@ pub fn take_column(work: &mut [u32], m: usize, flags: usize, last: Row, used: us
 
 // Writes the plan of j, whose multiplicities so far are the definition's: from place used on, with free records from avail on.
 pub fn write_plan(
-    heads: &[u32],
-    rows: &[u16],
-    counts: &[u16],
-    next: &[u32],
+    columns: ColumnsView,
     work: &mut [u32],
     m: usize,
     n: usize,
@@ -83,11 +81,22 @@ pub fn write_plan(
     used: usize,
     avail: Rec,
 ) -> Emission
-    requires { SomePlanned heads.now rows.now counts.now next.now work.old m n j.0 used avail.0 }
-    ensures { (R W : List Column) (adding : Bool) → Columns heads.now rows.now next.now m R W adding → Multiplicities heads.now counts.now next.now m R W adding → IsDefinition m R W adding work.old n j.0 → used + size_of (column_at (before adding m R W) j.0) + length (chain next.now avail.0) ≤ length next.now → Planned next.now work.old work.new m R W adding j.0 used avail.0 result }
+    requires { SomePlanned columns.heads.now columns.rows.now columns.counts.now columns.next.now work.old m n j.0 used avail.0 }
+    ensures { (R W : List Column) (adding : Bool) → ColumnsIn columns.entry m R W adding → MultiplicitiesIn columns.entry m R W adding → IsDefinition m R W adding work.old n j.0 → used + size_of (column_at (before adding m R W) j.0) + length (chain columns.entry.next.now avail.0) ≤ length columns.entry.next.now → Planned columns.entry.next.now work.old work.new m R W adding j.0 used avail.0 result }
 {
-    let h = Rec(heads[(j.0 - 1) as usize]);
-    emission::emit(rows, counts, next, work, m, n, j, h, used, avail)
+    let h = Rec(columns.heads[(j.0 - 1) as usize]);
+    emission::emit(
+        columns.rows,
+        columns.counts,
+        columns.next,
+        work,
+        m,
+        n,
+        j,
+        h,
+        used,
+        avail,
+    )
 }
 
 // The parent of j in the tree of all columns: the new one when adding, the old one when removing.

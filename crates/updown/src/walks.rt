@@ -25,19 +25,18 @@
 ghost use Rattle.std.specs.Prelude.{true, List, ℕ, length};
 ghost use Rattle.symbolic.specs.Columns.{Column};
 ghost use Rattle.pool.specs.Chains.{chain};
-ghost use Rattle.updown.specs.Starts.{Walked, CanWalkListed, SomeWalkListed, CanWalkBooked, SomeWalkBooked};
+ghost use Rattle.updown.specs.Starts.{Walked};
+ghost use Rattle.updown.specs.Views.{ListedIn, SomeListedIn, BookedIn, SomeBookedIn};
 
 use crate::turns::Walk;
 use crate::{children, starts, turns};
+use book::BookView;
 use pool::Rec;
+use tables::ColumnsView;
 
 // Walks the tree after the batch from the marked starts on, for listed columns that enter; it stops where no free record is left.
 pub fn walk_add(
-    heads: &[u32],
-    parents: &[u16],
-    rows: &[u16],
-    counts: &[u16],
-    next: &[u32],
+    columns: ColumnsView,
     work: &mut [u32],
     row_counts: &[u32],
     row_list: &[u32],
@@ -46,8 +45,8 @@ pub fn walk_add(
     flags: usize,
     free: Rec,
 ) -> Walk
-    requires { SomeWalkListed heads.now parents.now rows.now counts.now next.now work.old starts.now row_counts.now row_list.now m flags free.0 }
-    ensures { (R W : List Column) («work₀» : List ℕ) → CanWalkListed heads.now parents.now rows.now counts.now next.now «work₀» work.old starts.now row_counts.now row_list.now m flags free.0 R W → Walked next.now «work₀» work.new m flags (length (chain next.now free.0)) R W true result.fits result.first.0 result.last.0 result.count result.entries result.used result.avail.0 }
+    requires { SomeListedIn columns work.old starts.now row_counts.now row_list.now m flags free.0 }
+    ensures { (R W : List Column) («work₀» : List ℕ) → ListedIn columns.entry «work₀» work.old starts.now row_counts.now row_list.now m flags free.0 R W → Walked columns.entry.next.now «work₀» work.new m flags (length (chain columns.entry.next.now free.0)) R W true result.fits result.first.0 result.last.0 result.count result.entries result.used result.avail.0 }
 {
     let mut walk = turns::walk_from(free);
     while walk.fits {
@@ -56,25 +55,19 @@ pub fn walk_add(
             return walk;
         }
         let n = starts::case_a_listed(work, row_counts, row_list, starts, m, j);
-        let n = children::cases_b_and_c(heads, parents, rows, next, work, m, n, j, true);
-        let n = children::case_d(heads, rows, next, work, m, n, j, true);
+        let n = children::cases_b_and_c(columns, work, m, n, j, true);
+        let n = children::case_d(columns, work, m, n, j, true);
         let avail = walk.avail;
-        let e = turns::write_plan(heads, rows, counts, next, work, m, n, j, walk.used, avail);
-        walk = turns::step_up(parents, work, m, flags, j, walk, e, true);
+        let e = turns::write_plan(columns, work, m, n, j, walk.used, avail);
+        walk = turns::step_up(columns.parents, work, m, flags, j, walk, e, true);
     }
     walk
 }
 
 // Walks the tree of all columns from the marked starts on, for booked columns that enter or leave; entering, it stops where no free record is left.
 pub fn walk_booked(
-    heads: &[u32],
-    parents: &[u16],
-    rows: &[u16],
-    counts: &[u16],
-    next: &[u32],
-    book_heads: &[u32],
-    book_rows: &[u16],
-    book_next: &[u32],
+    columns: ColumnsView,
+    book: BookView,
     work: &mut [u32],
     ids: &[u32],
     starts: &[u32],
@@ -83,8 +76,8 @@ pub fn walk_booked(
     free: Rec,
     adding: bool,
 ) -> Walk
-    requires { SomeWalkBooked heads.now parents.now rows.now counts.now next.now book_heads.now book_rows.now book_next.now work.old starts.now ids.now m flags free.0 adding }
-    ensures { (R W : List Column) («work₀» : List ℕ) → CanWalkBooked heads.now parents.now rows.now counts.now next.now book_heads.now book_rows.now book_next.now «work₀» work.old starts.now ids.now m flags free.0 R W adding → Walked next.now «work₀» work.new m flags (length (chain next.now free.0)) R W adding result.fits result.first.0 result.last.0 result.count result.entries result.used result.avail.0 }
+    requires { SomeBookedIn columns book work.old starts.now ids.now m flags free.0 adding }
+    ensures { (R W : List Column) («work₀» : List ℕ) → BookedIn columns.entry book.entry «work₀» work.old starts.now ids.now m flags free.0 R W adding → Walked columns.entry.next.now «work₀» work.new m flags (length (chain columns.entry.next.now free.0)) R W adding result.fits result.first.0 result.last.0 result.count result.entries result.used result.avail.0 }
 {
     let mut walk = turns::walk_from(free);
     while walk.fits {
@@ -93,13 +86,13 @@ pub fn walk_booked(
             return walk;
         }
         let n = starts::case_a_booked(
-            book_heads, book_rows, book_next, work, ids, starts, m, j, adding,
+            book.heads, book.rows, book.next, work, ids, starts, m, j, adding,
         );
-        let n = children::cases_b_and_c(heads, parents, rows, next, work, m, n, j, adding);
-        let n = children::case_d(heads, rows, next, work, m, n, j, adding);
+        let n = children::cases_b_and_c(columns, work, m, n, j, adding);
+        let n = children::case_d(columns, work, m, n, j, adding);
         let avail = walk.avail;
-        let e = turns::write_plan(heads, rows, counts, next, work, m, n, j, walk.used, avail);
-        walk = turns::step_up(parents, work, m, flags, j, walk, e, adding);
+        let e = turns::write_plan(columns, work, m, n, j, walk.used, avail);
+        walk = turns::step_up(columns.parents, work, m, flags, j, walk, e, adding);
     }
     walk
 }

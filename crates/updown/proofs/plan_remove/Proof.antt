@@ -8,7 +8,7 @@ use Rattle.updown.proofs.plan_remove.Tie as tie
 -- ---- places: the start, the starts marked, the walk gone
 
 abbrev start : tie.After-mark_starts-arg-1 → tie.Start
-start c = c.before.before.before.before.before.before.before.before.before.before.before.before
+start c = c.before.before.before.before
 
 abbrev marked : tie.After-walk_booked-arg-1 → tie.After-mark_starts
 marked c = c.before.before.before

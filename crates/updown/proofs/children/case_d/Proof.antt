@@ -11,17 +11,18 @@ use Rattle.pool.specs.Chains.{chain}
 use Rattle.updown.specs.Queues.{links}
 use Rattle.updown.specs.Turns.{waiting}
 use Rattle.updown.specs.SoFar.{children}
-use Rattle.updown.specs.Walks.{Columns, Turn, AtChild}
+use Rattle.updown.specs.Walks.{Turn, AtChild}
+use Rattle.updown.specs.Views.{ColumnsIn}
 use Rattle.updown.proofs.Draining.{Drain, turn-lost, drained-less}
 use Rattle.updown.proofs.Emptying.{Emptying, emptying-start, emptying-child, emptying-next, lost-open, lost-drain, family-handled}
 use Rattle.updown.proofs.children.case_d.Statement.{statement}
 use Rattle.updown.proofs.children.case_d.Tie as tie
 
 abbrev invariant-loop-c : tie.invariant-loop-c
-invariant-loop-c heads rows next work₀ m n adding head c₀ l₀ work c l = (R W : List Column) (j used : ℕ) → Columns heads rows next m R W adding → Turn m R W adding work₀ j used n (m + j) (children m R W j) → Drain m work₀ (m + j) c₀.0 (waiting m R W j (children m R W j)) → Emptying m R W adding work₀ work j used l (m + j) c.0 (children m R W j)
+invariant-loop-c columns work₀ m n adding head c₀ l₀ work c l = (R W : List Column) (j used : ℕ) → ColumnsIn columns m R W adding → Turn m R W adding work₀ j used n (m + j) (children m R W j) → Drain m work₀ (m + j) c₀.0 (waiting m R W j (children m R W j)) → Emptying m R W adding work₀ work j used l (m + j) c.0 (children m R W j)
 
 abbrev decreases-loop-c : tie.decreases-loop-c
-decreases-loop-c heads rows next work₀ m n adding head c₀ l₀ work c l = length (chain (links m work) c.0)
+decreases-loop-c columns work₀ m n adding head c₀ l₀ work c l = length (chain (links m work) c.0)
 
 -- what holds at the loop's test, for the columns of the premise
 hand : (c : tie.At-loop-c invariant-loop-c decreases-loop-c) →

@@ -11,7 +11,8 @@ use Rattle.pool.specs.Chains.{chain}
 use Rattle.updown.specs.Queues.{links}
 use Rattle.updown.specs.Turns.{waiting}
 use Rattle.updown.specs.SoFar.{nobody}
-use Rattle.updown.specs.Walks.{Columns, Parents, Turn, AtChild}
+use Rattle.updown.specs.Walks.{Turn, AtChild}
+use Rattle.updown.specs.Views.{ColumnsIn, ParentsIn}
 use Rattle.updown.proofs.AtChild.{child-kept, other-within}
 use Rattle.updown.proofs.Draining.{Drain, turn-open, drain-open, drained-less}
 use Rattle.updown.proofs.Emptying.{Emptying, emptying-start, emptying-child, child-drained, emptying-next, children-handled}
@@ -19,10 +20,10 @@ use Rattle.updown.proofs.children.cases_b_and_c.Statement.{statement}
 use Rattle.updown.proofs.children.cases_b_and_c.Tie as tie
 
 abbrev invariant-loop-c : tie.invariant-loop-c
-invariant-loop-c heads parents rows next work₀ m n j adding head c₀ l₀ work c l = (R W : List Column) (used : ℕ) → Columns heads rows next m R W adding → Parents parents m R W adding → Turn m R W adding work₀ j.0 used n j.0 nobody → Drain m work₀ j.0 c₀.0 (waiting m R W j.0 nobody) → Emptying m R W adding work₀ work j.0 used l j.0 c.0 nobody
+invariant-loop-c columns work₀ m n j adding head c₀ l₀ work c l = (R W : List Column) (used : ℕ) → ColumnsIn columns m R W adding → ParentsIn columns m R W adding → Turn m R W adding work₀ j.0 used n j.0 nobody → Drain m work₀ j.0 c₀.0 (waiting m R W j.0 nobody) → Emptying m R W adding work₀ work j.0 used l j.0 c.0 nobody
 
 abbrev decreases-loop-c : tie.decreases-loop-c
-decreases-loop-c heads parents rows next work₀ m n j adding head c₀ l₀ work c l = length (chain (links m work) c.0)
+decreases-loop-c columns work₀ m n j adding head c₀ l₀ work c l = length (chain (links m work) c.0)
 
 -- what holds at the loop's test, for the columns of the premise
 hand : (c : tie.At-loop-c invariant-loop-c decreases-loop-c) →
@@ -65,16 +66,16 @@ loop-holds : tie.Need-loop-c-init invariant-loop-c decreases-loop-c
 loop-holds c = λ R W used k p t d. emptying-start t d
 
 other-parent-requires : tie.Need-other_parent-other-requires invariant-loop-c decreases-loop-c
-other-parent-requires c κs = let a = child c.before.before c.loop-c-test.true in (omega (arith, a.turn.long), a.narrow, a.low, a.high, c.requires.parents-hold.long)
+other-parent-requires c κs = let a = child c.before.before.before c.loop-c-test.true in (omega (arith, a.turn.long), a.narrow, a.low, a.high, c.requires.parents-hold.long)
 
 case-b-or-c-requires : tie.Need-case_b_or_c-l-requires invariant-loop-c decreases-loop-c
-case-b-or-c-requires c κs = record { R = c.requires.R; W = c.requires.W; j = c.args.j.0; used = c.requires.used; handled = (hand c.before.before.before.before.before.before).handled; columns = c.requires.columns; here = child c.before.before.before.before.before.before c.loop-c-test.true }
+case-b-or-c-requires c κs = record { R = c.requires.R; W = c.requires.W; j = c.args.j.0; used = c.requires.used; handled = (hand c.before.before.before.before.before.before.before).handled; columns = c.requires.columns; here = child c.before.before.before.before.before.before.before c.loop-c-test.true }
 
 pass-on-requires : tie.Need-pass_on-c-requires invariant-loop-c decreases-loop-c
-pass-on-requires c κs = let a = child c.before.before.before.before.before.before.before.before.before.before c.loop-c-test.true in let b = c.case_b_or_c-l.ensures _ _ _ _ _ c.requires.columns a (child-kept a (inl refl) c.requires.parents-hold c.other_parent-other.ensures) in (omega (arith, b.only.same_length, a.turn.long), a.narrow, a.low, a.high, other-within a (inl refl) c.requires.parents-hold _ c.other_parent-other.ensures)
+pass-on-requires c κs = let a = child c.before.before.before.before.before.before.before.before.before.before.before c.loop-c-test.true in let b = c.case_b_or_c-l.ensures _ _ _ _ _ c.requires.columns a (child-kept a (inl refl) c.requires.parents-hold c.other_parent-other.ensures) in (omega (arith, b.only.same_length, a.turn.long), a.narrow, a.low, a.high, other-within a (inl refl) c.requires.parents-hold _ c.other_parent-other.ensures)
 
 loop-less : tie.Need-loop-c-smaller invariant-loop-c decreases-loop-c
-loop-less c = let a = child c.before.before.before.before.before.before.before.before.before.before.before.before.before c.loop-c-test.true in drained-less a (inl refl) (hand c.before.before.before.before.before.before.before.before.before.before.before.before.before).drain (child-drained (hand c.before.before.before.before.before.before.before.before.before.before.before.before.before) a refl c.requires.parents-hold c.other_parent-other.ensures (c.case_b_or_c-l.ensures _ _ _ _ _ c.requires.columns a (child-kept a (inl refl) c.requires.parents-hold c.other_parent-other.ensures)) c.pass_on-c.ensures.0 c.pass_on-c.ensures.1)
+loop-less c = let a = child c.before.before.before.before.before.before.before.before.before.before.before.before.before.before c.loop-c-test.true in drained-less a (inl refl) (hand c.before.before.before.before.before.before.before.before.before.before.before.before.before.before).drain (child-drained (hand c.before.before.before.before.before.before.before.before.before.before.before.before.before.before) a refl c.requires.parents-hold c.other_parent-other.ensures (c.case_b_or_c-l.ensures _ _ _ _ _ c.requires.columns a (child-kept a (inl refl) c.requires.parents-hold c.other_parent-other.ensures)) c.pass_on-c.ensures.0 c.pass_on-c.ensures.1)
 
 loop-again : tie.Need-loop-c-preserved invariant-loop-c decreases-loop-c
 loop-again c = λ R W used k p t d. let i = c.loop-c.invariant R W used k p t d in let a = emptying-child k i c.loop-c-test.true (inl refl) in emptying-next i a (inl refl) (child-drained i a refl p c.other_parent-other.ensures (c.case_b_or_c-l.ensures _ _ _ _ _ k a (child-kept a (inl refl) p c.other_parent-other.ensures)) c.pass_on-c.ensures.0 c.pass_on-c.ensures.1)

@@ -11,26 +11,26 @@ sub-t12 c = search rules
 cast-t13 : tie.Need-overflow_cast-h
 cast-t13 c = search rules
 
-mul-t14 : tie.Need-offset_bounds-heads-j
+mul-t14 : tie.Need-offset_bounds-columns-j
 mul-t14 c = search rules
 
-shared-slice-read-t16 : tie.Need-bounds-heads-j
+shared-slice-read-t16 : tie.Need-bounds-columns-j
 shared-slice-read-t16 c =
-    let s = c.before.before.before.before.before.before.before.requires in
+    let s = c.requires in
     omega (arith, s.low, s.high, (s.columns.chains _ s.low s.high).heads-long)
 
 emit-requires : tie.Need-emit-requires
 emit-requires c κs =
-    let s = c.before.before.before.before.before.before.before.before.requires in
-    emit-ready s.columns s.multiplicities s.low s.high s.definition _ c.before.before.before.before.before.before.before.before.args.avail.0 s.linked s.room s.long
+    let s = c.requires in
+    emit-ready s.columns s.multiplicities s.low s.high s.definition _ c.args.avail.0 s.linked s.room s.long
 
 same_length : tie.Need-shape_of-work
 same_length c = search rules
 
 returns : tie.Need-returns
 returns c =
-    let s = c.before.before.before.before.before.before.before.before.before.before.before in
-    λ R W adding k q f r. planned k q s.requires.low s.requires.high f _ s.args.avail.0 s.requires.linked r s.requires.long c.before.before.emit.ensures
+    let s = c in
+    λ R W adding k q f r. planned k q s.requires.low s.requires.high f _ s.args.avail.0 s.requires.linked r s.requires.long c.emit.ensures
 
 pub write_plan_spec : {M : Type 1} → statement M
 write_plan_spec =

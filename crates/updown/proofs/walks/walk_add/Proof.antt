@@ -16,12 +16,12 @@ use Rattle.updown.proofs.walks.walk_add.Statement.{statement}
 use Rattle.updown.proofs.walks.walk_add.Tie as tie
 
 abbrev invariant-loop-walk : tie.invariant-loop-walk
-invariant-loop-walk heads parents rows counts next work₀ row_counts row_list starts m flags walk₀ work walk =
-    (R W : List Column) (lent : List ℕ) (free : ℕ) → walk₀.avail.0 ≡ free → CanWalkListed heads parents rows counts next lent work₀ starts row_counts row_list m flags free R W →
-    Looping next lent work m flags (length (chain next free)) R W true walk.fits walk.first.0 walk.last.0 walk.count walk.entries walk.used walk.avail.0
+invariant-loop-walk columns work₀ row_counts row_list starts m flags walk₀ work walk =
+    (R W : List Column) (lent : List ℕ) (free : ℕ) → walk₀.avail.0 ≡ free → CanWalkListed columns.heads.now columns.parents.now columns.rows.now columns.counts.now columns.next.now lent work₀ starts row_counts row_list m flags free R W →
+    Looping columns.next.now lent work m flags (length (chain columns.next.now free)) R W true walk.fits walk.first.0 walk.last.0 walk.count walk.entries walk.used walk.avail.0
 
 abbrev decreases-loop-walk : tie.decreases-loop-walk
-decreases-loop-walk heads parents rows counts next work₀ row_counts row_list starts m flags walk₀ work walk = rows_left m walk.fits walk.last.0
+decreases-loop-walk columns work₀ row_counts row_list starts m flags walk₀ work walk = rows_left m walk.fits walk.last.0
 
 walk-from-requires : tie.Need-walk_from-walk-requires invariant-loop-walk decreases-loop-walk
 walk-from-requires c κs = search rules
