@@ -9,11 +9,9 @@ use native.Mathlib.Omega.{arith}
 use native.Mathlib.Numerals.{add-one}
 use lib.ListN.{length, get_or, take, drop}
 use lib.Seq.{take-suc, split_at}
+use Rattle.std.specs.Prelude.{Some, None}
 use Rattle.lists.proofs.Tests.{eq-or-ne, refute}
 use Rattle.workspace.specs.Regions.{Apart}
-use Rattle.pool.specs.declared.Chain.{Chain}
-use Rattle.pool.specs.declared.Chain.TheVariants as one
-use Rattle.pool.specs.declared.Walk.TheVariants.{Ended, Cut}
 use Rattle.pool.specs.declared.Rec.{Rec}
 use Rattle.pool.specs.Chains.{chain, last_of, Linked}
 use Rattle.pool.specs.Whole.{chains, AllLinked}
@@ -84,10 +82,10 @@ module _ {hs rs ns w₀ : List ℕ} {m : ℕ} where
     naming few = record { low = omega arith; last-in = omega (arith, q.room, t.long); name_in = λ p. omega (arith, q.room, t.long) }
 
     -- the last record of a column that was walked is of the pool
-    pub last-few : {met' : ℕ} {e : Rec} {a : Chain} → ColumnWalked hs rs ns i met m a → a ≡ one.Ended met' e → e.0 ≤ length ns
-    last-few {met'} {e} c s =
+    pub last-few : {met' : ℕ} {e : Rec} → ColumnWalked hs rs ns i met m (Some (met', e)) → e.0 ≤ length ns
+    last-few {met'} {e} c =
         let h : ℕ = get_or hs i 0 in
-        let d : Walks hs rs ns i met m × (met' ≡ met + length (chain ns h)) × (e.0 ≡ last_from ns h) = ended-walks c s in
+        let d : Walks hs rs ns i met m × (met' ≡ met + length (chain ns h)) × (e.0 ≡ last_from ns h) = ended-walks c in
         omega (arith, d.2, last_within ns h (chain ns h) d.0.linked)
 
     through-more : {v : List ℕ} {met' : ℕ} (e : ℕ) → Walked hs rs ns (named_in w (length ns) 0 (suc i) e) m met' (suc i) → v ≡ named_in w (length ns) 0 (i + 1) e →
@@ -106,10 +104,10 @@ module _ {hs rs ns w₀ : List ℕ} {m : ℕ} where
         (λ b. absurd (booked-some hs (suc i) b (head_at hs i ∙ z)))) named
 
     -- a place whose column was walked
-    pub through-next : {v : List ℕ} {met' : ℕ} {e : Rec} {a : Chain} → ColumnWalked hs rs ns i met m a → a ≡ one.Ended met' e → v ≡ named_in w (length ns) 0 (i + 1) e.0 →
+    pub through-next : {v : List ℕ} {met' : ℕ} {e : Rec} → ColumnWalked hs rs ns i met m (Some (met', e)) → v ≡ named_in w (length ns) 0 (i + 1) e.0 →
         Through hs rs ns w₀ m v met' (i + 1)
-    through-next {v} {met'} {e} {a} c s named =
-        let d : Walks hs rs ns i met m × (met' ≡ met + length (chain ns (get_or hs i 0))) × (e.0 ≡ last_from ns (get_or hs i 0)) = ended-walks c s in
+    through-next {v} {met'} {e} c named =
+        let d : Walks hs rs ns i met m × (met' ≡ met + length (chain ns (get_or hs i 0))) × (e.0 ≡ last_from ns (get_or hs i 0)) = ended-walks c in
         through-more e.0 (walked_more more (omega (arith, q.room, t.long)) t.walked e.0 met' d.0.linked d.1 (omega (arith, d.0.room, d.1)) d.2 (λ b. d.0.fits)) named
 
   -- ---- a column cut short, and the end
@@ -128,14 +126,14 @@ module _ {hs rs ns w₀ : List ℕ} {m : ℕ} where
           room = omega (arith, s.pool.size, t.walked.counted, ap (λ (x : List ℕ). length (chains ns x)) parts, chains-mid-length ns (take i hs) h (drop (suc i) hs));
         }
 
-    pub through-cut : {v : List ℕ} {a : Chain} → i < length hs → get_or hs i 0 ≢ 0 → ColumnWalked hs rs ns i met m a → a ≡ one.Cut → ColumnsWalked hs rs ns v m Cut
-    through-cut {v} {a} more some c s =
+    pub through-cut : {v : List ℕ} → i < length hs → get_or hs i 0 ≢ 0 → ColumnWalked hs rs ns i met m None → ColumnsWalked hs rs ns v m None
+    through-cut {v} more some c =
         record {
-          cut = λ e free. refute (is_sound m (book_of hs rs ns free)) (λ b. cut-walks c s (sound-walks free more some b));
+          cut = λ e free. refute (is_sound m (book_of hs rs ns free)) (λ b. cut-walks c (sound-walks free more some b));
           walked = λ n e. absurd (let z : ◌≡◌ {A = ℕ} 0 1 = cc in omega arith);
         }
 
-    pub through-end : length hs ≤ i → ColumnsWalked hs rs ns w m (Ended met)
+    pub through-end : length hs ≤ i → ColumnsWalked hs rs ns w m (Some met)
     through-end e =
         let k : i ≡ length hs = omega (arith, t.within) in
         record {

@@ -7,6 +7,7 @@ use mathlib.Core.Bool.{Bool, true, false, ◌&&◌}
 use mathlib.Core.List.{List, [], ◌∷◌, ◌++◌, append_assoc, append-nil}
 use Prim.Native.Nat.{ℕ, suc, ◌+◌, ◌≤◌, ◌<◌}
 use native.Mathlib.Omega.{arith}
+use Rattle.std.specs.Prelude.{Some, None}
 use lib.Dec.{leb}
 use lib.ListN.{length, get_or, length-append}
 use borrow.Author.Tests.{le-leb, leb-true}
@@ -14,8 +15,6 @@ use Rattle.lists.specs.Lists.{at, is_in, values_at, rises}
 use Rattle.lists.proofs.Tests.{cases, and_both, both-and, refute, range-in}
 use Rattle.lists.proofs.Place.{values_length}
 use Rattle.pool.specs.declared.Rec.{Rec}
-use Rattle.pool.specs.declared.Chain.{Chain}
-use Rattle.pool.specs.declared.Chain.TheVariants.{Ended, Cut}
 use Rattle.pool.specs.Chains.{chain, last_of, ends, Linked}
 use Rattle.pool.specs.Ends.{last_from, chain_answer}
 use Rattle.pool.proofs.Chains.{Step, linked-step, chain-linked, linked-ends}
@@ -60,31 +59,30 @@ rows-walk hs rs ns i m a b =
 -- ---- the contract, made and read
 
 module _ {hs rs ns : List ℕ} {i n m : ℕ} where
-  pub walked-cut : (Walks hs rs ns i n m → ⊥) → ColumnWalked hs rs ns i n m Cut
+  pub walked-cut : (Walks hs rs ns i n m → ⊥) → ColumnWalked hs rs ns i n m None
   walked-cut f = let e : column_walks hs rs ns i n m ≡ false = refute (column_walks hs rs ns i n m) (λ w. f (walks-of w)) in rw e refl
 
-  pub walked-ended : {k : ℕ} {e : Rec} → Walks hs rs ns i n m → k ≡ n + length (chain ns (get_or hs i 0)) → e.0 ≡ last_from ns (get_or hs i 0) → ColumnWalked hs rs ns i n m (Ended k e)
+  pub walked-ended : {k : ℕ} {e : Rec} → Walks hs rs ns i n m → k ≡ n + length (chain ns (get_or hs i 0)) → e.0 ≡ last_from ns (get_or hs i 0) → ColumnWalked hs rs ns i n m (Some (k, e))
   walked-ended w p q = let t : column_walks hs rs ns i n m ≡ true = of-walks w in rw (t, ← p, ← q) refl
 
-  module _ {a : Chain} (v : ColumnWalked hs rs ns i n m a) where
-    pub cut-walks : a ≡ Cut → Walks hs rs ns i n m → ⊥
-    cut-walks s w =
-        let h : ℕ = get_or hs i 0 in
-        let t : Cut ≡ chain_answer true n ns h = sym s ∙ subst (λ (b : Bool). a ≡ chain_answer b n ns h) (of-walks w) v in
-        let z : ◌≡◌ {A = ℕ} 0 1 = cc in omega arith
+  pub cut-walks : ColumnWalked hs rs ns i n m None → Walks hs rs ns i n m → ⊥
+  cut-walks v w =
+      let h : ℕ = get_or hs i 0 in
+      let t : None ≡ chain_answer true n ns h = subst (λ (b : Bool). None ≡ chain_answer b n ns h) (of-walks w) v in
+      let z : ◌≡◌ {A = ℕ} 0 1 = cc in omega arith
 
-    pub ended-walks : {k : ℕ} {e : Rec} → a ≡ Ended k e → Walks hs rs ns i n m × (k ≡ n + length (chain ns (get_or hs i 0))) × (e.0 ≡ last_from ns (get_or hs i 0))
-    ended-walks {k} {e} s =
-        let h : ℕ = get_or hs i 0 in
-        elim (cases (column_walks hs rs ns i n m)) [
-          | inl w ↦
-              let t : Ended k e ≡ chain_answer true n ns h = sym s ∙ subst (λ (b : Bool). a ≡ chain_answer b n ns h) w v in
-              let l : e ≡ record { 0 = last_from ns h } = cc in
-              (walks-of w, cc, ap (λ (x : Rec). x.0) l)
-          | inr w ↦
-              let t : Ended k e ≡ chain_answer false n ns h = sym s ∙ subst (λ (b : Bool). a ≡ chain_answer b n ns h) w v in
-              absurd (let z : ◌≡◌ {A = ℕ} 0 1 = cc in omega arith)
-        ]
+  pub ended-walks : {k : ℕ} {e : Rec} → ColumnWalked hs rs ns i n m (Some (k, e)) → Walks hs rs ns i n m × (k ≡ n + length (chain ns (get_or hs i 0))) × (e.0 ≡ last_from ns (get_or hs i 0))
+  ended-walks {k} {e} v =
+      let h : ℕ = get_or hs i 0 in
+      elim (cases (column_walks hs rs ns i n m)) [
+        | inl w ↦
+            let t : Some (k, e) ≡ chain_answer true n ns h = subst (λ (b : Bool). Some (k, e) ≡ chain_answer b n ns h) w v in
+            let p : (k, e) ≡ (n + length (chain ns h), record { 0 = last_from ns h }) = cc in
+            (walks-of w, ap (λ (x : ℕ × Rec). x.0) p, ap (λ (x : ℕ × Rec). x.1.0) p)
+        | inr w ↦
+            let t : Some (k, e) ≡ chain_answer false n ns h = subst (λ (b : Bool). Some (k, e) ≡ chain_answer b n ns h) w v in
+            absurd (let z : ◌≡◌ {A = ℕ} 0 1 = cc in omega arith)
+      ]
 
 -- ---- the invariant: k records were followed from head, the last of them `last` of row `above`, and the walk stands before r
 
@@ -143,7 +141,7 @@ module _ {rs ns : List ℕ} {m h r last above k : ℕ} (f : Following rs ns m h 
 
 module _ (hs : List ℕ) (i n : ℕ) {rs ns : List ℕ} {m r last above k : ℕ} (f : Following rs ns m (get_or hs i 0) r last above k) where
   -- a record where a column that walks could not go on
-  pub following-cut : r ≢ 0 → (Fine rs ns m r above → ⊥) → ColumnWalked hs rs ns i n m Cut
+  pub following-cut : r ≢ 0 → (Fine rs ns m r above → ⊥) → ColumnWalked hs rs ns i n m None
   following-cut p g = walked-cut (λ (w : Walks hs rs ns i n m). g (fine f p w.linked (walks-rows w).rise))
 
   module _ (z : r ≡ 0) where
@@ -156,13 +154,13 @@ module _ (hs : List ℕ) (i n : ℕ) {rs ns : List ℕ} {m r last above k : ℕ}
     count : k ≡ length (chain ns (get_or hs i 0))
     count = omega (arith, f.counted, ap length following-chain)
 
-    pub following-many : 256 < k → ColumnWalked hs rs ns i n m Cut
+    pub following-many : 256 < k → ColumnWalked hs rs ns i n m None
     following-many e = walked-cut (λ (w : Walks hs rs ns i n m). omega (arith, count, (walks-rows w).few, values_length rs (chain ns (get_or hs i 0))))
 
-    pub following-full : length ns < n + k → ColumnWalked hs rs ns i n m Cut
+    pub following-full : length ns < n + k → ColumnWalked hs rs ns i n m None
     following-full e = walked-cut (λ (w : Walks hs rs ns i n m). omega (arith, count, w.room))
 
-    pub following-ended : {l : ℕ} {e : Rec} → get_or hs i 0 ≢ 0 → k ≤ 256 → n + k ≤ length ns → l ≡ n + k → e.0 ≡ last → ColumnWalked hs rs ns i n m (Ended l e)
+    pub following-ended : {l : ℕ} {e : Rec} → get_or hs i 0 ≢ 0 → k ≤ 256 → n + k ≤ length ns → l ≡ n + k → e.0 ≡ last → ColumnWalked hs rs ns i n m (Some (l, e))
     unfolding values_at rises
     following-ended some few room p q =
         let h : ℕ = get_or hs i 0 in

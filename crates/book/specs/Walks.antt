@@ -1,13 +1,11 @@
 -- Walking the book's chains, for any contents: what each walk asks and answers. A chain must end, hold a column that fits, and with those before have no more
 -- records than there are. Its last record is named, so that shared records show. Assumes nothing: these are definitions.
-use Rattle.std.specs.Prelude.{◌≡◌, ◌≢◌, Bool, true, false, ◌&&◌, List, ℕ, suc, ◌+◌, ◌≤◌, ◌<◌, leb, length, get_or, take}
+use Rattle.std.specs.Prelude.{◌≡◌, ◌≢◌, Bool, true, false, ◌&&◌, List, ℕ, suc, ◌+◌, ◌≤◌, ◌<◌, leb, length, get_or, take, Option, Some, None}
 use Rattle.workspace.specs.Regions.{region}
 use Rattle.pool.specs.Chains.{chain, ends}
 use Rattle.pool.specs.Whole.{chains, AllLinked}
 use Rattle.pool.specs.Ends.{lasts, chain_answer}
-use Rattle.pool.specs.declared.Chain.{Chain}
-use Rattle.pool.specs.declared.Walk.{Walk}
-use Rattle.pool.specs.declared.Walk.TheVariants.{Ended, Cut}
+use Rattle.pool.specs.declared.Rec.{Rec}
 use Rattle.ends.specs.Naming.{Named}
 use Rattle.book.specs.Book.{book_of, tables_of, is_booked, column_for, column_fits, is_sound}
 
@@ -26,7 +24,7 @@ column_walks hs rs ns i n m =
     ends ns (get_or hs i 0) && column_fits m (column_for (tables_of hs rs ns) (suc i)) && leb (n + length (chain ns (get_or hs i 0))) (length ns)
 
 -- after the walk of one column: whether it can be walked, with the records met and its last one
-abbrev pub ColumnWalked : (heads rows next : List ℕ) → (i met m : ℕ) → Chain → Type 0
+abbrev pub ColumnWalked : (heads rows next : List ℕ) → (i met m : ℕ) → Option (ℕ × Rec) → Type 0
 ColumnWalked hs rs ns i n m a = a ≡ chain_answer (column_walks hs rs ns i n m) n ns (get_or hs i 0)
 
 -- ---- all columns
@@ -47,7 +45,7 @@ pub record Walked (heads rows next scratch : List ℕ) (m met k : ℕ) : Type 0 
   pub lasts_are : region scratch (length next) k ≡ lasts next (take k heads)
   pub named : Named scratch (length next) k 0 (length next)
 
--- after the walk of all columns: a cut means that the book is not sound, whatever its free head
-pub record ColumnsWalked (heads rows next scratch : List ℕ) (m : ℕ) (a : Walk) : Type 0 where
-  pub cut : a ≡ Cut → (free : ℕ) → is_sound m (book_of heads rows next free) ≡ false
-  pub walked : (n : ℕ) → a ≡ Ended n → Walked heads rows next scratch m n (length heads)
+-- after the walk of all columns: none, a cut, means that the book is not sound, whatever its free head
+pub record ColumnsWalked (heads rows next scratch : List ℕ) (m : ℕ) (a : Option ℕ) : Type 0 where
+  pub cut : a ≡ None → (free : ℕ) → is_sound m (book_of heads rows next free) ≡ false
+  pub walked : (n : ℕ) → a ≡ Some n → Walked heads rows next scratch m n (length heads)

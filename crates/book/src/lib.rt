@@ -12,7 +12,7 @@ ghost use Rattle.book.specs.Walks.{CanWalk, ColumnWalked, CanReadThrough, Column
 ghost use Rattle.book.specs.Entries.{opened, CanAdd, Added, CanRemove, Removed, CanCopy, HasHead, StartsAt};
 ghost use Rattle.book.specs.Tally.{tallied, filled, booked_rows, CanCount};
 
-use pool::{Chain, Rec, Walk};
+use pool::Rec;
 
 // A row number, from 1.
 #[derive(Clone, Copy)]
@@ -66,7 +66,14 @@ fn zero_rows(rows: &mut [u16])
 const MOST: usize = 256;
 
 // Walks the chain of the head at place i, which is not 0, after met records: its rows must rise within 1 to m, and be at most MOST.
-fn walk_column(heads: &[u32], rows: &[u16], next: &[u32], i: usize, met: usize, m: u32) -> Chain
+fn walk_column(
+    heads: &[u32],
+    rows: &[u16],
+    next: &[u32],
+    i: usize,
+    met: usize,
+    m: u32,
+) -> Option<(usize, Rec)>
     requires { CanWalk heads.now rows.now next.now i met }
     ensures { ColumnWalked heads.now rows.now next.now i met m result }
 {
@@ -76,15 +83,15 @@ fn walk_column(heads: &[u32], rows: &[u16], next: &[u32], i: usize, met: usize, 
     let mut k: usize = 0;
     while r != 0 {
         if next.len() < r as usize {
-            return Chain::Cut;
+            return None;
         }
         let place = (r - 1) as usize;
         let row = rows[place] as u32;
         if row <= above {
-            return Chain::Cut;
+            return None;
         }
         if m < row {
-            return Chain::Cut;
+            return None;
         }
         above = row;
         last = r;
@@ -92,41 +99,38 @@ fn walk_column(heads: &[u32], rows: &[u16], next: &[u32], i: usize, met: usize, 
         k += 1;
     }
     if MOST < k {
-        return Chain::Cut;
+        return None;
     }
     if next.len() - met < k {
-        return Chain::Cut;
+        return None;
     }
-    Chain::Ended(met + k, Rec(last))
+    Some((met + k, Rec(last)))
 }
 
 // Walks the chains of all ids; the last record of each is named in scratch, names first, then the last records by id. Gives the number of records met.
-fn walk_columns(heads: &[u32], rows: &[u16], next: &[u32], scratch: &mut [u32], m: u32) -> Walk
+fn walk_columns(
+    heads: &[u32],
+    rows: &[u16],
+    next: &[u32],
+    scratch: &mut [u32],
+    m: u32,
+) -> Option<usize>
     requires { CanReadThrough heads.now rows.now next.now scratch.old }
     ensures { ColumnsWalked heads.now rows.now next.now scratch.new m result }
 {
     let c = next.len();
     let mut n: usize = 0;
-    let mut i: usize = 0;
-    while i < heads.len() {
+    for (i, head) in heads.iter().enumerate() {
         let k = (i + 1) as u32;
-        if heads[i] == 0 {
+        if *head == 0 {
             ends::name(scratch, c, 0, k, Rec(0));
-            i += 1;
         } else {
-            match walk_column(heads, rows, next, i, n, m) {
-                Chain::Cut => {
-                    return Walk::Cut;
-                }
-                Chain::Ended(met, last) => {
-                    ends::name(scratch, c, 0, k, last);
-                    n = met;
-                    i += 1;
-                }
-            }
+            let (met, last) = walk_column(heads, rows, next, i, n, m)?;
+            ends::name(scratch, c, 0, k, last);
+            n = met;
         }
     }
-    Walk::Ended(n)
+    Some(n)
 }
 
 // Whether the book is sound, for any contents. Scratch, a place for each record and each id, may hold anything.
@@ -142,17 +146,13 @@ pub fn read_through(
     ensures { result ≡ is_sound m (book_of heads.now rows.now next.now free.0) }
 {
     let c = next.len();
-    let Walk::Ended(n) = walk_columns(heads, rows, next, scratch, m) else {
+    let Some(n) = walk_columns(heads, rows, next, scratch, m) else {
         return false;
     };
-    if !ends::are_apart(scratch, c, 0, heads.len()) {
-        return false;
-    }
     let left = c - n;
-    if free_chain::zeros(rows) != left {
-        return false;
-    }
-    free_chain::has(rows, next, scratch, free, left)
+    ends::are_apart(scratch, c, 0, heads.len())
+        && free_chain::zeros(rows) == left
+        && free_chain::has(rows, next, scratch, free, left)
 }
 
 // Whether k more rows fit into the free records.

@@ -12,20 +12,6 @@ ghost use Rattle.pool.specs.Opening.{free_head, opened_nexts};
 #[derive(Clone, Copy)]
 pub struct Rec(pub u32);
 
-// What a walk of chains finds: their end, with the number of records met, or a chain that does not hold what it should.
-#[derive(Clone, Copy)]
-pub enum Walk {
-    Ended(usize),
-    Cut,
-}
-
-// The same of one chain, with its last record.
-#[derive(Clone, Copy)]
-pub enum Chain {
-    Ended(usize, Rec),
-    Cut,
-}
-
 // The number of records in the chain from head, counted up to a bound.
 pub fn count(next: &[u32], head: Rec, bound: u32) -> u32
     requires { Linked next.now head.0 (chain next.now head.0) }

@@ -8,6 +8,7 @@ use mathlib.Core.Bool.{Bool, true, false, ◌&&◌, true≢false}
 use mathlib.Core.List.{List, [], ◌∷◌, ◌++◌, append_assoc, append-nil}
 use Prim.Native.Nat.{ℕ, ◌+◌, ◌*◌, ◌-◌, ◌≤◌, ◌<◌}
 use native.Mathlib.Omega.{arith}
+use Rattle.std.specs.Prelude.{Some, None}
 use lib.Dec.{leb}
 use lib.ListN.{length, get_or, take, set, length-set, length-append}
 use lib.Seq.{get_or-take, get_or-set_other, take-set-lt}
@@ -18,7 +19,6 @@ use Rattle.lists.proofs.Place.{values-append, values_one}
 use Rattle.workspace.specs.Layout.{row_stash}
 use Rattle.workspace.specs.Regions.{cell, region}
 use Rattle.workspace.proofs.Regions.{region-ext, store-push, store-leaves-region}
-use Rattle.pool.specs.declared.Chain.TheVariants.{Ended, Cut}
 use Rattle.pool.specs.Chains.{chain, ends, last_of, Linked}
 use Rattle.pool.proofs.Chains.{Step, linked-step, linked-ends, chain-linked}
 use Rattle.pool.proofs.Runs.{Runs, runs-start, runs-more, runs-split, runs-end, runs-chain, runs-out, runs_last}
@@ -121,11 +121,11 @@ entry-front m w z x v e =
 
 module _ {rows counts next w₀ : List ℕ} {m met size head : ℕ} (pre : CanCheck rows counts next w₀ m met size) where
   -- a chain that does not fit
-  not-fitting : {w : List ℕ} → OnlyTwo 0 m (row_stash m (length next)) (length next) w₀ w → chain_fits rows counts next w₀ m met head ≡ false → Checked rows counts next w₀ w m met head Cut
+  not-fitting : {w : List ℕ} → OnlyTwo 0 m (row_stash m (length next)) (length next) w₀ w → chain_fits rows counts next w₀ m met head ≡ false → Checked rows counts next w₀ w m met head None
   not-fitting o e = record { only = o; answer = rw e refl; read = λ t. absurd (true≢false (sym t ∙ e)) }
 
   -- more counters than records are left
-  pub checking-many : length next - met < size → Checked rows counts next w₀ w₀ m met head Cut
+  pub checking-many : length next - met < size → Checked rows counts next w₀ w₀ m met head None
   checking-many h = not-fitting two-refl (fit-size rows counts next w₀ m met head (λ r e. omega (arith, pre.size_is)))
 
   pub checking-start : head < 4294967296 → Checking rows counts next w₀ m met head w₀ head 0 0 0
@@ -160,16 +160,16 @@ module _ {rows counts next w₀ : List ℕ} {m met size head : ℕ} (pre : CanCh
     checking-within = omega (arith, i.counted, pre.size_is, passes-filled rows counts m (region w₀ 0 m) 0 i.records met-pass)
 
     -- the chain ends while counters are left
-    pub checking-short : k < size → r ≡ 0 → Checked rows counts next w₀ w m met head Cut
+    pub checking-short : k < size → r ≡ 0 → Checked rows counts next w₀ w m met head None
     checking-short h z =
         let c : chain next head ≡ i.records = runs-chain next head i.records (subst (Runs next head i.records) z i.runs) in
         not-fitting i.only (fit-size rows counts next w₀ m met head (λ p e. omega (arith, i.counted, ap length c, pre.size_is)))
 
-    pub checking-out : length next < r → Checked rows counts next w₀ w m met head Cut
+    pub checking-out : length next < r → Checked rows counts next w₀ w m met head None
     checking-out h = not-fitting i.only (fit-out rows counts next w₀ m met head i.records r i.runs h)
 
     -- all counters were taken, and the chain goes on
-    pub checking-on : size ≤ k → r ≢ 0 → Checked rows counts next w₀ w m met head Cut
+    pub checking-on : size ≤ k → r ≢ 0 → Checked rows counts next w₀ w m met head None
     checking-on h p = not-fitting i.only (fit_on rows counts next w₀ m met head i.records r i.runs p (omega (arith, i.counted, pre.size_is)))
 
     module _ (room : size ≤ length next - met) where
@@ -202,7 +202,7 @@ module _ {rows counts next w₀ : List ℕ} {m met size head : ℕ} (pre : CanCh
               (λ h. of_entry m (region w 0 m) before (at rows r) (at counts r) (front-entry m w before (at rows r) (at counts r) (entry_of m w before (at rows r) (at counts r) h)))
               (λ h. of_entry m w before (at rows r) (at counts r) (entry-front m w before (at rows r) (at counts r) (entry_of m (region w 0 m) before (at rows r) (at counts r) h)))
 
-          pub checking-failed : b ≡ false → Checked rows counts next w₀ x m met head Cut
+          pub checking-failed : b ≡ false → Checked rows counts next w₀ x m met head None
           checking-failed f =
               let z : entry_fits m w before (at rows r) (at counts r) ≡ false = sym checked.answer ∙ f in
               let x-is : x ≡ w = checked.changed ∙ rw z refl in
@@ -279,7 +279,7 @@ module _ {rows counts next w₀ : List ℕ} {m met size head : ℕ} (pre : CanCh
                   stash-before = λ a h. x-place (row_stash m (length next) + a) (omega arith) (λ d. omega arith) ∙ i.stash-before a h;
                 }
 
-      pub checking-end : size ≤ k → r ≡ 0 → Checked rows counts next w₀ w m met head (Ended (met + size) (record { 0 = last }))
+      pub checking-end : size ≤ k → r ≡ 0 → Checked rows counts next w₀ w m met head (Some (met + size, record { 0 = last }))
       checking-end h z =
           let runs : Runs next head i.records 0 = subst (Runs next head i.records) z i.runs in
           let c : chain next head ≡ i.records = runs-chain next head i.records runs in

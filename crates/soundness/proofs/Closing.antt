@@ -6,6 +6,7 @@ use mathlib.Core.Bool.{true, false}
 use mathlib.Core.List.{List, ◌∷◌}
 use Prim.Native.Nat.{ℕ, suc, ◌+◌, ◌*◌, ◌-◌, ◌≤◌}
 use native.Mathlib.Omega.{arith}
+use Rattle.std.specs.Prelude.{Option, None}
 use lib.Dec.{eqb}
 use lib.ListN.{length, get_or}
 use borrow.Author.Tests.{eqb-true}
@@ -17,9 +18,8 @@ use Rattle.workspace.specs.Regions.{region}
 use Rattle.symbolic.specs.Factor.{FactorColumn, factor_of, column_at, parent_of, pattern_of, multiplicities_of}
 use Rattle.symbolic.proofs.Patterns.{pattern-parts}
 use Rattle.symbolic.proofs.Theorems.{parent_above}
-use Rattle.pool.specs.declared.Chain.{Chain}
-use Rattle.pool.specs.declared.Walk.TheVariants.{Cut}
 use Rattle.pool.proofs.Apart.{last_within}
+use Rattle.pool.specs.declared.Rec.{Rec}
 use Rattle.book.specs.Book as book
 use Rattle.tables.specs.Stored.{Stored, records_of, is_sound_for}
 use Rattle.counting.specs.Counting.{CanLink}
@@ -45,7 +45,7 @@ pub record CloseFacts (s : Stored) (b : book.Book) (w₂ : List ℕ) (j met n la
 
 module _ {s : Stored} {b : book.Book} {w : List ℕ} {j met : ℕ} (some : SomeState s b w j met)
     {w₁ : List ℕ} {size : ℕ} (d : Counted (length s.heads) w w₁ (given_in b.heads b.rows b.next w (length s.heads) (length s.next) j) size)
-    {w₂ : List ℕ} {a : Chain} (k : Checked s.rows s.counts s.next w₁ w₂ (length s.heads) met (at s.heads j) a) where
+    {w₂ : List ℕ} {a : Option (ℕ × Rec)} (k : Checked s.rows s.counts s.next w₁ w₂ (length s.heads) met (at s.heads j) a) where
   pub walk-only : WithinWork s b w w₂
   walk-only =
       record {
@@ -57,7 +57,7 @@ module _ {s : Stored} {b : book.Book} {w : List ℕ} {j met : ℕ} (some : SomeS
       }
 
   pub closing-cut : (l : ℕ) → ((windows : List ℕ) (clock : ℕ) → State s b windows clock w j met → is_sound_for (live_in s b windows clock) s ≡ false) →
-      ColumnsRead s b w j met w₂ l Cut
+      ColumnsRead s b w j met w₂ l None
   closing-cut l h =
       record { only = walk-only; cut = λ _. h; next = λ n t. absurd (let z : ◌≡◌ {A = ℕ} 0 1 = cc in omega arith) }
 
@@ -95,7 +95,7 @@ module _ {s : Stored} {b : book.Book} {windows : List ℕ} {clock : ℕ} {w : Li
   -- ---- the table
 
   module _ {size : ℕ} (d : Counted (length s.heads) w w₁ (given_in b.heads b.rows b.next w (length s.heads) (length s.next) j) size)
-      {w₂ : List ℕ} {a : Chain} (k : Checked s.rows s.counts s.next w₁ w₂ (length s.heads) met (at s.heads j) a) where
+      {w₂ : List ℕ} {a : Option (ℕ × Rec)} (k : Checked s.rows s.counts s.next w₁ w₂ (length s.heads) met (at s.heads j) a) where
     pub chain-read : ChainRead s.rows s.next w₁ w₂ m met (at s.heads j)
     chain-read = k.read found.fitted
 

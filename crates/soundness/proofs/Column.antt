@@ -7,6 +7,7 @@ use mathlib.Core.Bool.{Bool, true, false, ◌&&◌}
 use mathlib.Core.List.{List, ◌∷◌, ◌++◌}
 use Prim.Native.Nat.{ℕ, zero, suc, ◌+◌, ◌-◌, ◌≤◌, ◌<◌}
 use native.Mathlib.Omega.{arith}
+use Rattle.std.specs.Prelude.{Option, Some, None}
 use lib.Dec.{eqb}
 use lib.ListN.{length, take, drop}
 use lib.Seq.{split_at}
@@ -17,8 +18,6 @@ use Rattle.workspace.proofs.Regions.{region-length}
 use Rattle.symbolic.specs.Columns.{Column}
 use Rattle.symbolic.specs.Factor.{FactorColumn, factor_of, column_at, pattern_of, multiplicities_of}
 use Rattle.pool.specs.declared.Rec.{Rec}
-use Rattle.pool.specs.declared.Chain.{Chain}
-use Rattle.pool.specs.declared.Chain.TheVariants.{Ended, Cut}
 use Rattle.pool.specs.Chains.{Linked}
 use Rattle.pool.specs.Whole.{chains, is_whole, Pool}
 use Rattle.pool.specs.Ends.{last_from, chain_answer}
@@ -102,8 +101,8 @@ module _ {s : Stored} {b : book.Book} {windows : List ℕ} {clock : ℕ} {w : Li
       fits-same s.rows s.counts m (region w₁ 0 m) (records_of s j) (region-length w₁ 0 m (omega (arith, st.sizes.long, d.only.same_length))) ∙
       ap (λ (ns : List ℕ). entries_held s j (record { counts = ns; parent = 0 })) (ready-counters st inside d)
 
-  module _ {w₂ : List ℕ} {a : Chain} (k : Checked s.rows s.counts s.next w₁ w₂ m met (at s.heads j) a) where
-    pub column-cut : a ≡ Cut → is_sound_for (live_in s b windows clock) s ≡ false
+  module _ {w₂ : List ℕ} {a : Option (ℕ × Rec)} (k : Checked s.rows s.counts s.next w₁ w₂ m met (at s.heads j) a) where
+    pub column-cut : a ≡ None → is_sound_for (live_in s b windows clock) s ≡ false
     column-cut e =
         refute (is_sound_for (live_in s b windows clock) s) (λ t.
         (let p : SoundParts (live_in s b windows clock) s = sound-parts (live_in s b windows clock) s t in
@@ -112,26 +111,25 @@ module _ {s : Stored} {b : book.Book} {windows : List ℕ} {clock : ℕ} {w : Li
         and_both (entries_held s j column) (eqb (at s.parents j) column.parent) (p.holds j st.low inside) in
         let y : chain_fits s.rows s.counts s.next w₁ m met head ≡ true =
         fit-make s.rows s.counts s.next w₁ m met head (pool-linked pool j st.low inside) (fits-held ∙ h.0) (pool-room s j met pool st.chains-walked.counted st.low inside) in
-        let z : Cut ≡ chain_answer true met s.next head = sym e ∙ k.answer ∙ ap (λ (x : Bool). chain_answer x met s.next head) y in
+        let z : None ≡ chain_answer true met s.next head = sym e ∙ k.answer ∙ ap (λ (x : Bool). chain_answer x met s.next head) y in
         let o : ◌≡◌ {A = ℕ} 0 1 = cc in omega arith))
 
-    pub column-ended : {n : ℕ} {last : Rec} → a ≡ Ended n last → Found s b windows clock w₁ j met n last.0
+    pub column-ended : {n : ℕ} {last : Rec} → a ≡ Some (n, last) → Found s b windows clock w₁ j met n last.0
     column-ended {n} {last} e =
         elim (cases (chain_fits s.rows s.counts s.next w₁ m met head)) [
           | inl y ↦
-              let z : Ended n last ≡ chain_answer true met s.next head = sym e ∙ k.answer ∙ ap (λ (x : Bool). chain_answer x met s.next head) y in
-              let count : n ≡ met + length (records_of s j) = cc in
-              let same-last : last ≡ record { 0 = last_from s.next head } = cc in
+              let z : Some (n, last) ≡ chain_answer true met s.next head = sym e ∙ k.answer ∙ ap (λ (x : Bool). chain_answer x met s.next head) y in
+              let both : (n, last) ≡ (met + length (records_of s j), record { 0 = last_from s.next head }) = cc in
               let p : FitParts s.rows s.counts s.next w₁ m met head = fit_parts s.rows s.counts s.next w₁ m met head y in
               record {
                 fitted = y;
-                count = count;
-                within = omega (arith, p.room);
-                last-is = ap (λ (x : Rec). x.0) same-last;
+                count = ap (λ (x : ℕ × Rec). x.0) both;
+                within = omega (arith, p.room, ap (λ (x : ℕ × Rec). x.0) both);
+                last-is = ap (λ (x : ℕ × Rec). x.1.0) both;
                 linked = p.linked;
                 held = sym fits-held ∙ p.fitting;
               }
           | inr y ↦
-              let z : Ended n last ≡ chain_answer false met s.next head = sym e ∙ k.answer ∙ ap (λ (x : Bool). chain_answer x met s.next head) y in
+              let z : Some (n, last) ≡ chain_answer false met s.next head = sym e ∙ k.answer ∙ ap (λ (x : Bool). chain_answer x met s.next head) y in
               absurd (let o : ◌≡◌ {A = ℕ} 0 1 = cc in omega arith)
         ]

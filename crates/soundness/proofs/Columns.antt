@@ -4,12 +4,11 @@ use mathlib.Core.Path.{◌≡◌, sym, ap, subst}
 use mathlib.Core.List.{List}
 use Prim.Native.Nat.{ℕ, ◌+◌, ◌≤◌, ◌<◌}
 use native.Mathlib.Omega.{arith}
+use Rattle.std.specs.Prelude.{Option, Some, None}
 use lib.ListN.{length}
 use Rattle.lists.specs.Lists.{at}
 use Rattle.workspace.specs.Layout.{child_head, child_next, lasts_at, names_at}
 use Rattle.workspace.proofs.Regions.{only-refl, only-trans}
-use Rattle.pool.specs.declared.Walk.{Walk}
-use Rattle.pool.specs.declared.Walk.TheVariants.{Ended, Cut}
 use Rattle.pool.proofs.Whole.{chains-nil, all_nil}
 use Rattle.pool.proofs.Apart.{lasts-nil}
 use Rattle.ends.proofs.Naming.{named_start}
@@ -35,8 +34,8 @@ module _ {s : Stored} {b : book.Book} {w₀ : List ℕ} where
     columns-can z h =
         record { some = record { windows = z.windows; clock = z.clock; state = c.state z.windows z.clock z.state }; inside = omega arith }
 
-    module _ {x : List ℕ} {a : Walk} (r : ColumnsRead s b w (i + 1) n x (i + 1 + 1) a) where
-      pub columns-cut : a ≡ Cut → ColumnsRead s b w₀ 1 0 x (length s.heads + 1) Cut
+    module _ {x : List ℕ} {a : Option ℕ} (r : ColumnsRead s b w (i + 1) n x (i + 1 + 1) a) where
+      pub columns-cut : a ≡ None → ColumnsRead s b w₀ 1 0 x (length s.heads + 1) None
       columns-cut e =
           record {
             only = only-trans c.only r.only;
@@ -44,7 +43,7 @@ module _ {s : Stored} {b : book.Book} {w₀ : List ℕ} where
             next = λ l t. absurd (let z : ◌≡◌ {A = ℕ} 0 1 = cc in omega arith);
           }
 
-      pub columns-next : {k : ℕ} → i < length s.heads → a ≡ Ended k → ColumnsReading s b w₀ x k (i + 1)
+      pub columns-next : {k : ℕ} → i < length s.heads → a ≡ Some k → ColumnsReading s b w₀ x k (i + 1)
       columns-next {k} h e =
           record {
             inside = omega arith;
@@ -52,7 +51,7 @@ module _ {s : Stored} {b : book.Book} {w₀ : List ℕ} where
             only = only-trans c.only r.only;
           }
 
-    pub columns-end : length s.heads ≤ i → ColumnsRead s b w₀ 1 0 w (length s.heads + 1) (Ended n)
+    pub columns-end : length s.heads ≤ i → ColumnsRead s b w₀ 1 0 w (length s.heads + 1) (Some n)
     columns-end h =
         let q : i ≡ length s.heads = omega (arith, c.inside) in
         record {

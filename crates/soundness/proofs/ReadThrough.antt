@@ -7,6 +7,7 @@ use mathlib.Core.Bool.{Bool, true, false, false≢true}
 use mathlib.Core.List.{List}
 use Prim.Native.Nat.{ℕ, suc, ◌+◌, ◌*◌, ◌-◌, ◌≤◌, ◌<◌}
 use native.Mathlib.Omega.{arith}
+use Rattle.std.specs.Prelude.{Option, Some}
 use lib.ListN.{length, get_or, take}
 use lib.Seq.{take_all}
 use borrow.Rule.Slice.PartMut.{put_mid}
@@ -24,8 +25,6 @@ use Rattle.pool.specs.Chains.{chain}
 use Rattle.pool.specs.Whole.{chains, is_whole, AllLinked, Pool}
 use Rattle.pool.specs.Ends.{lasts, NoneTwice}
 use Rattle.pool.specs.Free.{FreeHas, Closed, zero_pairs}
-use Rattle.pool.specs.declared.Walk.{Walk}
-use Rattle.pool.specs.declared.Walk.TheVariants.{Ended}
 use Rattle.pool.proofs.Whole.{whole-pool}
 use Rattle.pool.proofs.Apart.{chains-find}
 use Rattle.pool.proofs.Closed.{Rowed, closed-whole, whole-closed, zero-pairs, zero-pairs-back}
@@ -180,7 +179,7 @@ module _ {s : Stored} {b : book.Book} {windows : List ℕ} {clock : ℕ} {w : Li
 
 -- ---- by all windows and clocks that were prepared for
 
-module _ {s : Stored} {b : book.Book} {w₀ w : List ℕ} {n : ℕ} {z : Walk} (r : ColumnsRead s b w₀ 1 0 w (length s.heads + 1) z) (ended : z ≡ Ended n) where
+module _ {s : Stored} {b : book.Book} {w₀ w : List ℕ} {n : ℕ} {z : Option ℕ} (r : ColumnsRead s b w₀ 1 0 w (length s.heads + 1) z) (ended : z ≡ Some n) where
   after : (windows : List ℕ) (clock : ℕ) → Prepared s b windows clock w₀ → State s b windows clock w (length s.heads + 1) n
   after windows clock p = r.next n ended windows clock (first-state p)
 

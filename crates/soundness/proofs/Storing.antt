@@ -7,6 +7,7 @@ use mathlib.Core.Bool.{true}
 use mathlib.Core.List.{List, [], ◌∷◌, ◌++◌}
 use Prim.Native.Nat.{ℕ, suc, ◌+◌, ◌*◌, ◌-◌, ◌≤◌, ◌<◌}
 use native.Mathlib.Omega.{arith}
+use Rattle.std.specs.Prelude.{Option, Some}
 use lib.ListN.{length, get_or, take, set, length-set, length-append}
 use lib.Seq.{get_or-set_same, get_or-set_other, take-suc}
 use borrow.Author.Tests.{eq-eqb}
@@ -16,8 +17,7 @@ use Rattle.workspace.specs.Layout.{column_head, stash_start, lasts_at, names_at,
 use Rattle.workspace.specs.Regions.{cell, region, Outside, IsZero}
 use Rattle.workspace.proofs.Regions.{region-ext}
 use Rattle.symbolic.specs.Factor.{FactorColumn, factor_of, column_at, parent_of}
-use Rattle.pool.specs.declared.Chain.{Chain}
-use Rattle.pool.specs.declared.Walk.TheVariants.{Ended}
+use Rattle.pool.specs.declared.Rec.{Rec}
 use Rattle.pool.specs.Chains.{chain}
 use Rattle.pool.specs.Whole.{chains, AllLinked}
 use Rattle.pool.specs.Ends.{last_from, lasts}
@@ -61,7 +61,7 @@ module _ (ns xs : List ℕ) (h : ℕ) where
 
 module _ {s : Stored} {b : book.Book} {windows : List ℕ} {clock : ℕ} {w : List ℕ} {j met : ℕ} (st : State s b windows clock w j met) (inside : j ≤ length s.heads) {w₁ : List ℕ} {n last : ℕ} (found : Found s b windows clock w₁ j met n last)
     {size : ℕ} (d : Counted (length s.heads) w w₁ (given_in b.heads b.rows b.next w (length s.heads) (length s.next) j) size)
-    {w₂ : List ℕ} {a : Chain} (k : Checked s.rows s.counts s.next w₁ w₂ (length s.heads) met (at s.heads j) a) where
+    {w₂ : List ℕ} {a : Option (ℕ × Rec)} (k : Checked s.rows s.counts s.next w₁ w₂ (length s.heads) met (at s.heads j) a) where
   abbrev m : ℕ
   m = length s.heads
 
@@ -299,7 +299,7 @@ module _ {s : Stored} {b : book.Book} {windows : List ℕ} {clock : ℕ} {w : Li
 
 -- the column was read, for whatever windows and clock the state was known
 pub closing_end : {s : Stored} {b : book.Book} {w : List ℕ} {j met : ℕ} {w₅ : List ℕ} {n : ℕ} → WithinWork s b w w₅ →
-    ((windows : List ℕ) (clock : ℕ) → State s b windows clock w j met → State s b windows clock w₅ (j + 1) n) → ColumnsRead s b w j met w₅ (j + 1) (Ended n)
+    ((windows : List ℕ) (clock : ℕ) → State s b windows clock w j met → State s b windows clock w₅ (j + 1) n) → ColumnsRead s b w j met w₅ (j + 1) (Some n)
 closing_end {s} {b} {w} {j} {met} {w₅} {n} only h =
     record {
       only = only;

@@ -1,13 +1,13 @@
 -- What the walk of a column's chain asks and answers: it must hold the counters, so its length is known before. Then what is asked of the records that the
 -- columns do not have. Counters, stash and pieces are in the work table. Assumes nothing: these are definitions.
-use Rattle.std.specs.Prelude.{◌≡◌, Bool, true, ◌&&◌, List, ℕ, ◌+◌, ◌*◌, ◌-◌, ◌≤◌, ◌<◌, leb, length, set}
+use Rattle.std.specs.Prelude.{◌≡◌, Bool, true, ◌&&◌, List, ℕ, ◌+◌, ◌*◌, ◌-◌, ◌≤◌, ◌<◌, leb, length, set, Option}
 use Rattle.lists.specs.Lists.{pick, values_at, times}
 use Rattle.workspace.specs.Layout.{row_stash}
 use Rattle.workspace.specs.Regions.{cell, region, IsZero}
 use Rattle.pool.specs.Chains.{chain, ends}
 use Rattle.pool.specs.Ends.{chain_answer}
 use Rattle.pool.specs.Free.{FreeHas, zero_pairs}
-use Rattle.pool.specs.declared.Chain.{Chain}
+use Rattle.pool.specs.declared.Rec.{Rec}
 use Rattle.book.specs.Tally.{filled}
 use Rattle.counting.specs.Counting.{OnlyTwo}
 use Rattle.soundness.specs.Fitting.{entry_fits, fits}
@@ -47,7 +47,7 @@ pub record ChainRead (rows next work₀ work : List ℕ) (m met head : ℕ) : Ty
   pub stash-before : (k : ℕ) → k < met → cell work (row_stash m (length next)) k ≡ cell work₀ (row_stash m (length next)) k
 
 -- after the walk of a column's chain: whether it fits, with the records met and its last one, and what it leaves if so; only counters and stash changed
-pub record Checked (rows counts next work₀ work : List ℕ) (m met head : ℕ) (a : Chain) : Type 0 where
+pub record Checked (rows counts next work₀ work : List ℕ) (m met head : ℕ) (a : Option (ℕ × Rec)) : Type 0 where
   pub only : OnlyTwo 0 m (row_stash m (length next)) (length next) work₀ work
   pub answer : a ≡ chain_answer (chain_fits rows counts next work₀ m met head) met next head
   pub read : chain_fits rows counts next work₀ m met head ≡ true → ChainRead rows next work₀ work m met head

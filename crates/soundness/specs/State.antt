@@ -1,7 +1,7 @@
 -- What is known when columns 1 to j − 1 of L were read: their chains end, and their last records are named; their rows stand in the stash, the children and
 -- the book's columns that count are listed, no counter is left, and each column is the definition's. What reading one column and all columns answer.
 -- Assumes nothing: these are definitions.
-use Rattle.std.specs.Prelude.{◌≡◌, Bool, true, false, List, ℕ, suc, ◌+◌, ◌-◌, ◌≤◌, ◌<◌, length, take}
+use Rattle.std.specs.Prelude.{◌≡◌, Bool, true, false, List, ℕ, suc, ◌+◌, ◌-◌, ◌≤◌, ◌<◌, length, take, Option, Some, None}
 use Rattle.lists.specs.Lists.{at, values_at}
 use Rattle.workspace.specs.Layout.{work_need, child_head, child_next, column_head, stash_start, lasts_at, names_at, row_stash, column_next}
 use Rattle.workspace.specs.Regions.{cell, region, IsZero, OnlyIn}
@@ -9,8 +9,6 @@ use Rattle.symbolic.specs.Columns.{Column, live}
 use Rattle.symbolic.specs.Factor.{factor_of, column_at}
 use Rattle.pool.specs.Whole.{chains, AllLinked}
 use Rattle.pool.specs.Ends.{lasts}
-use Rattle.pool.specs.declared.Walk.{Walk}
-use Rattle.pool.specs.declared.Walk.TheVariants.{Ended, Cut}
 use Rattle.ends.specs.Naming.{Named}
 use Rattle.book.specs.Book as book
 use Rattle.windows.specs.Windowed.{register_in}
@@ -83,11 +81,11 @@ pub record CanReadColumn (s : Stored) (b : book.Book) (work : List ℕ) (j met :
   pub some : SomeState s b work j met
   pub inside : j ≤ length s.heads
 
--- columns j to k - 1 read: for all windows and clocks that the state was known for, a cut means that the tables are not sound
-pub record ColumnsRead (s : Stored) (b : book.Book) (work₀ : List ℕ) (j met : ℕ) (work : List ℕ) (k : ℕ) (a : Walk) : Type 0 where
+-- columns j to k - 1 read: for all windows and clocks that the state was known for, none, a cut, means that the tables are not sound
+pub record ColumnsRead (s : Stored) (b : book.Book) (work₀ : List ℕ) (j met : ℕ) (work : List ℕ) (k : ℕ) (a : Option ℕ) : Type 0 where
   pub only : WithinWork s b work₀ work
-  pub cut : a ≡ Cut → (windows : List ℕ) (clock : ℕ) → State s b windows clock work₀ j met → is_sound_for (live_in s b windows clock) s ≡ false
-  pub next : (n : ℕ) → a ≡ Ended n → (windows : List ℕ) (clock : ℕ) → State s b windows clock work₀ j met → State s b windows clock work k n
+  pub cut : a ≡ None → (windows : List ℕ) (clock : ℕ) → State s b windows clock work₀ j met → is_sound_for (live_in s b windows clock) s ≡ false
+  pub next : (n : ℕ) → a ≡ Some n → (windows : List ℕ) (clock : ℕ) → State s b windows clock work₀ j met → State s b windows clock work k n
 
 -- ---- before the first column
 

@@ -21,7 +21,7 @@ ghost use Rattle.soundness.specs.ReadThrough.{
 };
 
 use book::Row;
-use pool::{Chain, Rec, Walk};
+use pool::Rec;
 
 // Whether a row and its multiplicity are the next entry of a column with the counters: then takes the counter away and writes the row at place p.
 fn check_entry(work: &mut [u32], m: usize, p: usize, before: Row, row: Row, count: u32) -> bool
@@ -59,12 +59,12 @@ fn check_chain(
     met: usize,
     size: usize,
     head: Rec,
-) -> Chain
+) -> Option<(usize, Rec)>
     requires { CanCheck rows.now counts.now next.now work.old m met size }
     ensures { Checked rows.now counts.now next.now work.old work.new m met head.0 result }
 {
     if next.len() - met < size {
-        return Chain::Cut;
+        return None;
     }
     let stash = 8 * m + next.len() + met;
     let mut r = head.0;
@@ -73,16 +73,16 @@ fn check_chain(
     let mut k: usize = 0;
     while k < size {
         if r == 0 {
-            return Chain::Cut;
+            return None;
         }
         if next.len() < r as usize {
-            return Chain::Cut;
+            return None;
         }
         let i = (r - 1) as usize;
         let row = rows[i] as u32;
         let count = counts[i] as u32;
         if !check_entry(work, m, stash + k, Row(before), Row(row), count) {
-            return Chain::Cut;
+            return None;
         }
         before = row;
         last = r;
@@ -90,9 +90,9 @@ fn check_chain(
         k += 1;
     }
     if r != 0 {
-        return Chain::Cut;
+        return None;
     }
-    Chain::Ended(met + size, Rec(last))
+    Some((met + size, Rec(last)))
 }
 
 // The second of the rows at places a to e - 1, or 0 where there is none.
@@ -123,7 +123,7 @@ fn read_column(
     book_free: Rec,
     j: Row,
     met: usize,
-) -> Walk
+) -> Option<usize>
     requires { CanReadColumn (stored_of heads.now parents.now rows.now counts.now next.now free.0) (book_of book_heads.now book_rows.now book_next.now book_free.0) work.old j.0 met }
     ensures { ColumnsRead (stored_of heads.now parents.now rows.now counts.now next.now free.0) (book_of book_heads.now book_rows.now book_next.now book_free.0) work.old j.0 met work.new (j.0 + 1) result }
 {
@@ -133,23 +133,17 @@ fn read_column(
     let i = (column - 1) as usize;
     let size = counting::tally_all(book_heads, book_rows, book_next, work, m, f, j) as usize;
     let head = heads[i];
-    match check_chain(rows, counts, next, work, m, met, size, Rec(head)) {
-        Chain::Cut => {
-            return Walk::Cut;
-        }
-        Chain::Ended(n, last) => {
-            let stash = 8 * m + f;
-            let up = second(work, stash + met, stash + n);
-            let parent = up.0;
-            if parents[i] as u32 != parent {
-                return Walk::Cut;
-            }
-            counting::link(work, m, 2 * m, up, column);
-            work[4 * m + column as usize] = n as u32;
-            ends::name(work, 6 * m, 8 * m, column, last);
-            return Walk::Ended(n);
-        }
+    let (n, last) = check_chain(rows, counts, next, work, m, met, size, Rec(head))?;
+    let stash = 8 * m + f;
+    let up = second(work, stash + met, stash + n);
+    let parent = up.0;
+    if parents[i] as u32 != parent {
+        return None;
     }
+    counting::link(work, m, 2 * m, up, column);
+    work[4 * m + column as usize] = n as u32;
+    ends::name(work, 6 * m, 8 * m, column, last);
+    Some(n)
 }
 
 // Reads the columns of L by rising number. Gives the number of records met.
@@ -165,15 +159,14 @@ fn read_columns(
     work: &mut [u32],
     free: Rec,
     book_free: Rec,
-) -> Walk
+) -> Option<usize>
     requires { SomeState (stored_of heads.now parents.now rows.now counts.now next.now free.0) (book_of book_heads.now book_rows.now book_next.now book_free.0) work.old 1 0 }
     ensures { ColumnsRead (stored_of heads.now parents.now rows.now counts.now next.now free.0) (book_of book_heads.now book_rows.now book_next.now book_free.0) work.old 1 0 work.new (length heads.now + 1) result }
 {
     let mut n: usize = 0;
-    let mut i: usize = 0;
-    while i < heads.len() {
+    for i in 0..heads.len() {
         let j = (i + 1) as u32;
-        match read_column(
+        n = read_column(
             heads,
             parents,
             rows,
@@ -187,17 +180,9 @@ fn read_columns(
             book_free,
             Row(j),
             n,
-        ) {
-            Walk::Cut => {
-                return Walk::Cut;
-            }
-            Walk::Ended(k) => {
-                n = k;
-                i += 1;
-            }
-        }
+        )?;
     }
-    Walk::Ended(n)
+    Some(n)
 }
 
 // Whether k records have row 0, all of them multiplicity 0, and the free chain has so many. Writes the pieces of the free chain.
@@ -214,15 +199,11 @@ fn read_free(
     ensures answer { Decides (FreeRead rows.now counts.now next.now free.0 k) result }
     ensures work { OnlyIn (pieces_at m (length next.now)) (2 * length next.now) work.old work.new }
 {
-    if free_chain::zeros(rows) != k {
-        return false;
-    }
-    if free_chain::zero_pairs(rows, counts) != k {
-        return false;
-    }
     let a = 8 * m + 2 * next.len();
     let e = a + 2 * next.len();
-    free_chain::has(rows, next, &mut work[a..e], free, k)
+    free_chain::zeros(rows) == k
+        && free_chain::zero_pairs(rows, counts) == k
+        && free_chain::has(rows, next, &mut work[a..e], free, k)
 }
 
 // Decides whether the stored columns are those of the book: the columns by rising number, that they are apart, and that all other records are free.
@@ -243,20 +224,13 @@ fn read_factor(
     ensures { FactorRead (stored_of heads.now parents.now rows.now counts.now next.now free.0) (book_of book_heads.now book_rows.now book_next.now book_free.0) work.old work.new result }
 {
     let m = heads.len();
-    match read_columns(
+    let Some(n) = read_columns(
         heads, parents, rows, counts, next, book_heads, book_rows, book_next, work, free, book_free,
-    ) {
-        Walk::Cut => {
-            return false;
-        }
-        Walk::Ended(n) => {
-            if !ends::are_apart(work, 6 * m, 8 * m, m) {
-                return false;
-            }
-            let left = next.len() - n;
-            return read_free(rows, counts, next, work, m, free, left);
-        }
-    }
+    ) else {
+        return false;
+    };
+    let left = next.len() - n;
+    ends::are_apart(work, 6 * m, 8 * m, m) && read_free(rows, counts, next, work, m, free, left)
 }
 
 // Whether book and windows are sound. The book's places of the work table hold anything after.
@@ -276,17 +250,14 @@ fn read_booked(
 {
     let a = 8 * m + 4 * f + 1024;
     let e = a + book_next.len() + book_heads.len();
-    if !book::read_through(
+    book::read_through(
         book_heads,
         book_rows,
         book_next,
         &mut work[a..e],
         book_free,
         m as u32,
-    ) {
-        return false;
-    }
-    windows::minutes::are_sound(book_heads, windows)
+    ) && windows::minutes::are_sound(book_heads, windows)
 }
 
 // Makes a work table of any content ready to be read through with, for m columns: what the pass counts and lists in is zero.
