@@ -8,8 +8,10 @@ ghost use Rattle.pool.specs.Chains.{chain, Linked};
 ghost use Rattle.pool.specs.Changes.{Has, insert_after, unlink_after};
 ghost use Rattle.pool.specs.Opening.{free_head, opened_nexts};
 
+use std::mem;
+
 // A record number, from 1; 0 is none.
-#[derive(Clone, Copy)]
+#[derive(Clone, Copy, PartialEq, Eq, PartialOrd, Ord)]
 pub struct Rec(pub u32);
 
 // The number of records in the chain from head, counted up to a bound.
@@ -18,15 +20,13 @@ pub fn count(next: &[u32], head: Rec, bound: u32) -> u32
     ensures { result ≡ min (length (chain next.now head.0)) bound }
 {
     let mut r = head.0;
-    let mut n: u32 = 0;
-    while n < bound {
+    for n in 0..bound {
         if r == 0 {
             return n;
         }
         r = next[(r - 1) as usize];
-        n += 1;
     }
-    n
+    bound
 }
 
 // Ends a chain after p, and gives the record that followed. Cut after the first free record it takes that record.
@@ -35,11 +35,7 @@ pub fn cut_after(next: &mut [u32], p: Rec) -> Rec
     ensures after { result.0 ≡ at next.old p.0 }
     ensures next { next.new ≡ put next.old p.0 0 }
 {
-    let k = p.0;
-    let i = (k - 1) as usize;
-    let q = next[i];
-    next[i] = 0;
-    Rec(q)
+    Rec(mem::replace(&mut next[(p.0 - 1) as usize], 0))
 }
 
 // Joins the chain from head on after p, the last of its own. Joined on before the free chain it gives records back.
@@ -47,8 +43,7 @@ pub fn join_after(next: &mut [u32], p: Rec, head: Rec)
     requires { Has next.old p.0 }
     ensures { next.new ≡ put next.old p.0 head.0 }
 {
-    let k = p.0;
-    next[(k - 1) as usize] = head.0;
+    next[(p.0 - 1) as usize] = head.0;
 }
 
 // Takes the free record q in after p, and gives the next free record.
@@ -57,13 +52,11 @@ pub fn insert_after(next: &mut [u32], p: Rec, q: Rec) -> Rec
     ensures free { result.0 ≡ at next.old q.0 }
     ensures next { next.new ≡ insert_after next.old p.0 q.0 }
 {
-    let a = p.0;
-    let b = q.0;
-    let i = (a - 1) as usize;
-    let j = (b - 1) as usize;
+    let i = (p.0 - 1) as usize;
+    let j = (q.0 - 1) as usize;
     let free = next[j];
     next[j] = next[i];
-    next[i] = b;
+    next[i] = q.0;
     Rec(free)
 }
 
@@ -72,10 +65,8 @@ pub fn unlink_after(next: &mut [u32], p: Rec, q: Rec, free: Rec)
     requires { (Has next.old p.0) × (Has next.old q.0) }
     ensures { next.new ≡ unlink_after next.old p.0 q.0 free.0 }
 {
-    let a = p.0;
-    let b = q.0;
-    let i = (a - 1) as usize;
-    let j = (b - 1) as usize;
+    let i = (p.0 - 1) as usize;
+    let j = (q.0 - 1) as usize;
     next[i] = next[j];
     next[j] = free.0;
 }
@@ -88,20 +79,12 @@ pub fn link_free(next: &mut [u32], used: u32) -> Rec
 {
     let k = next.len();
     let a = used as usize;
-    let mut i: usize = 0;
-    while i < k {
-        if i < a {
-            next[i] = 0;
-            i += 1;
+    for (i, x) in next.iter_mut().enumerate() {
+        *x = if i < a || i + 1 == k {
+            0
         } else {
-            if i + 1 < k {
-                next[i] = (i + 2) as u32;
-                i += 1;
-            } else {
-                next[i] = 0;
-                i += 1;
-            }
-        }
+            (i + 2) as u32
+        };
     }
     if a < k { Rec(used + 1) } else { Rec(0) }
 }
