@@ -1,12 +1,12 @@
 -- The loops that hide the starts of columns outside their windows: each start stays or becomes 0 (`hiding-shown`, `hiding-hidden`), and which it is the definitions say
 -- by place (`listed_at`, `booked-at`). Assumes nothing.
-use mathlib.Core.Path.{◌≡◌, refl, sym, ap, ◌∙◌, subst}
+use mathlib.Core.Path.{◌≡◌, refl, sym, ap, ◌∙◌}
 use mathlib.Core.Bool.{true, false}
 use mathlib.Core.List.{List, [], ◌∷◌}
 use Prim.Native.Nat.{ℕ, zero, suc, ◌+◌, ◌<◌}
 use native.Mathlib.Omega.{arith}
 use lib.ListN.{length, get_or, set, take, drop}
-use lib.Seq.{get_or-drop, get_or-append-add, length-take-le, set-get_or}
+use lib.Seq.{get_or-drop, get_or-append-add, length-take-le}
 use Rattle.lists.specs.Lists.{pick, over}
 use Rattle.lists.proofs.Over.{Filling, filling-start, filling-next}
 use Rattle.symbolic.specs.Columns.{is_inside}
@@ -25,9 +25,8 @@ module _ {new old xs : List ℕ} {i : ℕ} (w : Filling new old xs i) (h : i < l
       ap (λ (l : List ℕ). get_or l i 0) w.written ∙ ap (λ (k : ℕ). get_or (over front old) k 0) e ∙ get_or-append-add front (drop (length front) old) 0 0 ∙
       get_or-drop (length front) old 0 0 ∙ ap (λ (k : ℕ). get_or old k 0) (sym e)
 
-  pub hiding-shown : get_or new i 0 ≡ get_or old i 0 → Filling new old xs (i + 1)
-  hiding-shown e =
-      subst (λ (l : List ℕ). Filling new old l (i + 1)) (ap (λ (v : ℕ). set xs i v) (sym filling-old) ∙ set-get_or xs i 0) (filling-next w h e)
+  pub hiding-shown : get_or new i 0 ≡ get_or old i 0 → Filling new old (set xs i (get_or xs i 0)) (i + 1)
+  hiding-shown e = filling-next w h (e ∙ sym filling-old)
 
   pub hiding-hidden : get_or new i 0 ≡ 0 → Filling new old (set xs i 0) (i + 1)
   hiding-hidden e = filling-next w h e
@@ -53,7 +52,7 @@ pub listed_start : (t : ℕ) (ps qs ss : List ℕ) → Filling (listed_inside t 
 listed_start t ps qs ss = filling-start (listed_inside t ps qs ss) ss (listed-length t ps qs ss)
 
 module _ (t : ℕ) (ps qs : List ℕ) {ss xs : List ℕ} {k : ℕ} (w : Filling (listed_inside t ps qs ss) ss xs k) (h : k < length ss) where
-  pub listed-shown : is_inside (get_or ps k 0) (get_or qs k 0) t ≡ true → Filling (listed_inside t ps qs ss) ss xs (k + 1)
+  pub listed-shown : is_inside (get_or ps k 0) (get_or qs k 0) t ≡ true → Filling (listed_inside t ps qs ss) ss (set xs k (get_or xs k 0)) (k + 1)
   listed-shown e = hiding-shown w h (rw (listed_at t ps qs ss k h, e) refl)
 
   pub listed-hidden : is_inside (get_or ps k 0) (get_or qs k 0) t ≡ false → Filling (listed_inside t ps qs ss) ss (set xs k 0) (k + 1)
@@ -76,7 +75,7 @@ pub booked-start : (t : ℕ) (w : List ℕ) (n : ℕ) (is ss : List ℕ) → Fil
 booked-start t w n is ss = filling-start (booked_inside t w n is ss) ss (booked-length t w n is ss)
 
 module _ (t : ℕ) (v : List ℕ) (n : ℕ) (is : List ℕ) {ss xs : List ℕ} {k : ℕ} (w : Filling (booked_inside t v n is ss) ss xs k) (h : k < length ss) where
-  pub booked-shown : counts_at v n t (get_or is k 0) ≡ true → Filling (booked_inside t v n is ss) ss xs (k + 1)
+  pub booked-shown : counts_at v n t (get_or is k 0) ≡ true → Filling (booked_inside t v n is ss) ss (set xs k (get_or xs k 0)) (k + 1)
   booked-shown e = hiding-shown w h (rw (booked-at t v n is ss k h, e) refl)
 
   pub booked-hidden : counts_at v n t (get_or is k 0) ≡ false → Filling (booked_inside t v n is ss) ss (set xs k 0) (k + 1)

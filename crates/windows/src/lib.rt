@@ -23,15 +23,7 @@ pub struct Group {
 pub fn is_inside(first: u32, second: u32, minute: u32) -> bool
     ensures { result ≡ is_inside first second minute }
 {
-    if first == 0 {
-        if second == 0 {
-            return true;
-        }
-    }
-    if minute < first {
-        return false;
-    }
-    minute < second
+    (first == 0 && second == 0) || (first <= minute && minute < second)
 }
 
 // Whether id counts at a minute.
@@ -48,14 +40,10 @@ fn moves(book_heads: &[u32], windows: &[u32], minute: u32, other: u32, id: Id) -
     requires { (1 ≤ id.0) × (id.0 ≤ length book_heads.now) × (2 * length book_heads.now ≤ length windows.now) × (length book_heads.now ≤ 16384) }
     ensures { result ≡ (is_booked book_heads.now id.0 && moves_from windows.now (length book_heads.now) minute other id.0) }
 {
-    if !book::is_booked(book_heads, id) {
-        return false;
-    }
     let n = book_heads.len();
-    if !counts_at(windows, n, minute, id) {
-        return false;
-    }
-    !counts_at(windows, n, other, id)
+    book::is_booked(book_heads, id)
+        && counts_at(windows, n, minute, id)
+        && !counts_at(windows, n, other, id)
 }
 
 // Collects the booked ids from first on that count at one minute and not at another, as many as the list has places for.
@@ -70,26 +58,19 @@ pub fn collect(
     requires { CanCollect book_heads.now windows.now first.0 }
     ensures { Collected book_heads.now (moves_from windows.now (length book_heads.now) minute other) first.0 list.old list.new result.count result.next.0 }
 {
-    let n = book_heads.len();
-    let mut k: usize = 0;
-    let mut i = first.0;
-    while i as usize <= n {
-        if k == list.len() {
-            return Group {
-                count: k,
-                next: Id(i),
-            };
+    let end = book_heads.len() as u32 + 1;
+    let mut count = 0;
+    for i in first.0..end {
+        if count == list.len() {
+            return Group { count, next: Id(i) };
         }
         if moves(book_heads, windows, minute, other, Id(i)) {
-            list[k] = i;
-            k += 1;
-            i += 1;
-        } else {
-            i += 1;
+            list[count] = i;
+            count += 1;
         }
     }
     Group {
-        count: k,
-        next: Id(i),
+        count,
+        next: Id(end),
     }
 }

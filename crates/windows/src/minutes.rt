@@ -11,10 +11,7 @@ use book::Id;
 pub fn is_window(first: u32, second: u32) -> bool
     ensures { result ≡ is_window first second }
 {
-    if second == 0 {
-        return first == 0;
-    }
-    first < second
+    (first == 0 && second == 0) || first < second
 }
 
 // Whether the minutes of an id fit: of a booked one a window, of any other 0 and 0.
@@ -26,12 +23,10 @@ fn minutes_fit(book_heads: &[u32], windows: &[u32], id: Id) -> bool
     let first = windows[k - 1];
     let second = windows[book_heads.len() + k - 1];
     if book::is_booked(book_heads, id) {
-        return is_window(first, second);
+        is_window(first, second)
+    } else {
+        first == 0 && second == 0
     }
-    if first != 0 {
-        return false;
-    }
-    second == 0
 }
 
 // Whether the minutes of every id fit.
@@ -39,13 +34,10 @@ pub fn are_sound(book_heads: &[u32], windows: &[u32]) -> bool
     requires { (2 * length book_heads.now ≤ length windows.now) × (length book_heads.now ≤ 200000) }
     ensures { result ≡ are_sound book_heads.now windows.now }
 {
-    let n = book_heads.len();
-    let mut i: u32 = 1;
-    while i as usize <= n {
+    for i in 1..book_heads.len() as u32 + 1 {
         if !minutes_fit(book_heads, windows, Id(i)) {
             return false;
         }
-        i += 1;
     }
     true
 }
@@ -65,10 +57,8 @@ pub fn enter(windows: &mut [u32], n: usize, ids: &[u32], firsts: &[u32], seconds
     requires { HasIds windows.old n ids.now × (length firsts.now ≡ length ids.now) × (length seconds.now ≡ length ids.now) }
     ensures { windows.new ≡ entered windows.old n ids.now firsts.now seconds.now }
 {
-    let mut k: usize = 0;
-    while k < ids.len() {
-        put_minutes(windows, n, Id(ids[k]), firsts[k], seconds[k]);
-        k += 1;
+    for (k, id) in ids.iter().enumerate() {
+        put_minutes(windows, n, Id(*id), firsts[k], seconds[k]);
     }
 }
 
@@ -77,10 +67,8 @@ pub fn leave(windows: &mut [u32], n: usize, ids: &[u32])
     requires { HasIds windows.old n ids.now }
     ensures { windows.new ≡ left windows.old n ids.now }
 {
-    let mut k: usize = 0;
-    while k < ids.len() {
-        put_minutes(windows, n, Id(ids[k]), 0, 0);
-        k += 1;
+    for id in ids {
+        put_minutes(windows, n, Id(*id), 0, 0);
     }
 }
 
@@ -89,13 +77,9 @@ pub fn hide_listed(firsts: &[u32], seconds: &[u32], minute: u32, starts: &mut [u
     requires { (length firsts.now ≡ length starts.old) × (length seconds.now ≡ length starts.old) }
     ensures { starts.new ≡ listed_inside minute firsts.now seconds.now starts.old }
 {
-    let mut k: usize = 0;
-    while k < starts.len() {
-        if is_inside(firsts[k], seconds[k], minute) {
-            k += 1;
-        } else {
-            starts[k] = 0;
-            k += 1;
+    for (k, start) in starts.iter_mut().enumerate() {
+        if !is_inside(firsts[k], seconds[k], minute) {
+            *start = 0;
         }
     }
 }
@@ -105,13 +89,9 @@ pub fn hide_booked(windows: &[u32], n: usize, ids: &[u32], minute: u32, starts: 
     requires { HasIds windows.now n ids.now × (length starts.old ≡ length ids.now) }
     ensures { starts.new ≡ booked_inside minute windows.now n ids.now starts.old }
 {
-    let mut k: usize = 0;
-    while k < ids.len() {
-        if counts_at(windows, n, minute, Id(ids[k])) {
-            k += 1;
-        } else {
-            starts[k] = 0;
-            k += 1;
+    for (k, start) in starts.iter_mut().enumerate() {
+        if !counts_at(windows, n, minute, Id(ids[k])) {
+            *start = 0;
         }
     }
 }
