@@ -5,6 +5,5 @@ pub mod Sound
 pub mod Chosen
 pub mod Counted
 pub mod Collecting
-pub mod Judging
 pub mod Writing
 pub mod Hiding

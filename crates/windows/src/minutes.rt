@@ -34,12 +34,8 @@ pub fn are_sound(book_heads: &[u32], windows: &[u32]) -> bool
     requires { (2 * length book_heads.now ≤ length windows.now) × (length book_heads.now ≤ 200000) }
     ensures { result ≡ are_sound book_heads.now windows.now }
 {
-    for i in 1..book_heads.len() as u32 + 1 {
-        if !minutes_fit(book_heads, windows, Id(i)) {
-            return false;
-        }
-    }
-    true
+    let end = book_heads.len() as u32 + 1;
+    (1..end).all(|i| minutes_fit(book_heads, windows, Id(i)))
 }
 
 // Writes the minutes of an id, of n.
