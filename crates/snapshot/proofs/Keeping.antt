@@ -8,9 +8,8 @@ use native.Mathlib.Numerals.{add-one}
 use lib.ListN.{length, get_or, take, set, length-set}
 use lib.Seq.{take-suc, take_all, get_or-take}
 use Rattle.workspace.specs.Regions.{cell, region, OnlyIn}
-use Rattle.workspace.specs.Parts.{upper_weight}
 use Rattle.workspace.proofs.Regions.{store-push, store-only, store-leaves-region, region-cell, only-refl, only_store, only-trans, only_wider}
-use Rattle.snapshot.specs.Snapshot.{paired, all_paired, count_bound, CanSaveRecords, RecordsSaved, CanSaveParents, ParentsSaved}
+use Rattle.snapshot.specs.Snapshot.{paired, all_paired, CanSaveRecords, RecordsSaved, CanSaveParents, ParentsSaved}
 use Rattle.snapshot.proofs.Kept.{all-paired-length, all-paired-at}
 
 -- ---- a list copied into the region from a on
@@ -73,29 +72,6 @@ pub records-saving-start : {rows counts next work : List ℕ} {a : ℕ} → CanS
 records-saving-start c = record { can = c; within = omega arith; pairs = refl; nexts = refl; only = only-refl }
 
 module _ {rows counts next before : List ℕ} {a : ℕ} {work : List ℕ} {k : ℕ} (s : RecordsSaving rows counts next before a work k) where
-  -- in the turn of record k: it stands in every table, and it has two places in the work table and fits them
-  pub record SavingTurn : Type 0 where
-    pub row : k < length rows
-    pub count : k < length counts
-    pub link : k < length next
-    pub pair : a + k < length work
-    pub further : a + length next + k < length work
-    pub row_small : get_or rows k 0 < upper_weight
-    pub count_small : get_or counts k 0 < count_bound
-
-  pub records-saving-turn : k < length next → SavingTurn
-  records-saving-turn h =
-      let t = s.can.can in
-      record {
-        row = omega (arith, t.rows_long);
-        count = omega (arith, t.counts-long);
-        link = h;
-        pair = omega (arith, s.only.same_length, s.can.inside);
-        further = omega (arith, s.only.same_length, s.can.inside);
-        row_small = t.rows-small k;
-        count_small = t.counts-small k;
-      }
-
   pub records-saving-next : k < length next →
       RecordsSaving rows counts next before a (set (set work (a + k) (paired (get_or rows k 0) (get_or counts k 0))) (a + length next + k) (get_or next k 0)) (k + 1)
   records-saving-next h =

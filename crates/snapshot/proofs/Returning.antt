@@ -7,7 +7,7 @@ use lib.ListN.{length, get_or, set, length-map, get_or-map}
 use Rattle.lists.proofs.Over.{Filling, filling-start, filling-long, filling-next, filling-end}
 use Rattle.workspace.specs.Regions.{cell, region}
 use Rattle.workspace.proofs.Regions.{region-length, region-cell}
-use Rattle.snapshot.specs.Snapshot.{paired_row, paired_count, count_bound, CanUnpair, Unpaired, Taken}
+use Rattle.snapshot.specs.Snapshot.{paired_row, paired_count, CanUnpair, Unpaired, Taken}
 
 -- ---- all parents
 
@@ -60,27 +60,6 @@ unpairing-start {rows} {counts} {next} {work} {a} c =
     }
 
 module _ {rows₀ counts₀ next₀ work : List ℕ} {a : ℕ} {rows counts next : List ℕ} {k : ℕ} (u : Unpairing rows₀ counts₀ next₀ work a rows counts next k) where
-  -- in the turn of record k: it stands in every table, and in two places of the work table
-  pub record UnpairingTurn : Type 0 where
-    pub row : k < length rows
-    pub count : k < length counts
-    pub link : k < length next
-    pub pair : a + k < length work
-    pub further : a + length next₀ + k < length work
-    pub count_small : paired_count (cell work a k) < count_bound
-
-  pub unpairing-turn : k < length next₀ → UnpairingTurn
-  unpairing-turn h =
-      let c = u.can in
-      record {
-        row = omega (arith, filling-long u.rows_back, c.rows_long);
-        count = omega (arith, filling-long u.counts-back, c.counts-long);
-        link = omega (arith, filling-long u.next-back);
-        pair = omega (arith, c.inside);
-        further = omega (arith, c.inside);
-        count_small = c.counts-small k h;
-      }
-
   pub unpairing-next : k < length next₀ →
       Unpairing rows₀ counts₀ next₀ work a (set rows k (paired_row (cell work a k))) (set counts k (paired_count (cell work a k)))
       (set next k (cell work (a + length next₀) k)) (k + 1)

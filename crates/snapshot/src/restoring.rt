@@ -16,13 +16,11 @@ pub fn restore_records(
     ensures { Unpaired rows.new counts.new next.new work.now a }
 {
     let f = next.len();
-    let mut k: usize = 0;
-    while k < f {
+    for (k, after) in next.iter_mut().enumerate() {
         let x = work[a + k];
         rows[k] = (x % UPPER_WEIGHT) as u16;
         counts[k] = (x / UPPER_WEIGHT) as u16;
-        next[k] = work[a + f + k];
-        k += 1;
+        *after = work[a + f + k];
     }
 }
 
@@ -31,10 +29,7 @@ pub fn restore_parents(parents: &mut [u16], work: &[u32], a: usize)
     requires { a + length parents.old ≤ length work.now }
     ensures { Taken parents.new work.now a }
 {
-    let m = parents.len();
-    let mut j: usize = 0;
-    while j < m {
-        parents[j] = (work[a + j] % UPPER_WEIGHT) as u16;
-        j += 1;
+    for (j, parent) in parents.iter_mut().enumerate() {
+        *parent = (work[a + j] % UPPER_WEIGHT) as u16;
     }
 }

@@ -9,11 +9,9 @@ pub fn save_records(rows: &[u16], counts: &[u16], next: &[u32], work: &mut [u32]
     ensures { RecordsSaved rows.now counts.now next.now work.old work.new a }
 {
     let f = next.len();
-    let mut k: usize = 0;
-    while k < f {
+    for (k, after) in next.iter().enumerate() {
         work[a + k] = rows[k] as u32 + UPPER_WEIGHT * (counts[k] as u32);
-        work[a + f + k] = next[k];
-        k += 1;
+        work[a + f + k] = *after;
     }
 }
 
@@ -22,10 +20,7 @@ pub fn save_parents(parents: &[u16], work: &mut [u32], a: usize)
     requires { CanSaveParents parents.now work.old a }
     ensures { ParentsSaved parents.now work.old work.new a }
 {
-    let m = parents.len();
-    let mut j: usize = 0;
-    while j < m {
-        work[a + j] = parents[j] as u32;
-        j += 1;
+    for (j, parent) in parents.iter().enumerate() {
+        work[a + j] = *parent as u32;
     }
 }
