@@ -158,22 +158,7 @@ pub record Found (work : List ℕ) (a b n i : ℕ) : Type 0 where
   pub within : i ≤ n
   pub own : (j : ℕ) → j < i → cell work a j ≢ 0 → cell work b (cell work a j - 1) ≡ suc j
 
-pub found-start : {w : List ℕ} {a b n : ℕ} → Found w a b n 0
-found-start = record { within = omega arith; own = λ j h. absurd (omega arith) }
-
 module _ {w : List ℕ} {a b n i : ℕ} (d : Found w a b n i) where
-  pub found-next : i < n → (cell w a i ≢ 0 → cell w b (cell w a i - 1) ≡ i + 1) → Found w a b n (i + 1)
-  found-next more here =
-      record {
-        within = omega arith;
-        own = λ j h p. elim (eq-or-ne j i) [
-          | inl z ↦
-              let q : cell w b (cell w a j - 1) ≡ cell w b (cell w a i - 1) = ap (λ (x : ℕ). cell w b (cell w a x - 1)) z in
-              omega (arith, here (λ t. p (ap (cell w a) z ∙ t)))
-          | inr z ↦ d.own j (omega arith) p
-        ];
-      }
-
   -- all do: two chains with one last record have one number
   pub found_all : CanCompare w a b n → n ≤ i → Decides (NoneTwice (region w a n)) true
   found_all c done = record { yes = λ t. alone; no = λ t. refl }

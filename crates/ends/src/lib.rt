@@ -27,16 +27,11 @@ pub fn are_apart(work: &[u32], a: usize, b: usize, n: usize) -> bool
     requires { CanCompare work.now a b n }
     ensures { Decides (NoneTwice (region work.now a n)) result }
 {
-    let mut i: usize = 0;
-    while i < n {
+    for i in 0..n {
         let e = work[a + i];
-        if e != 0 {
-            let k = work[b + (e - 1) as usize];
-            if k as usize != i + 1 {
-                return false;
-            }
+        if e != 0 && work[b + (e - 1) as usize] as usize != i + 1 {
+            return false;
         }
-        i += 1;
     }
     true
 }
