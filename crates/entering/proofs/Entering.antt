@@ -24,9 +24,6 @@ use Rattle.entering.specs.Entering.{total, CanEnter, Entered}
 
 -- ---- columns that stay, and ids that are not among others
 
-pub book-self : (b : Book) (l : ℕ) → ColumnStays b b l
-book-self b l = record { head = refl; records = refl; rows = refl }
-
 pub book-joins : {a b c : Book} {l : ℕ} → ColumnStays a b l → ColumnStays b c l → ColumnStays a c l
 book-joins s t = record { head = t.head ∙ s.head; records = t.records ∙ s.records; rows = t.rows ∙ s.rows }
 
@@ -105,10 +102,6 @@ pub record Entering (m : ℕ) (b : Book) (ids counts list : List ℕ) (now : Boo
   pub bag : Bag (columns_in now ++ batch_of (drop i ids) (drop i counts) (drop a list)) (columns_in b ++ batch_of ids counts list)
   pub others : (l : ℕ) → 1 ≤ l → l ≤ length b.heads → among l ids ≡ false → ColumnStays b now l
 
-pub entering-start : {m : ℕ} {b : Book} {ids counts list : List ℕ} → CanEnter m b ids counts list → Entering m b ids counts list b 0 0
-entering-start {b = b} can =
-    record { within = omega arith; can = can; same-heads = refl; same-records = refl; bag = λ f. refl; others = λ l p q n. book-self b l }
-
 module _ {m : ℕ} {b : Book} {ids counts list : List ℕ} {now : Book} {i a : ℕ} (e : Entering m b ids counts list now i a) where
   pub entering-end : length ids ≤ i → Entered m b ids counts list now
   unfolding batch_of
@@ -125,7 +118,7 @@ module _ {m : ℕ} {b : Book} {ids counts list : List ℕ} {now : Book} {i a : �
       }
 
   module _ (h : i < length ids) where
-    pub entering-paired : i < length counts
+    entering-paired : i < length counts
     entering-paired = omega (arith, e.can.counted, length-drop i ids, length-drop i counts)
 
     turn-can : CanEnter m now (get_or ids i 0 ∷ drop (suc i) ids) (get_or counts i 0 ∷ drop (suc i) counts) (drop a list)

@@ -19,7 +19,7 @@ use Rattle.book.specs.Entries.{CanRemove, Removed}
 use Rattle.book.proofs.Staying.{stays-booked}
 use Rattle.book.proofs.Changed.{removed-columns}
 use Rattle.entering.specs.Entering.{CanLeave, Left}
-use Rattle.entering.proofs.Entering.{book-self, book-joins, later-differs, later-distinct}
+use Rattle.entering.proofs.Entering.{book-joins, later-differs, later-distinct}
 
 -- ---- columns without some ids
 
@@ -75,9 +75,6 @@ pub record Leaving (m : ℕ) (b : Book) (ids : List ℕ) (now : Book) (i : ℕ) 
   pub same-records : length now.next ≡ length b.next
   pub columns : without (drop i ids) (columns_in now) ≡ without ids (columns_in b)
   pub others : (l : ℕ) → 1 ≤ l → l ≤ length b.heads → among l ids ≡ false → ColumnStays b now l
-
-pub leaving-start : {m : ℕ} {b : Book} {ids : List ℕ} → CanLeave m b ids → Leaving m b ids b 0
-leaving-start {b = b} can = record { can = can; same-heads = refl; same-records = refl; columns = refl; others = λ l p q n. book-self b l }
 
 module _ {m : ℕ} {b : Book} {ids : List ℕ} {now : Book} {i : ℕ} (e : Leaving m b ids now i) where
   pub leaving-end : length ids ≤ i → Left m b ids now

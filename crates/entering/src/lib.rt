@@ -22,14 +22,18 @@ pub fn enter_columns(
     ensures { (m : ℕ) → CanEnter m (book_of book_heads.old book_rows.old book_next.old free.0) ids.now row_counts.now row_list.now → Entered m (book_of book_heads.old book_rows.old book_next.old free.0) ids.now row_counts.now row_list.now (book_of book_heads.new book_rows.new book_next.new result.0) }
 {
     let mut z = free;
-    let mut k: usize = 0;
     let mut a: usize = 0;
-    while k < ids.len() {
+    for (k, id) in ids.iter().enumerate() {
         let e = a + row_counts[k] as usize;
-        let id = Id(ids[k]);
-        z = book::add_column(book_heads, book_rows, book_next, &row_list[a..e], z, id);
+        z = book::add_column(
+            book_heads,
+            book_rows,
+            book_next,
+            &row_list[a..e],
+            z,
+            Id(*id),
+        );
         a = e;
-        k += 1;
     }
     z
 }
@@ -46,10 +50,8 @@ pub fn leave_columns(
     ensures { (m : ℕ) → CanLeave m (book_of book_heads.old book_rows.old book_next.old free.0) ids.now → Left m (book_of book_heads.old book_rows.old book_next.old free.0) ids.now (book_of book_heads.new book_rows.new book_next.new result.0) }
 {
     let mut z = free;
-    let mut i: usize = 0;
-    while i < ids.len() {
-        z = book::remove_column(book_heads, book_rows, book_next, z, Id(ids[i]));
-        i += 1;
+    for id in ids {
+        z = book::remove_column(book_heads, book_rows, book_next, z, Id(*id));
     }
     z
 }
