@@ -213,21 +213,6 @@ module _ (w : List ℕ) (a n : ℕ) (fits : a + n ≤ length w) where
   pub cleared-same : IsZero w a n → cleared w a n ≡ w
   cleared-same z = sym (cleared-unique only-refl z)
 
--- clearing place by place: nothing yet, and one place more
-pub cleared-none : (w : List ℕ) (a : ℕ) → a ≤ length w → cleared w a 0 ≡ w
-cleared-none w a h = cleared-same w a 0 (omega arith) (λ i l. absurd (omega arith))
-
-pub cleared-next : (w : List ℕ) (a i : ℕ) → a + i < length w → set (cleared w a i) (a + i) 0 ≡ cleared w a (i + 1)
-cleared-next w a i h =
-    cleared-unique w a (i + 1) (omega arith)
-    (only-trans (only_wider a (i + 1) (omega arith) (omega arith) (cleared-only w a i (omega arith))) (store-only i 0 (omega arith)))
-    (λ j l. elim (lt-or-le j i) [
-      | inl p ↦ store-zero (cleared w a i) a i (a + i) (cleared-zero w a i (omega arith)) j p
-      | inr p ↦
-          let e : i ≡ j = omega arith in
-          subst (λ (t : ℕ). cell (set (cleared w a i) (a + i) 0) a t ≡ 0) e (store_same (cleared w a i) a i 0 (omega (arith, cleared-length w a i (omega arith))))
-    ])
-
 -- ---- the first places of the table
 
 pub first-cleared : (n : ℕ) (w : List ℕ) → n ≤ length w → zero_first n w ≡ cleared w 0 n

@@ -56,11 +56,7 @@ pub fn clear(work: &mut [u32], a: usize, n: usize)
     requires { a + n ≤ length work.old }
     ensures { work.new ≡ cleared work.old a n }
 {
-    let mut i: usize = 0;
-    while i < n {
-        work[a + i] = 0;
-        i += 1;
-    }
+    work[a..a + n].fill(0);
 }
 
 // A planned entry in one place: row - 1 in 12 bits, multiplicity in 18, kind in 2.
