@@ -49,8 +49,10 @@ module _ {m : ℕ} {w : List ℕ} {from to bound : ℕ} where
     pub passed-stop : bound ≤ row_of (cell w (8 * m) a) → Passed m w from to bound a
     passed-stop b = record { low = g.low; high = g.high; below = g.below; above = λ h. b }
 
-    pub passed-end : to ≤ a → Passed m w from to bound a
-    passed-end h = record { low = g.low; high = g.high; below = g.below; above = λ l. absurd (omega arith) }
+    pub passed-end : to ≤ a → Passed m w from to bound to
+    passed-end h =
+        let e : a ≡ to = omega (arith, g.high) in
+        subst (λ (stop : ℕ). Passed m w from to bound stop) e (record { low = g.low; high = g.high; below = g.below; above = λ l. absurd (omega arith) })
 
 -- ---- gathering on the way
 
@@ -88,7 +90,10 @@ module _ {m : ℕ} {w₀ : List ℕ} {k from to kind bound : ℕ} (can : CanReac
         kind-append kind (plan_part m w₀ from a) (cell w₀ (8 * m) a ∷ [])
 
     -- a row of the kind is gathered
-    module _ (h : a < to) (t : kind_of (cell w₀ (8 * m) a) ≡ kind) where
+    module _ (h : a < to) (k-is : kind_of (cell w (8 * m) a) ≡ kind) where
+      t : kind_of (cell w₀ (8 * m) a) ≡ kind
+      t = ap kind_of (sym reaching-cell) ∙ k-is
+
       pub reaching-room : n < m
       reaching-room =
           let e : rows_of_kind kind (plan_part m w₀ from to) ≡
@@ -106,31 +111,40 @@ module _ {m : ℕ} {w₀ : List ℕ} {k from to kind bound : ℕ} (can : CanReac
             region-length w₀ (2 * m) k (omega (arith, can.long, can.room)),
           )
 
-      pub reaching-take : row_of (cell w₀ (8 * m) a) < bound → Reaching m w₀ k from to kind bound (set w (2 * m + n) (row_of (cell w₀ (8 * m) a))) (n + 1) (a + 1)
+      pub reaching-take : row_of (cell w (8 * m) a) < bound → Reaching m w₀ k from to kind bound (set w (2 * m + n) (row_of (cell w (8 * m) a))) (n + 1) (a + 1)
       reaching-take b =
+          let lent : row_of (cell w (8 * m) a) ≡ row_of (cell w₀ (8 * m) a) = ap row_of reaching-cell in
           let row : ℕ = row_of (cell w₀ (8 * m) a) in
           let e : (region w₀ (2 * m) k ++ rows_of_kind kind (plan_part m w₀ from a)) ++ (row ∷ []) ≡ region w₀ (2 * m) k ++ rows_of_kind kind (plan_part m w₀ from (a + 1)) =
           append_assoc (region w₀ (2 * m) k) (rows_of_kind kind (plan_part m w₀ from a)) (row ∷ []) ∙
           sym (ap (λ (xs : List ℕ). region w₀ (2 * m) k ++ xs) (next-kind h ∙
           ap (λ (xs : List ℕ). rows_of_kind kind (plan_part m w₀ from a) ++ xs) (kind-cons kind (cell w₀ (8 * m) a) [] (eq-eqb _ _ t) ∙ ap (λ (xs : List ℕ). row ∷ xs) (kind-nil kind)))) in
           record {
-            passing = passing-next g.passing can.pass.long h b;
-            gathering = subst (λ (xs : List ℕ). Gathering m w₀ (set w (2 * m + n) row) (n + 1) xs) e (gathering-push g.gathering row can.long reaching-room);
+            passing = passing-next g.passing can.pass.long h (omega arith);
+            gathering = rw lent (subst (λ (xs : List ℕ). Gathering m w₀ (set w (2 * m + n) row) (n + 1) xs) e (gathering-push g.gathering row can.long reaching-room));
           }
 
     -- a row of another kind is not
-    pub reaching-skip : a < to → (kind_of (cell w₀ (8 * m) a) ≡ kind → ⊥) → row_of (cell w₀ (8 * m) a) < bound → Reaching m w₀ k from to kind bound w n (a + 1)
+    pub reaching-skip : a < to → (kind_of (cell w (8 * m) a) ≡ kind → ⊥) → row_of (cell w (8 * m) a) < bound → Reaching m w₀ k from to kind bound w n (a + 1)
     reaching-skip h t b =
+        let lent : row_of (cell w (8 * m) a) ≡ row_of (cell w₀ (8 * m) a) = ap row_of reaching-cell in
         let e : rows_of_kind kind (plan_part m w₀ from a) ≡ rows_of_kind kind (plan_part m w₀ from (a + 1)) =
-        sym (next-kind h ∙ ap (λ (xs : List ℕ). rows_of_kind kind (plan_part m w₀ from a) ++ xs) (kind-skip kind (cell w₀ (8 * m) a) [] (ne_eqb _ _ t) ∙ kind-nil kind) ∙
+        sym (next-kind h ∙ ap (λ (xs : List ℕ). rows_of_kind kind (plan_part m w₀ from a) ++ xs) (kind-skip kind (cell w₀ (8 * m) a) [] (ne_eqb _ _ (λ q. t (ap kind_of reaching-cell ∙ q))) ∙ kind-nil kind) ∙
         append-nil (rows_of_kind kind (plan_part m w₀ from a))) in
         record {
-          passing = passing-next g.passing can.pass.long h b;
+          passing = passing-next g.passing can.pass.long h (omega arith);
           gathering = subst (λ (xs : List ℕ). Gathering m w₀ w n (region w₀ (2 * m) k ++ xs)) e g.gathering;
         }
 
-    pub reached-stop : bound ≤ row_of (cell w₀ (8 * m) a) → Reached m w₀ w k from to kind bound n a
-    reached-stop b = record { passed = passed-stop g.passing b; gathering = g.gathering }
+    pub reached-stop : bound ≤ row_of (cell w (8 * m) a) → Reached m w₀ w k from to kind bound n a
+    reached-stop b =
+        let lent : row_of (cell w (8 * m) a) ≡ row_of (cell w₀ (8 * m) a) = ap row_of reaching-cell in
+        record { passed = passed-stop g.passing (omega arith); gathering = g.gathering }
 
-    pub reached-end : to ≤ a → Reached m w₀ w k from to kind bound n a
-    reached-end h = record { passed = passed-end g.passing h; gathering = g.gathering }
+    pub reached-end : to ≤ a → Reached m w₀ w k from to kind bound n to
+    reached-end h =
+        let e : a ≡ to = omega (arith, g.passing.high) in
+        record {
+          passed = passed-end g.passing h;
+          gathering = subst (λ (stop : ℕ). Gathering m w₀ w n (region w₀ (2 * m) k ++ rows_of_kind kind (plan_part m w₀ from stop))) e g.gathering;
+        }

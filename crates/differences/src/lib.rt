@@ -32,12 +32,9 @@ pub fn gather_rows(work: &mut [u32], list: &[u32], m: usize) -> usize
     requires { CanGather m work.old × (rises 1 m list.now ≡ true) }
     ensures { Gathered m work.old work.new result (λ i. among i list.now) }
 {
-    let mut k: usize = 0;
-    while k < list.len() {
-        work[BUFFER * m + k] = list[k];
-        k += 1;
-    }
-    k
+    let a = BUFFER * m;
+    work[a..a + list.len()].copy_from_slice(list);
+    list.len()
 }
 
 // Gathers, after k others, the rows of one kind below a bound from the part [from, to) of the plan, up to the first entry at or above the bound.
@@ -55,8 +52,7 @@ fn gather_below(
 {
     let least = bound.0;
     let mut n = k;
-    let mut a = from;
-    while a < to {
+    for a in from..to {
         let entry = work[PLAN * m + a];
         let row = workspace::row_of(entry);
         if least <= row {
@@ -65,12 +61,9 @@ fn gather_below(
         if workspace::kind_of(entry) == kind {
             work[BUFFER * m + n] = row;
             n += 1;
-            a += 1;
-        } else {
-            a += 1;
         }
     }
-    Reach { rows: n, stop: a }
+    Reach { rows: n, stop: to }
 }
 
 // Gathers the rows of one kind from the part [from, to) of the plan, and gives their number.
@@ -134,14 +127,12 @@ fn pass(work: &[u32], m: usize, from: usize, to: usize, row: Row) -> usize
     ensures { Passed m work.now from to row.0 result }
 {
     let least = row.0;
-    let mut a = from;
-    while a < to {
+    for a in from..to {
         if least <= workspace::row_of(work[PLAN * m + a]) {
             return a;
         }
-        a += 1;
     }
-    a
+    to
 }
 
 // Whether the entry at a place of the plan, before to, is that a row is gone.
@@ -213,9 +204,8 @@ fn bump(work: &mut [u32], m: usize, n: usize, k: usize, up: bool) -> usize
     requires { CanCount m work.old n k }
     ensures { Bumped m work.old n k up work.new result }
 {
-    let mut i: usize = 0;
     let mut f: usize = 0;
-    while i < k {
+    for i in 0..k {
         let row = work[BUFFER * m + i];
         let place = (row - 1) as usize;
         let x = work[place];
@@ -224,9 +214,6 @@ fn bump(work: &mut [u32], m: usize, n: usize, k: usize, up: bool) -> usize
         if x == 0 {
             work[BUFFER * m + f] = row;
             f += 1;
-            i += 1;
-        } else {
-            i += 1;
         }
     }
     f

@@ -1,3 +1,4 @@
 pub mod Regions
 pub mod Planned
 pub mod Starts
+pub mod Written
