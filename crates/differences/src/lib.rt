@@ -144,11 +144,7 @@ fn is_gone(work: &[u32], m: usize, a: usize, to: usize, row: Row) -> bool
         return false;
     }
     let entry = work[PLAN * m + a];
-    let i = row.0;
-    if workspace::row_of(entry) != i {
-        return false;
-    }
-    workspace::kind_of(entry) == workspace::GONE
+    workspace::row_of(entry) == row.0 && workspace::kind_of(entry) == workspace::GONE
 }
 
 // Gathers the rows of the records from r on but for the gone rows of the part [from, to) of the plan, and gives their number.
@@ -187,16 +183,8 @@ fn bumped(x: u32, up: bool) -> u32
     requires { (1 ≤ shifted x) × (shifted x < 2147483647) }
     ensures { result ≡ bumped_to up (shifted x) }
 {
-    if x == 0 {
-        if up {
-            return BASE + 1;
-        }
-        return BASE - 1;
-    }
-    if up {
-        return x + 1;
-    }
-    x - 1
+    let d = if x == 0 { BASE } else { x };
+    if up { d + 1 } else { d - 1 }
 }
 
 // Counts the k rows in the buffer into the differences, up or down; those that were not touched before stay at the front of the buffer. Gives their number.
@@ -224,11 +212,7 @@ fn is_above(work: &[u32], m: usize, i: usize, row: Row) -> bool
     requires { m + i ≤ length work.now }
     ensures { result ≡ (ltb 0 i && ltb row.0 (cell work.now m (i - 1))) }
 {
-    if i == 0 {
-        return false;
-    }
-    let low = row.0;
-    low < work[m + (i - 1)]
+    0 < i && row.0 < work[m + (i - 1)]
 }
 
 // Merges the f rows in the buffer into the n of the list, from the back, and clears them.

@@ -1,5 +1,5 @@
 -- `differences::gather_below` meets its contract. Assumes nothing.
-use Rattle.std.proofs.Common.{◌≡◌, ◌+◌, ◌*◌, ◌<◌, arith, sym, ◌∙◌}
+use Rattle.std.proofs.Common.{◌<◌, arith, sym, ◌∙◌}
 use Rattle.differences.proofs.Passing.{reaching-start, reaching-room, reaching-take, reaching-skip, reached-stop, reached-end}
 use Rattle.differences.proofs.gather_below.Goals as goal
 use Rattle.differences.proofs.gather_below.Goals.{then-kind_of-kind, else-kind_of-kind}

@@ -1,5 +1,5 @@
 -- `differences::gather_rows` meets its contract: the rows are copied into the buffer. Assumes nothing.
-use Rattle.std.proofs.Common.{◌≡◌, ◌+◌, ◌*◌, ◌≤◌, length, arith, rules, refl}
+use Rattle.std.proofs.Common.{◌+◌, ◌*◌, ◌≤◌, length, rules, refl}
 use Rattle.differences.proofs.Gather.{list-room, gathering-copy}
 use Rattle.differences.proofs.gather_rows.Goals as goal
 
