@@ -7,8 +7,8 @@ use mathlib.Core.List.{List, [], ◌∷◌, ◌++◌, append_assoc, append-nil}
 use Prim.Native.Nat.{ℕ, suc, ◌+◌, ◌-◌, ◌≤◌, ◌<◌}
 use native.Mathlib.Omega.{arith}
 use native.Mathlib.Numerals.{add-one}
-use lib.ListN.{length, get_or, drop, length-append, drop_of_length-le}
-use lib.Seq.{drop-cons}
+use lib.ListN.{length, get_or, take, drop, length-append, length-take, length-drop, drop_of_length-le}
+use lib.Seq.{drop-cons, get_or-take, get_or-drop}
 use Rattle.lists.specs.Lists.{at, put, times}
 use Rattle.lists.proofs.Times.{times-nil, times-self, times-cons, times-append, times-mid, times-mem}
 use Rattle.lists.proofs.Place.{put_same, at-put-same}
@@ -292,3 +292,14 @@ module _ {rows₀ counts₀ next₀ : List ℕ} {head free₀ : ℕ} {ns plan : 
 
     pub committing-finish : length plan ≤ k → CommittedChain rows₀ counts₀ next₀ head free₀ ns plan rows counts next free
     committing-finish all = committing-end (subst (λ (l : List ℕ). Committing rows₀ counts₀ next₀ head free₀ ns plan rows counts next p free l) (drop_of_length-le plan all) i)
+
+-- ---- the entries from place k on, as a list of their own
+
+pub rest_at : (plan : List ℕ) (k i : ℕ) → i < length (take (length plan - k) (drop k plan)) →
+    (k + i < length plan) × (get_or (take (length plan - k) (drop k plan)) i 0 ≡ get_or plan (k + i) 0)
+rest_at plan k i h =
+    let low : i < length plan - k = omega (arith, length-take (length plan - k) (drop k plan), length-drop k plan) in
+    (omega arith, get_or-take (length plan - k) (drop k plan) i 0 low ∙ get_or-drop k plan i 0)
+
+pub rest-end : (plan : List ℕ) (k i : ℕ) → length (take (length plan - k) (drop k plan)) ≤ i → length plan ≤ k + i
+rest-end plan k i h = omega (arith, length-take (length plan - k) (drop k plan), length-drop k plan)

@@ -2,12 +2,12 @@
 // walk of its chain. A chain's end is a premise, so no walk counts its turns.
 #![tactic(auto)]
 
-ghost use Rattle.std.specs.Prelude.{◌≡◌, List, ℕ, ◌≤◌, ◌<◌, length, replicate};
+ghost use Rattle.std.specs.Prelude.{◌≡◌, List, ℕ, ◌≤◌, ◌<◌, length};
 ghost use Rattle.lists.specs.Lists.{at, over, up_from};
 ghost use Rattle.pool.specs.Chains.{chain};
 ghost use Rattle.columns.specs.Search.{first_at, last_below, count_of, entries_at, CanSearch, CanCount, CanCopy};
 ghost use Rattle.columns.specs.Apply.{CanApply, Applied, CanBegin, Begun};
-ghost use Rattle.columns.specs.Opened.{opened_rows, opened_counts, CanOpen, Opened};
+ghost use Rattle.columns.specs.Opened.{opened_rows, CanOpen, Opened};
 ghost use Rattle.columns.specs.Commit.{CanCommitChain, CommitReady, CommittedChain};
 
 use book::Row;
@@ -30,9 +30,10 @@ pub fn open(
 {
     let m = heads.len();
     number_heads(heads);
-    zero_parents(parents);
+    parents.fill(0);
     number_rows(rows, m);
-    one_counts(counts, m);
+    counts[..m].fill(1);
+    counts[m..].fill(0);
     pool::link_free(next, m as u32)
 }
 
@@ -41,21 +42,8 @@ fn number_heads(heads: &mut [u32])
     requires { length heads.old < 65536 }
     ensures { heads.new ≡ up_from 1 (length heads.old) }
 {
-    let mut i: usize = 0;
-    while i < heads.len() {
-        heads[i] = (i + 1) as u32;
-        i += 1;
-    }
-}
-
-// Writes no parent for any column.
-fn zero_parents(parents: &mut [u16])
-    ensures { parents.new ≡ replicate (length parents.old) 0 }
-{
-    let mut i: usize = 0;
-    while i < parents.len() {
-        parents[i] = 0;
-        i += 1;
+    for (i, head) in heads.iter_mut().enumerate() {
+        *head = (i + 1) as u32;
     }
 }
 
@@ -64,33 +52,10 @@ fn number_rows(rows: &mut [u16], m: usize)
     requires { (m ≤ length rows.old) × (m < 65536) }
     ensures { rows.new ≡ opened_rows m (length rows.old) }
 {
-    let mut i: usize = 0;
-    while i < rows.len() {
-        if i < m {
-            rows[i] = (i + 1) as u16;
-            i += 1;
-        } else {
-            rows[i] = 0;
-            i += 1;
-        }
+    for (i, row) in rows[..m].iter_mut().enumerate() {
+        *row = (i + 1) as u16;
     }
-}
-
-// Writes m multiplicities 1, then 0.
-fn one_counts(counts: &mut [u16], m: usize)
-    requires { m ≤ length counts.old }
-    ensures { counts.new ≡ opened_counts m (length counts.old) }
-{
-    let mut i: usize = 0;
-    while i < counts.len() {
-        if i < m {
-            counts[i] = 1;
-            i += 1;
-        } else {
-            counts[i] = 0;
-            i += 1;
-        }
-    }
+    rows[m..].fill(0);
 }
 
 // The first record of the chain from head whose row is at or above i, or record 0.
@@ -234,14 +199,13 @@ pub fn commit_column(
     requires { CommitReady rows.old counts.old next.old head.0 free.0 plan.now }
     ensures { (ns : List ℕ) → CanCommitChain rows.old counts.old next.old head.0 free.0 ns plan.now → CommittedChain rows.old counts.old next.old head.0 free.0 ns plan.now rows.new counts.new next.new result.0 }
 {
-    let mut k = commit_first(rows, counts, plan, head);
+    let k = commit_first(rows, counts, plan, head);
     let mut p = head;
     let mut z = free;
-    while k < plan.len() {
-        let s = apply_entry(rows, counts, next, p, z, plan[k]);
+    for &entry in &plan[k..] {
+        let s = apply_entry(rows, counts, next, p, z, entry);
         p = s.0;
         z = s.1;
-        k += 1;
     }
     z
 }
