@@ -204,8 +204,8 @@ module _ {rows counts next w₀ : List ℕ} {m n j head used avail : ℕ} {old n
             ]
 
         -- what the code computed is these
-        module _ {o o' : ℕ} {v : Walk} (a : o ≡ stored_at rows counts next-walk.at.0 row_here) (b : o' ≡ o + at w row_here - base)
-            (c : v ≡ counting j row_here o' (advanced next o next-walk)) where
+        module _ {o o' : ℕ} {on v : Walk} (a : o ≡ stored_at rows counts next-walk.at.0 row_here) (b : o' ≡ o + at w row_here - base)
+            (on-is : on ≡ advanced next o next-walk) (c : v ≡ counting j row_here o' on) where
           o_is : o ≡ get_or old s 0
           o_is = a ∙ old_value
 
@@ -217,7 +217,7 @@ module _ {rows counts next w₀ : List ℕ} {m n j head used avail : ℕ} {old n
               let x : ℕ = get_or old s 0 in
               let x' : ℕ = get_or new s 0 in
               let v-is : v ≡ counting j (suc s) x' (advanced next x next-walk) =
-              c ∙ ap (λ (r : ℕ). counting j r o' (advanced next o next-walk)) (sym s-is) ∙ ap (λ (k : ℕ). counting j (suc s) k (advanced next o next-walk)) o'-is ∙
+              c ∙ ap (λ (x : Walk). counting j row_here o' x) on-is ∙ ap (λ (r : ℕ). counting j r o' (advanced next o next-walk)) (sym s-is) ∙ ap (λ (k : ℕ). counting j (suc s) k (advanced next o next-walk)) o'-is ∙
               ap (λ (k : ℕ). counting j (suc s) x' (advanced next k next-walk)) o_is in
               subst (λ (z : Walk). Fields next j (suc s) x x' next-walk z) (sym v-is) (fields next j (suc s) x x' next-walk)
 

@@ -3,7 +3,7 @@
 // and the list.
 #![tactic(auto)]
 
-ghost use Rattle.std.specs.Prelude.{◌≡◌, ◌≢◌, ◌+◌, ◌*◌, ◌≤◌, ◌<◌, max, length, set};
+ghost use Rattle.std.specs.Prelude.{◌≡◌, ◌≢◌, ◌+◌, ◌*◌, ◌≤◌, ◌<◌, length, set};
 ghost use Rattle.lists.specs.Lists.{at};
 ghost use Rattle.workspace.specs.Layout.{plan_at};
 ghost use Rattle.emission.specs.Plans.{kind_for};
@@ -42,16 +42,11 @@ pub struct Emission {
 fn first_over(j: Row, first: Row, row: Row) -> Row
     ensures { result.0 ≡ first_over j.0 first.0 row.0 }
 {
-    let f = first.0;
-    if f != 0 {
-        return first;
+    if first.0 == 0 && j.0 < row.0 {
+        row
+    } else {
+        first
     }
-    let d = j.0;
-    let i = row.0;
-    if d < i {
-        return row;
-    }
-    first
 }
 
 // Counts a row that stays.
@@ -59,19 +54,10 @@ fn stay(walk: Walk, j: Row, row: Row) -> Walk
     requires { walk.size < 4294967295 }
     ensures { result ≡ stays j.0 row.0 walk }
 {
-    let at = walk.at;
-    let first = walk.parent;
-    let avail = walk.avail;
-    let size = walk.size + 1;
-    let parent = first_over(j, first, row);
     Walk {
-        at: at,
-        behind: walk.behind,
-        used: walk.used,
-        size: size,
-        parent: parent,
-        avail: avail,
-        fits: walk.fits,
+        size: walk.size + 1,
+        parent: first_over(j, walk.parent, row),
+        ..walk
     }
 }
 
@@ -80,10 +66,11 @@ fn on_to(walk: Walk, r: Rec) -> Walk
     requires { walk.behind < 4294967295 }
     ensures { result ≡ on_to r.0 walk }
 {
-    let mut w = walk;
-    w.at = r;
-    w.behind = walk.behind + 1;
-    w
+    Walk {
+        at: r,
+        behind: walk.behind + 1,
+        ..walk
+    }
 }
 
 // Passes over the records with rows below a bound: they stay.
@@ -166,12 +153,11 @@ fn take_free(next: &[u32], walk: Walk) -> Walk
     requires { (1 ≤ walk.avail.0) × (walk.avail.0 ≤ length next.now) }
     ensures { result ≡ taking next.now walk }
 {
-    let free = walk.avail.0;
-    let q = next[(free - 1) as usize];
-    let left = Rec(q);
-    let mut w = walk;
-    w.avail = left;
-    w
+    let left = next[(walk.avail.0 - 1) as usize];
+    Walk {
+        avail: Rec(left),
+        ..walk
+    }
 }
 
 // Writes an entry at the plan's end.
@@ -182,9 +168,10 @@ fn put(work: &mut [u32], m: usize, walk: Walk, entry: u32) -> Walk
 {
     let used = walk.used;
     work[workspace::PLAN * m + used] = entry;
-    let mut w = walk;
-    w.used = used + 1;
-    w
+    Walk {
+        used: used + 1,
+        ..walk
+    }
 }
 
 // Plans a row whose multiplicity goes from old to new.
@@ -213,9 +200,10 @@ fn plan_row(
     }
     let free = walk.avail.0;
     if free == 0 {
-        let mut w = walk;
-        w.fits = false;
-        return w;
+        return Walk {
+            fits: false,
+            ..walk
+        };
     }
     put(
         work,
@@ -223,16 +211,6 @@ fn plan_row(
         take_free(next, walk),
         workspace::pack(row.0, new, kind_for(old, new)),
     )
-}
-
-// The larger of two numbers.
-fn larger_of(a: usize, b: usize) -> usize
-    ensures { result ≡ max a b }
-{
-    if a < b {
-        return b;
-    }
-    a
 }
 
 // Plans column j, whose chain starts at head and whose n touched rows are in the list, from place used of the plan on, with free records from avail on.
@@ -254,14 +232,13 @@ pub fn emit(
     let mut walk = Walk {
         at: head,
         behind: 0,
-        used: used,
+        used,
         size: 0,
         parent: Row(0),
-        avail: avail,
+        avail,
         fits: true,
     };
-    let mut i: usize = 0;
-    while i < n {
+    for i in 0..n {
         let row = work[m + i];
         let k = (row - 1) as usize;
         let x = work[k];
@@ -274,20 +251,14 @@ pub fn emit(
             let new = old + x - BASE;
             let v = count_row(advance(next, w, old), j, Row(row), new);
             walk = plan_row(next, work, m, v, Row(row), old, new);
-            i += 1;
-        } else {
-            i += 1;
         }
     }
     let last = pass(rows, next, walk, j, Row(4097));
-    let larger = larger_of(last.behind, last.size);
-    let parent = last.parent;
-    let left = last.avail;
     Emission {
         fits: last.fits,
         used: last.used,
-        larger: larger,
-        parent: parent,
-        avail: left,
+        larger: last.behind.max(last.size),
+        parent: last.parent,
+        avail: last.avail,
     }
 }
