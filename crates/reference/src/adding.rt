@@ -51,11 +51,11 @@ fn enters(
     enter(
         holds, booked, windows, live, pattern, ids, counts, rows, firsts, seconds, clock, sizes,
     );
-    if sizes.f < tree::sum_of_sizes(pattern, sizes.m) {
+    let fits = tree::sum_of_sizes(pattern, sizes.m) <= sizes.f;
+    if !fits {
         leave(booked, windows, ids, sizes.n);
-        return false;
     }
-    true
+    fits
 }
 
 // The report of an addition that entered.
@@ -141,19 +141,9 @@ pub fn add(
     if number != 0 {
         return refused(number, 0);
     }
-    if ids.len() < 1 {
-        return refused(7, 0);
-    }
-    if 64 < ids.len() {
-        return refused(7, 0);
-    }
-    if counts.len() != ids.len() {
-        return refused(7, 0);
-    }
-    if firsts.len() != ids.len() {
-        return refused(7, 0);
-    }
-    if seconds.len() != ids.len() {
+    let count = ids.len();
+    let keep_step = counts.len() == count && firsts.len() == count && seconds.len() == count;
+    if refusals::is_outside(count, 1, 64) || !keep_step {
         return refused(7, 0);
     }
     add_lists(

@@ -1,8 +1,9 @@
 // A batch: its columns enter or leave, and its touched columns, labels, entries and grade.
-ghost use Rattle.std.specs.Prelude.{◌≡◌, ◌≤◌, length};
+ghost use Rattle.std.specs.Prelude.{◌≡◌, ℕ, ◌≤◌, length};
 ghost use Rattle.reference.specs.Ranges.{IsRow, Served};
 
 use crate::columns::wide;
+use crate::refusals::is_outside;
 use crate::{Booked, Holds, Limits, Live, Rows, Sizes, Square, columns, tree};
 
 // ---- columns in and out
@@ -19,56 +20,24 @@ pub fn enter(
     requires { (n ≤ 256) × (length counts.now ≡ length ids.now) }
 {
     let mut at = 0;
-    let mut t = 0;
-    while t < ids.len() {
-        at = enter_one(holds, booked, rows, at, wide(counts[t]), wide(ids[t]), n);
-        t += 1;
+    for (id, count) in ids.iter().zip(counts) {
+        let i = wide(*id);
+        if !is_outside(i, 1, n) {
+            at = columns::enter(holds, booked, rows, at, wide(*count), i);
+        }
     }
-}
-
-// One id enters, if the tables have it. It gives the place after its rows.
-fn enter_one(
-    holds: &mut Holds,
-    booked: &mut Booked,
-    rows: &[u32],
-    from: usize,
-    count: usize,
-    i: usize,
-    n: usize,
-) -> usize
-    requires { n ≤ 256 }
-{
-    if i < 1 {
-        return from;
-    }
-    if n < i {
-        return from;
-    }
-    columns::enter(holds, booked, rows, from, count, i)
 }
 
 // Every id of the batch that the tables have leaves.
 pub fn leave(booked: &mut Booked, ids: &[u32], n: usize)
     requires { n ≤ 256 }
 {
-    let mut t = 0;
-    while t < ids.len() {
-        leave_one(booked, wide(ids[t]), n);
-        t += 1;
+    for id in ids {
+        let i = wide(*id);
+        if !is_outside(i, 1, n) {
+            columns::leave(booked, i);
+        }
     }
-}
-
-// One id leaves, if the tables have it.
-fn leave_one(booked: &mut Booked, i: usize, n: usize)
-    requires { n ≤ 256 }
-{
-    if i < 1 {
-        return;
-    }
-    if n < i {
-        return;
-    }
-    columns::leave(booked, i);
 }
 
 // ---- touched columns and labels
@@ -78,10 +47,7 @@ fn start(holds: &Holds, live: &Live, sizes: Sizes, i: usize) -> usize
     requires { Served sizes.m sizes.n }
     ensures { result ≤ 64 }
 {
-    if i < 1 {
-        return 0;
-    }
-    if sizes.n < i {
+    if is_outside(i, 1, sizes.n) {
         return 0;
     }
     columns::smallest_row(holds, live, sizes.m, i)
@@ -92,14 +58,12 @@ pub fn label_path(pattern: &Square, label_of: &mut Rows, m: usize, from: usize, 
     requires { (m ≤ 64) × (from ≤ 64) }
 {
     let mut row = from;
-    let mut count = 0;
-    while count < m {
+    for _ in 0..m {
         if row == 0 {
             return;
         }
         label_of[row - 1] = label;
         row = tree::parent(pattern, m, row);
-        count += 1;
     }
 }
 
@@ -115,12 +79,9 @@ pub fn label(
 )
     requires { Served sizes.m sizes.n × (length ids.now ≤ 64) }
 {
-    let m = sizes.m;
-    let mut t = 0;
-    while t < ids.len() {
-        let from = start(holds, live, sizes, wide(ids[t]));
-        label_path(pattern, label_of, m, from, t as u16 + 1);
-        t += 1;
+    for (t, id) in ids.iter().enumerate() {
+        let from = start(holds, live, sizes, wide(*id));
+        label_path(pattern, label_of, sizes.m, from, t as u16 + 1);
     }
 }
 
@@ -136,15 +97,11 @@ pub fn report(
     ensures { result ≤ 64 }
 {
     let mut count = 0;
-    let mut k = 0;
-    while k < m {
-        if marked[k] == 0 {
-            k += 1;
-        } else {
+    for (k, mark) in marked[..m].iter().enumerate() {
+        if *mark != 0 {
             touched[count] = k as u16 + 1;
             labels[count] = label_of[k];
             count += 1;
-            k += 1;
         }
     }
     count
@@ -152,39 +109,31 @@ pub fn report(
 
 // ---- entries and grade
 
-// The size of L_j if j is touched, or 0.
-fn entries_at(pattern: &Square, label_of: &Rows, m: usize, j: usize) -> usize
-    requires { (m ≤ 64) × IsRow j }
-    ensures { result ≤ 64 }
+// The sum of a size over the touched columns.
+pub(crate) fn sum_over<F: Fn(usize) -> usize>(label_of: &Rows, m: usize, size: F) -> usize
+    requires { (m ≤ 64) × ((j : ℕ) → IsRow j → F.pre size j) × ((j r : ℕ) → F.post size j r → r ≤ 64) }
 {
-    if label_of[j - 1] == 0 {
-        return 0;
+    let mut total = 0;
+    for j in 1..=m {
+        if label_of[j - 1] != 0 {
+            total += size(j);
+        }
     }
-    tree::size(pattern, m, j)
+    total
 }
 
 // The sum of the sizes of the touched columns in a pattern.
 pub fn entries(pattern: &Square, label_of: &Rows, m: usize) -> usize
     requires { m ≤ 64 }
 {
-    let mut total = 0;
-    let mut j = 1;
-    while j <= m {
-        total += entries_at(pattern, label_of, m, j);
-        j += 1;
-    }
-    total
+    sum_over(label_of, m, |j| tree::size(pattern, m, j))
 }
 
-// The largest grade whose first entries are at most these, tried from 4 down. Those of grade 1 are 1, so it is 0 for none.
+// The largest grade whose first entries are at most these. Those of grade 1 are 1, so it is 0 for none.
 pub fn grade(limits: Limits, entries: usize) -> usize {
-    let first = [1, limits.grade2, limits.grade3, limits.grade4];
-    let mut grade = 4;
-    while 0 < grade {
-        if first[grade - 1] <= entries {
-            return grade;
-        }
-        grade -= 1;
-    }
-    0
+    let firsts = [1, limits.grade2, limits.grade3, limits.grade4];
+    firsts
+        .iter()
+        .rposition(|first| *first <= entries)
+        .map_or(0, |k| k + 1)
 }

@@ -1,36 +1,14 @@
 // The clock goes to another minute: columns stop counting, others begin to. Touched are all columns on the paths of those that stop, in the tree before, and
 // of those that begin, in the tree after; all have label 0. Refused by 1 to 4 and 6 by the record, and by 16 where the patterns after it exceed F.
 ghost use Rattle.std.specs.Prelude.{◌≤◌};
-ghost use Rattle.reference.specs.Ranges.{IsRow, IsId, Served};
+ghost use Rattle.reference.specs.Ranges.{Served};
 
 use crate::{
-    Answer, Booked, Holds, Live, Rows, Sizes, Square, Windows, batch, columns, pattern, refusals,
-    refused, tree, windows,
+    Answer, Booked, Holds, Live, Rows, Sizes, Square, Windows, accepted, batch, columns, pattern,
+    refusals, refused, tree, windows,
 };
 
 // ---- touched columns
-
-// Marks the path of id i in a pattern, if the first marks have the id and the second have not.
-fn mark_path(
-    holds: &Holds,
-    live: &Live,
-    other: &Live,
-    pattern: &Square,
-    marked: &mut Rows,
-    m: usize,
-    i: usize,
-)
-    requires { (m ≤ 64) × IsId i }
-{
-    if !columns::is_marked(live, i) {
-        return;
-    }
-    if columns::is_marked(other, i) {
-        return;
-    }
-    let from = columns::smallest_row(holds, live, m, i);
-    batch::label_path(pattern, marked, m, from, 1);
-}
 
 // Marks the paths of all ids that the first marks have and the second have not; the pattern is that of the first.
 fn mark_paths(
@@ -43,46 +21,25 @@ fn mark_paths(
 )
     requires { Served sizes.m sizes.n }
 {
-    let m = sizes.m;
-    let n = sizes.n;
-    let mut i = 1;
-    while i <= n {
-        mark_path(holds, live, other, pattern, marked, m, i);
-        i += 1;
+    for i in 1..=sizes.n {
+        if columns::is_marked(live, i) && !columns::is_marked(other, i) {
+            let from = columns::smallest_row(holds, live, sizes.m, i);
+            batch::label_path(pattern, marked, sizes.m, from, 1);
+        }
     }
 }
 
 // ---- entries
 
-fn larger(a: usize, b: usize) -> usize
-    requires { (a ≤ 64) × (b ≤ 64) }
-    ensures { result ≤ 64 }
-{
-    if a < b { b } else { a }
-}
-
-// The larger of the sizes of column j in two patterns if j is touched, or 0.
-fn entries_at(before: &Square, after: &Square, marked: &Rows, m: usize, j: usize) -> usize
-    requires { (m ≤ 64) × IsRow j }
-    ensures { result ≤ 64 }
-{
-    if marked[j - 1] == 0 {
-        return 0;
-    }
-    larger(tree::size(before, m, j), tree::size(after, m, j))
-}
-
 // The sum over the touched columns of the larger of a column's sizes.
 fn entries(before: &Square, after: &Square, marked: &Rows, m: usize) -> usize
     requires { m ≤ 64 }
 {
-    let mut total = 0;
-    let mut j = 1;
-    while j <= m {
-        total += entries_at(before, after, marked, m, j);
-        j += 1;
-    }
-    total
+    batch::sum_over(
+        marked,
+        m,
+        |j| tree::size(before, m, j).max(tree::size(after, m, j)),
+    )
 }
 
 // ---- the call
@@ -107,14 +64,7 @@ fn moved(
     mark_paths(holds, was, live, &before, &mut marked, sizes);
     mark_paths(holds, live, was, after, &mut marked, sizes);
     let count = batch::report(touched, labels, &marked, &none, sizes.m);
-    let entries = entries(&before, after, &marked, sizes.m);
-    Answer {
-        number: 0,
-        position: 0,
-        touched: count,
-        entries,
-        grade: batch::grade(sizes.limits, entries),
-    }
+    accepted(sizes, count, entries(&before, after, &marked, sizes.m))
 }
 
 // Sets the clock. Refused, it stays.

@@ -9,7 +9,7 @@ use crate::{Booked, Holds, Live};
 pub fn one(yes: bool) -> usize
     ensures { result ≤ 1 }
 {
-    if yes { 1 } else { 0 }
+    usize::from(yes)
 }
 
 // ---- reading
@@ -32,26 +32,14 @@ pub fn is_marked(marks: &Live, i: usize) -> bool
 pub fn has_row(holds: &Holds, live: &Live, i: usize, j: usize) -> bool
     requires { IsId i × IsRow j }
 {
-    if !is_marked(live, i) {
-        return false;
-    }
-    holds[place(i, j)] == 1
+    is_marked(live, i) && holds[place(i, j)] == 1
 }
 
 // Whether some live column holds both rows.
 pub fn is_shared(holds: &Holds, live: &Live, n: usize, a: usize, b: usize) -> bool
     requires { (n ≤ 256) × IsRow a × IsRow b }
 {
-    let mut i = 1;
-    while i <= n {
-        if has_row(holds, live, i, a) {
-            if has_row(holds, live, i, b) {
-                return true;
-            }
-        }
-        i += 1;
-    }
-    false
+    (1..=n).any(|i| has_row(holds, live, i, a) && has_row(holds, live, i, b))
 }
 
 // The smallest row of id i; 0 if it is not live.
@@ -59,14 +47,7 @@ pub fn smallest_row(holds: &Holds, live: &Live, m: usize, i: usize) -> usize
     requires { (m ≤ 64) × IsId i }
     ensures { result ≤ m }
 {
-    let mut j = 1;
-    while j <= m {
-        if has_row(holds, live, i, j) {
-            return j;
-        }
-        j += 1;
-    }
-    0
+    (1..=m).find(|&j| has_row(holds, live, i, j)).unwrap_or(0)
 }
 
 // How many rows id i holds; 0 if it is not booked.
@@ -74,13 +55,7 @@ fn row_count(holds: &Holds, booked: &Booked, m: usize, i: usize) -> usize
     requires { (m ≤ 64) × IsId i }
     ensures { result ≤ 64 }
 {
-    let mut count = 0;
-    let mut j = 1;
-    while j <= m {
-        count += one(has_row(holds, booked, i, j));
-        j += 1;
-    }
-    count
+    (1..=m).filter(|&j| has_row(holds, booked, i, j)).count()
 }
 
 // How many rows the book holds: the sum over the booked columns.
@@ -89,10 +64,8 @@ pub fn book_rows(holds: &Holds, booked: &Booked, m: usize, n: usize) -> usize
     ensures { result ≤ 16384 }
 {
     let mut total = 0;
-    let mut i = 1;
-    while i <= n {
+    for i in 1..=n {
         total += row_count(holds, booked, m, i);
-        i += 1;
     }
     total
 }
@@ -103,11 +76,7 @@ pub fn book_rows(holds: &Holds, booked: &Booked, m: usize, n: usize) -> usize
 fn empty(holds: &mut Holds, i: usize)
     requires { IsId i }
 {
-    let mut j = 1;
-    while j <= 64 {
-        holds[place(i, j)] = 0;
-        j += 1;
-    }
+    holds[(i - 1) * 64..i * 64].fill(0);
 }
 
 // Id i leaves.
@@ -119,24 +88,16 @@ pub fn leave(booked: &mut Booked, i: usize)
 
 // Every id leaves.
 pub fn leave_all(booked: &mut Booked) {
-    let mut i = 1;
-    while i <= 256 {
-        leave(booked, i);
-        i += 1;
-    }
+    booked.fill(0);
 }
 
 // Id i holds row j too, if the tables have that row.
 fn take_row(holds: &mut Holds, i: usize, j: usize)
     requires { IsId i }
 {
-    if j < 1 {
-        return;
+    if (1..=64).contains(&j) {
+        holds[place(i, j)] = 1;
     }
-    if 64 < j {
-        return;
-    }
-    holds[place(i, j)] = 1;
 }
 
 pub fn wide(x: u32) -> usize {
@@ -156,15 +117,8 @@ pub fn enter(
 {
     empty(holds, i);
     booked[i - 1] = 1;
-    let mut at = from;
-    let mut taken = 0;
-    while at < rows.len() {
-        if taken == count {
-            return at;
-        }
-        take_row(holds, i, wide(rows[at]));
-        taken += 1;
-        at += 1;
+    for row in rows.iter().skip(from).take(count) {
+        take_row(holds, i, wide(*row));
     }
-    at
+    from + count.min(rows.len().saturating_sub(from))
 }

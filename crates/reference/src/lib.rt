@@ -103,44 +103,45 @@ pub fn refused(number: usize, position: usize) -> Answer
     }
 }
 
+// What an accepted batch gives, of the number of its touched columns and of its entries.
+fn accepted(sizes: Sizes, touched: usize, entries: usize) -> Answer
+    ensures { result.touched ≡ touched }
+{
+    Answer {
+        number: 0,
+        position: 0,
+        touched,
+        entries,
+        grade: batch::grade(sizes.limits, entries),
+    }
+}
+
 // An F of 0 means 32 * m.
 fn records_meant(m: usize, f: usize) -> usize {
-    if f != 0 {
-        return f;
-    }
-    if 4096 < m {
-        return f;
-    }
-    32 * m
+    if f == 0 && m <= 4096 { 32 * m } else { f }
 }
 
 // Three zeros mean the old limits.
 fn limits_meant(asked: Limits) -> Limits {
-    if asked.grade4 != 0 {
-        return asked;
-    }
-    if asked.grade3 != 0 {
-        return asked;
-    }
-    if asked.grade2 != 0 {
-        return asked;
-    }
-    Limits {
-        grade2: 256,
-        grade3: 4096,
-        grade4: 65536,
+    match asked {
+        Limits {
+            grade2: 0,
+            grade3: 0,
+            grade4: 0,
+        } => Limits {
+            grade2: 256,
+            grade3: 4096,
+            grade4: 65536,
+        },
+        _ => asked,
     }
 }
 
 fn meant(asked: Sizes) -> Sizes {
-    let f = records_meant(asked.m, asked.f);
-    let limits = limits_meant(asked.limits);
     Sizes {
-        m: asked.m,
-        n: asked.n,
-        f,
-        c: asked.c,
-        limits,
+        f: records_meant(asked.m, asked.f),
+        limits: limits_meant(asked.limits),
+        ..asked
     }
 }
 
@@ -163,13 +164,7 @@ pub fn open(
             sizes: before,
         };
     }
-    if 64 < sizes.m {
-        return Opened {
-            number: 5,
-            sizes: before,
-        };
-    }
-    if 256 < sizes.n {
+    if 64 < sizes.m || 256 < sizes.n {
         return Opened {
             number: 5,
             sizes: before,
@@ -194,13 +189,7 @@ pub fn reported(
 {
     let count = batch::report(touched, labels, label_of, label_of, sizes.m);
     let entries = batch::entries(pattern, label_of, sizes.m);
-    Answer {
-        number: 0,
-        position: 0,
-        touched: count,
-        entries,
-        grade: batch::grade(sizes.limits, entries),
-    }
+    accepted(sizes, count, entries)
 }
 
 // The columns of a batch leave, with their minutes.

@@ -4,8 +4,9 @@
 ghost use Rattle.std.specs.Prelude.{◌≤◌, length};
 ghost use Rattle.reference.specs.Ranges.{IsRow, Served};
 
-use crate::columns::{one, wide};
+use crate::columns::wide;
 use crate::questions::refused;
+use crate::refusals::{exceeds, is_outside};
 use crate::{Reply, Sizes, Square, pattern, refusals, tree};
 
 // ---- the columns that hold a row
@@ -15,39 +16,18 @@ fn holders(pattern: &Square, m: usize, i: usize) -> usize
     requires { (m ≤ 64) × IsRow i }
     ensures { result ≤ 64 }
 {
-    let mut count = 0;
-    let mut j = 1;
-    while j <= m {
-        count += one(pattern::is_in(pattern, i, j));
-        j += 1;
-    }
-    count
+    (1..=m).filter(|&j| pattern::is_in(pattern, i, j)).count()
 }
 
-// A column, if the list has a place more. It gives the place after it.
-fn put(list: &mut [u32], at: usize, column: usize) -> usize
-    requires { (at ≤ length list.old) × (column ≤ 64) }
-    ensures { result ≤ length list.old }
+// The columns that hold row i, ascending. The list's end ends them at the latest.
+fn write_holders(pattern: &Square, list: &mut [u32], m: usize, i: usize)
+    requires { (m ≤ 64) × IsRow i }
 {
-    if at == list.len() {
-        return at;
-    }
-    list[at] = column as u32;
-    at + 1
-}
-
-// The columns that hold row i, ascending.
-fn write_holders(pattern: &Square, list: &mut [u32], m: usize, at: usize, i: usize)
-    requires { (m ≤ 64) × (at ≤ length list.old) × IsRow i }
-{
-    let mut k = at;
-    let mut j = 1;
-    while j <= m {
-        if pattern::is_in(pattern, i, j) {
-            k = put(list, k, j);
-            j += 1;
-        } else {
-            j += 1;
+    let mut k = 0;
+    for j in 1..=m {
+        if k < list.len() && pattern::is_in(pattern, i, j) {
+            list[k] = j as u32;
+            k += 1;
         }
     }
 }
@@ -57,24 +37,14 @@ pub fn meets(pattern: &Square, list: &mut [u32], sizes: Sizes, at: usize, i: usi
     requires { Served sizes.m sizes.n }
     ensures { result.value ≤ 64 }
 {
-    let number = refusals::of_record(sizes);
-    if number != 0 {
+    if let Some(number) = refusals::of_row(sizes, i) {
         return refused(number);
     }
-    if i < 1 {
-        return refused(17);
-    }
-    if sizes.m < i {
-        return refused(17);
-    }
     let value = holders(pattern, sizes.m, i);
-    if list.len() < at {
+    if exceeds(list.len(), at, value) {
         return refused(18);
     }
-    if list.len() - at < value {
-        return refused(18);
-    }
-    write_holders(pattern, list, sizes.m, at, i);
+    write_holders(pattern, &mut list[at..], sizes.m, i);
     Reply { number: 0, value }
 }
 
@@ -85,8 +55,7 @@ fn is_on_path(pattern: &Square, m: usize, j: usize, k: usize) -> bool
     requires { (m ≤ 64) × IsRow j }
 {
     let mut row = j;
-    let mut count = 0;
-    while count < m {
+    for _ in 0..m {
         if row == k {
             return true;
         }
@@ -94,7 +63,6 @@ fn is_on_path(pattern: &Square, m: usize, j: usize, k: usize) -> bool
         if row == 0 {
             return false;
         }
-        count += 1;
     }
     false
 }
@@ -103,53 +71,28 @@ fn is_on_path(pattern: &Square, m: usize, j: usize, k: usize) -> bool
 fn has_on_path(pattern: &Square, m: usize, j: usize, k: usize) -> bool
     requires { m ≤ 64 }
 {
-    if j < 1 {
-        return false;
-    }
-    if m < j {
-        return false;
-    }
-    is_on_path(pattern, m, j, k)
+    !is_outside(j, 1, m) && is_on_path(pattern, m, j, k)
 }
 
 // Whether row k lies on the path of every row that is named.
 fn is_on_all(pattern: &Square, row_list: &[u32], m: usize, k: usize) -> bool
     requires { m ≤ 64 }
 {
-    let mut t = 0;
-    while t < row_list.len() {
-        if !has_on_path(pattern, m, wide(row_list[t]), k) {
-            return false;
-        }
-        t += 1;
-    }
-    true
+    row_list
+        .iter()
+        .all(|row| has_on_path(pattern, m, wide(*row), k))
 }
 
-// The smallest row of 1 to m that lies on all these paths, 0 if there is none.
-fn smallest_on_all(pattern: &Square, row_list: &[u32], m: usize) -> usize
+// The smallest row of 1 to m that lies on all these paths, if there is one.
+fn smallest_on_all(pattern: &Square, row_list: &[u32], m: usize) -> Option<usize>
     requires { m ≤ 64 }
 {
-    let mut k = 1;
-    while k <= m {
-        if is_on_all(pattern, row_list, m, k) {
-            return k;
-        }
-        k += 1;
-    }
-    0
+    (1..=m).find(|&k| is_on_all(pattern, row_list, m, k))
 }
 
 // Whether some row that is named is outside 1 to m.
 fn names_outside(row_list: &[u32], m: usize) -> bool {
-    let mut t = 0;
-    while t < row_list.len() {
-        if refusals::is_outside(wide(row_list[t]), 1, m) {
-            return true;
-        }
-        t += 1;
-    }
-    false
+    row_list.iter().any(|row| is_outside(wide(*row), 1, m))
 }
 
 // The smallest row on the paths of all rows that are named; 0 if there is none.
@@ -160,15 +103,12 @@ pub fn common(pattern: &Square, row_list: &[u32], sizes: Sizes) -> Reply
     if number != 0 {
         return refused(number);
     }
-    if row_list.len() < 1 {
-        return refused(7);
-    }
-    if 64 < row_list.len() {
+    if is_outside(row_list.len(), 1, 64) {
         return refused(7);
     }
     if names_outside(row_list, sizes.m) {
         return refused(17);
     }
-    let value = smallest_on_all(pattern, row_list, sizes.m);
+    let value = smallest_on_all(pattern, row_list, sizes.m).unwrap_or(0);
     Reply { number: 0, value }
 }

@@ -6,7 +6,7 @@ ghost use Rattle.reference.specs.Ranges.{IsRow, Served};
 use crate::{Holds, Live, Marks, Sizes, Square, columns};
 
 pub fn mark(yes: bool) -> u8 {
-    if yes { 1 } else { 0 }
+    u8::from(yes)
 }
 
 // Where the mark of row i stands for row j.
@@ -26,25 +26,14 @@ pub fn is_in(square: &Square, i: usize, j: usize) -> bool
 
 // ---- neighbours: rows that share a live column
 
-// Marks the neighbours of row a.
-fn join(holds: &Holds, live: &Live, near: &mut Square, m: usize, n: usize, a: usize)
-    requires { Served m n × IsRow a }
-{
-    let mut b = 1;
-    while b <= m {
-        near[place(b, a)] = mark(columns::is_shared(holds, live, n, a, b));
-        b += 1;
-    }
-}
-
 // Marks the neighbours of every row.
-fn join_all(holds: &Holds, live: &Live, near: &mut Square, m: usize, n: usize)
+fn join(holds: &Holds, live: &Live, near: &mut Square, m: usize, n: usize)
     requires { Served m n }
 {
-    let mut a = 1;
-    while a <= m {
-        join(holds, live, near, m, n, a);
-        a += 1;
+    for a in 1..=m {
+        for b in 1..=m {
+            near[place(b, a)] = mark(columns::is_shared(holds, live, n, a, b));
+        }
     }
 }
 
@@ -55,15 +44,11 @@ fn spread(near: &Square, reached: &mut Marks, m: usize, x: usize) -> bool
     requires { (m ≤ 64) × IsRow x }
 {
     let mut more = false;
-    let mut y = 1;
-    while y <= m {
-        if is_in(near, y, x) {
-            if reached[y - 1] == 0 {
-                reached[y - 1] = 1;
-                more = true;
-            }
+    for y in 1..=m {
+        if is_in(near, y, x) && reached[y - 1] == 0 {
+            reached[y - 1] = 1;
+            more = true;
         }
-        y += 1;
     }
     more
 }
@@ -73,14 +58,8 @@ fn step(near: &Square, reached: &mut Marks, m: usize, j: usize) -> bool
     requires { (m ≤ 64) × IsRow j }
 {
     let mut more = false;
-    let mut x = 1;
-    while x <= j {
-        if reached[x - 1] == 1 {
-            if spread(near, reached, m, x) {
-                more = true;
-            }
-        }
-        x += 1;
+    for x in 1..=j {
+        more |= reached[x - 1] == 1 && spread(near, reached, m, x);
     }
     more
 }
@@ -90,12 +69,10 @@ fn reach(near: &Square, reached: &mut Marks, m: usize, j: usize)
     requires { (m ≤ 64) × IsRow j }
 {
     reached[j - 1] = 1;
-    let mut steps = 0;
-    while steps < j {
+    for _ in 0..j {
         if !step(near, reached, m, j) {
             return;
         }
-        steps += 1;
     }
 }
 
@@ -105,14 +82,8 @@ fn reach(near: &Square, reached: &mut Marks, m: usize, j: usize)
 fn write(pattern: &mut Square, reached: &Marks, m: usize, j: usize)
     requires { (m ≤ 64) × IsRow j }
 {
-    let mut i = 1;
-    while i <= m {
-        if i < j {
-            pattern[place(i, j)] = 0;
-        } else {
-            pattern[place(i, j)] = reached[i - 1];
-        }
-        i += 1;
+    for i in 1..=m {
+        pattern[place(i, j)] = if i < j { 0 } else { reached[i - 1] };
     }
 }
 
@@ -130,10 +101,8 @@ pub fn fills(holds: &Holds, live: &Live, pattern: &mut Square, sizes: Sizes)
 {
     let m = sizes.m;
     let mut near = [0u8; 4096];
-    join_all(holds, live, &mut near, m, sizes.n);
-    let mut j = 1;
-    while j <= m {
+    join(holds, live, &mut near, m, sizes.n);
+    for j in 1..=m {
         fill(&near, pattern, m, j);
-        j += 1;
     }
 }

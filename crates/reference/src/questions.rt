@@ -3,6 +3,7 @@
 ghost use Rattle.std.specs.Prelude.{◌≡◌, ◌≤◌, length};
 ghost use Rattle.reference.specs.Ranges.{IsRow, Served};
 
+use crate::refusals::exceeds;
 use crate::{Found, Holds, Live, Reply, Sizes, Square, pattern, refusals, tree};
 
 pub fn refused(number: usize) -> Reply
@@ -32,18 +33,15 @@ fn first_from(
 ) -> Found
     requires { Served sizes.m sizes.n × IsRow i }
 {
-    let m = sizes.m;
-    let mut k = i;
-    while k <= m {
-        let multiplicity = tree::multiplicity(holds, live, pattern, sizes, k, j);
+    for row in i..=sizes.m {
+        let multiplicity = tree::multiplicity(holds, live, pattern, sizes, row, j);
         if multiplicity != 0 {
             return Found {
                 number: 0,
-                row: k,
+                row,
                 multiplicity,
             };
         }
-        k += 1;
     }
     not_found(0)
 }
@@ -59,21 +57,8 @@ pub fn next_row(
 ) -> Found
     requires { Served sizes.m sizes.n }
 {
-    let number = refusals::of_record(sizes);
-    if number != 0 {
+    if let Some(number) = refusals::of_row(sizes, i).or(refusals::of_row(sizes, j)) {
         return not_found(number);
-    }
-    if i < 1 {
-        return not_found(17);
-    }
-    if sizes.m < i {
-        return not_found(17);
-    }
-    if j < 1 {
-        return not_found(17);
-    }
-    if sizes.m < j {
-        return not_found(17);
     }
     first_from(holds, live, pattern, sizes, i, j)
 }
@@ -84,15 +69,8 @@ pub fn next_row(
 pub fn parent(pattern: &Square, sizes: Sizes, j: usize) -> Reply
     requires { Served sizes.m sizes.n }
 {
-    let number = refusals::of_record(sizes);
-    if number != 0 {
+    if let Some(number) = refusals::of_row(sizes, j) {
         return refused(number);
-    }
-    if j < 1 {
-        return refused(17);
-    }
-    if sizes.m < j {
-        return refused(17);
     }
     let value = tree::parent(pattern, sizes.m, j);
     Reply { number: 0, value }
@@ -101,18 +79,16 @@ pub fn parent(pattern: &Square, sizes: Sizes, j: usize) -> Reply
 // ---- answers that are lists, written from place `at` onward
 
 // The path of row j. The list's end ends it at the latest.
-fn write_path(pattern: &Square, list: &mut [u32], m: usize, at: usize, j: usize)
+fn write_path(pattern: &Square, list: &mut [u32], m: usize, j: usize)
     requires { (m ≤ 64) × IsRow j }
 {
     let mut row = j;
-    let mut k = at;
-    while k < list.len() {
+    for place in list.iter_mut() {
         if row == 0 {
             return;
         }
-        list[k] = row as u32;
+        *place = row as u32;
         row = tree::parent(pattern, m, row);
-        k += 1;
     }
 }
 
@@ -121,62 +97,34 @@ pub fn path(pattern: &Square, list: &mut [u32], sizes: Sizes, at: usize, j: usiz
     requires { Served sizes.m sizes.n }
     ensures { result.value ≤ 64 }
 {
-    let number = refusals::of_record(sizes);
-    if number != 0 {
+    if let Some(number) = refusals::of_row(sizes, j) {
         return refused(number);
     }
-    if j < 1 {
-        return refused(17);
-    }
-    if sizes.m < j {
-        return refused(17);
-    }
     let value = tree::path_length(pattern, sizes.m, j);
-    if list.len() < at {
+    if exceeds(list.len(), at, value) {
         return refused(18);
     }
-    if list.len() - at < value {
-        return refused(18);
-    }
-    write_path(pattern, list, sizes.m, at, j);
+    write_path(pattern, &mut list[at..], sizes.m, j);
     Reply { number: 0, value }
 }
 
-// An entry, row then multiplicity, if the list has two places more. It gives the place after it.
-fn put(list: &mut [u32], at: usize, row: usize, count: usize) -> usize
-    requires { (at ≤ length list.old) × (row ≤ 64) × (count ≤ 321) }
-    ensures { result ≤ length list.old }
-{
-    if list.len() - at < 2 {
-        return at;
-    }
-    list[at] = row as u32;
-    list[at + 1] = count as u32;
-    at + 2
-}
-
-// The entries of column j, ascending.
+// The entries of column j, ascending, row then multiplicity. The list's end ends them at the latest.
 fn write_column(
     holds: &Holds,
     live: &Live,
     pattern: &Square,
     list: &mut [u32],
     sizes: Sizes,
-    at: usize,
     j: usize,
 )
-    requires { Served sizes.m sizes.n × (at ≤ length list.old) × IsRow j }
+    requires { Served sizes.m sizes.n × IsRow j }
 {
-    let m = sizes.m;
-    let mut k = at;
-    let mut i = j;
-    while i <= m {
-        if pattern::is_in(pattern, i, j) {
-            let count = tree::multiplicity(holds, live, pattern, sizes, i, j);
-            k = put(list, k, i, count);
-            i += 1;
-        } else {
-            i += 1;
+    let mut k = 0;
+    for i in j..=sizes.m {
+        if 2 <= list.len() - k && pattern::is_in(pattern, i, j) {
+            list[k] = i as u32;
+            list[k + 1] = tree::multiplicity(holds, live, pattern, sizes, i, j) as u32;
+            k += 2;
         }
     }
 }
@@ -194,23 +142,13 @@ pub fn column(
     requires { Served sizes.m sizes.n }
     ensures { result.value ≤ 64 }
 {
-    let number = refusals::of_record(sizes);
-    if number != 0 {
+    if let Some(number) = refusals::of_row(sizes, j) {
         return refused(number);
     }
-    if j < 1 {
-        return refused(17);
-    }
-    if sizes.m < j {
-        return refused(17);
-    }
     let value = tree::size(pattern, sizes.m, j);
-    if list.len() < at {
+    if exceeds(list.len(), at, 2 * value) {
         return refused(18);
     }
-    if list.len() - at < 2 * value {
-        return refused(18);
-    }
-    write_column(holds, live, pattern, list, sizes, at, j);
+    write_column(holds, live, pattern, &mut list[at..], sizes, j);
     Reply { number: 0, value }
 }

@@ -1,133 +1,102 @@
 // Where a call is turned down, in the order of the table: the first number whose condition holds, 0 if none does.
-ghost use Rattle.std.specs.Prelude.{◌+◌, ◌≤◌, ◌<◌, length};
+ghost use Rattle.std.specs.Prelude.{◌+◌, ◌≤◌, ◌<◌, ◌↔◌, IsFalse, IsNone, length};
 ghost use Rattle.reference.specs.Ranges.{Served, InStep};
 
 use crate::columns::wide;
 use crate::{Booked, Holds, Limits, Refusal, Sizes, columns, windows};
 
-pub fn is_outside(x: usize, low: usize, high: usize) -> bool {
-    if x < low {
-        return true;
-    }
-    high < x
+pub fn is_outside(x: usize, low: usize, high: usize) -> bool
+    ensures { IsFalse result ↔ ((low ≤ x) × (x ≤ high)) }
+{
+    x < low || high < x
 }
 
 // Whether some number and `more` together exceed `most`.
-pub fn exceeds(most: usize, number: usize, more: usize) -> bool {
-    if most < number {
-        return true;
-    }
-    most - number < more
+pub fn exceeds(most: usize, number: usize, more: usize) -> bool
+    ensures { IsFalse result ↔ (number + more ≤ most) }
+{
+    most < number || most - number < more
 }
 
 // 1 to 4: m, n, F or C outside its range.
-fn of_sizes(sizes: Sizes) -> usize {
+fn of_sizes(sizes: Sizes) -> Option<usize> {
     if is_outside(sizes.m, 1, 4096) {
-        return 1;
+        Some(1)
+    } else if is_outside(sizes.n, 1, 16384) {
+        Some(2)
+    } else if is_outside(sizes.f, sizes.m, 1048576) {
+        Some(3)
+    } else if is_outside(sizes.c, 1, 262144) {
+        Some(4)
+    } else {
+        None
     }
-    if is_outside(sizes.n, 1, 16384) {
-        return 2;
-    }
-    if is_outside(sizes.f, sizes.m, 1048576) {
-        return 3;
-    }
-    if is_outside(sizes.c, 1, 262144) {
-        return 4;
-    }
-    0
 }
 
 // Whether the limits keep the rule: the first is at least 2 and each exceeds the one before.
 fn keep_rule(limits: Limits) -> bool {
-    if limits.grade4 <= limits.grade3 {
-        return false;
-    }
-    if limits.grade3 <= limits.grade2 {
-        return false;
-    }
-    2 <= limits.grade2
+    2 <= limits.grade2 && limits.grade2 < limits.grade3 && limits.grade3 < limits.grade4
+}
+
+// 1 to 4, then a number for limits that break the rule.
+fn of_call(sizes: Sizes, unruly: usize) -> Option<usize> {
+    of_sizes(sizes).or((!keep_rule(sizes.limits)).then_some(unruly))
 }
 
 // 1 to 4, then 20 of an opening: limits that break the rule.
 pub fn of_opening(sizes: Sizes) -> usize {
-    let number = of_sizes(sizes);
-    if number != 0 {
-        return number;
-    }
-    if keep_rule(sizes.limits) { 0 } else { 20 }
+    of_call(sizes, 20).unwrap_or(0)
 }
 
 // 1 to 4, then 6 of every later call: such limits are unsound. The columns always are sound.
 pub fn of_record(sizes: Sizes) -> usize {
-    let number = of_sizes(sizes);
-    if number != 0 {
-        return number;
-    }
-    if keep_rule(sizes.limits) { 0 } else { 6 }
+    of_call(sizes, 6).unwrap_or(0)
+}
+
+// The same of a question about a row or column, then 17: it is outside 1 to m.
+pub(crate) fn of_row(sizes: Sizes, j: usize) -> Option<usize>
+    ensures { IsNone result → (1 ≤ j) × (j ≤ sizes.m) }
+{
+    of_call(sizes, 6).or(is_outside(j, 1, sizes.m).then_some(17))
 }
 
 // ---- each column, by position
 
-// Whether the id at place t stands earlier in the batch.
-fn is_earlier(ids: &[u32], t: usize) -> bool
-    requires { t < length ids.now }
+// 8: an id outside 1 to n; 9: earlier in this batch; 10, adding: booked; 11, removing: not booked.
+fn of_id(booked: &Booked, earlier: &[u32], id: u32, n: usize, adding: bool) -> Option<usize>
+    requires { n ≤ 256 }
 {
-    let mut k = 0;
-    while k < t {
-        if ids[k] == ids[t] {
-            return true;
-        }
-        k += 1;
+    let i = wide(id);
+    if is_outside(i, 1, n) {
+        return Some(8);
     }
-    false
-}
-
-// 8: the id at place t outside 1 to n; 9: earlier in this batch; 10, adding: booked; 11, removing: not booked.
-fn of_id(booked: &Booked, ids: &[u32], n: usize, t: usize, adding: bool) -> usize
-    requires { (n ≤ 256) × (t < length ids.now) }
-{
-    let i = wide(ids[t]);
-    if i < 1 {
-        return 8;
+    if earlier.contains(&id) {
+        return Some(9);
     }
-    if n < i {
-        return 8;
-    }
-    if is_earlier(ids, t) {
-        return 9;
-    }
-    if columns::is_marked(booked, i) {
-        if adding { 10 } else { 0 }
-    } else {
-        if adding { 0 } else { 11 }
+    match (columns::is_marked(booked, i), adding) {
+        (true, true) => Some(10),
+        (false, false) => Some(11),
+        _ => None,
     }
 }
 
-// 13: a row outside 1 to m; 14: not above the row before. The rows are `count` of the list, from place `from` onward.
-fn of_rows(rows: &[u32], m: usize, from: usize, count: usize) -> usize
-    requires { from + count ≤ length rows.now }
-{
+// 13: a row outside 1 to m; 14: not above the row before.
+fn of_rows(rows: &[u32], m: usize) -> Option<usize> {
     let mut above = 0;
-    let mut k = 0;
-    while k < count {
-        let row = wide(rows[from + k]);
+    for row in rows {
+        let row = wide(*row);
         if is_outside(row, 1, m) {
-            return 13;
+            return Some(13);
         }
         if row <= above {
-            return 14;
+            return Some(14);
         }
         above = row;
-        k += 1;
     }
-    0
+    None
 }
 
 // ---- whole batches
-
-fn refusal(number: usize, position: usize) -> Refusal {
-    Refusal { number, position }
-}
 
 // 8 to 14 and 21 of the columns of an addition whose lists keep step, and 12 for rows left over.
 fn of_columns(
@@ -139,37 +108,41 @@ fn of_columns(
     seconds: &[u32],
     m: usize,
     n: usize,
-) -> Refusal
+) -> Option<Refusal>
     requires { (n ≤ 256) × InStep ids.now counts.now firsts.now seconds.now }
 {
-    let mut used = 0;
-    let mut t = 0;
-    while t < ids.len() {
-        let number = of_id(booked, ids, n, t, true);
-        if number != 0 {
-            return refusal(number, t + 1);
+    let mut left = rows;
+    for (t, id) in ids.iter().enumerate() {
+        let position = t + 1;
+        if let Some(number) = of_id(booked, &ids[..t], *id, n, true) {
+            return Some(Refusal { number, position });
         }
         let count = wide(counts[t]);
-        if is_outside(count, 1, 256) {
-            return refusal(12, t + 1);
+        if is_outside(count, 1, left.len().min(256)) {
+            return Some(Refusal {
+                number: 12,
+                position,
+            });
         }
-        if rows.len() - used < count {
-            return refusal(12, t + 1);
-        }
-        let number = of_rows(rows, m, used, count);
-        if number != 0 {
-            return refusal(number, t + 1);
+        if let Some(number) = of_rows(&left[..count], m) {
+            return Some(Refusal { number, position });
         }
         if !windows::is_window(firsts[t], seconds[t]) {
-            return refusal(21, t + 1);
+            return Some(Refusal {
+                number: 21,
+                position,
+            });
         }
-        used += count;
-        t += 1;
+        left = &left[count..];
     }
-    if used < rows.len() {
-        return refusal(12, 0);
+    if left.is_empty() {
+        None
+    } else {
+        Some(Refusal {
+            number: 12,
+            position: 0,
+        })
     }
-    refusal(0, 0)
 }
 
 // 8 to 15 and 21 of an addition whose lists keep step.
@@ -185,28 +158,37 @@ pub fn of_addition(
 ) -> Refusal
     requires { Served sizes.m sizes.n × InStep ids.now counts.now firsts.now seconds.now }
 {
-    let first = of_columns(booked, ids, counts, rows, firsts, seconds, sizes.m, sizes.n);
-    if first.number != 0 {
-        return first;
+    if let Some(refusal) = of_columns(
+        booked, ids, counts, rows, firsts, seconds, sizes.m, sizes.n,
+    ) {
+        return refusal;
     }
     let stored = columns::book_rows(holds, booked, sizes.m, sizes.n);
-    if exceeds(sizes.c, stored, rows.len()) {
-        return refusal(15, 0);
+    let number = if exceeds(sizes.c, stored, rows.len()) {
+        15
+    } else {
+        0
+    };
+    Refusal {
+        number,
+        position: 0,
     }
-    first
 }
 
 // 8 to 11 of a removal.
 pub fn of_removal(booked: &Booked, ids: &[u32], n: usize) -> Refusal
     requires { n ≤ 256 }
 {
-    let mut t = 0;
-    while t < ids.len() {
-        let number = of_id(booked, ids, n, t, false);
-        if number != 0 {
-            return refusal(number, t + 1);
+    for (t, id) in ids.iter().enumerate() {
+        if let Some(number) = of_id(booked, &ids[..t], *id, n, false) {
+            return Refusal {
+                number,
+                position: t + 1,
+            };
         }
-        t += 1;
     }
-    refusal(0, 0)
+    Refusal {
+        number: 0,
+        position: 0,
+    }
 }

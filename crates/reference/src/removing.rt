@@ -50,10 +50,7 @@ pub fn remove(
     if number != 0 {
         return refused(number, 0);
     }
-    if ids.len() < 1 {
-        return refused(7, 0);
-    }
-    if 64 < ids.len() {
+    if refusals::is_outside(ids.len(), 1, 64) {
         return refused(7, 0);
     }
     let refusal = refusals::of_removal(booked, ids, sizes.n);

@@ -10,14 +10,9 @@ pub fn parent(pattern: &Square, m: usize, j: usize) -> usize
     requires { (m ≤ 64) × IsRow j }
     ensures { result ≤ m }
 {
-    let mut i = j + 1;
-    while i <= m {
-        if pattern::is_in(pattern, i, j) {
-            return i;
-        }
-        i += 1;
-    }
-    0
+    (j + 1..=m)
+        .find(|&i| pattern::is_in(pattern, i, j))
+        .unwrap_or(0)
 }
 
 // How many rows the path of row j has: j, its parent, and so on up to its root. It has at most m.
@@ -26,51 +21,25 @@ pub fn path_length(pattern: &Square, m: usize, j: usize) -> usize
     ensures { result ≤ m }
 {
     let mut row = j;
-    let mut count = 0;
-    while count < m {
-        count += 1;
+    for count in 1..=m {
         row = parent(pattern, m, row);
         if row == 0 {
             return count;
         }
     }
-    count
+    m
 }
 
 // ---- multiplicities
-
-// Whether c is a child of j that has i in L_c.
-fn is_child_with(pattern: &Square, m: usize, c: usize, i: usize, j: usize) -> bool
-    requires { (m ≤ 64) × IsRow c × IsRow i }
-{
-    if parent(pattern, m, c) != j {
-        return false;
-    }
-    pattern::is_in(pattern, i, c)
-}
 
 // How many children c of j have i in L_c.
 fn children_with(pattern: &Square, m: usize, i: usize, j: usize) -> usize
     requires { (m ≤ 64) × IsRow i }
     ensures { result ≤ 64 }
 {
-    let mut count = 0;
-    let mut c = 1;
-    while c <= m {
-        count += one(is_child_with(pattern, m, c, i, j));
-        c += 1;
-    }
-    count
-}
-
-// Whether live column k starts at row j and holds row i.
-fn is_start_with(holds: &Holds, live: &Live, m: usize, k: usize, i: usize, j: usize) -> bool
-    requires { (m ≤ 64) × IsId k × IsRow i }
-{
-    if columns::smallest_row(holds, live, m, k) != j {
-        return false;
-    }
-    columns::has_row(holds, live, k, i)
+    (1..=m)
+        .filter(|&c| parent(pattern, m, c) == j && pattern::is_in(pattern, i, c))
+        .count()
 }
 
 // How many live columns with smallest row j hold row i.
@@ -78,15 +47,10 @@ fn starts_with(holds: &Holds, live: &Live, sizes: Sizes, i: usize, j: usize) -> 
     requires { Served sizes.m sizes.n × IsRow i }
     ensures { result ≤ 256 }
 {
-    let m = sizes.m;
-    let n = sizes.n;
-    let mut count = 0;
-    let mut k = 1;
-    while k <= n {
-        count += one(is_start_with(holds, live, m, k, i, j));
-        k += 1;
-    }
-    count
+    (1..=sizes.n)
+        .filter(|&k| columns::smallest_row(holds, live, sizes.m, k) == j
+            && columns::has_row(holds, live, k, i))
+        .count()
 }
 
 // The multiplicity of i in L_j.
@@ -114,13 +78,7 @@ pub fn size(pattern: &Square, m: usize, j: usize) -> usize
     requires { (m ≤ 64) × IsRow j }
     ensures { result ≤ 64 }
 {
-    let mut count = 0;
-    let mut i = 1;
-    while i <= m {
-        count += one(pattern::is_in(pattern, i, j));
-        i += 1;
-    }
-    count
+    (1..=m).filter(|&i| pattern::is_in(pattern, i, j)).count()
 }
 
 // The sum of the sizes of L_1 to L_m.
@@ -129,10 +87,8 @@ pub fn sum_of_sizes(pattern: &Square, m: usize) -> usize
     ensures { result ≤ 4096 }
 {
     let mut total = 0;
-    let mut j = 1;
-    while j <= m {
+    for j in 1..=m {
         total += size(pattern, m, j);
-        j += 1;
     }
     total
 }

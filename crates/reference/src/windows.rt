@@ -4,35 +4,24 @@ ghost use Rattle.std.specs.Prelude.{◌≡◌, ◌≤◌, length};
 ghost use Rattle.reference.specs.Ranges.{IsId};
 
 use crate::columns::wide;
+use crate::refusals::is_outside;
 use crate::{Booked, Live, Windows, columns, pattern};
 
 // ---- one window
 
 // Whether the two minutes are 0 and 0.
 fn is_none(first: u32, second: u32) -> bool {
-    if first != 0 {
-        return false;
-    }
-    second == 0
+    first == 0 && second == 0
 }
 
 // Whether a window can be: none, or one whose second minute is later than its first.
 pub fn is_window(first: u32, second: u32) -> bool {
-    if is_none(first, second) {
-        return true;
-    }
-    first < second
+    is_none(first, second) || first < second
 }
 
 // Whether a column with these minutes counts at a minute.
 fn is_inside(first: u32, second: u32, minute: u32) -> bool {
-    if is_none(first, second) {
-        return true;
-    }
-    if minute < first {
-        return false;
-    }
-    minute < second
+    is_none(first, second) || (first..second).contains(&minute)
 }
 
 // ---- columns that count
@@ -41,18 +30,13 @@ fn is_inside(first: u32, second: u32, minute: u32) -> bool {
 fn is_counted(booked: &Booked, windows: &Windows, minute: u32, i: usize) -> bool
     requires { IsId i }
 {
-    if !columns::is_marked(booked, i) {
-        return false;
-    }
-    is_inside(windows[2 * i - 2], windows[2 * i - 1], minute)
+    columns::is_marked(booked, i) && is_inside(windows[2 * i - 2], windows[2 * i - 1], minute)
 }
 
 // Marks the ids that are live at a minute.
 pub fn mark_live(booked: &Booked, windows: &Windows, live: &mut Live, minute: u32) {
-    let mut i = 1;
-    while i <= 256 {
-        live[i - 1] = pattern::mark(is_counted(booked, windows, minute, i));
-        i += 1;
+    for (k, slot) in live.iter_mut().enumerate() {
+        *slot = pattern::mark(is_counted(booked, windows, minute, k + 1));
     }
 }
 
@@ -62,10 +46,7 @@ pub fn mark_live(booked: &Booked, windows: &Windows, live: &mut Live, minute: u3
 fn put(windows: &mut Windows, i: usize, first: u32, second: u32, n: usize)
     requires { n ≤ 256 }
 {
-    if i < 1 {
-        return;
-    }
-    if n < i {
+    if is_outside(i, 1, n) {
         return;
     }
     windows[2 * i - 2] = first;
@@ -76,10 +57,8 @@ fn put(windows: &mut Windows, i: usize, first: u32, second: u32, n: usize)
 pub fn enter(windows: &mut Windows, ids: &[u32], firsts: &[u32], seconds: &[u32], n: usize)
     requires { (n ≤ 256) × (length firsts.now ≡ length ids.now) × (length seconds.now ≡ length ids.now) }
 {
-    let mut t = 0;
-    while t < ids.len() {
-        put(windows, wide(ids[t]), firsts[t], seconds[t], n);
-        t += 1;
+    for (id, (first, second)) in ids.iter().zip(firsts.iter().zip(seconds)) {
+        put(windows, wide(*id), *first, *second, n);
     }
 }
 
@@ -87,18 +66,12 @@ pub fn enter(windows: &mut Windows, ids: &[u32], firsts: &[u32], seconds: &[u32]
 pub fn leave(windows: &mut Windows, ids: &[u32], n: usize)
     requires { n ≤ 256 }
 {
-    let mut t = 0;
-    while t < ids.len() {
-        put(windows, wide(ids[t]), 0, 0, n);
-        t += 1;
+    for id in ids {
+        put(windows, wide(*id), 0, 0, n);
     }
 }
 
 // The minutes of every id are forgotten.
 pub fn leave_all(windows: &mut Windows) {
-    let mut i = 1;
-    while i <= 256 {
-        put(windows, i, 0, 0, 256);
-        i += 1;
-    }
+    windows.fill(0);
 }
