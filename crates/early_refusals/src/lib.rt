@@ -6,9 +6,13 @@ ghost use Rattle.std.specs.Prelude.{◌≡◌, not};
 ghost use Rattle.tables.specs.Tables.{sizes_of, tables_of};
 ghost use Rattle.lists.specs.Lists.{is_in};
 ghost use Rattle.calls.specs.Refusals.{is_accepted, sizes_refusal, short_refusal, lists_long};
+ghost use Rattle.early_refusals.specs.Refusal.{number_in};
 ghost use Rattle.early_refusals.specs.Early.{largest, records_for, factor_long, book_long};
 
 pub mod limits;
+mod refusal;
+
+pub use refusal::Refusal;
 
 // The most columns in a batch, and the most rows that a question names.
 pub const MOST_COLUMNS: usize = 64;
@@ -17,23 +21,17 @@ pub const MOST_COLUMNS: usize = 64;
 pub fn outside(low: u32, high: u32, x: u32) -> bool
     ensures { result ≡ not (is_in low high x) }
 {
-    if x < low {
-        return true;
-    }
-    high < x
+    x < low || high < x
 }
 
 // Whether r columns of a batch, or r rows that are named, are too few or too many.
 pub fn shape_outside(r: usize) -> bool
     ensures { result ≡ not (is_in 1 64 r) }
 {
-    if r < 1 {
-        return true;
-    }
-    MOST_COLUMNS < r
+    r < 1 || MOST_COLUMNS < r
 }
 
-// The number 1 to 4 that the sizes are refused by, or 0, from the largest m, n, F and C.
+// Refuses sizes outside their ranges, from the largest m, n, F and C: 1 to 4.
 pub fn sizes(
     m: u32,
     n: u32,
@@ -43,22 +41,22 @@ pub fn sizes(
     most_ids: u32,
     most_records: u32,
     most_booked: u32,
-) -> u32
-    ensures { result ≡ (sizes_refusal (largest most_rows most_ids most_records most_booked) (sizes_of m n f c)).number }
+) -> Result<(), Refusal>
+    ensures { number_in result ≡ (sizes_refusal (largest most_rows most_ids most_records most_booked) (sizes_of m n f c)).number }
 {
     if outside(1, most_rows, m) {
-        return 1;
+        return Err(Refusal::Rows);
     }
     if outside(1, most_ids, n) {
-        return 2;
+        return Err(Refusal::Ids);
     }
     if outside(m, most_records, f) {
-        return 3;
+        return Err(Refusal::Records);
     }
     if outside(1, most_booked, c) {
-        return 4;
+        return Err(Refusal::Booked);
     }
-    0
+    Ok(())
 }
 
 // The records for each row where an opening asks for 0.
@@ -90,35 +88,18 @@ fn short_factor(
 ) -> bool
     ensures { result ≡ not (factor_long m f heads.now parents.now rows.now counts.now next.now) }
 {
-    if heads.len() < m as usize {
-        return true;
-    }
-    if parents.len() < m as usize {
-        return true;
-    }
-    if rows.len() < f as usize {
-        return true;
-    }
-    if counts.len() < f as usize {
-        return true;
-    }
-    next.len() < f as usize
+    let m = m as usize;
+    let f = f as usize;
+    heads.len() < m || parents.len() < m || rows.len() < f || counts.len() < f || next.len() < f
 }
 
 // Whether a table of the book, or that of the windows, is too short.
 fn short_book(heads: &[u32], rows: &[u16], next: &[u32], windows: &[u32], n: u32, c: u32) -> bool
     ensures { result ≡ not (book_long n c heads.now rows.now next.now windows.now) }
 {
-    if heads.len() < n as usize {
-        return true;
-    }
-    if rows.len() < c as usize {
-        return true;
-    }
-    if next.len() < c as usize {
-        return true;
-    }
-    windows.len() < 2 * n as usize
+    let n = n as usize;
+    let c = c as usize;
+    heads.len() < n || rows.len() < c || next.len() < c || windows.len() < 2 * n
 }
 
 // Whether some table, or the work table, is too short.
@@ -140,21 +121,14 @@ pub fn short(
 ) -> bool
     ensures { result ≡ not (is_accepted (short_refusal (sizes_of m n f c) (tables_of heads.now parents.now rows.now counts.now next.now book_heads.now book_rows.now book_next.now windows.now) work.now)) }
 {
-    if short_factor(heads, parents, rows, counts, next, m, f) {
-        return true;
-    }
-    if short_book(book_heads, book_rows, book_next, windows, n, c) {
-        return true;
-    }
-    work.len() < workspace::work_need(m, n, f, c)
+    short_factor(heads, parents, rows, counts, next, m, f)
+        || short_book(book_heads, book_rows, book_next, windows, n, c)
+        || work.len() < workspace::work_need(m, n, f, c)
 }
 
 // Whether the list for touched columns, or the one for labels, is too short.
 pub fn short_lists(touched: &[u16], labels: &[u16], m: u32) -> bool
     ensures { result ≡ not (lists_long m touched.now labels.now) }
 {
-    if touched.len() < m as usize {
-        return true;
-    }
-    labels.len() < m as usize
+    touched.len() < m as usize || labels.len() < m as usize
 }

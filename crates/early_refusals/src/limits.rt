@@ -15,13 +15,7 @@ pub struct Limits {
 fn all_zero(a: u32, b: u32, c: u32) -> bool
     ensures { result ≡ eqb a 0 && eqb b 0 && eqb c 0 }
 {
-    if a != 0 {
-        return false;
-    }
-    if b != 0 {
-        return false;
-    }
-    c == 0
+    a == 0 && b == 0 && c == 0
 }
 
 // The limits of an opening: the default ones where three zeros are asked for.
@@ -46,11 +40,5 @@ pub fn default_limits(grade2: u32, grade3: u32, grade4: u32) -> Limits
 pub fn are_limits(grade2: u32, grade3: u32, grade4: u32) -> bool
     ensures { result ≡ are_limits (limits_of grade2 grade3 grade4) }
 {
-    if grade2 < 2 {
-        return false;
-    }
-    if grade3 <= grade2 {
-        return false;
-    }
-    grade3 < grade4
+    2 <= grade2 && grade2 < grade3 && grade3 < grade4
 }
