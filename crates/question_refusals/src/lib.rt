@@ -2,8 +2,13 @@
 #![tactic(auto)]
 
 ghost use Rattle.std.specs.Prelude.{◌≡◌, not};
+ghost use Rattle.std.specs.List.{list_any};
+ghost use Rattle.lists.specs.Lists.{is_in};
 ghost use Rattle.calls.specs.Refusals.{is_accepted, row_refusal, named_refusal};
+ghost use Rattle.early_refusals.specs.Refusal.{number_in};
 ghost use Rattle.question_refusals.specs.Room.{NoRoom};
+
+use early_refusals::Refusal;
 
 // Whether a row or column is outside 1 to m.
 pub fn row_outside(m: u32, row: u32) -> bool
@@ -16,25 +21,25 @@ pub fn row_outside(m: u32, row: u32) -> bool
 pub fn room_outside(len: usize, place: usize, places: usize) -> bool
     ensures { NoRoom len place places result }
 {
-    if len < place {
-        return true;
-    }
-    len - place < places
+    len < place || len - place < places
 }
 
-// 7 for no row or more than 64, 17 for one outside 1 to m, else 0.
-pub fn named(m: u32, row_list: &[u32]) -> u32
-    ensures { result ≡ (named_refusal m row_list.now).number }
+// Whether one of the rows is outside 1 to m.
+fn some_outside(m: u32, row_list: &[u32]) -> bool
+    ensures { result ≡ list_any (λ row. not (is_in 1 m row)) row_list.now }
+{
+    row_list.iter().any(|row| row_outside(m, *row))
+}
+
+// Refuses no row or more than 64 by 7, a row outside 1 to m by 17.
+pub fn named(m: u32, row_list: &[u32]) -> Result<(), Refusal>
+    ensures { number_in result ≡ (named_refusal m row_list.now).number }
 {
     if early_refusals::shape_outside(row_list.len()) {
-        return 7;
+        return Err(Refusal::Shape);
     }
-    let mut k: usize = 0;
-    while k < row_list.len() {
-        if row_outside(m, row_list[k]) {
-            return 17;
-        }
-        k += 1;
+    if some_outside(m, row_list) {
+        return Err(Refusal::AskedOutside);
     }
-    0
+    Ok(())
 }
