@@ -1,16 +1,13 @@
--- The order of a batch's refusal: its lists in step, its positions, and for an addition the room in the book. Each law is one return. Before them: that a found
--- refusal of number 0 is accepted, and that accepted columns have few rows.
+-- For an addition whose positions are accepted: its columns have few rows, and the room in the book decides.
 -- Assumes nothing.
 use mathlib.Core.Path.{◌≡◌, refl, sym, ap, ◌∙◌}
-use mathlib.Core.Logic.{◌≢◌}
 use mathlib.Core.Bool.{Bool, true, false, not}
 use mathlib.Core.List.{List, [], ◌∷◌, ◌++◌}
 use Prim.Native.Nat.{ℕ, suc, ◌+◌, ◌*◌, ◌≤◌}
 use native.Mathlib.Omega.{arith}
-use lib.Dec.{leb, eqb}
+use lib.Dec.{leb}
 use lib.ListN.{length}
-use borrow.Author.Tests.{eq-eqb, ne_eqb}
-use Rattle.lists.specs.Lists.{is_in, all, sum_of}
+use Rattle.lists.specs.Lists.{all, sum_of}
 use Rattle.lists.proofs.Tests.{and_both}
 use Rattle.lists.proofs.Sum.{sum-append}
 use Rattle.symbolic.specs.Columns.{Column, Register}
@@ -20,19 +17,10 @@ use Rattle.book.specs.Book.{Book, columns_in, column_fits, is_sound}
 use Rattle.book.proofs.Sound.{Fitting, fitting, rows-room}
 use Rattle.calls.specs.Refusals.{refusal, accepted, is_accepted, or_else, unless, columns_refusal, ids_refusal, row_sum, keep_step, batch_of}
 use Rattle.calls.specs.Refusals as calls
-use Rattle.calls.proofs.Choices.{or-first, or-second, unless-true, unless-false}
-use Rattle.calls.proofs.Refusals.{ColumnsFit, columns-facts}
-use Rattle.refusals.specs.declared.Refusal.{Refusal}
-use Rattle.refusals.specs.Found.{found, bare_in, add_found, remove_found}
-use Rattle.early_refusals.proofs.Tests.{is-out, is-in, unless-accepted}
-
--- ---- a refusal that is found, or not
-
-pub found-accepted : (x : Refusal) → x.number ≡ 0 → is_accepted (found x) ≡ true
-found-accepted x e = eq-eqb x.number 0 e
-
-pub found-refused : (x : Refusal) → x.number ≢ 0 → is_accepted (found x) ≡ false
-found-refused x e = ne_eqb x.number 0 e
+use Rattle.calls.proofs.Choices.{or-second, unless-true, unless-false}
+use Rattle.calls.proofs.Refusals.{ColumnsFit, columns-facts, InStep, step-facts}
+use Rattle.refusals.specs.Found.{bare_in, add_found}
+use Rattle.early_refusals.proofs.Tests.{is-in, unless-accepted}
 
 -- ---- the rows of accepted columns
 
@@ -54,23 +42,6 @@ rows_few r n is ns rs ps qs h =
     let f : ColumnsFit r n [] is ns rs ps qs = columns-facts r n 1 [] is ns rs ps qs h in
     omega (arith, f.used, fit-few r.m (batch_of is ns rs) f.fits, ids-length (batch_of is ns rs), ap length f.ids)
 
--- ---- lists in step, test by test
-
-module _ (is ns ps qs : List ℕ) {x : Bool} (a : x ≡ not (is_in 1 64 (length is))) where
-  pub step-shape : x ≡ true → true ≡ not (keep_step is ns ps qs)
-  step-shape t = rw (is-out (is_in 1 64 (length is)) a t) refl
-
-  module _ (t : x ≡ false) where
-    pub step_counts : length ns ≢ length is → true ≡ not (keep_step is ns ps qs)
-    step_counts e = rw (is-in (is_in 1 64 (length is)) a t, ne_eqb (length ns) (length is) e) refl
-
-    module _ (e : length ns ≡ length is) where
-      pub step-firsts : length ps ≢ length is → true ≡ not (keep_step is ns ps qs)
-      step-firsts f = rw (is-in (is_in 1 64 (length is)) a t, eq-eqb (length ns) (length is) e, ne_eqb (length ps) (length is) f) refl
-
-      pub step-seconds : length ps ≡ length is → not (eqb (length qs) (length is)) ≡ not (keep_step is ns ps qs)
-      step-seconds f = rw (is-in (is_in 1 64 (length is)) a t, eq-eqb (length ns) (length is) e, eq-eqb (length ps) (length is) f) refl
-
 -- ---- an addition
 
 module _ (m : ℕ) (b : Book) (is ns rs ps qs : List ℕ) {x : Bool} (a : x ≡ not (keep_step is ns ps qs)) where
@@ -83,22 +54,18 @@ module _ (m : ℕ) (b : Book) (is ns rs ps qs : List ℕ) {x : Bool} (a : x ≡ 
   abbrev room : Bool
   room = leb (row_sum (columns_in b ++ batch_of is ns rs)) (length b.next)
 
-  pub add_step : x ≡ true → refusal 7 0 ≡ add_found m b is ns rs ps qs
-  add_step t =
-      let e : step ≡ false = is-out step a t in
-      sym (or-first (unless step 7 0) (or_else by_position (unless room 15 0)) (unless-accepted step 7 0 refl ∙ e) ∙ unless-false step 7 0 e)
-
-  module _ (t : x ≡ false) {first : Refusal} (c : found first ≡ by_position) where
+  module _ (t : x ≡ false) where
     passed : add_found m b is ns rs ps qs ≡ or_else by_position (unless room 15 0)
     passed = or-second (unless step 7 0) (or_else by_position (unless room 15 0)) (unless-accepted step 7 0 refl ∙ is-in step a t)
 
-    pub add-positions : first.number ≢ 0 → found first ≡ add_found m b is ns rs ps qs
-    add-positions n =
-        sym (passed ∙ or-first by_position (unless room 15 0) (ap is_accepted (sym c) ∙ found-refused first n) ∙ sym c)
-
-    module _ (n : first.number ≡ 0) where
+    module _ (c : accepted ≡ by_position) where
       taken : is_accepted by_position ≡ true
-      taken = ap is_accepted (sym c) ∙ found-accepted first n
+      taken = sym (ap is_accepted c)
+
+      pub few-rows : length rs ≤ 16384
+      few-rows =
+          let f : InStep is ns ps qs = step-facts is ns ps qs (is-in step a t) in
+          omega (arith, rows_few (bare_in m b) (length b.heads) is ns rs ps qs taken, f.few)
 
       module _ (s : is_sound m b ≡ true) {y : Bool} (f : y ≡ leb (length rs) (length (chain b.next b.free))) where
         room-same : y ≡ room
@@ -115,18 +82,3 @@ module _ (m : ℕ) (b : Book) (is ns rs ps qs : List ℕ) {x : Bool} (a : x ≡ 
 
         pub add-full : y ≡ false → refusal 15 0 ≡ add_found m b is ns rs ps qs
         add-full h = sym (last ∙ unless-false room 15 0 (sym room-same ∙ h))
-
--- ---- a removal
-
-module _ (m : ℕ) (b : Book) (is : List ℕ) {x : Bool} (a : x ≡ not (is_in 1 64 (length is))) where
-  pub remove-shape : x ≡ true → refusal 7 0 ≡ remove_found m b is
-  remove-shape t =
-      let e : is_in 1 64 (length is) ≡ false = is-out (is_in 1 64 (length is)) a t in
-      sym
-      (or-first (unless (is_in 1 64 (length is)) 7 0) (ids_refusal (bare_in m b) (length b.heads) 1 [] is) (unless-accepted (is_in 1 64 (length is)) 7 0 refl ∙ e) ∙
-      unless-false (is_in 1 64 (length is)) 7 0 e)
-
-  pub remove-positions : x ≡ false → {first : Refusal} → found first ≡ ids_refusal (bare_in m b) (length b.heads) 1 [] is → found first ≡ remove_found m b is
-  remove-positions t c =
-      c ∙
-      sym (or-second (unless (is_in 1 64 (length is)) 7 0) (ids_refusal (bare_in m b) (length b.heads) 1 [] is) (unless-accepted (is_in 1 64 (length is)) 7 0 refl ∙ is-in (is_in 1 64 (length is)) a t))

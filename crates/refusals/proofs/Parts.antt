@@ -1,24 +1,25 @@
--- The parts that a batch's refusal is found by, each law one return or one turn of a loop: numbers at every position; the ids before a place; one id; the
--- rows of a column (`RowsLeft`: what is left says what they all say); a count; one column with its window; the id of a
--- removal.
+-- The parts that a batch's refusal is found by: the ids before a place; an id that is not refused; the rows of a column (`RowsLeft`: what is left says what they
+-- all say), each law one return or one turn of the loop.
 -- Assumes nothing.
 use mathlib.Core.Path.{◌≡◌, refl, sym, ap, ◌∙◌}
-use mathlib.Core.Logic.{inl, inr, ◌≢◌}
-use mathlib.Core.Bool.{Bool, true, false, ◌&&◌, not}
-use mathlib.Core.List.{List, ◌∷◌}
+use mathlib.Core.Logic.{inl, inr}
+use mathlib.Core.Bool.{Bool, true, false, ◌||◌, not}
+use mathlib.Core.List.{List, [], ◌∷◌}
 use Prim.Native.Nat.{ℕ, zero, suc, ◌+◌, ◌≤◌, ◌<◌}
 use native.Mathlib.Omega.{arith}
 use native.Mathlib.Numerals.{add-one}
-use lib.Dec.{ltb, leb, eqb}
+use lib.Dec.{ltb, eqb}
 use lib.ListN.{length, get_or, take, drop}
-use lib.Seq.{drop-cons, drop-length}
-use borrow.Author.Tests.{le-leb, lt-leb, lt-ltb, le-ltb, eq-eqb, ne_eqb, eqb-true, eqb-false}
+use Rattle.std.specs.List.{list_any}
+use Rattle.std.proofs.Math.Bool.{or_comm}
+use Rattle.std.proofs.lemmas.List.Folds.{list_any-append}
+use lib.Seq.{drop-cons, drop-length, take-suc}
+use borrow.Author.Tests.{lt-ltb, le-ltb, eq-eqb, ne_eqb}
 use Rattle.lists.specs.Lists.{is_in, among}
-use Rattle.lists.proofs.Tests.{cases, both-and, refute, in-range, range-in}
-use Rattle.symbolic.specs.Columns.{is_window}
-use Rattle.calls.specs.Refusals.{Refusal, refusal, accepted, is_accepted, or_else, unless, rows_refusal}
-use Rattle.calls.proofs.Choices.{or-both, unless_holds, or-first, or-second, unless-true, unless-false}
-use Rattle.refusals.specs.Parts.{placed, IsNumber, before, id_refusal, rows_part, count_refusal, window_refusal, column_refusal, leaving_refusal}
+use Rattle.lists.proofs.Tests.{eq-or-ne, in-range}
+use Rattle.calls.specs.Refusals.{Refusal, accepted, is_accepted, or_else, unless, rows_refusal}
+use Rattle.calls.proofs.Choices.{or-both, unless_holds}
+use Rattle.refusals.specs.Parts.{placed, IsNumber, before, id_refusal, rows_part}
 use Rattle.early_refusals.proofs.Tests.{is-out, is-in}
 
 -- ---- numbers at every position
@@ -26,50 +27,21 @@ use Rattle.early_refusals.proofs.Tests.{is-out, is-in}
 pub placed-none : {n : ℕ} (p : ℕ) → n ≡ 0 → placed n p ≡ accepted
 placed-none {n} p e = rw (eq-eqb n 0 e) refl
 
-pub placed-some : {n : ℕ} (p : ℕ) → n ≢ 0 → placed n p ≡ refusal n p
-placed-some {n} p e = rw (ne_eqb n 0 e) refl
-
--- a number that is not 0 ends a choice; 0 leaves the second
-pub first-number : {n : ℕ} {f : ℕ → Refusal} (g : ℕ → Refusal) → IsNumber n f → n ≢ 0 → IsNumber n (λ p. or_else (f p) (g p))
-first-number {n} {f} g a e =
-    record {
-      same = λ p.
-          let s : f p ≡ refusal n p = a.same p ∙ placed-some p e in
-          or-first (f p) (g p) (ap is_accepted s ∙ ne_eqb n 0 e) ∙ a.same p;
-    }
-
-pub second-number : {n r : ℕ} {f g : ℕ → Refusal} → IsNumber n f → n ≡ 0 → IsNumber r g → IsNumber r (λ p. or_else (f p) (g p))
-second-number {n} {r} {f} {g} a e b =
-    record { same = λ p. or-second (f p) (g p) (ap is_accepted (a.same p ∙ placed-none p e)) ∙ b.same p }
-
--- one test
-pub fails-number : (n : ℕ) (z : Bool) → n ≢ 0 → z ≡ false → IsNumber n (unless z n)
-fails-number n z h e = record { same = λ p. unless-false z n p e ∙ sym (placed-some p h) }
-
-pub holds-number : (n : ℕ) (z : Bool) → z ≡ true → IsNumber 0 (unless z n)
-holds-number n z e = record { same = λ p. unless-true z n p e }
-
 -- ---- the ids before a place
 
-pub before-none : (is : List ℕ) (x : ℕ) → among x (before 0 is) ≡ false
+pub before-among : (is : List ℕ) (x k : ℕ) → k ≤ length is → list_any (λ y. eqb y x) (take k is) ≡ among x (before k is)
 unfolding before among
-before-none is x = refl
-
-pub before_more : (is : List ℕ) (x j : ℕ) → among x (before j is) ≡ false → x ≢ get_or is j 0 → among x (before (j + 1) is) ≡ false
-unfolding before among
-before_more is x j h n = rw (add-one j, ne_eqb x (get_or is j 0) n) h
-
-pub before-has : (is : List ℕ) (x j k : ℕ) → x ≡ get_or is j 0 → j < k → among x (before k is) ≡ true
-unfolding before among
-before-has is x j zero e h = absurd (omega arith)
-before-has is x j (suc k) e h =
-    elim (cases (eqb x (get_or is k 0))) [
-      | inl t ↦ rw t refl
-      | inr t ↦ rw t (before-has is x j k e (later-place (eqb-false x (get_or is k 0) t)))
-    ]
+before-among is x zero h = refl
+before-among is x (suc k) h =
+    ap (list_any (λ y. eqb y x)) (take-suc is k 0 (omega arith)) ∙ list_any-append (λ y. eqb y x) (take k is) (get_or is k 0 ∷ []) ∙
+    last-first (list_any (λ y. eqb y x) (take k is)) (get_or is k 0) (before-among is x k (omega arith))
   where
-    later-place : x ≢ get_or is k 0 → j < k
-    later-place n = elim (cases (eqb j k)) [ inl t ↦ absurd (n (e ∙ ap (λ (l : ℕ). get_or is l 0) (eqb-true j k t))) | inr t ↦ omega (arith, eqb-false j k t) ]
+    turned : (a b : ℕ) → eqb a b ≡ eqb b a
+    turned a b =
+        elim (eq-or-ne a b) [ inl e ↦ rw (eq-eqb a b e, eq-eqb b a (sym e)) refl | inr n ↦ rw (ne_eqb a b n, ne_eqb b a (λ e. n (sym e))) refl ]
+
+    last-first : (z : Bool) (y : ℕ) → z ≡ among x (before k is) → (z || (eqb y x || false)) ≡ (eqb x y || among x (before k is))
+    last-first z y e = rw (or_comm z (eqb y x || false), or_comm (eqb y x) false, turned y x, e) refl
 
 -- ---- one id
 
@@ -79,23 +51,6 @@ module _ (n : ℕ) (is : List ℕ) (k : ℕ) where
 
   abbrev fresh : ℕ → Refusal
   fresh p = unless (not (among (get_or is k 0) (before k is))) 9 p
-
-  pub id-low : get_or is k 0 < 1 → IsNumber 8 (id_refusal n is k)
-  id-low h = first-number fresh (fails-number 8 (is_in 1 n (get_or is k 0)) (omega arith) (refute (is_in 1 n (get_or is k 0)) (λ t. omega (arith, in-range 1 n (get_or is k 0) t)))) (omega arith)
-
-  pub id-high : n < get_or is k 0 → IsNumber 8 (id_refusal n is k)
-  id-high h = first-number fresh (fails-number 8 (is_in 1 n (get_or is k 0)) (omega arith) (refute (is_in 1 n (get_or is k 0)) (λ t. omega (arith, in-range 1 n (get_or is k 0) t)))) (omega arith)
-
-  module _ (l : 1 ≤ get_or is k 0) (h : get_or is k 0 ≤ n) {x : Bool} (e : x ≡ among (get_or is k 0) (before k is)) where
-    holds : IsNumber 0 named
-    holds = holds-number 8 (is_in 1 n (get_or is k 0)) (range-in 1 n (get_or is k 0) l h)
-
-    pub id-earlier : x ≡ true → IsNumber 9 (id_refusal n is k)
-    id-earlier t =
-        second-number holds refl (fails-number 9 (not (among (get_or is k 0) (before k is))) (omega arith) (ap not (sym e ∙ t)))
-
-    pub id-fits : x ≡ false → IsNumber 0 (id_refusal n is k)
-    id-fits t = second-number holds refl (holds-number 9 (not (among (get_or is k 0) (before k is))) (ap not (sym e ∙ t)))
 
   -- an id that is not refused is in range
   pub id_range : {r : ℕ} → IsNumber r (id_refusal n is k) → r ≡ 0 → (1 ≤ get_or is k 0) × (get_or is k 0 ≤ n)
@@ -140,62 +95,3 @@ module _ {m : ℕ} {rs : List ℕ} {a i : ℕ} (l : RowsLeft m rs a i) where
   rows_end h =
       let e : i ≡ length rs = omega (arith, l.within) in
       record { same = λ p. sym (l.same p) ∙ ap (rows_refusal m p a) (ap (λ (j : ℕ). drop j rs) e ∙ drop-length rs) }
-
--- ---- a count, with so many rows that remain
-
-module _ (m k : ℕ) (rs : List ℕ) where
-  abbrev counted : ℕ → Refusal
-  counted p = unless (is_in 1 256 k && leb k (length rs)) 12 p
-
-  pub count-outside : {x : Bool} → x ≡ not (is_in 1 256 k) → x ≡ true → IsNumber 12 (count_refusal m k rs)
-  count-outside e t =
-      first-number (rows_part m (take k rs)) (fails-number 12 (is_in 1 256 k && leb k (length rs)) (omega arith) (ap (λ (z : Bool). z && leb k (length rs)) (is-out (is_in 1 256 k) e t))) (omega arith)
-
-  module _ {x : Bool} (e : x ≡ not (is_in 1 256 k)) (t : x ≡ false) where
-    pub count-many : length rs < k → IsNumber 12 (count_refusal m k rs)
-    count-many h =
-        first-number (rows_part m (take k rs)) (fails-number 12 (is_in 1 256 k && leb k (length rs)) (omega arith) (rw (is-in (is_in 1 256 k) e t) (lt-leb k (length rs) h))) (omega arith)
-
-    pub count-rows : {r : ℕ} → k ≤ length rs → IsNumber r (rows_part m (take k rs)) → IsNumber r (count_refusal m k rs)
-    count-rows h a =
-        second-number (holds-number 12 (is_in 1 256 k && leb k (length rs)) (both-and (is-in (is_in 1 256 k) e t) (le-leb k (length rs) h))) refl a
-
--- ---- one column, and the id of a removal
-
-module _ (n : ℕ) (z : Bool) (is : List ℕ) (k : ℕ) {a : ℕ} (i : IsNumber a (id_refusal n is k)) where
-  module _ (m : ℕ) (ns rs ps qs : List ℕ) where
-    -- count and rows, then the window
-    abbrev counts : ℕ → Refusal
-    counts p = or_else (count_refusal m (get_or ns k 0) rs p) (window_refusal (get_or ps k 0) (get_or qs k 0) p)
-
-    pub column-id : a ≢ 0 → IsNumber a (column_refusal m n z is ns rs ps qs k)
-    column-id h = first-number (λ p. or_else (unless (not z) 10 p) (counts p)) i h
-
-    module _ (e : a ≡ 0) {x : Bool} (b : x ≡ z) where
-      pub column-live : x ≡ true → IsNumber 10 (column_refusal m n z is ns rs ps qs k)
-      column-live t = second-number i e (first-number counts (fails-number 10 (not z) (omega arith) (ap not (sym b ∙ t))) (omega arith))
-
-      module _ (t : x ≡ false) {r : ℕ} (c : IsNumber r (count_refusal m (get_or ns k 0) rs)) where
-        unbooked : {q : ℕ} → IsNumber q counts → IsNumber q (column_refusal m n z is ns rs ps qs k)
-        unbooked d = second-number i e (second-number (holds-number 10 (not z) (ap not (sym b ∙ t))) refl d)
-
-        pub column-count : r ≢ 0 → IsNumber r (column_refusal m n z is ns rs ps qs k)
-        column-count h = unbooked (first-number (window_refusal (get_or ps k 0) (get_or qs k 0)) c h)
-
-        module _ (f : r ≡ 0) {y : Bool} (w : y ≡ is_window (get_or ps k 0) (get_or qs k 0)) where
-          pub column-window : y ≡ true → IsNumber 0 (column_refusal m n z is ns rs ps qs k)
-          column-window h = unbooked (second-number c f (holds-number 21 (is_window (get_or ps k 0) (get_or qs k 0)) (sym w ∙ h)))
-
-          pub column-late : y ≡ false → IsNumber 21 (column_refusal m n z is ns rs ps qs k)
-          column-late h =
-              unbooked (second-number c f (fails-number 21 (is_window (get_or ps k 0) (get_or qs k 0)) (omega arith) (sym w ∙ h)))
-
-  pub leaving-id : a ≢ 0 → IsNumber a (leaving_refusal n z is k)
-  leaving-id h = first-number (unless z 11) i h
-
-  module _ (e : a ≡ 0) {x : Bool} (b : x ≡ z) where
-    pub leaving-live : x ≡ true → IsNumber 0 (leaving_refusal n z is k)
-    leaving-live t = second-number i e (holds-number 11 z (sym b ∙ t))
-
-    pub leaving-absent : x ≡ false → IsNumber 11 (leaving_refusal n z is k)
-    leaving-absent t = second-number i e (fails-number 11 z (omega arith) (sym b ∙ t))

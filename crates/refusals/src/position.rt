@@ -1,82 +1,69 @@
-// What is asked at one position of a batch, each a number alone: one id, the rows of a column, its count, a column with its window, the id of a removal.
+// What is asked at one position of a batch, each a reason alone: one id, the rows of a column, its count, a column with its window, the id of a removal.
 // The position itself is that of the loops of lib.rt.
 ghost use Rattle.std.specs.Prelude.{◌≡◌, ◌≤◌, ◌<◌, length, get_or, drop};
 ghost use Rattle.lists.specs.Lists.{among};
 ghost use Rattle.book.specs.Book.{is_booked};
+ghost use Rattle.early_refusals.specs.Refusal.{number_in};
 ghost use Rattle.refusals.specs.Parts.{IsNumber, before, id_refusal, rows_part, count_refusal, column_refusal, leaving_refusal, HasPlace};
 
 use book::Id;
+use early_refusals::Refusal;
 
 // Whether the id at place k comes before it too.
 fn is_earlier(ids: &[u32], k: usize) -> bool
     requires { k < length ids.now }
     ensures { result ≡ among (get_or ids.now k 0) (before k ids.now) }
 {
-    let id = ids[k];
-    let mut j: usize = 0;
-    while j < k {
-        if id == ids[j] {
-            return true;
-        }
-        j += 1;
-    }
-    false
+    ids[..k].contains(&ids[k])
 }
 
-// The number 8 or 9 that the id at place k is refused by, or 0.
-fn id_refusal(book_heads: &[u32], ids: &[u32], k: usize) -> u32
+// Refuses the id at place k by 8 or 9.
+fn id_refusal(book_heads: &[u32], ids: &[u32], k: usize) -> Result<(), Refusal>
     requires { k < length ids.now }
-    ensures { IsNumber result (id_refusal (length book_heads.now) ids.now k) }
+    ensures { IsNumber (number_in result) (id_refusal (length book_heads.now) ids.now k) }
 {
     let id = ids[k];
-    if id < 1 {
-        return 8;
-    }
-    if book_heads.len() < id as usize {
-        return 8;
+    if id < 1 || book_heads.len() < id as usize {
+        return Err(Refusal::IdOutside);
     }
     if is_earlier(ids, k) {
-        return 9;
+        return Err(Refusal::IdRepeated);
     }
-    0
+    Ok(())
 }
 
-// The number 13 or 14 that the rows of a column are refused by, or 0.
-fn rows_refusal(rows: &[u32], m: u32) -> u32
-    ensures { IsNumber result (rows_part m rows.now) }
+// Refuses the rows of a column by 13 or 14.
+fn rows_refusal(rows: &[u32], m: u32) -> Result<(), Refusal>
+    ensures { IsNumber (number_in result) (rows_part m rows.now) }
 {
     let mut above: u32 = 0;
-    let mut i: usize = 0;
-    while i < rows.len() {
-        let row = rows[i];
-        if early_refusals::outside(1, m, row) {
-            return 13;
+    for row in rows {
+        if early_refusals::outside(1, m, *row) {
+            return Err(Refusal::RowOutside);
         }
-        if row <= above {
-            return 14;
+        if *row <= above {
+            return Err(Refusal::RowOrder);
         }
-        above = row;
-        i += 1;
+        above = *row;
     }
-    0
+    Ok(())
 }
 
-// The number 12, 13 or 14 that a column of count rows, which start at from, is refused by, or 0.
-fn count_refusal(row_list: &[u32], from: usize, count: u32, m: u32) -> u32
+// Refuses a column of count rows, which start at from, by 12, 13 or 14.
+fn count_refusal(row_list: &[u32], from: usize, count: u32, m: u32) -> Result<(), Refusal>
     requires { from ≤ length row_list.now }
-    ensures { IsNumber result (count_refusal m count (drop from row_list.now)) }
+    ensures { IsNumber (number_in result) (count_refusal m count (drop from row_list.now)) }
 {
-    if early_refusals::outside(1, crate::MOST_COUNT, count) {
-        return 12;
-    }
-    if row_list.len() - from < count as usize {
-        return 12;
+    if early_refusals::outside(1, crate::MOST_COUNT, count)
+        || row_list.len() - from < count as usize
+    {
+        return Err(Refusal::Count);
     }
     let to = from + count as usize;
     rows_refusal(&row_list[from..to], m)
 }
 
-// The number 8, 9, 10, 12, 13, 14 or 21 that the column at place k, whose rows start at from, is refused by, or 0.
+// Refuses the column at place k, whose rows start at from, by 8, 9, 10, 12, 13, 14 or 21.
 pub fn column_refusal(
     book_heads: &[u32],
     ids: &[u32],
@@ -87,41 +74,31 @@ pub fn column_refusal(
     k: usize,
     from: usize,
     m: u32,
-) -> u32
+) -> Result<(), Refusal>
     requires { HasPlace ids.now row_counts.now row_list.now firsts.now seconds.now k from }
-    ensures { IsNumber result (column_refusal m (length book_heads.now) (is_booked book_heads.now (get_or ids.now k 0)) ids.now row_counts.now (drop from row_list.now) firsts.now seconds.now k) }
+    ensures { IsNumber (number_in result) (column_refusal m (length book_heads.now) (is_booked book_heads.now (get_or ids.now k 0)) ids.now row_counts.now (drop from row_list.now) firsts.now seconds.now k) }
 {
-    let first = id_refusal(book_heads, ids, k);
-    if first != 0 {
-        return first;
-    }
+    id_refusal(book_heads, ids, k)?;
     let id = ids[k];
     if book::is_booked(book_heads, Id(id)) {
-        return 10;
+        return Err(Refusal::IdBooked);
     }
-    let count = row_counts[k];
-    let number = count_refusal(row_list, from, count, m);
-    if number != 0 {
-        return number;
-    }
+    count_refusal(row_list, from, row_counts[k], m)?;
     if windows::minutes::is_window(firsts[k], seconds[k]) {
-        return 0;
+        return Ok(());
     }
-    21
+    Err(Refusal::Window)
 }
 
-// The number 8, 9 or 11 that the id at place k of a removal is refused by, or 0.
-pub fn leaving_refusal(book_heads: &[u32], ids: &[u32], k: usize) -> u32
+// Refuses the id at place k of a removal by 8, 9 or 11.
+pub fn leaving_refusal(book_heads: &[u32], ids: &[u32], k: usize) -> Result<(), Refusal>
     requires { k < length ids.now }
-    ensures { IsNumber result (leaving_refusal (length book_heads.now) (is_booked book_heads.now (get_or ids.now k 0)) ids.now k) }
+    ensures { IsNumber (number_in result) (leaving_refusal (length book_heads.now) (is_booked book_heads.now (get_or ids.now k 0)) ids.now k) }
 {
-    let number = id_refusal(book_heads, ids, k);
-    if number != 0 {
-        return number;
-    }
+    id_refusal(book_heads, ids, k)?;
     let id = ids[k];
     if book::is_booked(book_heads, Id(id)) {
-        return 0;
+        return Ok(());
     }
-    11
+    Err(Refusal::IdNotBooked)
 }
