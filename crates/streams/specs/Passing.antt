@@ -1,6 +1,7 @@
 -- What went through standard input and output, as far as a contract can hold it: a record of counts that only `read` and `write` of this crate raise. The crates
 -- above never open `Passed`: they know it by the promises of the functions here. Laws: proofs/Passing.antt. Assumes nothing: these are definitions.
-use Rattle.std.specs.Prelude.{◌≡◌, ℕ, ◌+◌, ◌-◌, ◌*◌, ◌<◌, ◌≤◌, true, false, ◌⊎◌, List, [], ◌++◌, length, take}
+use Rattle.std.specs.Prelude.{◌≡◌, ◌≢◌, ℕ, ◌+◌, ◌-◌, ◌*◌, ◌<◌, ◌≤◌, true, false, ◌⊎◌, List, [], ◌++◌, length, take}
+use Rattle.streams.specs.declared.Source.TheVariants.{Open}
 use Rattle.streams.specs.declared.Streams.{Streams}
 use Rattle.streams.specs.declared.Reading.{Reading}
 use Rattle.streams.specs.declared.Waiting.{Waiting}
@@ -20,12 +21,12 @@ pub record Passed (s : Streams) (input output : List ℕ) : Type 0 where
 
 -- NO READ GIVES ANY MORE: the last one gave nothing, or a write failed, or 2^64 − 1 reads were made
 abbrev pub Finished : Streams → Type 0
-Finished s = (s.ended ≡ true) ⊎ ((s.failed ≡ true) ⊎ (s.reads ≡ 18446744073709551615))
+Finished s = (s.source ≢ Open) ⊎ ((s.failed ≡ true) ⊎ (s.reads ≡ 18446744073709551615))
 
 -- nothing went through yet
 pub record Started (r : Streams) : Type 0 where
   pub passed : Passed r [] []
-  pub unended : r.ended ≡ false
+  pub unended : r.source ≡ Open
   pub working : r.failed ≡ false
   pub unread : r.reads ≡ 0
 
@@ -41,7 +42,7 @@ pub record Read (s : Streams) (piece : List ℕ) (r : Reading) : Type 0 where
   pub later : Finished s → (r.count ≡ 0) × Finished r.streams
   pub most : reads_left r.streams ≤ reads_left s
   pub less : 1 ≤ r.count → reads_left r.streams < reads_left s
-  pub goes_on : 1 ≤ r.count → (r.streams.ended ≡ false) × ((r.streams.failed ≡ false) × (r.streams.reads ≡ s.reads + 1))
+  pub goes_on : 1 ≤ r.count → (r.streams.source ≡ Open) × ((r.streams.failed ≡ false) × (r.streams.reads ≡ s.reads + 1))
 
 -- a write's bytes are the output's next, and it reads nothing
 pub record Wrote (s : Streams) (bytes : List ℕ) (r : Streams) : Type 0 where

@@ -8,8 +8,15 @@ ghost use Rattle.streams.specs.Passing.{Started, Read, Wrote, Flushed};
 
 use std::io::{Print, Read, Stderr, Stdin, Stdout};
 
-// Standard input and output; how many bytes were read and written, modulo 2^64, how many reads were made, whether the last of them gave nothing, whether a write failed, and whether the
-// last read did.
+// What the reads found: bytes so far, the end, or a read that failed, which ends the input too.
+#[derive(Clone, Copy, PartialEq, Eq, Debug)]
+enum Source {
+    Open,
+    Ended,
+    Broken,
+}
+
+// Standard input and output; how many bytes were read and written, modulo 2^64, how many reads were made, what they found, and whether a write failed.
 #[derive(Drop)]
 pub struct Streams {
     stdin: Stdin,
@@ -17,9 +24,8 @@ pub struct Streams {
     read: u64,
     written: u64,
     reads: u64,
-    ended: bool,
+    source: Source,
     failed: bool,
-    broken: bool,
 }
 
 // After a read: how many bytes it gave. None are the end, as is a read that fails: of such a read no bytes are known.
@@ -36,13 +42,6 @@ pub struct Waiting {
     pub count: usize,
 }
 
-// What one read of standard input gave: how many bytes stand at the front of the list, none if it failed.
-#[derive(Clone, Copy)]
-struct Got {
-    count: usize,
-    broken: bool,
-}
-
 // Before anything is read or written.
 pub fn start(stdin: Stdin, stdout: Stdout) -> Streams
     ensures { Started result }
@@ -53,25 +52,8 @@ pub fn start(stdin: Stdin, stdout: Stdout) -> Streams
         read: 0,
         written: 0,
         reads: 0,
-        ended: false,
+        source: Source::Open,
         failed: false,
-        broken: false,
-    }
-}
-
-// One read of standard input.
-fn read_once(mut stdin: Stdin, piece: &mut [u8]) -> Got
-    ensures { result.count ≤ length piece.new }
-{
-    match stdin.read(piece) {
-        Ok(count) => Got {
-            count,
-            broken: false,
-        },
-        Err(_) => Got {
-            count: 0,
-            broken: true,
-        },
     }
 }
 
@@ -79,29 +61,24 @@ fn read_once(mut stdin: Stdin, piece: &mut [u8]) -> Got
 pub fn read(streams: Streams, piece: &mut [u8]) -> Reading
     ensures { Read streams piece.new result }
 {
-    if streams.ended {
+    if streams.source != Source::Open
+        || streams.failed
+        || streams.reads == u64::MAX
+        || piece.is_empty()
+    {
         return Reading { streams, count: 0 };
     }
-    if streams.failed {
-        return Reading { streams, count: 0 };
-    }
-    if streams.reads == 18446744073709551615 {
-        return Reading { streams, count: 0 };
-    }
-    if piece.len() == 0 {
-        return Reading { streams, count: 0 };
-    }
-    let got = read_once(streams.stdin, piece);
-    let count = got.count;
+    let mut stdin = streams.stdin;
+    let (count, source) = match stdin.read(piece) {
+        Ok(0) => (0, Source::Ended),
+        Ok(count) => (count, Source::Open),
+        Err(_) => (0, Source::Broken),
+    };
     let after = Streams {
-        stdin: streams.stdin,
-        stdout: streams.stdout,
         read: streams.read.wrapping_add(count as u64),
-        written: streams.written,
         reads: streams.reads + 1,
-        ended: count == 0,
-        failed: false,
-        broken: got.broken,
+        source,
+        ..streams
     };
     Reading {
         streams: after,
@@ -118,14 +95,9 @@ pub fn write(streams: Streams, bytes: &[u8]) -> Streams
     }
     let done = streams.stdout.write_all(bytes).is_ok();
     Streams {
-        stdin: streams.stdin,
-        stdout: streams.stdout,
-        read: streams.read,
         written: streams.written.wrapping_add(bytes.len() as u64),
-        reads: streams.reads,
-        ended: streams.ended,
         failed: !done,
-        broken: streams.broken,
+        ..streams
     }
 }
 
@@ -150,7 +122,7 @@ pub fn report(streams: Streams, stderr: Stderr) {
     if streams.failed {
         let _ = stderr.write_all(b"the output failed\n");
     }
-    if streams.broken {
+    if streams.source == Source::Broken {
         let _ = stderr.write_all(b"the input failed\n");
     }
 }
