@@ -23,9 +23,8 @@ use Rattle.pool.proofs.Chains.{chain-nil}
 use Rattle.pool.proofs.Whole.{whole-pool, pool-whole}
 use Rattle.pool.proofs.Apart.{chains-find}
 use Rattle.pool.proofs.Closed.{Rowed, zero-value, closed-whole, whole-closed}
-use Rattle.ends.specs.Naming.{CanCompare}
 use Rattle.book.specs.Book.{book_of, tables_of, column_for, is_sound}
-use Rattle.book.specs.Walks.{CanReadThrough, Walked}
+use Rattle.book.specs.Walks.{Walked}
 use Rattle.book.proofs.Columns.{head_at, booked-within, some-booked}
 use Rattle.book.proofs.Sound.{Fitting, fitting, Sound, sound-of, of-sound}
 
@@ -49,11 +48,6 @@ module _ {hs rs ns w : List ℕ} {m n : ℕ} (t : Walked hs rs ns w m n (length 
       (t.fits (suc f.0) (omega arith) (omega (arith, f.1)) (some-booked hs (suc f.0) (λ z. some (sym (head_at hs f.0) ∙ z)))) in
       let d : Fitting m (values_at rs (chain ns (get_or hs f.0 0))) = subst (λ (h : ℕ). Fitting m (values_at rs (chain ns h))) (head_at hs f.0) c in
       (rises-in 1 m (values-mem rs (times-mem x (chain ns (get_or hs f.0 0)) f.2)) d.rise).0
-
-  -- their last records can be compared
-  pub comparing : {w₀ : List ℕ} → CanReadThrough hs rs ns w₀ → length w ≡ length w₀ → CanCompare w (length ns) 0 (length hs)
-  comparing q long =
-      record { f = length ns; named = t.named; lasts-in = omega (arith, q.room); names_in = omega (arith, q.room); few = q.few-ids }
 
   module _ (size : length rs ≡ length ns) (free : ℕ) where
     closed-sound : Closed rs ns hs free → is_sound m (book_of hs rs ns free) ≡ true

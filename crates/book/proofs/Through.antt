@@ -1,5 +1,5 @@
 -- The loop that walks all columns, in this order: its invariant Through, which is `Walked` of the first places; one place more; the loop's start, a place
--- with no column, a place whose column was walked; a column that was cut short, so that the book is not sound; the end. Assumes nothing.
+-- with no column, a place whose column was walked; a column that was cut short, so that the book is not sound. Assumes nothing.
 use mathlib.Core.Path.{◌≡◌, refl, sym, ap, subst, ◌∙◌}
 use mathlib.Core.Logic.{inl, inr, ◌≢◌}
 use mathlib.Core.Bool.{true}
@@ -110,7 +110,7 @@ module _ {hs rs ns w₀ : List ℕ} {m : ℕ} where
         let d : Walks hs rs ns i met m × (met' ≡ met + length (chain ns (get_or hs i 0))) × (e.0 ≡ last_from ns (get_or hs i 0)) = ended-walks c in
         through-more e.0 (walked_more more (omega (arith, q.room, t.long)) t.walked e.0 met' d.0.linked d.1 (omega (arith, d.0.room, d.1)) d.2 (λ b. d.0.fits)) named
 
-  -- ---- a column cut short, and the end
+  -- ---- a column cut short
 
   module _ {w : List ℕ} {met i : ℕ} (t : Through hs rs ns w₀ m w met i) where
     -- where the book is sound, the column walks
@@ -131,12 +131,4 @@ module _ {hs rs ns w₀ : List ℕ} {m : ℕ} where
         record {
           cut = λ e free. refute (is_sound m (book_of hs rs ns free)) (λ b. cut-walks c (sound-walks free more some b));
           walked = λ n e. absurd (let z : ◌≡◌ {A = ℕ} 0 1 = cc in omega arith);
-        }
-
-    pub through-end : length hs ≤ i → ColumnsWalked hs rs ns w m (Some met)
-    through-end e =
-        let k : i ≡ length hs = omega (arith, t.within) in
-        record {
-          cut = λ z. absurd (let o : ◌≡◌ {A = ℕ} 0 1 = cc in omega arith);
-          walked = λ n z. (let y : met ≡ n = cc in rw (← y, ← k) t.walked);
         }

@@ -13,13 +13,14 @@ ghost use Rattle.book.specs.Entries.{opened, CanAdd, Added, CanRemove, Removed, 
 ghost use Rattle.book.specs.Tally.{tallied, filled, booked_rows, CanCount};
 
 use pool::Rec;
+use std::mem;
 
 // A row number, from 1.
-#[derive(Clone, Copy)]
+#[derive(Clone, Copy, PartialEq, Eq, PartialOrd, Ord)]
 pub struct Row(pub u32);
 
 // A column's id, from 1.
-#[derive(Clone, Copy)]
+#[derive(Clone, Copy, PartialEq, Eq, PartialOrd, Ord)]
 pub struct Id(pub u32);
 
 // The book's tables, lent to be read: a head for each id, rows and nexts by record.
@@ -35,31 +36,9 @@ pub fn open(heads: &mut [u32], rows: &mut [u16], next: &mut [u32]) -> Rec
     requires { (length rows.old ≡ length next.old) × (length next.old < 4294967295) }
     ensures { book_of heads.new rows.new next.new result.0 ≡ opened (length heads.old) (length next.old) }
 {
-    zero_heads(heads);
-    zero_rows(rows);
+    heads.fill(0);
+    rows.fill(0);
     pool::link_free(next, 0)
-}
-
-// Writes no head for any id.
-fn zero_heads(heads: &mut [u32])
-    ensures { heads.new ≡ replicate (length heads.old) 0 }
-{
-    let mut i: usize = 0;
-    while i < heads.len() {
-        heads[i] = 0;
-        i += 1;
-    }
-}
-
-// Writes row 0 for every record.
-fn zero_rows(rows: &mut [u16])
-    ensures { rows.new ≡ replicate (length rows.old) 0 }
-{
-    let mut k: usize = 0;
-    while k < rows.len() {
-        rows[k] = 0;
-        k += 1;
-    }
 }
 
 // The most rows that a column can have.
@@ -82,26 +61,18 @@ fn walk_column(
     let mut above: u32 = 0;
     let mut k: usize = 0;
     while r != 0 {
-        if next.len() < r as usize {
-            return None;
-        }
         let place = (r - 1) as usize;
+        let after = *next.get(place)?;
         let row = rows[place] as u32;
-        if row <= above {
-            return None;
-        }
-        if m < row {
+        if row <= above || m < row {
             return None;
         }
         above = row;
         last = r;
-        r = next[place];
+        r = after;
         k += 1;
     }
-    if MOST < k {
-        return None;
-    }
-    if next.len() - met < k {
+    if MOST < k || next.len() - met < k {
         return None;
     }
     Some((met + k, Rec(last)))
@@ -168,8 +139,7 @@ pub fn is_booked(heads: &[u32], id: Id) -> bool
     requires { (1 ≤ id.0) × (id.0 ≤ length heads.now) }
     ensures { result ≡ is_booked heads.now id.0 }
 {
-    let k = id.0;
-    heads[(k - 1) as usize] != 0
+    heads[(id.0 - 1) as usize] != 0
 }
 
 // The smallest row of an id's column, or row 0 where the id is not booked.
@@ -177,13 +147,10 @@ pub fn smallest_row(heads: &[u32], rows: &[u16], id: Id) -> Row
     requires { HasHead heads.now rows.now id.0 }
     ensures { StartsAt heads.now rows.now id.0 result.0 }
 {
-    let k = id.0;
-    let r = heads[(k - 1) as usize];
-    if r == 0 {
-        return Row(0);
+    match heads[(id.0 - 1) as usize] {
+        0 => Row(0),
+        r => Row(rows[(r - 1) as usize] as u32),
     }
-    let row = rows[(r - 1) as usize] as u32;
-    Row(row)
 }
 
 // Writes the rows of an id's column to the front of list, and gives their number.
@@ -192,8 +159,7 @@ pub fn copy_rows(heads: &[u32], rows: &[u16], next: &[u32], list: &mut [u32], id
     ensures number { result ≡ length (column_for (tables_of heads.now rows.now next.now) id.0).rows }
     ensures written { list.new ≡ over (column_for (tables_of heads.now rows.now next.now) id.0).rows list.old }
 {
-    let k = id.0;
-    let mut r = heads[(k - 1) as usize];
+    let mut r = heads[(id.0 - 1) as usize];
     let mut n: u32 = 0;
     while r != 0 {
         let i = (r - 1) as usize;
@@ -210,9 +176,8 @@ pub fn count_rows(heads: &[u32], rows: &[u16], next: &[u32], counters: &mut [u32
     ensures counted { counters.new ≡ tallied counters.old (booked_rows heads.now rows.now next.now id.0) }
     ensures raised { result + filled counters.old ≡ filled counters.new }
 {
-    let k = id.0;
     let mut size: u32 = 0;
-    let mut r = heads[(k - 1) as usize];
+    let mut r = heads[(id.0 - 1) as usize];
     while r != 0 {
         let i = (r - 1) as usize;
         let c = (rows[i] - 1) as usize;
@@ -233,13 +198,11 @@ fn write_rows(rows: &mut [u16], next: &[u32], list: &[u32], head: Rec) -> Rec
 {
     let mut r = head.0;
     let mut last = head.0;
-    let mut k: usize = 0;
-    while k < list.len() {
+    for v in list {
         let i = (r - 1) as usize;
-        rows[i] = list[k] as u16;
+        rows[i] = *v as u16;
         last = r;
         r = next[i];
-        k += 1;
     }
     Rec(last)
 }
@@ -274,8 +237,7 @@ pub fn add_column(
 {
     let last = write_rows(rows, next, list, free);
     let rest = pool::cut_after(next, last);
-    let k = id.0;
-    heads[(k - 1) as usize] = free.0;
+    heads[(id.0 - 1) as usize] = free.0;
     rest
 }
 
@@ -290,11 +252,8 @@ pub fn remove_column(
     requires { CanRemove (book_of heads.old rows.old next.old free.0) id.0 }
     ensures { Removed (book_of heads.old rows.old next.old free.0) id.0 (book_of heads.new rows.new next.new result.0) }
 {
-    let k = id.0;
-    let i = (k - 1) as usize;
-    let h = heads[i];
-    let last = clear_rows(rows, next, Rec(h));
+    let head = Rec(mem::replace(&mut heads[(id.0 - 1) as usize], 0));
+    let last = clear_rows(rows, next, head);
     pool::join_after(next, last, free);
-    heads[i] = 0;
-    Rec(h)
+    head
 }

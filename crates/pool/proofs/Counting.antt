@@ -1,5 +1,5 @@
 -- The loop that counts a chain's records up to a bound: its invariant (so many records were counted, and the rest is linked from the next one on),
--- its start, one more record, and its two ends, by the chain's end and by the bound. A loop that reads a chain known to be linked goes the same way.
+-- its start, one more record, and its end where the chain ends before the bound. A loop that reads a chain known to be linked goes the same way.
 -- Assumes nothing.
 use mathlib.Core.Path.{◌≡◌, ap}
 use mathlib.Core.Logic.{◌≢◌}
@@ -32,6 +32,3 @@ module _ {ns : List ℕ} {h bound r n : ℕ} (i : Counting ns h bound r n) where
 
   pub counting-ended : r ≡ 0 → n ≡ min (length (chain ns h)) bound
   counting-ended e = omega (arith, i.size, i.within, ap length (linked-end ns r i.rest e i.linked))
-
-  pub counting-full : bound ≤ n → n ≡ min (length (chain ns h)) bound
-  counting-full e = omega (arith, i.size, i.within)

@@ -1,3 +1,4 @@
+use Rattle.std.proofs.Common.{arith}
 use Rattle.book.proofs.Through.{naming, last-few, through-start, through-none, through-next, through-cut}
 use Rattle.book.proofs.walk_columns.Goals as goal
 use Rattle.book.proofs.walk_columns.Goals.{then-head-eq0, else-head-eq0+in_ok-met}
@@ -12,7 +13,7 @@ returns-in_err-met c =
 pub name-requires-else-head-eq0 : goal.name-requires-else-head-eq0
 name-requires-else-head-eq0 c =
     let i = c.loop-i.invariant in
-    naming c.requires i c.loop-i-test.true (last-few c.requires i c.loop-i-test.true c.in_ok-met.ensures)
+    naming c.requires i c.loop-i-test.true (omega (arith, last-few c.requires i c.loop-i-test.true c.in_ok-met.ensures))
 
 pub loop-i-preserved : goal.loop-i-preserved
 loop-i-preserved c =

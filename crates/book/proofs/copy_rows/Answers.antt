@@ -1,0 +1,34 @@
+use Rattle.std.proofs.Common.{arith}
+use Rattle.lists.proofs.Place.{values_length}
+use Rattle.lists.specs.Lists.{at}
+use Rattle.pool.specs.Chains.{chain}
+use Rattle.book.proofs.Copying.{id-linked, id-few, copying-start, copying-long, copying-turn, copying-end}
+use Rattle.book.proofs.copy_rows.Goals as goal
+
+pub loop-r-init : goal.loop-r-init
+loop-r-init c = copying-start _ _ (id-linked c.requires.has)
+
+pub bounds-rows-i : goal.bounds-rows-i
+bounds-rows-i c = let t = copying-turn c.requires.fits c.loop-r.invariant c.loop-r-test.true in omega (arith, c.requires.has.sized)
+
+pub bounds-list-n : goal.bounds-list-n
+bounds-list-n c =
+    let q = c.requires.fits in
+    let t = copying-turn q c.loop-r.invariant c.loop-r-test.true in
+    omega (arith, copying-long q c.loop-r.invariant, values_length c.args.rows.now (chain c.args.next.now (at c.args.heads.now c.args.id.0)))
+
+pub bounds-next-i : goal.bounds-next-i
+bounds-next-i c = let t = copying-turn c.requires.fits c.loop-r.invariant c.loop-r-test.true in omega arith
+
+pub overflow_add-n : goal.overflow_add-n
+overflow_add-n c = let t = copying-turn c.requires.fits c.loop-r.invariant c.loop-r-test.true in omega (arith, id-few c.requires.has)
+
+pub loop-r-smaller : goal.loop-r-smaller
+loop-r-smaller c = let t = copying-turn c.requires.fits c.loop-r.invariant c.loop-r-test.true in omega arith
+
+pub loop-r-preserved : goal.loop-r-preserved
+loop-r-preserved c = (copying-turn c.requires.fits c.loop-r.invariant c.loop-r-test.true).again
+
+pub returns : goal.returns
+returns c =
+    let e = copying-end c.requires.fits c.loop-r.invariant c.loop-r-test.false in record { number = e.0; written = e.1 }
