@@ -5,7 +5,6 @@ use mathlib.Core.Logic.{inl, inr, ◌≢◌}
 use mathlib.Core.List.{List}
 use Prim.Native.Nat.{ℕ, suc, ◌+◌, ◌-◌, ◌≤◌, ◌<◌}
 use native.Mathlib.Omega.{arith}
-use native.Mathlib.Numerals.{add-one}
 use lib.ListN.{length, set, length-set}
 use lib.Seq.{get_or-set_other}
 use borrow.Author.Tests.{eq-eqb, ne_eqb}
@@ -86,50 +85,53 @@ listed_start w a m b l f long z =
 
 -- ---- the ids by where they start at a minute
 
-pub record Linking (heads rows windows work₀ : List ℕ) (minute a m b : ℕ) (work : List ℕ) (i : ℕ) : Type 0 where
-  pub high : i ≤ length heads
+-- those before an id
+pub record Linking (heads rows windows work₀ : List ℕ) (minute a m b : ℕ) (work : List ℕ) (id : ℕ) : Type 0 where
+  pub low : 1 ≤ id
+  pub high : id ≤ length heads + 1
   pub only : OnlyTwo a m b (length heads) work₀ work
-  pub lists : (next : List ℕ) → length rows ≡ length next → ListedIn work a m b (length heads) (start_at (tables_of heads rows next) windows minute) i
+  pub lists : (next : List ℕ) → length rows ≡ length next → ListedIn work a m b (length heads) (start_at (tables_of heads rows next) windows minute) (id - 1)
 
 module _ {heads rows windows w₀ : List ℕ} {minute a m b : ℕ} (pre : CanList heads rows windows w₀ minute a m b) where
-  pub linking-start : Linking heads rows windows w₀ minute a m b w₀ 0
+  pub linking-start : Linking heads rows windows w₀ minute a m b w₀ 1
   linking-start =
       record {
+        low = omega arith;
         high = omega arith;
         only = two-refl;
         lists = λ next z. listed_start w₀ a m b (length heads) (start_at (tables_of heads rows next) windows minute) (omega (arith, pre.apart, pre.long)) pre.empty;
       }
 
-  module _ {w : List ℕ} {i : ℕ} (s : Linking heads rows windows w₀ minute a m b w i) where
-    pub linking-has : i < length heads → CanStart heads rows windows (i + 1)
+  module _ {w : List ℕ} {id : ℕ} (s : Linking heads rows windows w₀ minute a m b w id) where
+    pub linking-has : id ≤ length heads → CanStart heads rows windows id
     linking-has h =
-        record {
-          has = record { low = omega arith; high = omega arith; within = pre.heads-in (i + 1) (omega arith) (omega arith) };
-          few = pre.few;
-          windows-long = pre.windows-long;
-        }
+        record { has = record { low = s.low; high = h; within = pre.heads-in id s.low h }; few = pre.few; windows-long = pre.windows-long }
 
-    pub linking-can : (v : ℕ) → i < length heads → StartsInside heads rows windows minute (i + 1) v → CanLink w a b v (i + 1)
+    pub linking-can : (v : ℕ) → id ≤ length heads → StartsInside heads rows windows minute id v → CanLink w a b v id
     linking-can v h e =
         record {
-          low = omega arith;
-          head_in = λ p. omega (arith, e pre.next pre.sized, pre.rows_in (i + 1) (omega arith) (omega arith), pre.apart, pre.long, s.only.same_length);
-          next-in = omega (arith, pre.long, s.only.same_length);
+          low = s.low;
+          head_in = λ p. omega (arith, e pre.next pre.sized, pre.rows_in id s.low h, pre.apart, pre.long, s.only.same_length);
+          next-in = omega (arith, s.low, pre.long, s.only.same_length);
         }
 
-    pub linking-next : (v : ℕ) {x : List ℕ} → i < length heads → StartsInside heads rows windows minute (i + 1) v → x ≡ linked_in w a b v (i + 1) →
-        Linking heads rows windows w₀ minute a m b x (i + 1)
-    linking-next v h e y =
-        let q : v ≤ m = omega (arith, e pre.next pre.sized, pre.rows_in (i + 1) (omega arith) (omega arith)) in
-        rw y (record {
+    pub linking-next : (v : ℕ) {x : List ℕ} → id ≤ length heads → StartsInside heads rows windows minute id v → x ≡ linked_in w a b v id →
+        Linking heads rows windows w₀ minute a m b x (id + 1)
+    linking-next v {x} h e y =
+        let q : v ≤ m = omega (arith, e pre.next pre.sized, pre.rows_in id s.low h) in
+        let before : id ≡ suc (id - 1) = omega (arith, s.low) in
+        let after : id ≡ id + 1 - 1 = omega arith in
+        record {
+          low = omega arith;
           high = omega arith;
-          only = two-trans s.only (link-only w a m b (length heads) v (i + 1) (omega arith) (omega arith) q);
+          only = two-trans s.only (rw y (link-only w a m b (length heads) v id s.low h q));
           lists = λ next z.
-              link-listed w a m b (length heads) (start_at (tables_of heads rows next) windows minute) i v (i + 1) pre.apart (omega (arith, pre.long, s.only.same_length)) (add-one i) (omega arith)
-              (sym (e next z)) q (s.lists next z);
-        })
+              let f : ℕ → ℕ = start_at (tables_of heads rows next) windows minute in
+              subst (ListedIn x a m b (length heads) f) after
+              (rw y (link-listed w a m b (length heads) f (id - 1) v id pre.apart (omega (arith, pre.long, s.only.same_length)) before h (sym (e next z)) q (s.lists next z)));
+        }
 
-    pub linking-end : length heads ≤ i → Listed heads rows windows w₀ w minute a m b
+    pub linking-end : length heads < id → Listed heads rows windows w₀ w minute a m b
     linking-end h =
-        let e : i ≡ length heads = omega (arith, s.high) in
+        let e : id - 1 ≡ length heads = omega (arith, s.high) in
         record { only = s.only; lists = λ next z. subst (ListedIn w a m b (length heads) (start_at (tables_of heads rows next) windows minute)) e (s.lists next z) }

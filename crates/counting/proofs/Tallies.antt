@@ -14,7 +14,7 @@ use Rattle.lists.proofs.Place.{put-length}
 use Rattle.workspace.specs.Regions.{region, cell, OnlyIn}
 use Rattle.workspace.proofs.Regions.{region-next, region-cell}
 use Rattle.book.specs.Tally.{tallied, filled}
-use Rattle.book.proofs.Tally.{tallied-length, up_rest, tallied-past, filled-most, filled-append, filled-first, Tally, tally-none, tally-past, tally-few, tally-room, tally-more}
+use Rattle.book.proofs.Tally.{tallied-length, up_rest, tallied-past, filled-most, filled-append, filled-first, Tally, tally-none, tally-length, tally-past, tally-few, tally-room, tally-more}
 use Rattle.counting.specs.Counting.{total, CanTally}
 
 -- ---- what stays
@@ -124,19 +124,36 @@ module _ {w₀ : List ℕ} {a e : ℕ} (pre : CanTally w₀ a e) {w : List ℕ} 
   tallying-past : (x : ℕ) → a ≤ x → get_or w x 0 ≡ get_or w₀ x 0
   tallying-past x h = tally-past i.counted pre.m x done-up (omega (arith, pre.before))
 
-  pub tallying-row : k < e → (1 ≤ get_or w k 0) × (get_or w k 0 ≤ pre.m)
+  tallying-row : k < e → (1 ≤ get_or w k 0) × (get_or w k 0 ≤ pre.m)
   tallying-row h = let b : (1 ≤ get_or w₀ k 0) × (get_or w₀ k 0 ≤ pre.m) = pre.rows_in k i.low h in omega (arith, tallying-past k i.low)
 
-  pub tallying-room : (x : ℕ) → k < e → x < pre.m → get_or w x 0 + 1 < 4294967296
+  tallying-room : (x : ℕ) → k < e → x < pre.m → get_or w x 0 + 1 < 4294967296
   tallying-room x h q =
       tally-room i.counted pre.m (e - a) x done-up (omega (arith, pre.long, pre.before, i.low))
       (omega (arith, length-take (k - a) (drop a w₀), i.low)) (pre.room x q)
 
   -- how many there are stays within 32 bits
-  pub tallying-few : k < e → size + 1 < 4294967296
+  tallying-few : k < e → size + 1 < 4294967296
   tallying-few h =
       let b : (1 ≤ get_or w₀ k 0) × (get_or w₀ k 0 ≤ pre.m) = pre.rows_in k i.low h in
       omega (arith, pre.room 0 (omega arith), tally-few i.counted, length-take (k - a) (drop a w₀), i.low)
+
+  -- in the turn of place k: its row and the row's counter stand in the table, and both counts have room
+  pub record TallyingTurn : Type 0 where
+    pub row : 1 ≤ get_or w k 0
+    pub counter : get_or w k 0 - 1 < length w
+    pub room : get_or w (get_or w k 0 - 1) 0 + 1 < 4294967296
+    pub few : size + 1 < 4294967296
+
+  pub tallying-turn : k < e → TallyingTurn
+  tallying-turn h =
+      let r : (1 ≤ get_or w k 0) × (get_or w k 0 ≤ pre.m) = tallying-row h in
+      record {
+        row = r.0;
+        counter = omega (arith, tally-length i.counted, pre.before, i.low, pre.long);
+        room = tallying-room (get_or w k 0 - 1) h (omega arith);
+        few = tallying-few h;
+      }
 
   pub tallying-more : (size' : ℕ) → k < e →
       ((get_or w (get_or w k 0 - 1) 0 ≡ 0) × (size' ≡ size + 1)) ⊎ ((get_or w (get_or w k 0 - 1) 0 ≢ 0) × (size' ≡ size)) →

@@ -51,9 +51,10 @@ fn start_at(book_heads: &[u32], book_rows: &[u16], windows: &[u32], minute: u32,
 {
     let first = book::smallest_row(book_heads, book_rows, id);
     if windows::counts_at(windows, book_heads.len(), minute, id) {
-        return first;
+        first
+    } else {
+        Row(0)
     }
-    Row(0)
 }
 
 // Lists the booked ids that count at a minute by their smallest rows, which are 1 to m.
@@ -70,12 +71,9 @@ pub fn link_columns(
     requires { CanList book_heads.now book_rows.now windows.now work.old minute a m b }
     ensures { Listed book_heads.now book_rows.now windows.now work.old work.new minute a m b }
 {
-    let mut i: usize = 0;
-    while i < book_heads.len() {
-        let k = (i + 1) as u32;
-        let first = start_at(book_heads, book_rows, windows, minute, Id(k));
-        link(work, a, b, first, k);
-        i += 1;
+    for id in 1..book_heads.len() as u32 + 1 {
+        let first = start_at(book_heads, book_rows, windows, minute, Id(id));
+        link(work, a, b, first, id);
     }
 }
 
@@ -86,15 +84,13 @@ fn tally(work: &mut [u32], a: usize, e: usize) -> u32
     ensures raised { result + filled work.old ≡ filled work.new }
 {
     let mut size: u32 = 0;
-    let mut k = a;
-    while k < e {
+    for k in a..e {
         let i = (work[k] - 1) as usize;
         let v = work[i];
         work[i] = v + 1;
         if v == 0 {
             size += 1;
         }
-        k += 1;
     }
     size
 }
