@@ -1,15 +1,19 @@
 -- From pieces laid out to the chain's length: they can be walked, then added, and a sum that comes to the end says that the free chain has k records. Assumes
 -- nothing.
 use mathlib.Core.Path.{◌≡◌}
-use mathlib.Core.Bool.{Bool, true, false, false≢true}
+use mathlib.Core.Bool.{Bool, true}
 use mathlib.Core.List.{List}
-use Prim.Native.Nat.{ℕ, ◌≤◌}
+use Prim.Native.Nat.{ℕ, ◌+◌, ◌*◌, ◌/◌, ◌≤◌}
 use native.Mathlib.Omega.{arith}
 use lib.ListN.{length}
 use Rattle.pool.specs.Free.{FreeHas}
 use Rattle.free_chain.specs.Pieces.{OnePool, start_of, Pieces, Kept, Room, Laid, CanRound, CanAddUp, AddsTo}
 use Rattle.free_chain.proofs.Leading.{leads-free}
 use Rattle.free_chain.proofs.Laying.{laid-stands}
+
+-- scratch that is long enough has room
+pub cuts-room : (size : ℕ) (w : List ℕ) → size ≤ 1073741824 → 3 * ((size + 1023) / 1024 + 1) ≤ length w → Room size w ((size + 1023) / 1024)
+cuts-room size w small long = record { small = small; above = omega arith; below = omega arith; long = long }
 
 -- scratch of the same length has the same room
 pub room-same : {size c : ℕ} {w₀ w : List ℕ} → Room size w₀ c → length w ≡ length w₀ → Room size w c
@@ -34,7 +38,3 @@ module _ {rs ns w : List ℕ} {c h n : ℕ} (p : OnePool rs ns) (room : Room (le
 
     pub adds-free : (steps : ℕ) (a : Bool) → AddsTo w₁ c steps a → a ≡ true → FreeHas rs ns h steps
     adds-free steps a f e = leads-free rs ns steps h (f rs ns h round-pieces e)
-
--- a chain of which nothing is said
-pub free-none : {fact : Type 0} → false ≡ true → fact
-free-none e = absurd (false≢true e)

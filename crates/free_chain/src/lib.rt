@@ -19,13 +19,9 @@ fn zeros_of(rows: &[u16]) -> u16
     ensures { result ≡ times 0 rows.now }
 {
     let mut n: u16 = 0;
-    let mut i: usize = 0;
-    while i < rows.len() {
-        if rows[i] == 0 {
+    for row in rows {
+        if *row == 0 {
             n += 1;
-            i += 1;
-        } else {
-            i += 1;
         }
     }
     n
@@ -51,13 +47,9 @@ fn zero_pairs_of(rows: &[u16], counts: &[u16]) -> u16
     ensures { result ≡ zero_pairs rows.now counts.now }
 {
     let mut pairs: u16 = 0;
-    let mut i: usize = 0;
-    while i < rows.len() {
-        if (rows[i] == 0) & (counts[i] == 0) {
+    for (i, row) in rows.iter().enumerate() {
+        if (*row == 0) & (counts[i] == 0) {
             pairs += 1;
-            i += 1;
-        } else {
-            i += 1;
         }
     }
     pairs
@@ -85,25 +77,14 @@ fn walk(rows: &[u16], next: &[u32], free: Rec, k: usize) -> bool
 {
     let mut r = free.0;
     let mut last: u32 = 0;
-    let mut n: usize = 0;
-    while n < k {
-        if r == 0 {
-            return false;
-        }
-        if next.len() < r as usize {
+    for _ in 0..k {
+        if r == 0 || next.len() < r as usize {
             return false;
         }
         last = r;
         r = next[(r - 1) as usize];
-        n += 1;
     }
-    if r != 0 {
-        return false;
-    }
-    if last == 0 {
-        return true;
-    }
-    rows[(last - 1) as usize] == 0
+    r == 0 && (last == 0 || rows[(last - 1) as usize] == 0)
 }
 
 // Whether the free chain ends after k records, the last with row 0. In pieces, if they show it; otherwise record by record. Scratch may hold anything, before
@@ -112,8 +93,5 @@ pub fn has(rows: &[u16], next: &[u32], scratch: &mut [u32], free: Rec, k: usize)
     requires { OnePool rows.now next.now }
     ensures { Decides (FreeHas rows.now next.now free.0 k) result }
 {
-    if pieces::reach(rows, next, scratch, free, k) {
-        return true;
-    }
-    walk(rows, next, free, k)
+    pieces::reach(rows, next, scratch, free, k) || walk(rows, next, free, k)
 }

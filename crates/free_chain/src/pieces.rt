@@ -4,7 +4,7 @@
 // no answer rests on them.
 // Scratch has two places for each piece, its length and where it stands (a record, or 0), and behind them the queue of the pieces that are still to be walked.
 // The last piece starts at the chain's head, the others each at its cut.
-ghost use Rattle.std.specs.Prelude.{◌+◌, ◌≤◌, ◌<◌, ◌≡◌, true, length};
+ghost use Rattle.std.specs.Prelude.{◌+◌, ◌≤◌, ◌<◌, ◌≡◌, true, length, IfSome};
 ghost use Rattle.pool.specs.Free.{FreeHas};
 ghost use Rattle.free_chain.specs.Pieces.{OnePool, RunsTo, FourFollow, CanStep, Stepped, Kept, Room, Laid, CanRound, Rounded, CanAddUp, AddsTo};
 
@@ -37,14 +37,12 @@ fn run_near(next: &[u32], i: usize, top: usize) -> usize
     requires { (i ≤ top) × (top < length next.now) }
     ensures { RunsTo next.now i result }
 {
-    let mut e = i;
-    while e < top {
+    for e in i..top {
         if next[e] as usize != e + 2 {
             return e;
         }
-        e += 1;
     }
-    e
+    top
 }
 
 // The same from place i on and before the next cut, four records at once as far as they go: its steps need not wait for loads. Where chains lie scattered most
@@ -58,7 +56,7 @@ fn run_end(next: &[u32], i: usize) -> usize
     }
     let last = next.len() - 1;
     let cut = i - i % PIECE + (PIECE - 1);
-    let top = if cut < last { cut } else { last };
+    let top = cut.min(last);
     let mut e = i;
     while e + 4 <= top {
         if !four_follow(next, e) {
@@ -70,40 +68,33 @@ fn run_end(next: &[u32], i: usize) -> usize
 }
 
 // Walks piece s on by a run and the step after it, if that leads to a record of the pool, or to 0 from a record of row 0, and its length stays within the
-// pool's. Gives the records walked where it is to be walked further, and 0 where it is not: it has come to a cut or to the end, or cannot go on.
-fn step(rows: &[u16], next: &[u32], scratch: &mut [u32], s: usize) -> usize
+// pool's. Gives the records walked where it is to be walked further, and none where it is not: it has come to a cut or to the end, or cannot go on.
+fn step(rows: &[u16], next: &[u32], scratch: &mut [u32], s: usize) -> Option<usize>
     requires { CanStep rows.now next.now scratch.old s }
-    ensures { Stepped rows.now next.now scratch.old scratch.new s }
+    ensures stepped { Stepped rows.now next.now scratch.old scratch.new s }
+    ensures walked { IfSome result (λ n. 1 ≤ n) }
 {
     let r = scratch[2 * s + 1];
     if r == 0 {
-        return 0;
+        return None;
     }
     let i = (r - 1) as usize;
     let e = run_end(next, i);
     let after = next[e];
     let walked = e - i + 1;
     let size = scratch[2 * s] as usize + walked;
-    if next.len() < size {
-        return 0;
+    if next.len() < size || next.len() < after as usize {
+        return None;
     }
-    if next.len() < after as usize {
-        return 0;
-    }
-    if after == 0 {
-        if rows[e] != 0 {
-            return 0;
-        }
-        scratch[2 * s] = size as u32;
-        scratch[2 * s + 1] = 0;
-        return 0;
+    if after == 0 && rows[e] != 0 {
+        return None;
     }
     scratch[2 * s] = size as u32;
     scratch[2 * s + 1] = after;
-    if (after - 1) as usize % PIECE == 0 {
-        return 0;
+    if after == 0 || (after - 1) as usize % PIECE == 0 {
+        return None;
     }
-    walked
+    Some(walked)
 }
 
 // Lays the pieces out: each has length 0 and stands at its start. Queued behind them are, of the cuts, those of row 0, and the head's piece unless it starts
@@ -122,17 +113,13 @@ fn lay(rows: &[u16], scratch: &mut [u32], cuts: usize, free: Rec) -> usize
     } else {
         1
     };
-    let mut s: usize = 0;
-    while s < cuts {
+    for s in 0..cuts {
         let i = PIECE * s;
         scratch[2 * s] = 0;
         scratch[2 * s + 1] = (i + 1) as u32;
         if rows[i] == 0 {
             scratch[queue + n] = s as u32;
             n += 1;
-            s += 1;
-        } else {
-            s += 1;
         }
     }
     n
@@ -157,16 +144,18 @@ fn round(
     let mut q: usize = 0;
     while q < n {
         let s = scratch[queue + q] as usize;
-        let walked = step(rows, next, scratch, s);
-        if walked == 0 {
-            n -= 1;
-            scratch[queue + q] = scratch[queue + n];
-        } else {
-            if rest < walked {
-                return Remaining { queued: 0, left: 0 };
+        match step(rows, next, scratch, s) {
+            None => {
+                n -= 1;
+                scratch[queue + q] = scratch[queue + n];
             }
-            rest -= walked;
-            q += 1;
+            Some(walked) => {
+                if rest < walked {
+                    return Remaining { queued: 0, left: 0 };
+                }
+                rest -= walked;
+                q += 1;
+            }
         }
     }
     Remaining {
@@ -222,16 +211,7 @@ pub fn reach(rows: &[u16], next: &[u32], scratch: &mut [u32], free: Rec, k: usiz
 {
     let head = free.0;
     let cuts = (next.len() + (PIECE - 1)) / PIECE;
-    if k < FEW {
-        return false;
-    }
-    if scratch.len() < 3 * (cuts + 1) {
-        return false;
-    }
-    if head == 0 {
-        return false;
-    }
-    if next.len() < head as usize {
+    if k < FEW || scratch.len() < 3 * (cuts + 1) || head == 0 || next.len() < head as usize {
         return false;
     }
     let n = lay(rows, scratch, cuts, free);
