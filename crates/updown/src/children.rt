@@ -129,11 +129,7 @@ fn pass_on(work: &mut [u32], m: usize, c: Row, j: Row, other: Row) -> Row
 {
     let i = LINKS * m + (c.0 - 1) as usize;
     let after = Row(work[i]);
-    if other.0 == j.0 {
-        work[i] = 0;
-        return after;
-    }
-    if other.0 == 0 {
+    if other.0 == j.0 || other.0 == 0 {
         work[i] = 0;
         return after;
     }

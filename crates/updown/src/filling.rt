@@ -12,10 +12,7 @@ fn first_row(row_list: &[u32], at: usize, n: usize) -> Row
     requires { at + n ≤ length row_list.now }
     ensures { result.0 ≡ get_or (take n (drop at row_list.now)) 0 0 }
 {
-    if n == 0 {
-        return Row(0);
-    }
-    Row(row_list[at])
+    if n == 0 { Row(0) } else { Row(row_list[at]) }
 }
 
 // Fills in where the columns start whose rows stand one after another in row_list, row_counts[k] of them each.
@@ -23,14 +20,11 @@ pub fn listed_starts(row_counts: &[u32], row_list: &[u32], starts: &mut [u32])
     requires { (length starts.old ≡ length row_counts.now) × (sum_of (λ n. n) row_counts.now ≤ length row_list.now) }
     ensures { starts.new ≡ listed_starts row_counts.now row_list.now }
 {
-    let mut k: usize = 0;
     let mut at: usize = 0;
-    while k < row_counts.len() {
-        let n = row_counts[k] as usize;
-        let row = first_row(row_list, at, n);
-        starts[k] = row.0;
+    for (k, &count) in row_counts.iter().enumerate() {
+        let n = count as usize;
+        starts[k] = first_row(row_list, at, n).0;
         at += n;
-        k += 1;
     }
 }
 
@@ -39,10 +33,7 @@ pub fn booked_starts(book_heads: &[u32], book_rows: &[u16], ids: &[u32], starts:
     requires { (length starts.old ≡ length ids.now) × ((k : ℕ) → k < length ids.now → HasHead book_heads.now book_rows.now (get_or ids.now k 0)) }
     ensures { (next : List ℕ) → length book_rows.now ≡ length next → starts.new ≡ booked_starts (tables_of book_heads.now book_rows.now next) ids.now }
 {
-    let mut k: usize = 0;
-    while k < ids.len() {
-        let row = book::smallest_row(book_heads, book_rows, Id(ids[k]));
-        starts[k] = row.0;
-        k += 1;
+    for (k, &id) in ids.iter().enumerate() {
+        starts[k] = book::smallest_row(book_heads, book_rows, Id(id)).0;
     }
 }

@@ -48,10 +48,9 @@ fn plan_of(work: &mut [u32], m: usize, flags: usize, walk: Walk) -> Plan
 {
     workspace::clear(work, flags, FLAGS);
     if walk.fits {
-        let first = walk.first;
         return Plan {
             fits: true,
-            first: first,
+            first: walk.first,
             count: walk.count,
             entries: walk.entries,
             used: walk.used as u32,

@@ -18,11 +18,8 @@ pub fn mark_starts(work: &mut [u32], starts: &[u32], m: usize, flags: usize)
     requires { SomeMark starts.now m flags work.old }
     ensures { (W : List Column) → CanMark starts.now m flags work.old W → StartsTo m flags W work.old work.new (length W) }
 {
-    let mut k: usize = 0;
-    while k < starts.len() {
-        let start = starts[k];
+    for (k, &start) in starts.iter().enumerate() {
         marks::mark_start(work, m, flags, Row(start), (k + 1) as u32);
-        k += 1;
     }
 }
 
@@ -39,19 +36,14 @@ fn count_listed(
     ensures { (R W : List Column) → Listed starts.now row_counts.now row_list.now W → CanStart m R W true work.old j.0 → Started m R W true work.old work.new result j.0 }
 {
     let mut n: usize = 0;
-    let mut k: usize = 0;
     let mut at: usize = 0;
-    while k < row_counts.len() {
-        let end = at + row_counts[k] as usize;
+    for (k, &count) in row_counts.iter().enumerate() {
+        let end = at + count as usize;
         if starts[k] == j.0 {
             let g = differences::gather_rows(work, &row_list[at..end], m);
             n = differences::count_rows(work, m, n, g, true);
-            at = end;
-            k += 1;
-        } else {
-            at = end;
-            k += 1;
         }
+        at = end;
     }
     n
 }
@@ -72,17 +64,12 @@ fn count_booked(
     ensures { (R W : List Column) → BookHolds book_heads.now book_rows.now book_next.now starts.now ids.now m W → CanStart m R W adding work.old j.0 → Started m R W adding work.old work.new result j.0 }
 {
     let mut n: usize = 0;
-    let mut k: usize = 0;
-    while k < ids.len() {
+    for (k, &id) in ids.iter().enumerate() {
         if starts[k] == j.0 {
-            let id = Id(ids[k]);
             let a = BUFFER * m;
             let e = MARKS * m;
-            let g = book::copy_rows(book_heads, book_rows, book_next, &mut work[a..e], id);
+            let g = book::copy_rows(book_heads, book_rows, book_next, &mut work[a..e], Id(id));
             n = differences::count_rows(work, m, n, g as usize, adding);
-            k += 1;
-        } else {
-            k += 1;
         }
     }
     n

@@ -41,7 +41,7 @@ pub fn walk_from(avail: Rec) -> Walk
         count: 0,
         entries: 0,
         used: 0,
-        avail: avail,
+        avail,
     }
 }
 
@@ -50,11 +50,9 @@ fn begin(work: &mut [u32], m: usize, last: Row, j: Row, used: usize)
     requires { (plan_at m ≤ length work.old) × (m ≤ 4096) × (last.0 ≤ m) × (1 ≤ j.0) × (j.0 ≤ m) × (used ≤ 1048576) }
     ensures { work.new ≡ begun m work.old last.0 j.0 used }
 {
-    if last.0 == 0 {
-        work[STARTS * m + (j.0 - 1) as usize] = used as u32;
-        return;
+    if last.0 != 0 {
+        work[NEXT * m + (last.0 - 1) as usize] = j.0;
     }
-    work[NEXT * m + (last.0 - 1) as usize] = j.0;
     work[STARTS * m + (j.0 - 1) as usize] = used as u32;
 }
 
@@ -131,10 +129,7 @@ fn place_marker(work: &mut [u32], m: usize, flags: usize, j: Row, parent: Row, u
 fn first_of(first: Row, j: Row) -> Row
     ensures { result.0 ≡ pick (eqb first.0 0) j.0 first.0 }
 {
-    if first.0 == 0 {
-        return j;
-    }
-    first
+    if first.0 == 0 { j } else { first }
 }
 
 // The numbers of a walk with one column more.
@@ -142,18 +137,14 @@ fn advance(walk: Walk, j: Row, e: Emission) -> Walk
     requires { (walk.count < 4096) × (walk.entries ≤ 16777216) × (e.larger ≤ 4096) }
     ensures { (result.fits ≡ e.fits) × (result.first.0 ≡ pick (eqb walk.first.0 0) j.0 walk.first.0) × (result.last.0 ≡ j.0) × (result.count ≡ walk.count + 1) × (result.entries ≡ walk.entries + e.larger) × (result.used ≡ e.used) × (result.avail.0 ≡ e.avail.0) }
 {
-    let more = e.larger as u32;
-    let avail = e.avail;
-    let started = walk.first;
-    let first = first_of(started, j);
     Walk {
         fits: e.fits,
-        first: first,
+        first: first_of(walk.first, j),
         last: j,
         count: walk.count + 1,
-        entries: walk.entries + more,
+        entries: walk.entries + e.larger as u32,
         used: e.used,
-        avail: avail,
+        avail: e.avail,
     }
 }
 
@@ -161,17 +152,11 @@ fn advance(walk: Walk, j: Row, e: Emission) -> Walk
 fn stopped(walk: Walk, e: Emission) -> Walk
     ensures { (result.fits ≡ e.fits) × (result.used ≡ e.used) }
 {
-    let first = walk.first;
-    let last = walk.last;
-    let avail = e.avail;
     Walk {
         fits: e.fits,
-        first: first,
-        last: last,
-        count: walk.count,
-        entries: walk.entries,
         used: e.used,
-        avail: avail,
+        avail: e.avail,
+        ..walk
     }
 }
 
