@@ -57,13 +57,11 @@ fn start(holds: &Holds, live: &Live, sizes: Sizes, i: usize) -> usize
 pub fn label_path(pattern: &Square, label_of: &mut Rows, m: usize, from: usize, label: u16)
     requires { (m ≤ 64) × (from ≤ 64) }
 {
-    let mut row = from;
-    for _ in 0..m {
-        if row == 0 {
-            return;
-        }
+    if from == 0 {
+        return;
+    }
+    for row in tree::path(pattern, m, from) {
         label_of[row - 1] = label;
-        row = tree::parent(pattern, m, row);
     }
 }
 

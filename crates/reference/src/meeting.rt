@@ -50,28 +50,11 @@ pub fn meets(pattern: &Square, list: &mut [u32], sizes: Sizes, at: usize, i: usi
 
 // ---- the smallest row on all paths
 
-// Whether row k lies on the path of row j: j, its parent, and so on. It has at most m rows.
+// Whether row k lies on the path of row j. A row outside 1 to m has no path.
 fn is_on_path(pattern: &Square, m: usize, j: usize, k: usize) -> bool
-    requires { (m ≤ 64) × IsRow j }
-{
-    let mut row = j;
-    for _ in 0..m {
-        if row == k {
-            return true;
-        }
-        row = tree::parent(pattern, m, row);
-        if row == 0 {
-            return false;
-        }
-    }
-    false
-}
-
-// The same of a row that may be none of 1 to m, which has no path.
-fn has_on_path(pattern: &Square, m: usize, j: usize, k: usize) -> bool
     requires { m ≤ 64 }
 {
-    !is_outside(j, 1, m) && is_on_path(pattern, m, j, k)
+    !is_outside(j, 1, m) && tree::path(pattern, m, j).any(|row| row == k)
 }
 
 // Whether row k lies on the path of every row that is named.
@@ -80,7 +63,7 @@ fn is_on_all(pattern: &Square, row_list: &[u32], m: usize, k: usize) -> bool
 {
     row_list
         .iter()
-        .all(|row| has_on_path(pattern, m, wide(*row), k))
+        .all(|row| is_on_path(pattern, m, wide(*row), k))
 }
 
 // The smallest row of 1 to m that lies on all these paths, if there is one.

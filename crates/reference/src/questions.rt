@@ -82,13 +82,8 @@ pub fn parent(pattern: &Square, sizes: Sizes, j: usize) -> Reply
 fn write_path(pattern: &Square, list: &mut [u32], m: usize, j: usize)
     requires { (m ≤ 64) × IsRow j }
 {
-    let mut row = j;
-    for place in list.iter_mut() {
-        if row == 0 {
-            return;
-        }
+    for (place, row) in list.iter_mut().zip(tree::path(pattern, m, j)) {
         *place = row as u32;
-        row = tree::parent(pattern, m, row);
     }
 }
 

@@ -1,33 +1,78 @@
 // The tree and the multiplicities of a pattern, by the words of the definition.
-ghost use Rattle.std.specs.Prelude.{◌+◌, ◌≤◌};
+ghost use Rattle.std.specs.Prelude.{◌≡◌, ◌+◌, ◌≤◌, IfSome};
+ghost use Rattle.std.specs.Iterator.{at_most};
+ghost use Rattle.std.specs.Option.{ForSome};
 ghost use Rattle.reference.specs.Ranges.{IsRow, IsId, Served};
 
 use crate::columns::one;
 use crate::{Holds, Live, Sizes, Square, columns, pattern};
 
-// The smallest row in L_j above j; 0 if there is none.
+// The smallest row in L_j above j, if there is one.
+fn row_above(pattern: &Square, m: usize, j: usize) -> Option<usize>
+    requires { (m ≤ 64) × IsRow j }
+    ensures { IfSome result (λ i. (1 ≤ i) × (i ≤ m)) }
+{
+    (j + 1..=m).find(|&i| pattern::is_in(pattern, i, j))
+}
+
+// The parent of row j: the smallest row in L_j above j; 0 if there is none.
 pub fn parent(pattern: &Square, m: usize, j: usize) -> usize
     requires { (m ≤ 64) × IsRow j }
     ensures { result ≤ m }
 {
-    (j + 1..=m)
-        .find(|&i| pattern::is_in(pattern, i, j))
-        .unwrap_or(0)
+    row_above(pattern, m, j).unwrap_or(0)
 }
 
-// How many rows the path of row j has: j, its parent, and so on up to its root. It has at most m.
+// ---- paths
+
+// The rows that are left of a path: a row, its parent, and so on up to its root, but no more than some number.
+#[derive(Drop)]
+pub(crate) struct PathRows<'a> {
+    pattern: &'a Square,
+    m: usize,
+    row: Option<usize>,
+    left: usize,
+    ghost m_served: { m ≤ 64 },
+    ghost row_served: { ForSome row IsRow },
+}
+
+impl<'a> Iterator for PathRows<'a> {
+    type Item = usize;
+
+    ghost next_gives = { λ _ row _. IfSome row IsRow };
+
+    ghost remaining = { λ path. at_most path.left };
+
+    fn next(&mut self) -> Option<usize> {
+        if self.left == 0 {
+            return None;
+        }
+        let row = self.row?;
+        self.row = row_above(self.pattern, self.m, row);
+        self.left -= 1;
+        Some(row)
+    }
+}
+
+// The path of row j. It has at most m rows.
+pub(crate) fn path(pattern: &Square, m: usize, j: usize) -> PathRows<'_>
+    requires { (m ≤ 64) × IsRow j }
+    ensures { result.left ≡ m }
+{
+    PathRows {
+        pattern,
+        m,
+        row: Some(j),
+        left: m,
+    }
+}
+
+// How many rows the path of row j has.
 pub fn path_length(pattern: &Square, m: usize, j: usize) -> usize
     requires { (m ≤ 64) × IsRow j }
     ensures { result ≤ m }
 {
-    let mut row = j;
-    for count in 1..=m {
-        row = parent(pattern, m, row);
-        if row == 0 {
-            return count;
-        }
-    }
-    m
+    path(pattern, m, j).count()
 }
 
 // ---- multiplicities
