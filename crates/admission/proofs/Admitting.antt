@@ -1,22 +1,20 @@
--- Numbers 1 to 6 and 20 by the tests that the code makes, one law for each return; and what a call may rely on once it is admitted. Assumes nothing.
+-- What a call may rely on once it is admitted. Assumes nothing.
 use mathlib.Core.Path.{◌≡◌, refl, sym, ap, ◌∙◌, subst}
 use mathlib.Core.Logic.{◌≢◌}
-use mathlib.Core.Bool.{Bool, true, false, ◌&&◌, not, true≢false}
+use mathlib.Core.Bool.{Bool, true, false}
 use mathlib.Core.List.{List}
 use Prim.Native.Nat.{ℕ, ◌+◌, ◌≤◌}
 use native.Mathlib.Omega.{arith}
-use lib.Dec.{leb}
 use lib.ListN.{length}
-use borrow.Author.Tests.{eq-eqb, ne_eqb, not-true, not-false}
+use borrow.Author.Tests.{eq-eqb, ne_eqb}
 use Rattle.lists.specs.Lists.{pick}
-use Rattle.lists.proofs.Tests.{refute}
 use Rattle.workspace.specs.Regions.{IsZero, cleared, zero_first}
 use Rattle.workspace.proofs.Regions.{cleared-length, cleared-zero, first-cleared}
-use Rattle.tables.specs.Tables.{Tables, Sizes, State, long_enough, is_sound}
-use Rattle.calls.specs.Refusals.{Refusal, accepted, is_accepted, or_else, unless, bounds, sizes_refusal, work_for, short_refusal, early_refusal}
-use Rattle.calls.proofs.Choices.{or-both, or-first, or-second, unless_holds, unless-false}
+use Rattle.tables.specs.Tables.{Tables, State, is_sound}
+use Rattle.calls.specs.Refusals.{Refusal, accepted, is_accepted, unless, bounds, sizes_refusal, work_for, early_refusal}
+use Rattle.calls.proofs.Choices.{or-both, unless_holds}
 use Rattle.calls.proofs.Refusals.{HasRoom, early-passed}
-use Rattle.admission.specs.Admission.{admission, Admitted, HasPlaces, Usable, CanUse}
+use Rattle.admission.specs.Admission.{admission, Admitted, Usable, CanUse}
 
 -- ---- a choice by its number
 
@@ -25,85 +23,6 @@ number-zero x e = eq-eqb x.number 0 (sym e)
 
 number-some : (x : Refusal) {n : ℕ} → n ≡ x.number → n ≢ 0 → is_accepted x ≡ false
 number-some x {n} e d = ne_eqb x.number 0 (λ z. d (e ∙ z))
-
--- ---- 1 to 5 and 20
-
-module _ (l : Sizes) (g : Bool) (t : Tables) (w : List ℕ) (z : Bool) where
-  abbrev short : Refusal
-  short = or_else (short_refusal l t w) (unless z 5 0)
-
-  -- the sizes are refused
-  pub early-sizes : {n : ℕ} → n ≡ (sizes_refusal bounds l).number → n ≢ 0 → n ≡ (early_refusal l g t w z).number
-  early-sizes e d =
-      e ∙ sym (ap (λ (x : Refusal). x.number) (or-first (sizes_refusal bounds l) (or_else (unless g 20 0) short) (number-some (sizes_refusal bounds l) e d)))
-
-  module _ {n : ℕ} (e : n ≡ (sizes_refusal bounds l).number) (d : n ≡ 0) where
-    past-sizes : early_refusal l g t w z ≡ or_else (unless g 20 0) short
-    past-sizes = or-second (sizes_refusal bounds l) (or_else (unless g 20 0) short) (number-zero (sizes_refusal bounds l) (sym d ∙ e))
-
-    -- the limits are
-    pub early-limits : g ≡ false → 20 ≡ (early_refusal l g t w z).number
-    early-limits k = sym (ap (λ (y : Refusal). y.number) (past-sizes ∙ ap (λ (b : Bool). or_else (unless b 20 0) short) k))
-
-    module _ (k : g ≡ true) {x : Bool} (f : x ≡ not (is_accepted (short_refusal l t w))) where
-      past-limits : early_refusal l g t w z ≡ short
-      past-limits = past-sizes ∙ ap (λ (b : Bool). or_else (unless b 20 0) short) k
-
-      pub early-short : x ≡ true → 5 ≡ (early_refusal l g t w z).number
-      early-short h =
-          let s : is_accepted (short_refusal l t w) ≡ false = not-true (is_accepted (short_refusal l t w)) (sym f ∙ h) in
-          let b : Bool = long_enough l t && leb (work_for l) (length w) in
-          let short-is : b ≡ false = refute b (λ z. true≢false (sym (ap (λ (y : Bool). is_accepted (unless y 5 0)) z) ∙ s)) in
-          sym (ap (λ (y : Refusal). y.number) (past-limits ∙ or-first (short_refusal l t w) (unless z 5 0) s ∙ unless-false b 5 0 short-is))
-
-      module _ (h : x ≡ false) where
-        past-short : early_refusal l g t w z ≡ unless z 5 0
-        past-short = past-limits ∙ or-second (short_refusal l t w) (unless z 5 0) (not-false (is_accepted (short_refusal l t w)) (sym f ∙ h))
-
-        pub early-none : z ≡ true → 0 ≡ (early_refusal l g t w z).number
-        early-none e = sym (ap (λ (y : Refusal). y.number) (past-short ∙ ap (λ (b : Bool). unless b 5 0) e))
-
-        pub early-lists : z ≡ false → 5 ≡ (early_refusal l g t w z).number
-        early-lists e = sym (ap (λ (y : Refusal). y.number) (past-short ∙ ap (λ (b : Bool). unless b 5 0) e))
-
--- ---- 6
-
-module _ (s : State) (t : Tables) (w : List ℕ) (z : Bool) where
-  abbrev early : Refusal
-  early = early_refusal s.sizes true t w z
-
-  pub admit-early : {n : ℕ} → n ≡ (early_refusal s.sizes true t w z).number → n ≢ 0 → Admitted s t w z n w
-  admit-early {n} e d =
-      let q : is_accepted early ≡ false = number-some early e d in
-      record {
-        found = e ∙ sym (ap (λ (x : Refusal). x.number) (or-first early (unless (is_sound s t) 6 0) q));
-        left = sym (ap (λ (b : Bool). pick b (zero_first (work_for s.sizes) w) w) q);
-      }
-
-  module _ {n : ℕ} (e : n ≡ (early_refusal s.sizes true t w z).number) (d : n ≡ 0) where
-    passed : is_accepted early ≡ true
-    passed = number-zero early (sym d ∙ e)
-
-    -- the tables can be read through
-    pub admit-reads : HasPlaces s.sizes t w
-    admit-reads =
-        let p : (sizes_refusal bounds s.sizes ≡ accepted) × (true ≡ true) × HasRoom s.sizes t w × (z ≡ true) = early-passed s.sizes true t w z passed in
-        record { sizes = p.0; long = p.2.tables; room = p.2.work }
-
-    module _ {a : Bool} {w' : List ℕ} (f : a ≡ is_sound s t) (g : w' ≡ zero_first (work_for s.sizes) w) where
-      admitted : (b : Bool) → is_sound s t ≡ b → (k : ℕ) → (unless b 6 0).number ≡ k → Admitted s t w z k w'
-      admitted b h k q =
-          record {
-            found =
-                sym (ap (λ (x : Refusal). x.number) (or-second early (unless (is_sound s t) 6 0) passed ∙ ap (λ (c : Bool). unless c 6 0) h) ∙ q);
-            left = g ∙ sym (ap (λ (c : Bool). pick c (zero_first (work_for s.sizes) w) w) passed);
-          }
-
-      pub admit-sound : a ≡ true → Admitted s t w z 0 w'
-      admit-sound h = admitted true (sym f ∙ h) 0 refl
-
-      pub admit-unsound : a ≡ false → Admitted s t w z 6 w'
-      admit-unsound h = admitted false (sym f ∙ h) 6 refl
 
 -- ---- usable tables with a work table whose first W places are cleared
 

@@ -7,12 +7,14 @@ ghost use Rattle.workspace.specs.Regions.{zero_first};
 ghost use Rattle.tables.specs.Tables.{is_sound};
 ghost use Rattle.tables.specs.Lent.{tables_in, tables_now};
 ghost use Rattle.calls.specs.Refusals.{work_for, early_refusal};
+ghost use Rattle.early_refusals.specs.Refusal.{number_in};
 ghost use Rattle.state.specs.Record.{state_of};
 ghost use Rattle.admission.specs.Admission.{Admitted, HasPlaces};
 
+use early_refusals::Refusal;
 use state::State;
 
-// The number 1 to 5 or 20 that a call is refused by, or 0; keeps_rule: an opening's limits do; lists: a change's lists are long enough.
+// Refuses a call by 1 to 5 or 20; keeps_rule: an opening's limits do; lists: a change's lists are long enough.
 pub fn early(
     state: State,
     heads: &[u32],
@@ -27,10 +29,10 @@ pub fn early(
     work: &[u32],
     keeps_rule: bool,
     lists: bool,
-) -> u32
-    ensures { result ≡ (early_refusal (state_of state).sizes keeps_rule (tables_in heads parents rows counts next book_heads book_rows book_next windows) work.now lists).number }
+) -> Result<(), Refusal>
+    ensures { number_in result ≡ (early_refusal (state_of state).sizes keeps_rule (tables_in heads parents rows counts next book_heads book_rows book_next windows) work.now lists).number }
 {
-    let number = early_refusals::sizes(
+    early_refusals::sizes(
         state.m,
         state.n,
         state.f,
@@ -39,23 +41,18 @@ pub fn early(
         State::MOST_IDS,
         State::MOST_RECORDS,
         State::MOST_BOOKED,
-    );
-    if number != 0 {
-        return number;
-    }
+    )?;
     if !keeps_rule {
-        return 20;
+        return Err(Refusal::Limits);
     }
     if early_refusals::short(
         heads, parents, rows, counts, next, book_heads, book_rows, book_next, windows, work,
         state.m, state.n, state.f, state.c,
-    ) {
-        return 5;
+    ) || !lists
+    {
+        return Err(Refusal::Short);
     }
-    if lists {
-        return 0;
-    }
-    5
+    Ok(())
 }
 
 // Whether the tables are sound at the clock and the limits keep the rule. The first W work places are zero afterwards.
@@ -101,13 +98,10 @@ fn read_through(
         0,
         workspace::work_need(state.m, state.n, state.f, state.c),
     );
-    if !sound {
-        return false;
-    }
-    early_refusals::limits::are_limits(state.grade2, state.grade3, state.grade4)
+    sound && early_refusals::limits::are_limits(state.grade2, state.grade3, state.grade4)
 }
 
-// The number 1 to 6 that a call is refused by, or 0. Where 1 to 5 are passed the first W work places are zero afterwards.
+// Refuses a call by 1 to 6. Where 1 to 5 are passed the first W work places are zero afterwards.
 pub fn admit(
     state: State,
     heads: &[u32],
@@ -121,20 +115,17 @@ pub fn admit(
     windows: &[u32],
     work: &mut [u32],
     lists: bool,
-) -> u32
-    ensures { Admitted (state_of state) (tables_in heads parents rows counts next book_heads book_rows book_next windows) work.old lists result work.new }
+) -> Result<(), Refusal>
+    ensures { Admitted (state_of state) (tables_in heads parents rows counts next book_heads book_rows book_next windows) work.old lists (number_in result) work.new }
 {
-    let number = early(
+    early(
         state, heads, parents, rows, counts, next, book_heads, book_rows, book_next, windows, work,
         true, lists,
-    );
-    if number != 0 {
-        return number;
-    }
+    )?;
     if read_through(
         state, heads, parents, rows, counts, next, book_heads, book_rows, book_next, windows, work,
     ) {
-        return 0;
+        return Ok(());
     }
-    6
+    Err(Refusal::Unsound)
 }

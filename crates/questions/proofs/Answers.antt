@@ -1,26 +1,21 @@
--- What each return of a question answers, for every register whose tables these are: 7, 17, 18, or the value with what is written. First for any question: one
--- without a list, one whose list is written from a place on. Then question by question, a law for each return.
+-- What a question answers, for every register whose tables these are: 18, or the value with what is written. First for any question: one without a list, one whose
+-- list is written from a place on. Then question by question.
 -- Assumes nothing.
 use mathlib.Core.Path.{◌≡◌, refl, sym, ap, ◌∙◌, subst}
-use mathlib.Core.Logic.{◌≢◌}
-use mathlib.Core.Bool.{false}
 use mathlib.Core.List.{List, []}
-use Prim.Native.Nat.{ℕ, ◌≤◌}
-use lib.Dec.{eqb}
+use Prim.Native.Nat.{ℕ}
 use lib.ListN.{length}
-use borrow.Author.Tests.{ne_eqb}
-use Rattle.lists.specs.Lists.{at, written_at}
+use Rattle.lists.specs.Lists.{written_at}
 use Rattle.symbolic.specs.Columns.{Register}
 use Rattle.symbolic.specs.Factor.{factor_for, column_at, size_of}
-use Rattle.symbolic.specs.Meeting.{common_of}
 use Rattle.symbolic.specs.NextRow.{ColumnEntry, next_row}
-use Rattle.calls.specs.Refusals.{Refusal, refusal, accepted, or_else, row_refusal, named_refusal, room_for}
-use Rattle.calls.specs.Calls.{Question, ask_next_row, ask_parent, ask_path, ask_column, ask_meets, ask_common}
-use Rattle.calls.specs.Questions.{path_list, column_list, meets_list, response}
+use Rattle.calls.specs.Refusals.{Refusal, refusal, accepted, or_else, row_refusal, room_for}
+use Rattle.calls.specs.Calls.{Question, ask_next_row, ask_column, ask_meets}
+use Rattle.calls.specs.Questions.{column_list, meets_list, response}
 use Rattle.calls.specs.Numbers.{ask_refusal}
-use Rattle.questions.specs.Asked.{ColumnsFor, ParentsFor, reply_of, answered_by, replied_to, RepliesAt, Replies, Finds, Leaves}
+use Rattle.questions.specs.Asked.{ColumnsFor, reply_of, answered_by, replied_to, RepliesAt, Finds, Leaves}
 use Rattle.questions.specs.Meeting.{TreeFor}
-use Rattle.questions.proofs.Replies.{named-refusal, refused-reply, refused-list, accepted-answer, accepted-list}
+use Rattle.questions.proofs.Replies.{refused-reply, refused-list, accepted-answer, accepted-list}
 
 -- a row's test by the register
 row_at : {k m : ℕ} (e : k ≡ m) (i : ℕ) {x : Refusal} → row_refusal m i ≡ x → row_refusal k i ≡ x
@@ -38,17 +33,9 @@ module _ (Fits : Register → Type 0) (q : Question) (empty : (r : Register) →
   abbrev after : (r : Register) → Refusal → Refusal
   after r x = or_else x (room_for [] 0 (length (response r q).list))
 
-  pub plain-refused : (n : ℕ) → eqb n 0 ≡ false → ((r : Register) → Fits r → (response r q).refusal ≡ refusal n 0) →
-      Replies Fits q (record { number = n; value = 0 })
-  plain-refused n t h r f = refused-reply r q 0 [] n t (ap (after r) (h r f) ∙ rw t refl)
-
   module _ (h : (r : Register) → Fits r → (response r q).refusal ≡ accepted) where
     pub plain-taken : (r : Register) → Fits r → ask_refusal r q 0 [] ≡ accepted
     plain-taken r f = ap (after r) (h r f) ∙ ap (λ (xs : List ℕ). or_else accepted (room_for [] 0 (length xs))) (empty r)
-
-    pub plain-answer : (n : ℕ) → ((r : Register) → (response r q).row ≡ 0) → ((r : Register) → Fits r → n ≡ (response r q).value) →
-        Replies Fits q (record { number = 0; value = n })
-    plain-answer n z v r f = value-reply r q 0 [] (plain-taken r f) (z r) (v r f)
 
 -- ---- any question about column j whose list is written from place p on
 
@@ -59,9 +46,6 @@ module _ (Fits : Register → Type 0) (m : ℕ) (size : (r : Register) → Fits 
 
   first-is : {x : Refusal} → row_refusal m j ≡ x → (r : Register) → Fits r → ask_refusal r q p xs ≡ or_else x (room r)
   first-is h r f = ap (λ (y : Refusal). or_else y (room r)) (row r ∙ row_at (size r f) j h)
-
-  pub list-row : row_refusal m j ≡ refusal 17 0 → RepliesAt Fits q p xs (record { number = 17; value = 0 }) × Leaves Fits q p xs xs
-  list-row h = (λ r f. refused-reply r q p xs 17 refl (first-is h r f), λ r f. refused-list r q p xs 17 refl (first-is h r f))
 
   module _ (a : row_refusal m j ≡ accepted) (n : ℕ) (v : (r : Register) → Fits r → n ≡ length (response r q).list) where
     second_is : {x : Refusal} → room_for xs p n ≡ x → (r : Register) → Fits r → ask_refusal r q p xs ≡ x
@@ -83,65 +67,16 @@ module _ (hs rs cs ns : List ℕ) (i j : ℕ) where
   first-row : {x : Refusal} → row_refusal (length hs) i ≡ x → (r : Register) → ColumnsFor hs rs cs ns r → both r ≡ or_else x (row_refusal r.m j)
   first-row h r f = ap (λ (y : Refusal). or_else y (row_refusal r.m j)) (row_at f.size i h)
 
-  pub next_row_lem : row_refusal (length hs) i ≡ refusal 17 0 → Finds (ColumnsFor hs rs cs ns) (ask_next_row i j) (record { number = 17; row = 0; multiplicity = 0 })
-  next_row_lem h = plain-refused (ColumnsFor hs rs cs ns) (ask_next_row i j) (λ r. refl) 17 refl (λ r f. first-row h r f)
-
   module _ (a : row_refusal (length hs) i ≡ accepted) where
-    pub next-column : row_refusal (length hs) j ≡ refusal 17 0 → Finds (ColumnsFor hs rs cs ns) (ask_next_row i j) (record { number = 17; row = 0; multiplicity = 0 })
-    next-column h = plain-refused (ColumnsFor hs rs cs ns) (ask_next_row i j) (λ r. refl) 17 refl (λ r f. first-row a r f ∙ row_at f.size j h)
-
     pub next-answer : (x n : ℕ) → row_refusal (length hs) j ≡ accepted → ((r : Register) → ColumnsFor hs rs cs ns r → record { row = x; count = n } ≡ next_row (factor_for r) i j) →
         Finds (ColumnsFor hs rs cs ns) (ask_next_row i j) (record { number = 0; row = x; multiplicity = n })
     next-answer x n b v r f =
         ap (λ (y : ColumnEntry). answered_by (record { refusal = accepted; list = []; row = y.row; value = y.count })) (v r f) ∙
         accepted-answer r (ask_next_row i j) 0 [] (plain-taken (ColumnsFor hs rs cs ns) (ask_next_row i j) (λ r. refl) (λ r f. first-row a r f ∙ row_at f.size j b) r f)
 
--- ---- a parent
-
-module _ (ps : List ℕ) (j : ℕ) where
-  pub parent_row : row_refusal (length ps) j ≡ refusal 17 0 → Replies (ParentsFor ps) (ask_parent j) (record { number = 17; value = 0 })
-  parent_row h = plain-refused (ParentsFor ps) (ask_parent j) (λ r. refl) 17 refl (λ r f. row_at f.size j h)
-
-  pub parent-answer : row_refusal (length ps) j ≡ accepted → 1 ≤ j → j ≤ length ps → Replies (ParentsFor ps) (ask_parent j) (record { number = 0; value = at ps j })
-  parent-answer h a b = plain-answer (ParentsFor ps) (ask_parent j) (λ r. refl) (λ r f. row_at f.size j h) (at ps j) (λ r. refl) (λ r f. f.parent j a b)
-
--- ---- a common row
-
-module _ (ps rs : List ℕ) {n : ℕ} (e : n ≡ (named_refusal (length ps) rs).number) where
-  common-first : (r : Register) → ParentsFor ps r → named_refusal r.m rs ≡ refusal n 0
-  common-first r f = ap (λ (m : ℕ). named_refusal m rs) f.size ∙ named-refusal (length ps) rs e
-
-  pub common-refused : n ≢ 0 → Replies (ParentsFor ps) (ask_common rs) (record { number = n; value = 0 })
-  common-refused t = plain-refused (ParentsFor ps) (ask_common rs) (λ r. refl) n (ne_eqb n 0 t) common-first
-
-  pub common-answer : (x : ℕ) → n ≡ 0 → ((r : Register) → ParentsFor ps r → x ≡ common_of (factor_for r) rs) →
-      Replies (ParentsFor ps) (ask_common rs) (record { number = 0; value = x })
-  common-answer x t v =
-      plain-answer (ParentsFor ps) (ask_common rs) (λ r. refl) (λ r f. common-first r f ∙ ap (λ (k : ℕ). refusal k 0) t) x (λ r. refl) v
-
--- ---- a path
-
-module _ (ps : List ℕ) (j p : ℕ) (xs : List ℕ) where
-  pub path-row : row_refusal (length ps) j ≡ refusal 17 0 →
-      RepliesAt (ParentsFor ps) (ask_path j) p xs (record { number = 17; value = 0 }) × Leaves (ParentsFor ps) (ask_path j) p xs xs
-  path-row h = list-row (ParentsFor ps) (length ps) (λ r f. f.size) (ask_path j) j (λ r. refl) p xs h
-
-  module _ (a : row_refusal (length ps) j ≡ accepted) (n : ℕ) (v : (r : Register) → ParentsFor ps r → n ≡ length (path_list r j)) where
-    pub path_room : room_for xs p n ≡ refusal 18 0 →
-        RepliesAt (ParentsFor ps) (ask_path j) p xs (record { number = 18; value = 0 }) × Leaves (ParentsFor ps) (ask_path j) p xs xs
-    path_room h = list-room (ParentsFor ps) (length ps) (λ r f. f.size) (ask_path j) j (λ r. refl) p xs a n v h
-
-    pub path-answer : (ys : List ℕ) → room_for xs p n ≡ accepted → ((r : Register) → ParentsFor ps r → ys ≡ written_at p (path_list r j) xs) →
-        RepliesAt (ParentsFor ps) (ask_path j) p xs (record { number = 0; value = n }) × Leaves (ParentsFor ps) (ask_path j) p xs ys
-    path-answer ys h w = list-answer (ParentsFor ps) (length ps) (λ r f. f.size) (ask_path j) j (λ r. refl) p xs a n v n ys h (λ r. refl) v w
-
 -- ---- a column
 
 module _ (hs rs cs ns : List ℕ) (j p : ℕ) (xs : List ℕ) where
-  pub column-row : row_refusal (length hs) j ≡ refusal 17 0 →
-      RepliesAt (ColumnsFor hs rs cs ns) (ask_column j) p xs (record { number = 17; value = 0 }) × Leaves (ColumnsFor hs rs cs ns) (ask_column j) p xs xs
-  column-row h = list-row (ColumnsFor hs rs cs ns) (length hs) (λ r f. f.size) (ask_column j) j (λ r. refl) p xs h
-
   module _ (a : row_refusal (length hs) j ≡ accepted) (k : ℕ) (v : (r : Register) → ColumnsFor hs rs cs ns r → k ≡ length (column_list r j)) where
     pub column-room : room_for xs p k ≡ refusal 18 0 →
         RepliesAt (ColumnsFor hs rs cs ns) (ask_column j) p xs (record { number = 18; value = 0 }) × Leaves (ColumnsFor hs rs cs ns) (ask_column j) p xs xs
@@ -156,10 +91,6 @@ module _ (hs rs cs ns : List ℕ) (j p : ℕ) (xs : List ℕ) where
 -- ---- the columns that meet a row
 
 module _ (hs ps rs cs ns : List ℕ) (i p : ℕ) (xs : List ℕ) where
-  pub meets-row : row_refusal (length hs) i ≡ refusal 17 0 →
-      RepliesAt (TreeFor hs ps rs cs ns) (ask_meets i) p xs (record { number = 17; value = 0 }) × Leaves (TreeFor hs ps rs cs ns) (ask_meets i) p xs xs
-  meets-row h = list-row (TreeFor hs ps rs cs ns) (length hs) (λ r f. f.columns-are.size) (ask_meets i) i (λ r. refl) p xs h
-
   module _ (a : row_refusal (length hs) i ≡ accepted) (n : ℕ) (v : (r : Register) → TreeFor hs ps rs cs ns r → n ≡ length (meets_list r i)) where
     pub meets-room : room_for xs p n ≡ refusal 18 0 →
         RepliesAt (TreeFor hs ps rs cs ns) (ask_meets i) p xs (record { number = 18; value = 0 }) × Leaves (TreeFor hs ps rs cs ns) (ask_meets i) p xs xs

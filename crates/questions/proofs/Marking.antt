@@ -202,13 +202,14 @@ marked-meets {r = r} i t a b {work} c =
     one-is true = refl
     one-is false = refl
 
+-- so many columns, by every register
+pub meets-number : {hs ps rs cs ns work : List ℕ} {i n : ℕ} → 1 ≤ i → i ≤ length hs → n ≡ length (marked_to work i) →
+    ((r : Register) → TreeFor hs ps rs cs ns r → MarkedAbove r work i 0) → (r : Register) → TreeFor hs ps rs cs ns r → n ≡ length (meets_list r i)
+meets-number {i = i} a b e m r t = e ∙ ap length (marked-meets i t a b (m r t))
+
 -- from the table before row i was marked
 pub marking-only : {hs ps rs cs ns work₀ work : List ℕ} (i : ℕ) {n j : ℕ} → 1 ≤ i → Marking hs ps rs cs ns (put work₀ i 1) i work n j → OnlyIn 0 i work₀ work
 marking-only i {n} {j} a c = only-trans (only-put i i 1 only-refl a (omega arith)) c.only
-
--- there are no more of them than columns
-marked-few : (work : List ℕ) (i : ℕ) → length (marked_to work i) ≤ i
-marked-few work i = passing-short (marked work) 1 i
 
 pub meets-few : {hs ps rs cs ns : List ℕ} {r : Register} (i : ℕ) → TreeFor hs ps rs cs ns r → 1 ≤ i → i ≤ length hs → length (meets_list r i) ≤ i
 meets-few {r = r} i t a b =
@@ -237,10 +238,6 @@ module _ {work list₀ : List ℕ} {i : ℕ} (fits : length (marked_to work i) �
 
     pub collecting-long : length list ≡ length list₀
     collecting-long = ap length c.written ∙ over-length c.done list₀ (omega (arith, fits, collecting-within, c.number))
-
-    -- no more than the columns done
-    pub collecting-few : k ≤ i
-    collecting-few = omega (arith, collecting-within, marked-few work i)
 
     module _ (b : j < i) where
       next_one : (f : ℕ → Bool) → passing f (suc j) (i - j) ≡ passing f (suc j) (suc (i - suc j))

@@ -1,5 +1,5 @@
--- A question's reply by the tests that the code makes: 17 for a row outside (`row_out`, `row_in`), 7 or 17 for rows that are named (`named-refusal`,
--- `named_in`), 18 for too little room (`room_out`, `room_in`), and what a refused or an accepted question replies and leaves of its list. Assumes nothing.
+-- A question's reply by the tests that the code makes: a row inside (`row_in`), 18 for too little room (`room_out`, `room_in`), and what a refused or an accepted
+-- question replies and leaves of its list. Assumes nothing.
 use mathlib.Core.Path.{◌≡◌, refl, sym, ap, ◌∙◌}
 use mathlib.Core.Bool.{Bool, true, false, not, false≢true}
 use mathlib.Core.List.{List, [], ◌++◌, append-nil}
@@ -11,10 +11,10 @@ use lib.Seq.{drop-drop, drop-length}
 use borrow.Author.Tests.{leb-true}
 use borrow.Author.Rules.{part_to_end}
 use borrow.Rule.Slice.PartMut.{put_mid}
-use Rattle.lists.specs.Lists.{is_in, all, over, written_at}
+use Rattle.lists.specs.Lists.{is_in, over, written_at}
 use Rattle.lists.proofs.Tests.{in-range}
 use Rattle.symbolic.specs.Columns.{Register}
-use Rattle.calls.specs.Refusals.{refusal, accepted, is_accepted, or_else, unless, row_refusal, named_refusal, room_for}
+use Rattle.calls.specs.Refusals.{refusal, accepted, is_accepted, unless, row_refusal, room_for}
 use Rattle.calls.specs.Calls.{Question}
 use Rattle.calls.specs.Questions.{response}
 use Rattle.calls.specs.Numbers.{ask_refusal}
@@ -34,34 +34,8 @@ test_in false n q e h = sym h ∙ e ∙ ap not q
 -- ---- 17
 
 module _ (m i : ℕ) {x : Bool} (e : x ≡ not (is_accepted (row_refusal m i))) where
-  pub row_out : x ≡ true → row_refusal m i ≡ refusal 17 0
-  row_out h = test-out (is_in 1 m i) 17 refl e h
-
   pub row_in : x ≡ false → (row_refusal m i ≡ accepted) × (1 ≤ i) × (i ≤ m)
   row_in h = let z : is_in 1 m i ≡ true = test_in (is_in 1 m i) 17 refl e h in (ap (λ (b : Bool). unless b 17 0) z, (in-range 1 m i z).0, (in-range 1 m i z).1)
-
--- ---- 7 and 17, of rows that are named
-
--- a refusal by two tests has no position
-named_none : (z y : Bool) → or_else (unless z 7 0) (unless y 17 0) ≡ refusal (or_else (unless z 7 0) (unless y 17 0)).number 0
-named_none true true = refl
-named_none true false = refl
-named_none false y = refl
-
-named-both : (z y : Bool) → (or_else (unless z 7 0) (unless y 17 0)).number ≡ 0 → (z ≡ true) × (y ≡ true)
-named-both true true h = (refl, refl)
-named-both true false h = absurd (omega arith)
-named-both false y h = absurd (omega arith)
-
-module _ (m : ℕ) (rs : List ℕ) {n : ℕ} (e : n ≡ (named_refusal m rs).number) where
-  pub named-refusal : named_refusal m rs ≡ refusal n 0
-  named-refusal = named_none (is_in 1 64 (length rs)) (all (is_in 1 m) rs) ∙ ap (λ (k : ℕ). refusal k 0) (sym e)
-
-  -- rows that are not refused: at least one, all in range
-  pub named_in : n ≡ 0 → (1 ≤ length rs) × (all (is_in 1 m) rs ≡ true)
-  named_in t =
-      let w : (is_in 1 64 (length rs) ≡ true) × (all (is_in 1 m) rs ≡ true) = named-both (is_in 1 64 (length rs)) (all (is_in 1 m) rs) (sym e ∙ t) in
-      ((in-range 1 64 (length rs) w.0).0, w.1)
 
 -- ---- 18
 

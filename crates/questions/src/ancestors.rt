@@ -41,14 +41,12 @@ fn common_row(parents: &[u16], row_list: &[u32]) -> Row
     ensures { (r : Register) → ParentsFor parents.now r → result.0 ≡ common_of (factor_for r) row_list.now }
 {
     let mut x = row_list[0];
-    let mut k: usize = 1;
-    while k < row_list.len() {
+    for k in 1..row_list.len() {
         let met = join(parents, Row(x), Row(row_list[k]));
         x = met.0;
         if x == 0 {
             return Row(0);
         }
-        k += 1;
     }
     Row(x)
 }
@@ -59,13 +57,9 @@ pub fn common(parents: &[u16], row_list: &[u32]) -> Reply
     ensures { Replies (ParentsFor parents.now) (ask_common row_list.now) result }
 {
     let m = parents.len() as u32;
-    let number = question_refusals::named(m, row_list);
-    if number != 0 {
-        return Reply { number, value: 0 };
+    if let Err(reason) = question_refusals::named(m, row_list) {
+        return Reply::refused(reason);
     }
     let x = common_row(parents, row_list);
-    Reply {
-        number: 0,
-        value: x.0,
-    }
+    Reply::of(x.0)
 }

@@ -7,12 +7,14 @@ ghost use Rattle.lists.specs.Lists.{over};
 ghost use Rattle.symbolic.specs.Columns.{Register};
 ghost use Rattle.calls.specs.Questions.{path_list};
 ghost use Rattle.calls.specs.Calls.Question.{ask_next_row, ask_parent, ask_path, ask_column};
+ghost use Rattle.early_refusals.specs.Refusal.{number_of};
 ghost use Rattle.questions.specs.Asked.{ColumnsFor, ParentsFor, CanAsk, CanFollow, RepliesAt, Replies, Finds, Leaves};
 
 pub mod ancestors;
 pub mod meeting;
 
 use book::Row;
+use early_refusals::Refusal;
 use pool::Rec;
 
 // What a question answers: its number, 0 when accepted, and its value, 0 when refused.
@@ -21,6 +23,25 @@ use pool::Rec;
 pub struct Reply {
     pub number: u32,
     pub value: u32,
+}
+
+impl Reply {
+    // A question is refused.
+    pub fn refused(reason: Refusal) -> Reply
+        ensures { result ≡ record { number = number_of reason; value = 0 } }
+    {
+        Reply {
+            number: reason.number(),
+            value: 0,
+        }
+    }
+
+    // A question is accepted, with its value.
+    pub fn of(value: u32) -> Reply
+        ensures { result ≡ record { number = 0; value = value } }
+    {
+        Reply { number: 0, value }
+    }
 }
 
 // What the question for the next row answers: its number, 0 when accepted; row and multiplicity, both 0 when refused or when the column ends before;
@@ -33,6 +54,30 @@ pub struct Found {
     pub multiplicity: u32,
 }
 
+impl Found {
+    // A question is refused.
+    pub fn refused(reason: Refusal) -> Found
+        ensures { result ≡ record { number = number_of reason; row = 0; multiplicity = 0 } }
+    {
+        Found {
+            number: reason.number(),
+            row: 0,
+            multiplicity: 0,
+        }
+    }
+
+    // A question is accepted, with its row and multiplicity.
+    fn of(row: u32, multiplicity: u32) -> Found
+        ensures { result ≡ record { number = 0; row = row; multiplicity = multiplicity } }
+    {
+        Found {
+            number: 0,
+            row,
+            multiplicity,
+        }
+    }
+}
+
 // The first row at or above i in column j and its multiplicity, both 0 if the column ends before; 17 for a row or column outside 1 to m.
 pub fn next_row(heads: &[u32], rows: &[u16], counts: &[u16], next: &[u32], i: Row, j: Row) -> Found
     requires { CanAsk heads.now rows.now counts.now next.now }
@@ -40,38 +85,20 @@ pub fn next_row(heads: &[u32], rows: &[u16], counts: &[u16], next: &[u32], i: Ro
 {
     let m = heads.len() as u32;
     if question_refusals::row_outside(m, i.0) {
-        return Found {
-            number: 17,
-            row: 0,
-            multiplicity: 0,
-        };
+        return Found::refused(Refusal::AskedOutside);
     }
     let k = j.0;
     if question_refusals::row_outside(m, k) {
-        return Found {
-            number: 17,
-            row: 0,
-            multiplicity: 0,
-        };
+        return Found::refused(Refusal::AskedOutside);
     }
     let head = Rec(heads[(k - 1) as usize]);
     let first = columns::first_at(rows, next, head, i);
     let r = first.0;
     if r == 0 {
-        return Found {
-            number: 0,
-            row: 0,
-            multiplicity: 0,
-        };
+        return Found::of(0, 0);
     }
     let at = (r - 1) as usize;
-    let row = rows[at] as u32;
-    let multiplicity = counts[at] as u32;
-    Found {
-        number: 0,
-        row,
-        multiplicity,
-    }
+    Found::of(rows[at] as u32, counts[at] as u32)
 }
 
 // The parent of j, 0 for a root; 17 outside 1 to m.
@@ -82,16 +109,10 @@ pub fn parent(parents: &[u16], j: Row) -> Reply
     let m = parents.len() as u32;
     let k = j.0;
     if question_refusals::row_outside(m, k) {
-        return Reply {
-            number: 17,
-            value: 0,
-        };
+        return Reply::refused(Refusal::AskedOutside);
     }
     let p = parents[(k - 1) as usize] as u32;
-    Reply {
-        number: 0,
-        value: p,
-    }
+    Reply::of(p)
 }
 
 // The number of rows on the path of j.
@@ -130,24 +151,15 @@ pub fn path(parents: &[u16], list: &mut [u32], j: Row, place: usize) -> Reply
 {
     let m = parents.len() as u32;
     if question_refusals::row_outside(m, j.0) {
-        return Reply {
-            number: 17,
-            value: 0,
-        };
+        return Reply::refused(Refusal::AskedOutside);
     }
     let n = path_length(parents, j);
     if question_refusals::room_outside(list.len(), place, n) {
-        return Reply {
-            number: 18,
-            value: 0,
-        };
+        return Reply::refused(Refusal::ListEnds);
     }
     let at = place;
     copy_path(parents, &mut list[at..], j);
-    Reply {
-        number: 0,
-        value: n as u32,
-    }
+    Reply::of(n as u32)
 }
 
 // Column j, row then multiplicity, written from a place of the list on; 17 outside 1 to m, 18 where the list ends before the column does.
@@ -167,24 +179,15 @@ pub fn column(
     let m = heads.len() as u32;
     let k = j.0;
     if question_refusals::row_outside(m, k) {
-        return Reply {
-            number: 17,
-            value: 0,
-        };
+        return Reply::refused(Refusal::AskedOutside);
     }
     let head = Rec(heads[(k - 1) as usize]);
     let n = pool::count(next, head, m);
     let places = 2 * n as usize;
     if question_refusals::room_outside(list.len(), place, places) {
-        return Reply {
-            number: 18,
-            value: 0,
-        };
+        return Reply::refused(Refusal::ListEnds);
     }
     let at = place;
     columns::copy_column(rows, counts, next, &mut list[at..], head);
-    Reply {
-        number: 0,
-        value: n,
-    }
+    Reply::of(n)
 }

@@ -11,6 +11,7 @@ ghost use Rattle.questions.specs.Meeting.{TreeFor, CanClimb, CanMeet, MarkedAbov
 
 use crate::Reply;
 use book::Row;
+use early_refusals::Refusal;
 use pool::Rec;
 
 // Whether column j, below row i, holds it, where the columns above j are marked.
@@ -83,15 +84,12 @@ fn copy_marked(work: &[u32], list: &mut [u32], i: Row)
     ensures { list.new ≡ over (marked_to work.now i.0) list.old }
 {
     let top = i.0;
-    let mut j: u32 = 0;
     let mut k: usize = 0;
-    while j < top {
-        if work[j as usize] != 0 {
-            j += 1;
-            list[k] = j;
+    for j in 0..top {
+        let mark = work[j as usize];
+        if mark != 0 {
+            list[k] = j + 1;
             k += 1;
-        } else {
-            j += 1;
         }
     }
 }
@@ -116,25 +114,16 @@ pub fn meets(
 {
     let m = heads.len() as u32;
     if question_refusals::row_outside(m, i.0) {
-        return Reply {
-            number: 17,
-            value: 0,
-        };
+        return Reply::refused(Refusal::AskedOutside);
     }
     let marks = i.0 as usize;
     let n = mark(heads, parents, rows, counts, next, work, i);
     if question_refusals::room_outside(list.len(), place, n) {
         workspace::clear(work, 0, marks);
-        return Reply {
-            number: 18,
-            value: 0,
-        };
+        return Reply::refused(Refusal::ListEnds);
     }
     let at = place;
     copy_marked(work, &mut list[at..], i);
     workspace::clear(work, 0, marks);
-    Reply {
-        number: 0,
-        value: n as u32,
-    }
+    Reply::of(n as u32)
 }

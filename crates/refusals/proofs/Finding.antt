@@ -15,7 +15,7 @@ use Rattle.symbolic.specs.Change.{ids_of}
 use Rattle.pool.specs.Chains.{chain}
 use Rattle.book.specs.Book.{Book, columns_in, column_fits, is_sound}
 use Rattle.book.proofs.Sound.{Fitting, fitting, rows-room}
-use Rattle.calls.specs.Refusals.{refusal, accepted, is_accepted, or_else, unless, columns_refusal, ids_refusal, row_sum, keep_step, batch_of}
+use Rattle.calls.specs.Refusals.{refusal, accepted, is_accepted, or_else, unless, columns_refusal, row_sum, keep_step, batch_of}
 use Rattle.calls.specs.Refusals as calls
 use Rattle.calls.proofs.Choices.{or-second, unless-true, unless-false}
 use Rattle.calls.proofs.Refusals.{ColumnsFit, columns-facts, InStep, step-facts}
