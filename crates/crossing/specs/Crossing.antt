@@ -1,11 +1,10 @@
 -- What the structs stand for that cross to a host in the place of an enum: an opening's answer and a reading. The other entries answer by structs already.
 -- Assumes nothing: these are definitions.
-use Rattle.std.specs.Prelude.{◌≡◌, List, ℕ, eqb}
+use Rattle.std.specs.Prelude.{◌≡◌, Option, Some, None, List, ℕ, eqb}
 use Rattle.lists.specs.Lists.{pick}
 use Rattle.symbolic.specs.Grades.{Limits}
 use Rattle.tables.specs.Tables.{Tables, Sizes}
 use Rattle.reader.specs.declared.Entry.{Entry}
-use Rattle.reader.specs.declared.Entry.TheVariants.{Of, End}
 use Rattle.factor.specs.declared.Factor.{Factor}
 use Rattle.factor.specs.declared.Opening.{Opening}
 use Rattle.factor.specs.declared.Opening.TheVariants.{Opened as accepted, Refused as refused}
@@ -36,6 +35,6 @@ pub record OpenedStep (asked : Sizes) (limits : Limits) (t : Tables) (work : Lis
 -- ---- readings
 
 -- the struct of a reading: row, multiplicity and the record after it; the end is row 0
-abbrev pub read_from : Entry → Read
-read_from (Of row count r) = record { row = row; multiplicity = count; next = r.0 }
-read_from End = record { row = 0; multiplicity = 0; next = 0 }
+abbrev pub read_from : Option Entry → Read
+read_from (Some e) = record { row = e.row; multiplicity = e.count; next = e.after.0 }
+read_from None = record { row = 0; multiplicity = 0; next = 0 }

@@ -49,16 +49,16 @@ pub fn opened_from(x: Opening) -> Opened
 }
 
 // A reading as a struct.
-pub fn read_from(x: Entry) -> Read
+pub fn read_from(x: Option<Entry>) -> Read
     ensures { result ≡ read_from x }
 {
     match x {
-        Entry::Of { row, count, after } => Read {
+        Some(Entry { row, count, after }) => Read {
             row: row as u32,
             multiplicity: count as u32,
             next: after.0,
         },
-        Entry::End => Read {
+        None => Read {
             row: 0,
             multiplicity: 0,
             next: 0,

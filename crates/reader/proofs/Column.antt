@@ -2,6 +2,7 @@
 -- that is the factor's column (`column-read`), and record 0, a record past the tables or a free one gives the end (`end_read`); each for the stored
 -- columns themselves and for whole tables.
 -- Assumes nothing.
+use Rattle.std.proofs.Common.{None}
 use mathlib.Core.Path.{◌≡◌, refl, sym, ap, ◌∙◌}
 use mathlib.Core.Logic.{◌≢◌}
 use mathlib.Core.List.{List, [], ◌∷◌, ◌++◌}
@@ -26,7 +27,6 @@ use Rattle.tables.proofs.Stored.{Holds, SoundFor, sound-facts, stored-column}
 use Rattle.tables.proofs.Tables.{Long, long-facts, sound-stored, sound-factor, stored-rows}
 use Rattle.reader.specs.Reading.{entry_at, readings, all_given, as_read, entries_in, end}
 use Rattle.reader.specs.Statements.{ReadsColumn, ReadsTables, NoEntry, none, past-rows, past-counts, past_next, unused, ReadsEnd, ReadsTablesEnd}
-use Rattle.reader.specs.declared.Entry.TheVariants.{End}
 use Rattle.reader.proofs.Reading.{InUse, entry-end, readings-end, readings-of}
 
 -- ---- tables that begin with the stored ones
@@ -71,7 +71,7 @@ module _ (s : State) (t : Tables) (l : Long s.sizes t) where
 
 -- ---- what is read of them
 
-given-end : (k : ℕ) → all_given (replicate k End) ≡ replicate k end
+given-end : (k : ℕ) → all_given (replicate k None) ≡ replicate k end
 unfolding all_given
 given-end zero = refl
 given-end (suc k) = ap (λ es. end ∷ es) (given-end k)
@@ -82,7 +82,7 @@ module _ (s : Stored) (z : Sized s) (xs cs ns : List ℕ) (b : Begin s xs cs ns)
       all_given (readings (length rs + k) xs cs ns h) ≡ as_read (column_entries (values_at s.rows rs) (values_at s.counts rs)) ++ replicate k end
   unfolding Linked values_at column_entries as_read all_given
   chain-read h [] l some k =
-      let e : entry_at xs cs ns h ≡ End = entry-end xs cs ns h (λ u. omega (arith, l, u.low)) in
+      let e : entry_at xs cs ns h ≡ None = entry-end xs cs ns h (λ u. omega (arith, l, u.low)) in
       let q : 0 + k ≡ k = omega arith in
       rw (q, readings-end xs cs ns h e k) (given-end k)
   chain-read h (r ∷ rs) l some k =
@@ -110,7 +110,7 @@ module _ (s : Stored) (z : Sized s) (xs cs ns : List ℕ) (b : Begin s xs cs ns)
       rw (n, chain-read (at s.heads j) (records_of s j) l some k, c.rows, c.counts) refl
 
   -- a record without an entry
-  end_read : {ds : List Column} → SoundFor ds s → (r : ℕ) → NoEntry xs cs ns (chain s.next s.free) r → (k : ℕ) → readings k xs cs ns r ≡ replicate k End
+  end_read : {ds : List Column} → SoundFor ds s → (r : ℕ) → NoEntry xs cs ns (chain s.next s.free) r → (k : ℕ) → readings k xs cs ns r ≡ replicate k None
   end_read t r w k =
       readings-end xs cs ns r (entry-end xs cs ns r (λ u. not-used w u)) k
     where

@@ -1,6 +1,7 @@
 -- One reading: at record 0, past a table, at a free record and at one in use, as the tests of the code have it; then a run of readings, from the end on
 -- and from an entry on, cut after k, and as calls of a reader.
 -- Assumes nothing.
+use Rattle.std.proofs.Common.{Some, None}
 use mathlib.Core.Path.{◌≡◌, refl, ap}
 use mathlib.Core.Logic.{◌≢◌}
 use mathlib.Core.Bool.{Bool, true, false, ◌&&◌, not}
@@ -15,7 +16,6 @@ use Rattle.lists.proofs.Tests.{and_both, both-and, refute, in-range, range-in}
 use Rattle.reader.specs.Reading.{is_read, entry_at, after, readings}
 use Rattle.reader.specs.Reader.{calls, moved}
 use Rattle.reader.specs.Statements.{ReadsInTurn, CallsRead}
-use Rattle.reader.specs.declared.Entry.TheVariants.{Of, End}
 
 -- ---- one reading
 
@@ -45,11 +45,11 @@ module _ (xs cs ns : List ℕ) (r : ℕ) where
         some = eqb-false (at xs r) 0 (not-true (eqb (at xs r) 0) t.1);
       }
 
-  pub entry-end : (InUse xs cs ns r → ⊥) → entry_at xs cs ns r ≡ End
+  pub entry-end : (InUse xs cs ns r → ⊥) → entry_at xs cs ns r ≡ None
   unfolding entry_at
   entry-end h = let e : is_read xs cs ns r ≡ false = refute (is_read xs cs ns r) (λ e. h (read-use e)) in rw e refl
 
-  pub entry_of : InUse xs cs ns r → entry_at xs cs ns r ≡ Of (at xs r) (at cs r) (record { 0 = at ns r })
+  pub entry_of : InUse xs cs ns r → entry_at xs cs ns r ≡ Some (record { row = at xs r; count = at cs r; after = record { 0 = at ns r } })
   unfolding entry_at
   entry_of u =
       let e : is_read xs cs ns r ≡ true =
@@ -59,12 +59,12 @@ module _ (xs cs ns : List ℕ) (r : ℕ) where
 -- ---- a run of readings
 
 module _ (xs cs ns : List ℕ) where
-  pub readings-end : (r : ℕ) → entry_at xs cs ns r ≡ End → (k : ℕ) → readings k xs cs ns r ≡ replicate k End
+  pub readings-end : (r : ℕ) → entry_at xs cs ns r ≡ None → (k : ℕ) → readings k xs cs ns r ≡ replicate k None
   unfolding readings
   readings-end r e zero = refl
   readings-end r e (suc k) = rw (e, readings-end 0 (entry-end xs cs ns 0 (λ u. omega (arith, u.low))) k) refl
 
-  pub readings-of : (r k : ℕ) → InUse xs cs ns r → readings (suc k) xs cs ns r ≡ Of (at xs r) (at cs r) (record { 0 = at ns r }) ∷ readings k xs cs ns (at ns r)
+  pub readings-of : (r k : ℕ) → InUse xs cs ns r → readings (suc k) xs cs ns r ≡ Some (record { row = at xs r; count = at cs r; after = record { 0 = at ns r } }) ∷ readings k xs cs ns (at ns r)
   unfolding readings
   readings-of r k u = rw (entry_of xs cs ns r u) refl
 

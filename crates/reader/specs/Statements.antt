@@ -1,7 +1,7 @@
 -- What is proved of readings: a column's entries and then the end, of stored columns and of whole tables, which may be longer; the end where there is no
 -- entry to read; k calls of a reader are k readings. Terms: proofs/Reading.antt, proofs/Column.antt.
 -- Assumes nothing: these are statements.
-use Rattle.std.specs.Prelude.{◌≡◌, true, List, ◌++◌, ℕ, ◌+◌, ◌≤◌, ◌<◌, length, take, replicate}
+use Rattle.std.specs.Prelude.{◌≡◌, true, None, List, ◌++◌, ℕ, ◌+◌, ◌≤◌, ◌<◌, length, take, replicate}
 use Rattle.lists.specs.Lists.{Mem, at}
 use Rattle.symbolic.specs.Columns.{Column}
 use Rattle.symbolic.specs.Factor.{factor_of, factor_for, column_at, size_of}
@@ -10,7 +10,6 @@ use Rattle.tables.specs.Stored.{Stored, Sized, is_sound_for}
 use Rattle.tables.specs.Tables.{Tables, State, long_enough, register_of, is_sound}
 use Rattle.reader.specs.Reading.{readings, all_given, entries_in, end}
 use Rattle.reader.specs.Reader.{calls}
-use Rattle.reader.specs.declared.Entry.TheVariants.{End}
 use Rattle.reader.specs.declared.Reader.{Reader}
 
 -- ---- "A reader over one column gives its entries one for each call, then the end each time"
@@ -47,14 +46,14 @@ pub data NoEntry (rows counts next free : List ℕ) (r : ℕ) : Type 0 where
 abbrev pub ReadsEnd : Type 0
 ReadsEnd =
     (cs : List Column) (s : Stored) → Sized s → is_sound_for cs s ≡ true → (r : ℕ) → NoEntry s.rows s.counts s.next (chain s.next s.free) r → (k : ℕ) →
-    readings k s.rows s.counts s.next r ≡ replicate k End
+    readings k s.rows s.counts s.next r ≡ replicate k None
 
 -- the same of sound tables, which may be longer than the sizes
 abbrev pub ReadsTablesEnd : Type 0
 ReadsTablesEnd =
     (s : State) (t : Tables) → long_enough s.sizes t ≡ true → is_sound s t ≡ true → (r : ℕ) →
     NoEntry t.rows t.counts t.next (chain (take s.sizes.f t.next) s.free) r → (k : ℕ) →
-    readings k t.rows t.counts t.next r ≡ replicate k End
+    readings k t.rows t.counts t.next r ≡ replicate k None
 
 -- ---- calls of a reader are readings from its place on
 

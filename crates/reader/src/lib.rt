@@ -6,59 +6,39 @@
 
 ghost use Rattle.std.specs.Prelude.{◌≡◌};
 ghost use Rattle.reader.specs.Reading.{entry_at, after};
-ghost use Rattle.reader.specs.Reader.{begun, entry_of, moved};
+ghost use Rattle.reader.specs.Reader.{begun, Reads};
 
 use pool::Rec;
 
-// What is read at a record: row and multiplicity, and the record after it, 0 if there is none; or the end.
+// What is read at a record: row and multiplicity, and the record after it, 0 if there is none.
 #[derive(Clone, Copy)]
-pub enum Entry {
-    Of { row: u16, count: u16, after: Rec },
-    End,
+pub struct Entry {
+    pub row: u16,
+    pub count: u16,
+    pub after: Rec,
 }
 
-// The entry of record r: the end for record 0, a record past one of the tables, or a free one, whose row is 0.
-pub fn entry_at(rows: &[u16], counts: &[u16], next: &[u32], r: Rec) -> Entry
+// The entry of record r; none, the end, for record 0, a record past one of the tables, or a free one, whose row is 0.
+pub fn entry_at(rows: &[u16], counts: &[u16], next: &[u32], r: Rec) -> Option<Entry>
     ensures { result ≡ entry_at rows.now counts.now next.now r.0 }
 {
-    let k = r.0;
-    if k == 0 {
-        return Entry::End;
-    }
-    let i = (k - 1) as usize;
-    if rows.len() <= i {
-        return Entry::End;
-    }
-    if counts.len() <= i {
-        return Entry::End;
-    }
-    if next.len() <= i {
-        return Entry::End;
-    }
-    let row = rows[i];
-    let count = counts[i];
-    let after = next[i];
+    let i = r.0.checked_sub(1)? as usize;
+    let row = *rows.get(i)?;
+    let count = *counts.get(i)?;
+    let after = Rec(*next.get(i)?);
     if row == 0 {
-        return Entry::End;
+        return None;
     }
-    Entry::Of {
-        row,
-        count,
-        after: Rec(after),
-    }
+    Some(Entry { row, count, after })
 }
 
 // Where to read on: the record after an entry's, 0 at the end.
-pub fn place_after(e: Entry) -> Rec
+pub fn place_after(e: Option<Entry>) -> Rec
     ensures { result ≡ after e }
 {
     match e {
-        Entry::Of {
-            row: _,
-            count: _,
-            after,
-        } => after,
-        Entry::End => Rec(0),
+        Some(e) => e.after,
+        None => Rec(0),
     }
 }
 
@@ -85,12 +65,22 @@ impl<'a> Reader<'a> {
     }
 
     // The entry at the reader's place, which moves on to the record after it.
-    pub fn read(&mut self) -> Entry
-        ensures { (result ≡ entry_of self.old) × (self.new ≡ moved self.old) }
+    pub fn read(&mut self) -> Option<Entry>
+        ensures { Reads self.old result self.new }
     {
         let e = entry_at(self.rows, self.counts, self.next, self.at);
-        let after = place_after(e);
-        self.at = after;
+        self.at = place_after(e);
         e
+    }
+}
+
+// The entries one after another. No bound on how many: on tables that are not sound the records may form a cycle.
+impl<'a> Iterator for Reader<'a> {
+    type Item = Entry;
+
+    ghost next_gives = { Reads };
+
+    fn next(&mut self) -> Option<Entry> {
+        self.read()
     }
 }
