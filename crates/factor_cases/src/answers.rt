@@ -8,38 +8,24 @@ use factor::Factor;
 fn sign(number: u32) -> u8 {
     match number {
         0 => b'.',
-        1 => b'1',
-        2 => b'2',
-        3 => b'3',
-        4 => b'4',
-        5 => b'5',
-        6 => b'6',
+        1..=6 => b'0' + number as u8,
         _ => b'?',
     }
 }
 
 // Check's number.
 fn checked(t: Tables, record: Factor) -> u32 {
-    let heads = t.heads;
-    let parents = t.parents;
-    let rows = t.rows;
-    let counts = t.counts;
-    let next = t.next;
-    let book_heads = t.book_heads;
-    let book_rows = t.book_rows;
-    let book_next = t.book_next;
-    let windows = t.windows;
     let mut work = [7u32; 1124];
     let reply = record.check(
-        &heads,
-        &parents,
-        &rows,
-        &counts,
-        &next,
-        &book_heads,
-        &book_rows,
-        &book_next,
-        &windows,
+        &t.heads,
+        &t.parents,
+        &t.rows,
+        &t.counts,
+        &t.next,
+        &t.book_heads,
+        &t.book_rows,
+        &t.book_next,
+        &t.windows,
         &mut work,
     );
     reply.number
@@ -47,62 +33,38 @@ fn checked(t: Tables, record: Factor) -> u32 {
 
 // Whether the question for the next row from row 2 on in column 1 answers with the number, and with neither row nor multiplicity where it is refused.
 fn finds(t: Tables, record: Factor, number: u32) -> bool {
-    let heads = t.heads;
-    let parents = t.parents;
-    let rows = t.rows;
-    let counts = t.counts;
-    let next = t.next;
-    let book_heads = t.book_heads;
-    let book_rows = t.book_rows;
-    let book_next = t.book_next;
-    let windows = t.windows;
     let mut work = [7u32; 1124];
     let found = record.next_row(
-        &heads,
-        &parents,
-        &rows,
-        &counts,
-        &next,
-        &book_heads,
-        &book_rows,
-        &book_next,
-        &windows,
+        &t.heads,
+        &t.parents,
+        &t.rows,
+        &t.counts,
+        &t.next,
+        &t.book_heads,
+        &t.book_rows,
+        &t.book_next,
+        &t.windows,
         &mut work,
         Row(2),
         Row(1),
     );
-    if found.number != number {
-        return false;
-    }
-    if number == 0 {
-        return true;
-    }
-    (found.row == 0) & (found.multiplicity == 0)
+    found.number == number && (number == 0 || (found.row == 0 && found.multiplicity == 0))
 }
 
 // The number of the question for the columns that meet row 3.
 fn met(t: Tables, record: Factor) -> u32 {
-    let heads = t.heads;
-    let parents = t.parents;
-    let rows = t.rows;
-    let counts = t.counts;
-    let next = t.next;
-    let book_heads = t.book_heads;
-    let book_rows = t.book_rows;
-    let book_next = t.book_next;
-    let windows = t.windows;
     let mut work = [7u32; 1124];
     let mut list = [9u32; 5];
     let reply = record.meets(
-        &heads,
-        &parents,
-        &rows,
-        &counts,
-        &next,
-        &book_heads,
-        &book_rows,
-        &book_next,
-        &windows,
+        &t.heads,
+        &t.parents,
+        &t.rows,
+        &t.counts,
+        &t.next,
+        &t.book_heads,
+        &t.book_rows,
+        &t.book_next,
+        &t.windows,
         &mut work,
         &mut list,
         Row(3),
@@ -113,26 +75,17 @@ fn met(t: Tables, record: Factor) -> u32 {
 
 // The number of the question for the smallest row on the paths of rows 1 and 2.
 fn joined(t: Tables, record: Factor) -> u32 {
-    let heads = t.heads;
-    let parents = t.parents;
-    let rows = t.rows;
-    let counts = t.counts;
-    let next = t.next;
-    let book_heads = t.book_heads;
-    let book_rows = t.book_rows;
-    let book_next = t.book_next;
-    let windows = t.windows;
     let mut work = [7u32; 1124];
     let reply = record.common(
-        &heads,
-        &parents,
-        &rows,
-        &counts,
-        &next,
-        &book_heads,
-        &book_rows,
-        &book_next,
-        &windows,
+        &t.heads,
+        &t.parents,
+        &t.rows,
+        &t.counts,
+        &t.next,
+        &t.book_heads,
+        &t.book_rows,
+        &t.book_next,
+        &t.windows,
         &mut work,
         &[1, 2],
     );

@@ -8,7 +8,7 @@ mod answers;
 mod damage;
 
 use answers::answer;
-use damage::{damaged, places};
+use damage::{ALL, Table, damaged, places};
 use factor::{Factor, Opening};
 
 // Tables for m 5, n 8, F 9 and C 16.
@@ -29,23 +29,22 @@ struct Tables {
 const VALUES: [u32; 8] = [0, 1, 2, 3, 4, 6, 9, 4294967295];
 
 // Writes what check answers for each value at one place.
-fn show_place(record: Factor, t: Tables, table: u32, place: usize) {
+fn show_place(record: Factor, t: Tables, table: Table, place: usize) {
     let mut line = [b'\n'; 9];
-    let mut i: usize = 0;
-    while i < 8 {
-        line[i] = answer(record, damaged(t, table, place, VALUES[i]));
-        i += 1;
+    for (sign, value) in line.iter_mut().zip(VALUES) {
+        *sign = answer(record, damaged(t, table, place, value));
     }
     io::write_all(1, &line);
 }
 
 // The record with other limits of the grades.
 fn limited(record: Factor, grade2: u32, grade3: u32, grade4: u32) -> Factor {
-    let mut x = record;
-    x.grade2 = grade2;
-    x.grade3 = grade3;
-    x.grade4 = grade4;
-    x
+    Factor {
+        grade2,
+        grade3,
+        grade4,
+        ..record
+    }
 }
 
 // Writes what check answers for limits that break the rule: zeros, the first below 2, equal ones, falling ones; then for some that keep it.
@@ -67,18 +66,14 @@ fn show_limits(record: Factor, t: Tables) {
 
 // The record with another clock.
 fn clocked(record: Factor, clock: u32) -> Factor {
-    let mut x = record;
-    x.clock = clock;
-    x
+    Factor { clock, ..record }
 }
 
 // Writes what check answers for each value of the clock.
 fn show_clock(record: Factor, t: Tables) {
     let mut line = [b'\n'; 9];
-    let mut i: usize = 0;
-    while i < 8 {
-        line[i] = answer(clocked(record, VALUES[i]), t);
-        i += 1;
+    for (sign, clock) in line.iter_mut().zip(VALUES) {
+        *sign = answer(clocked(record, clock), t);
     }
     io::write_all(1, &line);
 }
@@ -88,15 +83,10 @@ fn show(record: Factor, t: Tables) {
     let first = [answer(record, t), b'\n'];
     io::write_all(1, &first);
     show_limits(record, t);
-    let mut table: u32 = 0;
-    while table < 9 {
-        let n = places(table);
-        let mut place: usize = 0;
-        while place < n {
+    for table in ALL {
+        for place in 0..places(table) {
             show_place(record, t, table, place);
-            place += 1;
         }
-        table += 1;
     }
     show_clock(record, t);
 }
@@ -121,12 +111,13 @@ fn laid() -> Tables {
 // The same, where at minute 3 the first column has no window, the second counts from minute 2 up to 6, the third from minute 0 up to 9; and a fourth, {1, 2, 5}, is
 // booked from minute 4 up to 9.
 fn windowed() -> Tables {
-    let mut x = laid();
-    x.book_heads = [1, 3, 5, 7, 0, 0, 0, 0];
-    x.book_rows = [1, 3, 1, 4, 2, 3, 1, 2, 5, 0, 0, 0, 0, 0, 0, 0];
-    x.book_next = [2, 0, 4, 0, 6, 0, 8, 9, 0, 11, 12, 13, 14, 15, 16, 0];
-    x.windows = [0, 2, 0, 4, 0, 0, 0, 0, 0, 6, 9, 9, 0, 0, 0, 0];
-    x
+    Tables {
+        book_heads: [1, 3, 5, 7, 0, 0, 0, 0],
+        book_rows: [1, 3, 1, 4, 2, 3, 1, 2, 5, 0, 0, 0, 0, 0, 0, 0],
+        book_next: [2, 0, 4, 0, 6, 0, 8, 9, 0, 11, 12, 13, 14, 15, 16, 0],
+        windows: [0, 2, 0, 4, 0, 0, 0, 0, 0, 6, 9, 9, 0, 0, 0, 0],
+        ..laid()
+    }
 }
 
 // The record of such tables.
