@@ -1,5 +1,6 @@
 pub mod Same
 pub mod Words
+pub mod Splitting
 pub mod Numbers
 pub mod Reading
 pub mod Commands

@@ -1,16 +1,19 @@
 -- The numbers after a word's end, word by word: how a loop counts them (Counting), how a loop writes them (Writing), and the first of
 -- them apart (First). Assumes nothing.
-use mathlib.Core.Path.{◌≡◌, refl, sym, ap, ◌∙◌}
+use mathlib.Core.Path.{◌≡◌, refl, sym, ap, ◌∙◌, subst}
 use mathlib.Core.Bool.{true, false}
 use mathlib.Core.Logic.{inl, inr}
 use mathlib.Core.List.{List, [], ◌∷◌, ◌++◌, map, append_assoc, append-nil}
 use Prim.Native.Nat.{ℕ, ◌+◌, ◌≤◌, ◌<◌}
 use native.Mathlib.Omega.{arith}
-use lib.ListN.{length, drop, set, length-append, length-map}
-use Rattle.lists.specs.Lists.{pick, all, over}
+use native.Mathlib.Numerals.{add-one}
+use lib.ListN.{length, get_or, drop, set, drop_of_length-le, length-append, length-map}
+use lib.Seq.{drop-cons}
+use Rattle.lists.specs.Lists.{pick, Mem, all, over}
+use Rattle.lists.proofs.Member.{place-mem, all-at}
 use Rattle.lists.proofs.Tests.{cases, and_both, lt-or-le}
 use Rattle.lists.proofs.Place.{over-push, over-length}
-use Rattle.listing_text.specs.Command.{first_word, later_words, value_of, is_number, numbers_of, EndsWord, Numbers}
+use Rattle.listing_text.specs.Command.{first_word, later_words, value_of, is_number, numbers_of, EndsWord}
 use Rattle.listing_text.proofs.Words.{between, Next, word_next, later-end}
 
 -- ---- the numbers of some bytes
@@ -51,98 +54,73 @@ counted-bad : (k : ℕ) (w : List ℕ) (ws : List (List ℕ)) → is_number w �
 unfolding all
 counted-bad k w ws g = rw g refl
 
-counted-all : (bs : List ℕ) → counted 0 (later_words bs) ≡ length (numbers_of bs)
+pub counted-all : (bs : List ℕ) → counted 0 (later_words bs) ≡ length (numbers_of bs)
 counted-all bs =
     elim (cases (all is_number (later_words bs))) [
       | inl g ↦ rw g (omega (arith, numbers-length bs g))
       | inr g ↦ rw g (omega (arith, ap length (numbers-none bs g)))
     ]
 
-pub record Counting (line : List ℕ) (at end count : ℕ) : Type 0 where
-  pub ends : EndsWord line end
-  pub most : count ≤ end
-  pub rest : counted count (later_words (drop end line)) ≡ length (numbers_of (drop at line))
+-- the words from a place on
+from-here : (ws : List (List ℕ)) (k : ℕ) (w : List ℕ) → k < length ws → w ≡ get_or ws k w → drop k ws ≡ w ∷ drop (k + 1) ws
+from-here ws k w h e = drop-cons ws k w h ∙ rw (sym e, add-one k) refl
 
-pub counting-start : (line : List ℕ) (at : ℕ) → EndsWord line at → Counting line at at 0
-counting-start line at w = record { ends = w; most = omega arith; rest = counted-all (drop at line) }
+-- of some words those before a place are counted
+module _ (ws : List (List ℕ)) {k n : ℕ} (s : counted k (drop k ws) ≡ n) where
+  pub counting-end : k ≡ length ws → k ≡ n
+  counting-end e = sym (counted_none k) ∙ ap (counted k) (sym (drop_of_length-le ws (omega (arith, e)))) ∙ s
 
-module _ {line : List ℕ} {at end count : ℕ} (s : Counting line at end count) where
-  pub counting-end : length line ≤ end → count ≡ length (numbers_of (drop at line))
-  counting-end h = sym (counted_none count) ∙ ap (counted count) (sym (later-end line end h)) ∙ s.rest
+  module _ {w : List ℕ} (h : k < length ws) (e : w ≡ get_or ws k w) where
+    pub counting-turn : is_number w ≡ true → counted (k + 1) (drop (k + 1) ws) ≡ n
+    counting-turn g = sym (counted-good k w (drop (k + 1) ws) g) ∙ ap (counted k) (sym (from-here ws k w h e)) ∙ s
 
-  module _ {next : ℕ} (n : Next line end next) where
-    pub counting-keep : is_number (between line end next) ≡ true → Counting line at next (count + 1)
-    counting-keep g =
-        record {
-          ends = n.ends;
-          most = omega (arith, s.most, n.start);
-          rest = sym (counted-good count _ (later_words (drop next line)) g) ∙ ap (counted count) (sym n.later) ∙ s.rest;
-        }
-
-    pub counting-bad : is_number (between line end next) ≡ false → 0 ≡ length (numbers_of (drop at line))
-    counting-bad g = sym (counted-bad count _ (later_words (drop next line)) g) ∙ ap (counted count) (sym n.later) ∙ s.rest
+    pub counting-bad : is_number w ≡ false → 0 ≡ n
+    counting-bad g = sym (counted-bad k w (drop (k + 1) ws) g) ∙ ap (counted k) (sym (from-here ws k w h e)) ∙ s
 
 -- ---- writing
 
-pub record Writing (line values₀ : List ℕ) (at : ℕ) (values : List ℕ) (end count : ℕ) : Type 0 where
+-- so many values stand over the front of a list; with those of the words that are left they are the numbers of some bytes
+pub record Writing (bs values₀ values : List ℕ) (k : ℕ) : Type 0 where
   pub done : List ℕ
-  pub ends : EndsWord line end
-  pub good : all is_number (later_words (drop end line)) ≡ true
-  pub whole : done ++ map value_of (later_words (drop end line)) ≡ numbers_of (drop at line)
-  pub count-is : length done ≡ count
+  pub whole : done ++ map value_of (drop k (later_words bs)) ≡ numbers_of bs
+  pub count-is : length done ≡ k
   pub values-are : values ≡ over done values₀
 
-numbers-room : {line : List ℕ} {at room : ℕ} → Numbers line at room → length (numbers_of (drop at line)) ≤ room
-numbers-room {line} {at} p = omega (arith, numbers-length (drop at line) p.good, p.fits)
+-- words that are numbers, no more than there is room for
+module _ {bs values₀ : List ℕ} (good : all is_number (later_words bs) ≡ true) (fits : length (later_words bs) ≤ length values₀) where
+  pub writing_start : Writing bs values₀ values₀ 0
+  writing_start = record { done = []; whole = sym (numbers-are bs good); count-is = refl; values-are = refl }
 
-module _ {line values₀ : List ℕ} {at : ℕ} (p : Numbers line at (length values₀)) where
-  pub writing_start : Writing line values₀ at values₀ at 0
-  writing_start =
-      record { done = []; ends = p.ends; good = p.good; whole = sym (numbers-are (drop at line) p.good); count-is = refl; values-are = refl }
-
-  module _ {values : List ℕ} {end count : ℕ} (s : Writing line values₀ at values end count) where
+  module _ {values : List ℕ} {k : ℕ} (s : Writing bs values₀ values k) where
     pub writing-length : length values ≡ length values₀
     writing-length =
         rw s.values-are (over-length s.done values₀
-        (omega (arith, numbers-room p, ap length s.whole, length-append s.done (map value_of (later_words (drop end line))))))
+        (omega (arith, numbers-length bs good, fits, ap length s.whole, length-append s.done (map value_of (drop k (later_words bs))))))
 
-    pub writing-end : length line ≤ end → values ≡ over (numbers_of (drop at line)) values₀
+    pub writing-end : k ≡ length (later_words bs) → values ≡ over (numbers_of bs) values₀
     writing-end h =
-        let e : s.done ≡ numbers_of (drop at line) = sym (append-nil s.done) ∙ ap (λ (ws : List (List ℕ)). s.done ++ map value_of ws) (sym (later-end line end h)) ∙ s.whole in
+        let e : s.done ≡ numbers_of bs = sym (append-nil s.done) ∙ ap (λ (ws : List (List ℕ)). s.done ++ map value_of ws) (sym (drop_of_length-le (later_words bs) (omega (arith, h)))) ∙ s.whole in
         s.values-are ∙ ap (λ (l : List ℕ). over l values₀) e
 
-    module _ {next : ℕ} (n : Next line end next) where
-      writing-both : (is_number (between line end next) ≡ true) × (all is_number (later_words (drop next line)) ≡ true)
-      writing-both = all_first (between line end next) (later_words (drop next line)) (rw n.later at s.good)
+    module _ {w : List ℕ} (h : k < length (later_words bs)) (e : w ≡ get_or (later_words bs) k w) where
+      pub writing-number : is_number w ≡ true
+      writing-number = all-at is_number (subst (λ (x : List ℕ). Mem x (later_words bs)) (sym e) (place-mem (later_words bs) k w h)) good
 
-      pub writing-number : is_number (between line end next) ≡ true
-      writing-number = writing-both.0
-
-      whole-next : s.done ++ (value_of (between line end next) ∷ []) ++ map value_of (later_words (drop next line)) ≡ numbers_of (drop at line)
+      whole-next : s.done ++ (value_of w ∷ []) ++ map value_of (drop (k + 1) (later_words bs)) ≡ numbers_of bs
       whole-next =
-          append_assoc s.done (value_of (between line end next) ∷ []) (map value_of (later_words (drop next line)))
-          ∙ ap (λ (ws : List (List ℕ)). s.done ++ map value_of ws) (sym n.later) ∙ s.whole
+          append_assoc s.done (value_of w ∷ []) (map value_of (drop (k + 1) (later_words bs)))
+          ∙ ap (λ (ws : List (List ℕ)). s.done ++ map value_of ws) (sym (from-here (later_words bs) k w h e)) ∙ s.whole
 
-      pub writing-below : count < length values₀
-      writing-below =
-          omega (
-            arith,
-            numbers-room p,
-            s.count-is,
-            ap length whole-next,
-            length-append (s.done ++ (value_of (between line end next) ∷ [])) (map value_of (later_words (drop next line))),
-            length-append s.done (value_of (between line end next) ∷ []),
-          )
+      pub writing-below : k < length values₀
+      writing-below = omega (arith, h, fits)
 
-      pub writing-keep : Writing line values₀ at (set values count (value_of (between line end next))) next (count + 1)
+      pub writing-keep : Writing bs values₀ (set values k (value_of w)) (k + 1)
       writing-keep =
           record {
-            done = s.done ++ (value_of (between line end next) ∷ []);
-            ends = n.ends;
-            good = writing-both.1;
+            done = s.done ++ (value_of w ∷ []);
             whole = whole-next;
-            count-is = omega (arith, s.count-is, length-append s.done (value_of (between line end next) ∷ []));
-            values-are = ap (λ (l : List ℕ). set l count (value_of (between line end next))) s.values-are ∙ over-push s.done values₀ count (value_of (between line end next)) s.count-is writing-below;
+            count-is = omega (arith, s.count-is, length-append s.done (value_of w ∷ []));
+            values-are = ap (λ (l : List ℕ). set l k (value_of w)) s.values-are ∙ over-push s.done values₀ k (value_of w) s.count-is writing-below;
           }
 
 -- ---- the first number apart

@@ -2,17 +2,19 @@
 -- from word to word). Then how many words a line of numbers can have. Assumes nothing.
 use mathlib.Core.Path.{◌≡◌, refl, sym, ap, ◌∙◌}
 use mathlib.Core.Logic.{inl, inr, ◌≢◌}
-use mathlib.Core.Bool.{true}
+use mathlib.Core.Bool.{true, cond}
+use Rattle.std.proofs.Common.{Option, Some, None}
+use Rattle.std.specs.List.{position_or_len, slice_split, onto_first}
 use mathlib.Core.List.{List, [], ◌∷◌}
 use Prim.Native.Nat.{ℕ, suc, ◌+◌, ◌*◌, ◌-◌, ◌≤◌, ◌<◌}
 use native.Mathlib.Omega.{arith}
 use native.Mathlib.Numerals.{add-one}
-use lib.Dec.{ltb}
+use lib.Dec.{ltb, eqb}
 use lib.ListN.{length, get_or, take, drop, length-drop, drop_of_length-le}
 use lib.Seq.{drop-cons, drop-drop, get_or-drop}
-use borrow.Author.Tests.{eq-eqb, ne_eqb, ltb-true}
+use borrow.Author.Tests.{eq-eqb, ne_eqb, ltb-true, ltb-false}
 use Rattle.lists.specs.Lists.{all}
-use Rattle.lists.proofs.Tests.{eq-or-ne, and_both}
+use Rattle.lists.proofs.Tests.{cases, eq-or-ne, and_both}
 use Rattle.listing_text.specs.Command.{first_word, later_words, is_number, EndsWord}
 
 -- ---- the first word, by the first byte
@@ -57,6 +59,36 @@ word-within (b ∷ bs) =
       | inl e ↦ omega (arith, ap length (word-space b bs e))
       | inr n ↦ omega (arith, ap length (word-other b bs n), word-within bs)
     ]
+
+-- the place of the first space, or how many bytes there are without one
+pub word-position : (bs : List ℕ) → position_or_len (λ b. eqb b 32) bs ≡ length (first_word bs)
+unfolding first_word
+word-position [] = refl
+word-position (b ∷ bs) =
+    elim (eq-or-ne b 32) [
+      | inl e ↦ rw (eq-eqb b 32 e) refl
+      | inr n ↦ rw (ne_eqb b 32 n) (omega (arith, word-position bs))
+    ]
+
+-- what a search for a space finds
+abbrev pub space_in : List ℕ → Option ℕ
+space_in bs = cond (ltb (position_or_len (λ b. eqb b 32) bs) (length bs)) (Some (position_or_len (λ b. eqb b 32) bs)) None
+
+pub word-found : (bs : List ℕ) (n : ℕ) → Some n ≡ space_in bs → n ≡ length (first_word bs)
+word-found bs n =
+    rw (word-position bs)
+    (elim (cases (ltb (length (first_word bs)) (length bs))) [
+      | inl t ↦ rw t (λ e. cc)
+      | inr t ↦ rw t (λ e. absurd cc)
+    ])
+
+pub word-whole : (bs : List ℕ) → None ≡ space_in bs → length bs ≡ length (first_word bs)
+word-whole bs =
+    rw (word-position bs)
+    (elim (cases (ltb (length (first_word bs)) (length bs))) [
+      | inl t ↦ rw t (λ e. absurd cc)
+      | inr t ↦ rw t (λ e. omega (arith, ltb-false (length (first_word bs)) (length bs) t, word-within bs))
+    ])
 
 word-part : (bs : List ℕ) → take (length (first_word bs)) bs ≡ first_word bs
 unfolding first_word
@@ -117,6 +149,20 @@ word_next line at end w h e =
       ends = word-ends line (at + 1) end (omega arith) e;
       later = ap later_words cons ∙ later-space (get_or line at 0) rest (w.space h) ∙ rw (skip, size, word-part rest) refl;
     }
+
+-- the parts between spaces are the words
+pub words-split : (bs : List ℕ) → slice_split (λ b. eqb b 32) bs ≡ first_word bs ∷ later_words bs
+unfolding first_word later_words
+words-split [] = refl
+words-split (b ∷ bs) =
+    elim (eq-or-ne b 32) [
+      | inl e ↦ rw (eq-eqb b 32 e) (ap (λ (ws : List (List ℕ)). [] ∷ ws) (words-split bs))
+      | inr n ↦ rw (ne_eqb b 32 n) (ap (onto_first b) (words-split bs))
+    ]
+
+-- all but the first of them
+pub words-skip : (bs : List ℕ) → drop 1 (slice_split (λ b. eqb b 32) bs) ≡ later_words bs
+words-skip bs = ap (drop 1) (words-split bs)
 
 pub later-end : (line : List ℕ) (at : ℕ) → length line ≤ at → later_words (drop at line) ≡ []
 unfolding later_words

@@ -2,7 +2,7 @@
 -- line. A line is a list of bytes without its newline: 32 is the space, 48 to 57 are the digits. Then what the parser's functions ask and
 -- promise. Laws: proofs/Words.antt, Numbers.antt (a word), Reading.antt (a line's numbers), Commands.antt; instances: Cases.antt. Assumes
 -- nothing: these are definitions.
-use Rattle.std.specs.Prelude.{◌≡◌, Bool, true, ◌&&◌, List, [], ◌∷◌, map, ℕ, ◌+◌, ◌*◌, ◌-◌, ◌^◌, ◌≤◌, ◌<◌, ltb, leb, eqb, length, get_or, drop}
+use Rattle.std.specs.Prelude.{◌≡◌, Bool, true, ◌&&◌, Option, Some, None, List, [], ◌∷◌, map, ℕ, ◌+◌, ◌*◌, ◌-◌, ◌^◌, ◌≤◌, ◌<◌, ltb, leb, eqb, length, get_or, drop}
 use Rattle.lists.specs.Lists.{pick, is_in, all, same, over}
 use Rattle.listing_text.specs.declared.command.Command.{Command}
 use Rattle.listing_text.specs.declared.command.Command.TheVariants.{Open, Add, Drop, Show, Unknown}
@@ -37,6 +37,10 @@ value_of w = value_after 0 w
 -- "A number is one digit or more"; "a number not below 2^32 gets 19"
 unfoldable pub is_number : List ℕ → Bool
 is_number w = ltb 0 (length w) && (all is_digit w && ltb (value_of w) (2 ^ 32))
+
+-- the value of a word that is a number
+unfoldable pub number_of : List ℕ → Option ℕ
+number_of w = pick (is_number w) (Some (value_of w)) None
 
 -- the values of the words after the first, if each is a number; otherwise none
 unfoldable pub numbers_of : (line : List ℕ) → List ℕ
