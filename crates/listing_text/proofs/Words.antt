@@ -6,7 +6,7 @@ use mathlib.Core.Bool.{true, cond}
 use Rattle.std.proofs.Common.{Option, Some, None}
 use Rattle.std.specs.List.{position_or_len, slice_split, onto_first}
 use mathlib.Core.List.{List, [], ◌∷◌}
-use Prim.Native.Nat.{ℕ, suc, ◌+◌, ◌*◌, ◌-◌, ◌≤◌, ◌<◌}
+use Prim.Native.Nat.{ℕ, ◌+◌, ◌*◌, ◌-◌, ◌≤◌, ◌<◌}
 use native.Mathlib.Omega.{arith}
 use native.Mathlib.Numerals.{add-one}
 use lib.Dec.{ltb, eqb}
@@ -40,14 +40,6 @@ later-other b bs n = rw (ne_eqb b 32 n) refl
 pub word-at-end : (line : List ℕ) (i : ℕ) → length line ≤ i → first_word (drop i line) ≡ []
 unfolding first_word
 word-at-end line i h = rw (drop_of_length-le line h) refl
-
-pub word-at-space : (line : List ℕ) (i : ℕ) → i < length line → get_or line i 0 ≡ 32 → first_word (drop i line) ≡ []
-word-at-space line i h e = rw (drop-cons line i 0 h) (word-space (get_or line i 0) (drop (suc i) line) e)
-
-pub word-at-other : (line : List ℕ) (i : ℕ) → i < length line → get_or line i 0 ≢ 32 → length (first_word (drop i line)) ≡ 1 + length (first_word (drop (i + 1) line))
-word-at-other line i h n =
-    let e : first_word (drop i line) ≡ get_or line i 0 ∷ first_word (drop (suc i) line) = rw (drop-cons line i 0 h) (word-other (get_or line i 0) (drop (suc i) line) n) in
-    rw (add-one i) (omega (arith, ap length e))
 
 -- ---- its end
 

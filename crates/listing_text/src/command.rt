@@ -15,6 +15,9 @@ pub enum Command {
     Unknown,
 }
 
+// Numbers are below 2^32.
+const LIMIT: u64 = 4294967296;
+
 // The end of the word that starts at a place.
 fn word_end(line: &[u8], at: usize) -> usize
     requires { at ≤ length line.now }
@@ -40,14 +43,17 @@ fn number_of(word: &[u8]) -> Option<u32>
     if word.is_empty() {
         return None;
     }
-    let mut value: u32 = 0;
+    let mut value: u64 = 0;
     for digit in word {
         if !digit.is_ascii_digit() {
             return None;
         }
-        value = value.checked_mul(10)?.checked_add((*digit - b'0') as u32)?;
+        value = 10 * value + u64::from(*digit - b'0');
+        if value >= LIMIT {
+            return None;
+        }
     }
-    Some(value)
+    Some(value as u32)
 }
 
 // How many numbers follow a word's end, if every word that follows is a number; otherwise 0.

@@ -12,18 +12,13 @@ loop-digit-init c = spelling-start c.args.word.now (search rules)
 pub returns-then-not-is_ascii_digit : goal.returns-then-not-is_ascii_digit
 returns-then-not-is_ascii_digit c = spelling-other c.loop-digit.invariant c.loop-digit-test.true (sym c.is_ascii_digit.ensures.value ∙ c.if-not-is_ascii_digit.true)
 
-pub returns-in_err-checked_mul : goal.returns-in_err-checked_mul
-returns-in_err-checked_mul c =
-    c.from_residual.ensures ∙ spelling-large c.loop-digit.invariant c.loop-digit-test.true (sym c.is_ascii_digit.ensures.value ∙ c.if-not-is_ascii_digit.false) (omega (arith, c.in_err-checked_mul.ensures))
-
-pub returns-in_err-value : goal.returns-in_err-value
-returns-in_err-value c =
-    c.from_residual-in_err-value.ensures ∙ spelling-large c.loop-digit.invariant c.loop-digit-test.true (sym c.is_ascii_digit.ensures.value ∙ c.if-not-is_ascii_digit.false) (omega (arith, c.in_ok-checked_mul.ensures, c.in_err-value.ensures))
+pub returns-then-value-ge-LIMIT : goal.returns-then-value-ge-LIMIT
+returns-then-value-ge-LIMIT c =
+    spelling-large c.loop-digit.invariant c.loop-digit-test.true (sym c.is_ascii_digit.ensures.value ∙ c.if-not-is_ascii_digit.false) (omega arith)
 
 pub loop-digit-preserved : goal.loop-digit-preserved
 loop-digit-preserved c =
-    spelling-turn c.loop-digit.invariant c.loop-digit-test.true (sym c.is_ascii_digit.ensures.value ∙ c.if-not-is_ascii_digit.false)
-    (omega (arith, c.in_ok-checked_mul.ensures, c.in_ok-value.ensures)) (omega (arith, c.in_ok-value.ensures))
+    spelling-turn c.loop-digit.invariant c.loop-digit-test.true (sym c.is_ascii_digit.ensures.value ∙ c.if-not-is_ascii_digit.false) (omega arith) (omega arith)
 
 pub returns : goal.returns
 returns c = spelling-end c.loop-digit.invariant c.loop-digit-test.false
