@@ -6,7 +6,8 @@
 ghost use Rattle.std.specs.Prelude.{◌≡◌, ◌≢◌, ◌+◌, ◌≤◌, ◌<◌, leb, length, replicate};
 ghost use Rattle.lists.specs.Lists.{over};
 ghost use Rattle.pool.specs.Chains.{chain, Linked};
-ghost use Rattle.book.specs.Book.{book_of, tables_of, is_booked, column_for, is_sound};
+ghost use Rattle.book.specs.Book.{book_of, is_booked, column_for, is_sound};
+ghost use Rattle.book.specs.Views.{book_viewed};
 ghost use Rattle.book.specs.Records.{HasChain, CanWrite, RowsWritten, Cleared};
 ghost use Rattle.book.specs.Walks.{CanWalk, ColumnWalked, CanReadThrough, ColumnsWalked};
 ghost use Rattle.book.specs.Entries.{opened, CanAdd, Added, CanRemove, Removed, CanCopy, HasHead, StartsAt};
@@ -44,86 +45,107 @@ pub fn open(heads: &mut [u32], rows: &mut [u16], next: &mut [u32]) -> Rec
 // The most rows that a column can have.
 const MOST: usize = 256;
 
-// Walks the chain of the head at place i, which is not 0, after met records: its rows must rise within 1 to m, and be at most MOST.
-fn walk_column(
-    heads: &[u32],
-    rows: &[u16],
-    next: &[u32],
-    i: usize,
-    met: usize,
-    m: u32,
-) -> Option<(usize, Rec)>
-    requires { CanWalk heads.now rows.now next.now i met }
-    ensures { ColumnWalked heads.now rows.now next.now i met m result }
-{
-    let mut r = heads[i];
-    let mut last: u32 = 0;
-    let mut above: u32 = 0;
-    let mut k: usize = 0;
-    while r != 0 {
-        let place = (r - 1) as usize;
-        let after = *next.get(place)?;
-        let row = rows[place] as u32;
-        if row <= above || m < row {
+impl BookView<'_> {
+    // Walks the chain of the head at place i, which is not 0, after met records: its rows must rise within 1 to m, and be at most MOST.
+    fn walk_column(self, i: usize, met: usize, m: u32) -> Option<(usize, Rec)>
+        requires { CanWalk self.heads.now self.rows.now self.next.now i met }
+        ensures { ColumnWalked self.entry.heads.now self.entry.rows.now self.entry.next.now i met m result }
+    {
+        let BookView { heads, rows, next } = self;
+        let mut r = heads[i];
+        let mut last: u32 = 0;
+        let mut above: u32 = 0;
+        let mut k: usize = 0;
+        while r != 0 {
+            let place = (r - 1) as usize;
+            let after = *next.get(place)?;
+            let row = rows[place] as u32;
+            if row <= above || m < row {
+                return None;
+            }
+            above = row;
+            last = r;
+            r = after;
+            k += 1;
+        }
+        if MOST < k || next.len() - met < k {
             return None;
         }
-        above = row;
-        last = r;
-        r = after;
-        k += 1;
+        Some((met + k, Rec(last)))
     }
-    if MOST < k || next.len() - met < k {
-        return None;
-    }
-    Some((met + k, Rec(last)))
-}
 
-// Walks the chains of all ids; the last record of each is named in scratch, names first, then the last records by id. Gives the number of records met.
-fn walk_columns(
-    heads: &[u32],
-    rows: &[u16],
-    next: &[u32],
-    scratch: &mut [u32],
-    m: u32,
-) -> Option<usize>
-    requires { CanReadThrough heads.now rows.now next.now scratch.old }
-    ensures { ColumnsWalked heads.now rows.now next.now scratch.new m result }
-{
-    let c = next.len();
-    let mut n: usize = 0;
-    for (i, head) in heads.iter().enumerate() {
-        let k = (i + 1) as u32;
-        if *head == 0 {
-            ends::name(scratch, c, 0, k, Rec(0));
-        } else {
-            let (met, last) = walk_column(heads, rows, next, i, n, m)?;
-            ends::name(scratch, c, 0, k, last);
-            n = met;
+    // Walks the chains of all ids; the last record of each is named in scratch, names first, then the last records by id. Gives the number of records met.
+    fn walk_columns(self, scratch: &mut [u32], m: u32) -> Option<usize>
+        requires { CanReadThrough self.heads.now self.rows.now self.next.now scratch.old }
+        ensures { ColumnsWalked self.entry.heads.now self.entry.rows.now self.entry.next.now scratch.new m result }
+    {
+        let c = self.next.len();
+        let mut n: usize = 0;
+        for (i, head) in self.heads.iter().enumerate() {
+            let k = (i + 1) as u32;
+            if *head == 0 {
+                ends::name(scratch, c, 0, k, Rec(0));
+            } else {
+                let (met, last) = self.walk_column(i, n, m)?;
+                ends::name(scratch, c, 0, k, last);
+                n = met;
+            }
         }
+        Some(n)
     }
-    Some(n)
-}
 
-// Whether the book is sound, for any contents. Scratch, a place for each record and each id, may hold anything.
-pub fn read_through(
-    heads: &[u32],
-    rows: &[u16],
-    next: &[u32],
-    scratch: &mut [u32],
-    free: Rec,
-    m: u32,
-) -> bool
-    requires { CanReadThrough heads.now rows.now next.now scratch.old }
-    ensures { result ≡ is_sound m (book_of heads.now rows.now next.now free.0) }
-{
-    let c = next.len();
-    let Some(n) = walk_columns(heads, rows, next, scratch, m) else {
-        return false;
-    };
-    let left = c - n;
-    ends::are_apart(scratch, c, 0, heads.len())
-        && free_chain::zeros(rows) == left
-        && free_chain::has(rows, next, scratch, free, left)
+    // Whether the book is sound, for any contents. Scratch, a place for each record and each id, may hold anything.
+    pub fn read_through(self, scratch: &mut [u32], free: Rec, m: u32) -> bool
+        requires { CanReadThrough self.heads.now self.rows.now self.next.now scratch.old }
+        ensures { result ≡ is_sound m (book_viewed self.entry free.0) }
+    {
+        let c = self.next.len();
+        let Some(n) = self.walk_columns(scratch, m) else {
+            return false;
+        };
+        let left = c - n;
+        ends::are_apart(scratch, c, 0, self.heads.len())
+            && free_chain::zeros(self.rows) == left
+            && free_chain::has(self.rows, self.next, scratch, free, left)
+    }
+
+    // Writes the rows of an id's column to the front of list, and gives their number.
+    pub fn copy_rows(self, list: &mut [u32], id: Id) -> u32
+        requires { CanCopy self.heads.now self.rows.now self.next.now id.0 (length list.old) }
+        ensures number { result ≡ length (column_for (book_viewed self.entry 0) id.0).rows }
+        ensures written { list.new ≡ over (column_for (book_viewed self.entry 0) id.0).rows list.old }
+    {
+        let mut r = self.heads[(id.0 - 1) as usize];
+        let mut n: u32 = 0;
+        while r != 0 {
+            let i = (r - 1) as usize;
+            list[n as usize] = self.rows[i] as u32;
+            r = self.next[i];
+            n += 1;
+        }
+        n
+    }
+
+    // Counts the rows of an id's column, one more in the counter of each. Gives how many counters left 0.
+    pub fn count_rows(self, counters: &mut [u32], id: Id) -> u32
+        requires { CanCount self.heads.now self.rows.now self.next.now counters.old id.0 }
+        ensures counted { counters.new ≡ tallied counters.old (booked_rows self.entry.heads.now self.entry.rows.now self.entry.next.now id.0) }
+        ensures raised { result + filled counters.old ≡ filled counters.new }
+    {
+        let mut size: u32 = 0;
+        let mut r = self.heads[(id.0 - 1) as usize];
+        while r != 0 {
+            let i = (r - 1) as usize;
+            let c = (self.rows[i] - 1) as usize;
+            let v = counters[c];
+            counters[c] = v + 1;
+            if v == 0 {
+                size += 1;
+            }
+            r = self.next[i];
+        }
+        size
+    }
 }
 
 // Whether k more rows fit into the free records.
@@ -151,44 +173,6 @@ pub fn smallest_row(heads: &[u32], rows: &[u16], id: Id) -> Row
         0 => Row(0),
         r => Row(rows[(r - 1) as usize] as u32),
     }
-}
-
-// Writes the rows of an id's column to the front of list, and gives their number.
-pub fn copy_rows(heads: &[u32], rows: &[u16], next: &[u32], list: &mut [u32], id: Id) -> u32
-    requires { CanCopy heads.now rows.now next.now id.0 (length list.old) }
-    ensures number { result ≡ length (column_for (tables_of heads.now rows.now next.now) id.0).rows }
-    ensures written { list.new ≡ over (column_for (tables_of heads.now rows.now next.now) id.0).rows list.old }
-{
-    let mut r = heads[(id.0 - 1) as usize];
-    let mut n: u32 = 0;
-    while r != 0 {
-        let i = (r - 1) as usize;
-        list[n as usize] = rows[i] as u32;
-        r = next[i];
-        n += 1;
-    }
-    n
-}
-
-// Counts the rows of an id's column, one more in the counter of each. Gives how many counters left 0.
-pub fn count_rows(heads: &[u32], rows: &[u16], next: &[u32], counters: &mut [u32], id: Id) -> u32
-    requires { CanCount heads.now rows.now next.now counters.old id.0 }
-    ensures counted { counters.new ≡ tallied counters.old (booked_rows heads.now rows.now next.now id.0) }
-    ensures raised { result + filled counters.old ≡ filled counters.new }
-{
-    let mut size: u32 = 0;
-    let mut r = heads[(id.0 - 1) as usize];
-    while r != 0 {
-        let i = (r - 1) as usize;
-        let c = (rows[i] - 1) as usize;
-        let v = counters[c];
-        counters[c] = v + 1;
-        if v == 0 {
-            size += 1;
-        }
-        r = next[i];
-    }
-    size
 }
 
 // Writes the rows of list along the chain from head, and gives the last record written.

@@ -96,8 +96,8 @@ pub fn plan_enter(
     starts: &[u32],
     free: Rec,
 ) -> Plan
-    requires { SomeEnter (columns_viewed columns free.0) (book_viewed book) starts.now ids.now work.old }
-    ensures { (R W : List Column) → CanEnter (columns_viewed columns.entry free.0) (book_viewed book.entry) starts.now ids.now work.old R W → AddPlanned (columns_viewed columns.entry free.0) R W work.old work.new result.fits result.first.0 result.count result.entries result.used }
+    requires { SomeEnter (columns_viewed columns free.0) (book_viewed book 0) starts.now ids.now work.old }
+    ensures { (R W : List Column) → CanEnter (columns_viewed columns.entry free.0) (book_viewed book.entry 0) starts.now ids.now work.old R W → AddPlanned (columns_viewed columns.entry free.0) R W work.old work.new result.fits result.first.0 result.count result.entries result.used }
 {
     let m = columns.heads.len();
     let flags = PLAN * m + RECORD_PLACES * columns.next.len();
@@ -114,8 +114,8 @@ pub fn plan_remove(
     ids: &[u32],
     starts: &[u32],
 ) -> Plan
-    requires { SomeRemove (columns_viewed columns 0) (book_viewed book) starts.now ids.now work.old }
-    ensures { (R W : List Column) → CanRemove (columns_viewed columns.entry 0) (book_viewed book.entry) starts.now ids.now work.old R W → RemovePlanned (columns_viewed columns.entry 0) R W work.old work.new result.fits result.first.0 result.count result.entries result.used }
+    requires { SomeRemove (columns_viewed columns 0) (book_viewed book 0) starts.now ids.now work.old }
+    ensures { (R W : List Column) → CanRemove (columns_viewed columns.entry 0) (book_viewed book.entry 0) starts.now ids.now work.old R W → RemovePlanned (columns_viewed columns.entry 0) R W work.old work.new result.fits result.first.0 result.count result.entries result.used }
 {
     let m = columns.heads.len();
     let flags = PLAN * m + RECORD_PLACES * columns.next.len();

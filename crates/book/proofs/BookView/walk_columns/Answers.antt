@@ -1,7 +1,7 @@
 use Rattle.std.proofs.Common.{arith}
 use Rattle.book.proofs.Through.{naming, last-few, through-start, through-none, through-next, through-cut}
-use Rattle.book.proofs.walk_columns.Goals as goal
-use Rattle.book.proofs.walk_columns.Goals.{then-head-eq0, else-head-eq0+in_ok-met}
+use Rattle.book.proofs.BookView.walk_columns.Goals as goal
+use Rattle.book.proofs.BookView.walk_columns.Goals.{then-head-eq0, else-head-eq0+in_ok-met}
 
 pub loop-i-init : goal.loop-i-init
 loop-i-init c = through-start

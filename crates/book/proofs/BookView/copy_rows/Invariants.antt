@@ -2,10 +2,10 @@
 use Rattle.std.proofs.Common.{◌-◌, length}
 use Rattle.pool.specs.Chains.{chain}
 use Rattle.book.proofs.Copying.{Copying}
-use Rattle.book.proofs.copy_rows.Given as goal
+use Rattle.book.proofs.BookView.copy_rows.Given as goal
 
 abbrev pub invariant-loop-r : goal.invariant-loop-r
-invariant-loop-r l = Copying l.rows l.next l.fn.list l.initial.r l.list l.r l.n
+invariant-loop-r l = Copying l.self.rows.now l.self.next.now l.fn.list l.initial.r l.list l.r l.n
 
 abbrev pub decreases-loop-r : goal.decreases-loop-r
-decreases-loop-r l = length (chain l.next l.initial.r) - l.n
+decreases-loop-r l = length (chain l.self.next.now l.initial.r) - l.n

@@ -1,8 +1,8 @@
 use Rattle.std.proofs.Common.{refl, sym, ◌∙◌}
 use borrow.Author.Tests.{eqb-true, eqb-false}
 use Rattle.book.proofs.Reading.{reading-shared, reading-zeros, reading-free}
-use Rattle.book.proofs.read_through.Goals as goal
-use Rattle.book.proofs.read_through.Goals.{then-are_apart, else-are_apart}
+use Rattle.book.proofs.BookView.read_through.Goals as goal
+use Rattle.book.proofs.BookView.read_through.Goals.{then-are_apart, else-are_apart}
 
 pub returns-then-zeros-left : goal.returns-then-zeros-left
 returns-then-zeros-left c =

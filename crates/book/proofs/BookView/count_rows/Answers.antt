@@ -1,13 +1,13 @@
 use Rattle.std.proofs.Common.{arith, inl, inr}
 use Rattle.book.proofs.Counting.{counting-start, counting-facts, counting_more, counting-less, counting-end}
-use Rattle.book.proofs.count_rows.Goals as goal
-use Rattle.book.proofs.count_rows.Goals.{then-v-eq0, else-v-eq0}
+use Rattle.book.proofs.BookView.count_rows.Goals as goal
+use Rattle.book.proofs.BookView.count_rows.Goals.{then-v-eq0, else-v-eq0}
 
 pub loop-r-init : goal.loop-r-init
 loop-r-init c = counting-start c.requires
 
-pub bounds-rows-i : goal.bounds-rows-i
-bounds-rows-i c = let f = counting-facts c.requires c.loop-r.invariant c.loop-r-test.true in omega arith
+pub bounds-self-i : goal.bounds-self-i
+bounds-self-i c = let f = counting-facts c.requires c.loop-r.invariant c.loop-r-test.true in omega arith
 
 pub overflow_sub-c : goal.overflow_sub-c
 overflow_sub-c c = let f = counting-facts c.requires c.loop-r.invariant c.loop-r-test.true in omega arith
@@ -24,8 +24,8 @@ bounds-counters-c-in-loop-r c = let f = counting-facts c.requires c.loop-r.invar
 pub overflow_add-size : goal.overflow_add-size
 overflow_add-size c = let f = counting-facts c.requires c.loop-r.invariant c.loop-r-test.true in omega arith
 
-pub bounds-next-i : goal.bounds-next-i
-bounds-next-i c = let f = counting-facts c.requires c.loop-r.invariant c.loop-r-test.true in omega arith
+pub bounds-self-i-in-loop-r : goal.bounds-self-i-in-loop-r
+bounds-self-i-in-loop-r c = let f = counting-facts c.requires c.loop-r.invariant c.loop-r-test.true in omega arith
 
 pub loop-r-smaller : goal.loop-r-smaller
 loop-r-smaller c = counting-less c.requires c.loop-r.invariant c.loop-r-test.true
