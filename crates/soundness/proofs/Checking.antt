@@ -26,7 +26,7 @@ use Rattle.book.specs.Tally.{filled}
 use Rattle.counting.specs.Counting.{OnlyTwo}
 use Rattle.counting.proofs.Linking.{two-refl}
 use Rattle.soundness.specs.Fitting.{entry_fits, passes, struck, fits}
-use Rattle.soundness.specs.Checking.{CanCheckEntry, EntryChecked, CanCheck, chain_fits, Checked}
+use Rattle.soundness.specs.Checking.{EntryChecked, CanCheck, chain_fits, Checked}
 use Rattle.soundness.proofs.Fitting.{struck-more, passes-next, passes-not, Entry, entry_of, of_entry, passes-filled, fits-filled, filled-fits}
 
 -- ---- a chain that fits, and the ways in which one does not
@@ -145,9 +145,6 @@ module _ {rows counts next w₀ : List ℕ} {m met size head : ℕ} (pre : CanCh
       }
 
   module _ {w : List ℕ} {r last before k : ℕ} (i : Checking rows counts next w₀ m met head w r last before k) where
-    pub checking-length : length w ≡ length w₀
-    checking-length = i.only.same_length
-
     w-long : 8 * m + 2 * length next ≤ length w
     w-long = omega (arith, pre.long, i.only.same_length)
 
@@ -190,9 +187,6 @@ module _ {rows counts next w₀ : List ℕ} {m met size head : ℕ} (pre : CanCh
 
         abbrev place : ℕ
         place = 8 * m + length next + met + k
-
-        pub checking-can : CanCheckEntry w m (8 * m + length next + met + k)
-        checking-can = record { before = omega arith; inside = checking-facts.inside }
 
         module _ {x : List ℕ} {b : Bool} (checked : EntryChecked w x m (8 * m + length next + met + k) before (at rows r) (at counts r) b) where
           -- the entry fits the table's front exactly if it fits the counters

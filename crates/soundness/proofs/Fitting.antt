@@ -11,7 +11,7 @@ use lib.Dec.{ltb, leb, eqb}
 use lib.ListN.{length, get_or, set}
 use borrow.Author.Tests.{lt-ltb, ltb-true, le-leb, leb-true, eq-eqb, ne_eqb, eqb-true, eqb-false, not-true}
 use Rattle.lists.specs.Lists.{at, put, values_at, same, sum_of}
-use Rattle.lists.proofs.Tests.{eq-or-ne, lt-or-le, and_both, both-and, both_ways, refute}
+use Rattle.lists.proofs.Tests.{eq-or-ne, lt-or-le, and_both, both-and, both_ways}
 use Rattle.lists.proofs.Member.{same-eq, eq-same}
 use Rattle.lists.proofs.Place.{put-length, at-put-same, at-put-other}
 use Rattle.symbolic.specs.Factor.{pattern_from, non_zero}
@@ -19,7 +19,6 @@ use Rattle.book.specs.Tally.{filled}
 use Rattle.book.proofs.Tally.{filled-lower, filled_zero, filled_none}
 use Rattle.counting.specs.Counting.{total}
 use Rattle.soundness.specs.Fitting.{entry_fits, passes, struck, fits}
-use Rattle.soundness.specs.Checking.{EntryChecked}
 use Rattle.counting.proofs.Tallies.{total-place, filled-total}
 
 -- ---- record after record
@@ -67,31 +66,6 @@ pub of_entry : (m : ℕ) (ns : List ℕ) (z x v : ℕ) → Entry m ns z x v → 
 of_entry m ns z x v e =
     let n : not (eqb v 0) ≡ true = ap not (ne_eqb v 0 e.some) in
     both-and (lt-ltb z x e.above) (both-and (le-leb x m e.within) (both-and n (eq-eqb (at ns x) v e.counter)))
-
--- ---- the contract of one entry: the four ways in which it does not fit, and that it does
-
-module _ {w : List ℕ} {m p z x v : ℕ} where
-  entry-refused : (Entry m w z x v → ⊥) → EntryChecked w w m p z x v false
-  entry-refused f =
-      let e : entry_fits m w z x v ≡ false = refute (entry_fits m w z x v) (λ t. f (entry_of m w z x v t)) in
-      record { answer = sym e; changed = rw e refl }
-
-  pub entry-low : x ≤ z → EntryChecked w w m p z x v false
-  entry-low h = entry-refused (λ e. omega (arith, e.above))
-
-  pub entry-high : m < x → EntryChecked w w m p z x v false
-  entry-high h = entry-refused (λ e. omega (arith, e.within))
-
-  pub entry-none : v ≡ 0 → EntryChecked w w m p z x v false
-  entry-none h = entry-refused (λ e. e.some h)
-
-  pub entry_other : at w x ≢ v → EntryChecked w w m p z x v false
-  entry_other h = entry-refused (λ e. h e.counter)
-
-  pub entry-taken : z < x → x ≤ m → v ≢ 0 → at w x ≡ v → EntryChecked w (set (set w (x - 1) 0) p x) m p z x v true
-  entry-taken a b d c =
-      let e : entry_fits m w z x v ≡ true = of_entry m w z x v (record { above = a; within = b; some = d; counter = c }) in
-      record { answer = sym e; changed = rw e refl }
 
 -- ---- the pattern and the first counter that is not 0
 

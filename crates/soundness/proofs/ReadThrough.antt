@@ -1,8 +1,7 @@
--- The end of the pass. What is asked of the records that the columns do not have, test by test (free-rows, free-pairs, free_all). After the last column: every
--- chain ends and every column holds, so rows are from 1 on in their records (rowed), and the tables are sound exactly if the pool is closed and free records
--- have multiplicity 0 (sound-closed, closed-sound). Then the answers (last-shared, last-answer), with what of the work table stays. Assumes nothing.
+-- The end of the pass. After the last column every chain ends and every column holds, so rows are from 1 on in their records (rowed), and the tables are sound
+-- exactly if the pool is closed and free records have multiplicity 0 (sound-closed, closed-sound). Then the answers (last-shared, last-answer), with what of
+-- the work table stays. Assumes nothing.
 use mathlib.Core.Path.{◌≡◌, sym, ap, subst, ◌∙◌}
-use mathlib.Core.Logic.{◌≢◌}
 use mathlib.Core.Bool.{Bool, true, false, false≢true}
 use mathlib.Core.List.{List}
 use Prim.Native.Nat.{ℕ, suc, ◌+◌, ◌*◌, ◌-◌, ◌≤◌, ◌<◌}
@@ -10,15 +9,14 @@ use native.Mathlib.Omega.{arith}
 use Rattle.std.specs.Prelude.{Option, Some}
 use lib.ListN.{length, get_or, take}
 use lib.Seq.{take_all}
-use borrow.Rule.Slice.PartMut.{put_mid}
 use Rattle.lists.specs.Lists.{Mem, at, times, values_at, all_zero, Decides}
-use Rattle.lists.proofs.Tests.{and_both, both-and, both_ways, refute, decides-no}
+use Rattle.lists.proofs.Tests.{and_both, both-and, both_ways, refute}
 use Rattle.lists.proofs.Times.{times-mem}
 use Rattle.lists.proofs.Place.{values-mem}
 use Rattle.lists.proofs.Rising.{rises-in}
 use Rattle.workspace.specs.Layout.{lasts_at, names_at, pieces_at}
 use Rattle.workspace.specs.Regions.{region, OnlyIn}
-use Rattle.workspace.proofs.Regions.{region-length, only_wider, only-trans}
+use Rattle.workspace.proofs.Regions.{only_wider, only-trans}
 use Rattle.symbolic.specs.Factor.{FactorColumn, factor_of, column_at}
 use Rattle.symbolic.proofs.Patterns.{pattern-within-rows}
 use Rattle.pool.specs.Chains.{chain}
@@ -29,41 +27,13 @@ use Rattle.pool.proofs.Whole.{whole-pool}
 use Rattle.pool.proofs.Apart.{chains-find}
 use Rattle.pool.proofs.Closed.{Rowed, closed-whole, whole-closed, zero-pairs, zero-pairs-back}
 use Rattle.ends.specs.Naming.{Named, CanCompare}
-use Rattle.free_chain.specs.Pieces.{OnePool}
 use Rattle.book.specs.Book as book
 use Rattle.tables.specs.Stored.{Stored, records_of, holds_from, is_sound_for}
-use Rattle.counting.proofs.Parts.{part-only}
 use Rattle.soundness.specs.Checking.{CanReadFree, FreeRead}
 use Rattle.soundness.specs.State.{live_in, walked, State, SomeState, ColumnsRead, Prepared, SomePrepared, FactorRead}
 use Rattle.soundness.proofs.Ready.{HeldColumn, held}
 use Rattle.soundness.proofs.Columns.{first-state}
 use Rattle.soundness.proofs.Column.{holds-make, SoundParts, sound-parts}
-
--- ---- the records that the columns do not have
-
-module _ {rows counts next : List ℕ} {free k : ℕ} where
-  pub free-rows : {z : ℕ} → z ≡ times 0 rows → z ≢ k → Decides (FreeRead rows counts next free k) false
-  free-rows e d = decides-no (λ r. d (e ∙ r.rows-zero))
-
-  pub free-pairs : {z : ℕ} → z ≡ zero_pairs rows counts → z ≢ k → Decides (FreeRead rows counts next free k) false
-  free-pairs e d = decides-no (λ r. d (e ∙ r.both_zero))
-
-  pub free_all : {y z : ℕ} {a : Bool} → y ≡ times 0 rows → y ≡ k → z ≡ zero_pairs rows counts → z ≡ k → Decides (FreeHas rows next free k) a → Decides (FreeRead rows counts next free k) a
-  free_all e p f q d =
-      record {
-        yes = λ t. record { rows-zero = sym e ∙ p; both_zero = sym f ∙ q; has = d.yes t };
-        no = λ r. d.no r.has;
-      }
-
-module _ {rows counts next w : List ℕ} {m : ℕ} (pre : CanReadFree rows counts next w m) where
-  pub free-can : OnePool rows next
-  free-can = record { same_size = pre.rows_long; small = omega (arith, pre.f-bound) }
-
-  pub free-only : (a e : ℕ) → a ≡ 8 * m + 2 * length next → e ≡ a + 2 * length next → (ms : List ℕ) → length ms ≡ length (region w a (e - a)) →
-      OnlyIn (pieces_at m (length next)) (2 * length next) w (put_mid a (e - a) w ms)
-  free-only a e p q ms kept =
-      only_wider (pieces_at m (length next)) (2 * length next) (omega arith) (omega arith)
-      (part-only w ms a e (omega arith) (omega (arith, pre.long)) (kept ∙ region-length w a (e - a) (omega (arith, pre.long))))
 
 -- ---- after the last column
 

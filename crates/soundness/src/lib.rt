@@ -28,22 +28,11 @@ fn check_entry(work: &mut [u32], m: usize, p: usize, before: Row, row: Row, coun
     requires { CanCheckEntry work.old m p }
     ensures { EntryChecked work.old work.new m p before.0 row.0 count result }
 {
-    let low = before.0;
     let x = row.0;
-    if x <= low {
+    if x <= before.0 || m < x as usize || count == 0 || work[(x - 1) as usize] != count {
         return false;
     }
-    if m < x as usize {
-        return false;
-    }
-    if count == 0 {
-        return false;
-    }
-    let i = (x - 1) as usize;
-    if work[i] != count {
-        return false;
-    }
-    work[i] = 0;
+    work[(x - 1) as usize] = 0;
     work[p] = x;
     true
 }
@@ -70,12 +59,8 @@ fn check_chain(
     let mut r = head.0;
     let mut last: u32 = 0;
     let mut before: u32 = 0;
-    let mut k: usize = 0;
-    while k < size {
-        if r == 0 {
-            return None;
-        }
-        if next.len() < r as usize {
+    for k in 0..size {
+        if r == 0 || next.len() < r as usize {
             return None;
         }
         let i = (r - 1) as usize;
@@ -87,7 +72,6 @@ fn check_chain(
         before = row;
         last = r;
         r = next[i];
-        k += 1;
     }
     if r != 0 {
         return None;
@@ -100,11 +84,7 @@ fn second(work: &[u32], a: usize, e: usize) -> Row
     requires { (a ≤ e) × (e ≤ length work.now) }
     ensures { result.0 ≡ get_or (region work.now a (e - a)) 1 0 }
 {
-    if a + 1 < e {
-        let row = work[a + 1];
-        return Row(row);
-    }
-    Row(0)
+    Row(work[a..e].get(1).copied().unwrap_or(0))
 }
 
 // Reads column j of L, after met records: its chain must hold what the definition gives, and its parent be the second row or 0. Links it to its parent,
@@ -136,8 +116,7 @@ fn read_column(
     let (n, last) = check_chain(rows, counts, next, work, m, met, size, Rec(head))?;
     let stash = 8 * m + f;
     let up = second(work, stash + met, stash + n);
-    let parent = up.0;
-    if parents[i] as u32 != parent {
+    if parents[i] as u32 != up.0 {
         return None;
     }
     counting::link(work, m, 2 * m, up, column);
@@ -165,7 +144,6 @@ fn read_columns(
 {
     let mut n: usize = 0;
     for i in 0..heads.len() {
-        let j = (i + 1) as u32;
         n = read_column(
             heads,
             parents,
@@ -178,7 +156,7 @@ fn read_columns(
             work,
             free,
             book_free,
-            Row(j),
+            Row((i + 1) as u32),
             n,
         )?;
     }
