@@ -24,11 +24,7 @@ fn larger(next: &[u32], head: Rec, size: u32) -> u32
     requires { CanCount next.now head.0 }
     ensures { result ≡ max size (length (chain next.now head.0)) }
 {
-    let n = pool::count(next, head, LONGEST);
-    if n < size {
-        return size;
-    }
-    n
+    size.max(pool::count(next, head, LONGEST))
 }
 
 // Writes the columns on the paths, rising, each with label 0, and gives their number and the entries. It asks for tables that hold what is reported, so no report
@@ -46,23 +42,19 @@ pub fn report(
     let m = heads.len();
     let f = next.len();
     let a = PLAN * m + f + 2 * f;
-    let mut j: usize = 0;
     let mut t: usize = 0;
     let mut entries: u32 = 0;
-    while j < m {
+    for (j, &head) in heads.iter().enumerate() {
         let x = work[a + j] / UPPER_WEIGHT;
         if x != 0 {
-            entries = entries + larger(next, Rec(heads[j]), x - 1);
+            entries += larger(next, Rec(head), x - 1);
             touched[t] = (j + 1) as u16;
             labels[t] = 0;
             t += 1;
-            j += 1;
-        } else {
-            j += 1;
         }
     }
     Summary {
         count: t as u32,
-        entries: entries,
+        entries,
     }
 }
