@@ -137,8 +137,7 @@ pub fn add(
     requires { Served sizes.m sizes.n }
     ensures { result.touched ≤ 64 }
 {
-    let number = refusals::of_record(sizes);
-    if number != 0 {
+    if let Some(number) = refusals::of_later_call(sizes) {
         return refused(number, 0);
     }
     let count = ids.len();

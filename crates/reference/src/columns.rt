@@ -1,6 +1,6 @@
 // The columns of A: which ids are booked, and which rows each holds. A mark is 1 for yes and 0 for no; the rows of an id that is not booked mean nothing.
 // What reads columns is lent the marks of those that it is to look at: the live ones, or all that are booked.
-ghost use Rattle.std.specs.Prelude.{◌*◌, ◌≤◌, ◌<◌};
+ghost use Rattle.std.specs.Prelude.{◌≤◌, ◌<◌};
 ghost use Rattle.reference.specs.Ranges.{IsRow, IsId, Served};
 
 use crate::{Booked, Holds, Live};

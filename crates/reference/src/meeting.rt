@@ -1,7 +1,7 @@
 // Questions about rows, of a pattern that `fills` wrote for the live columns: the columns whose pattern holds a row, and the smallest row on the paths of all
 // of some rows. Every column is looked at, and every row from 1 on, each path anew. 1 to 4 and 6 by the record, 7 for no row or more than 64, 17 for a row
 // outside 1 to m, 18 where the list ends before the answer does.
-ghost use Rattle.std.specs.Prelude.{◌≤◌, length};
+ghost use Rattle.std.specs.Prelude.{◌≤◌};
 ghost use Rattle.reference.specs.Ranges.{IsRow, Served};
 
 use crate::columns::wide;
@@ -82,8 +82,7 @@ fn names_outside(row_list: &[u32], m: usize) -> bool {
 pub fn common(pattern: &Square, row_list: &[u32], sizes: Sizes) -> Reply
     requires { Served sizes.m sizes.n }
 {
-    let number = refusals::of_record(sizes);
-    if number != 0 {
+    if let Some(number) = refusals::of_later_call(sizes) {
         return refused(number);
     }
     if is_outside(row_list.len(), 1, 64) {

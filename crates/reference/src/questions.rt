@@ -1,6 +1,6 @@
 // The questions, of a pattern that `fills` wrote for the live columns: 1 to 4 and 6 by the record, 17 for a row or column outside 1 to m, 18 where the
 // list ends before the answer does.
-ghost use Rattle.std.specs.Prelude.{◌≡◌, ◌≤◌, length};
+ghost use Rattle.std.specs.Prelude.{◌≡◌, ◌≤◌};
 ghost use Rattle.reference.specs.Ranges.{IsRow, Served};
 
 use crate::refusals::exceeds;

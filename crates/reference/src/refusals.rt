@@ -1,5 +1,5 @@
-// Where a call is turned down, in the order of the table: the first number whose condition holds, 0 if none does.
-ghost use Rattle.std.specs.Prelude.{◌+◌, ◌≤◌, ◌<◌, ◌↔◌, IsFalse, IsNone, length};
+// Where a call is turned down, in the order of the table: the first number whose condition holds, if one does. What other crates are given is 0 for none.
+ghost use Rattle.std.specs.Prelude.{◌+◌, ◌≤◌, ◌↔◌, IsFalse, IsNone};
 ghost use Rattle.reference.specs.Ranges.{Served, InStep};
 
 use crate::columns::wide;
@@ -39,8 +39,8 @@ fn keep_rule(limits: Limits) -> bool {
 }
 
 // 1 to 4, then a number for limits that break the rule.
-fn of_call(sizes: Sizes, unruly: usize) -> Option<usize> {
-    of_sizes(sizes).or((!keep_rule(sizes.limits)).then_some(unruly))
+fn of_call(sizes: Sizes, number: usize) -> Option<usize> {
+    of_sizes(sizes).or((!keep_rule(sizes.limits)).then_some(number))
 }
 
 // 1 to 4, then 20 of an opening: limits that break the rule.
@@ -49,15 +49,20 @@ pub fn of_opening(sizes: Sizes) -> usize {
 }
 
 // 1 to 4, then 6 of every later call: such limits are unsound. The columns always are sound.
-pub fn of_record(sizes: Sizes) -> usize {
-    of_call(sizes, 6).unwrap_or(0)
+pub(crate) fn of_later_call(sizes: Sizes) -> Option<usize> {
+    of_call(sizes, 6)
 }
 
-// The same of a question about a row or column, then 17: it is outside 1 to m.
+// The same, 0 for none.
+pub fn of_record(sizes: Sizes) -> usize {
+    of_later_call(sizes).unwrap_or(0)
+}
+
+// The numbers of every later call, then 17 of a question about a row or column: it is outside 1 to m.
 pub(crate) fn of_row(sizes: Sizes, j: usize) -> Option<usize>
     ensures { IsNone result → (1 ≤ j) × (j ≤ sizes.m) }
 {
-    of_call(sizes, 6).or(is_outside(j, 1, sizes.m).then_some(17))
+    of_later_call(sizes).or(is_outside(j, 1, sizes.m).then_some(17))
 }
 
 // ---- each column, by position
@@ -98,6 +103,10 @@ fn of_rows(rows: &[u32], m: usize) -> Option<usize> {
 
 // ---- whole batches
 
+fn refusal(number: usize, position: usize) -> Refusal {
+    Refusal { number, position }
+}
+
 // 8 to 14 and 21 of the columns of an addition whose lists keep step, and 12 for rows left over.
 fn of_columns(
     booked: &Booked,
@@ -113,36 +122,22 @@ fn of_columns(
 {
     let mut left = rows;
     for (t, id) in ids.iter().enumerate() {
-        let position = t + 1;
         if let Some(number) = of_id(booked, &ids[..t], *id, n, true) {
-            return Some(Refusal { number, position });
+            return Some(refusal(number, t + 1));
         }
         let count = wide(counts[t]);
         if is_outside(count, 1, left.len().min(256)) {
-            return Some(Refusal {
-                number: 12,
-                position,
-            });
+            return Some(refusal(12, t + 1));
         }
         if let Some(number) = of_rows(&left[..count], m) {
-            return Some(Refusal { number, position });
+            return Some(refusal(number, t + 1));
         }
         if !windows::is_window(firsts[t], seconds[t]) {
-            return Some(Refusal {
-                number: 21,
-                position,
-            });
+            return Some(refusal(21, t + 1));
         }
         left = &left[count..];
     }
-    if left.is_empty() {
-        None
-    } else {
-        Some(Refusal {
-            number: 12,
-            position: 0,
-        })
-    }
+    (!left.is_empty()).then_some(refusal(12, 0))
 }
 
 // 8 to 15 and 21 of an addition whose lists keep step.
@@ -158,21 +153,14 @@ pub fn of_addition(
 ) -> Refusal
     requires { Served sizes.m sizes.n × InStep ids.now counts.now firsts.now seconds.now }
 {
-    if let Some(refusal) = of_columns(
-        booked, ids, counts, rows, firsts, seconds, sizes.m, sizes.n,
-    ) {
-        return refusal;
+    if let Some(first) = of_columns(booked, ids, counts, rows, firsts, seconds, sizes.m, sizes.n) {
+        return first;
     }
     let stored = columns::book_rows(holds, booked, sizes.m, sizes.n);
-    let number = if exceeds(sizes.c, stored, rows.len()) {
-        15
-    } else {
-        0
-    };
-    Refusal {
-        number,
-        position: 0,
+    if exceeds(sizes.c, stored, rows.len()) {
+        return refusal(15, 0);
     }
+    refusal(0, 0)
 }
 
 // 8 to 11 of a removal.
@@ -181,14 +169,8 @@ pub fn of_removal(booked: &Booked, ids: &[u32], n: usize) -> Refusal
 {
     for (t, id) in ids.iter().enumerate() {
         if let Some(number) = of_id(booked, &ids[..t], *id, n, false) {
-            return Refusal {
-                number,
-                position: t + 1,
-            };
+            return refusal(number, t + 1);
         }
     }
-    Refusal {
-        number: 0,
-        position: 0,
-    }
+    refusal(0, 0)
 }

@@ -46,8 +46,7 @@ pub fn remove(
     requires { Served sizes.m sizes.n }
     ensures { result.touched ≤ 64 }
 {
-    let number = refusals::of_record(sizes);
-    if number != 0 {
+    if let Some(number) = refusals::of_later_call(sizes) {
         return refused(number, 0);
     }
     if refusals::is_outside(ids.len(), 1, 64) {

@@ -1,8 +1,8 @@
 // The tree and the multiplicities of a pattern, by the words of the definition.
-ghost use Rattle.std.specs.Prelude.{◌≡◌, ◌+◌, ◌≤◌, IfSome};
+ghost use Rattle.std.specs.Prelude.{◌≡◌, ◌≤◌, IfSome};
 ghost use Rattle.std.specs.Iterator.{at_most};
 ghost use Rattle.std.specs.Option.{ForSome};
-ghost use Rattle.reference.specs.Ranges.{IsRow, IsId, Served};
+ghost use Rattle.reference.specs.Ranges.{IsRow, Served};
 
 use crate::columns::one;
 use crate::{Holds, Live, Sizes, Square, columns, pattern};
@@ -36,7 +36,7 @@ pub(crate) struct PathRows<'a> {
     ghost row_served: { ForSome row IsRow },
 }
 
-impl<'a> Iterator for PathRows<'a> {
+impl Iterator for PathRows<'_> {
     type Item = usize;
 
     ghost next_gives = { λ _ row _. IfSome row IsRow };
