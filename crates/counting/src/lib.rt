@@ -27,7 +27,7 @@ ghost use Rattle.counting.specs.Given.{
   CanTallyAll,
 };
 
-use book::{Id, Row};
+use book::{BookView, Id, Row};
 
 // Puts number i, an id or a column, at the front of the list of row v, heads from place a on and nexts from place b on; row 0 has no list.
 pub fn link(work: &mut [u32], a: usize, b: usize, row: Row, i: u32)
@@ -116,24 +116,16 @@ fn tally_children(work: &mut [u32], m: usize, f: usize, j: Row) -> u32
 }
 
 // Counts the rows of each book column that is listed at row j. Gives how many counters left 0.
-fn tally_columns(
-    book_heads: &[u32],
-    book_rows: &[u16],
-    book_next: &[u32],
-    work: &mut [u32],
-    m: usize,
-    f: usize,
-    j: Row,
-) -> u32
-    requires { CanTallyColumns book_heads.now book_rows.now book_next.now work.old m f j.0 }
-    ensures { Counted m work.old work.new (gathered (booked_rows book_heads.now book_rows.now book_next.now) (starting_in work.old m f (length book_heads.now) (length book_next.now) j.0)) result }
+fn tally_columns(book: BookView, work: &mut [u32], m: usize, f: usize, j: Row) -> u32
+    requires { CanTallyColumns book.heads.now book.rows.now book.next.now work.old m f j.0 }
+    ensures { Counted m work.old work.new (gathered (booked_rows book.entry.heads.now book.entry.rows.now book.entry.next.now) (starting_in work.old m f (length book.entry.heads.now) (length book.entry.next.now) j.0)) result }
 {
     let column = j.0;
-    let nexts = 8 * m + 4 * f + 1024 + book_next.len();
+    let nexts = 8 * m + 4 * f + 1024 + book.next.len();
     let mut size: u32 = 0;
     let mut i = work[3 * m + (column - 1) as usize];
     while i != 0 {
-        let more = book::count_rows(book_heads, book_rows, book_next, work, Id(i));
+        let more = book.count_rows(work, Id(i));
         size += more;
         i = work[nexts + (i - 1) as usize];
     }
@@ -142,21 +134,13 @@ fn tally_columns(
 
 // Counts all that the definition gives for column j: 1 on the diagonal, its children's rows, the rows of the columns that start there.
 // Gives how many counters are not 0 then.
-pub fn tally_all(
-    book_heads: &[u32],
-    book_rows: &[u16],
-    book_next: &[u32],
-    work: &mut [u32],
-    m: usize,
-    f: usize,
-    j: Row,
-) -> u32
-    requires { CanTallyAll book_heads.now book_rows.now book_next.now work.old m f j.0 }
-    ensures { Counted m work.old work.new (given_in book_heads.now book_rows.now book_next.now work.old m f j.0) result }
+pub fn tally_all(book: BookView, work: &mut [u32], m: usize, f: usize, j: Row) -> u32
+    requires { CanTallyAll book.heads.now book.rows.now book.next.now work.old m f j.0 }
+    ensures { Counted m work.old work.new (given_in book.entry.heads.now book.entry.rows.now book.entry.next.now work.old m f j.0) result }
 {
     let column = j.0;
     work[(column - 1) as usize] = 1;
     let children = tally_children(work, m, f, j);
-    let columns = tally_columns(book_heads, book_rows, book_next, work, m, f, j);
+    let columns = tally_columns(book, work, m, f, j);
     1 + children + columns
 }

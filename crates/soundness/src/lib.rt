@@ -5,10 +5,10 @@
 
 ghost use Rattle.std.specs.Prelude.{◌≡◌, ◌+◌, ◌*◌, ◌-◌, ◌≤◌, length, get_or};
 ghost use Rattle.lists.specs.Lists.{Decides};
-ghost use Rattle.tables.specs.Stored.{stored_of};
+ghost use Rattle.tables.specs.Lent.{columns_viewed};
 ghost use Rattle.workspace.specs.Layout.{pieces_at};
 ghost use Rattle.workspace.specs.Regions.{region, OnlyIn};
-ghost use Rattle.book.specs.Book.{book_of};
+ghost use Rattle.book.specs.Views.{book_viewed};
 ghost use Rattle.soundness.specs.Checking.{CanCheckEntry, EntryChecked, CanCheck, Checked, CanReadFree, FreeRead};
 ghost use Rattle.soundness.specs.State.{SomeState, CanReadColumn, ColumnsRead, SomePrepared, FactorRead, WithinWork};
 ghost use Rattle.soundness.specs.ReadThrough.{
@@ -20,8 +20,9 @@ ghost use Rattle.soundness.specs.ReadThrough.{
   are_sound,
 };
 
-use book::Row;
+use book::{BookView, Row};
 use pool::Rec;
+use tables::{ColumnsView, TablesView};
 
 // Whether a row and its multiplicity are the next entry of a column with the counters: then takes the counter away and writes the row at place p.
 fn check_entry(work: &mut [u32], m: usize, p: usize, before: Row, row: Row, count: u32) -> bool
@@ -40,18 +41,22 @@ fn check_entry(work: &mut [u32], m: usize, p: usize, before: Row, row: Row, coun
 // Walks the chain of a column, after met records: its entries must be the counters, of which size are not 0, so it must have so many records. Takes the
 // counters away and stashes the rows. Gives the number of records met, and the last one.
 fn check_chain(
-    rows: &[u16],
-    counts: &[u16],
-    next: &[u32],
+    columns: ColumnsView,
     work: &mut [u32],
     m: usize,
     met: usize,
     size: usize,
     head: Rec,
 ) -> Option<(usize, Rec)>
-    requires { CanCheck rows.now counts.now next.now work.old m met size }
-    ensures { Checked rows.now counts.now next.now work.old work.new m met head.0 result }
+    requires { CanCheck columns.rows.now columns.counts.now columns.next.now work.old m met size }
+    ensures { Checked columns.entry.rows.now columns.entry.counts.now columns.entry.next.now work.old work.new m met head.0 result }
 {
+    let ColumnsView {
+        rows,
+        counts,
+        next,
+        ..
+    } = columns;
     if next.len() - met < size {
         return None;
     }
@@ -90,33 +95,27 @@ fn second(work: &[u32], a: usize, e: usize) -> Row
 // Reads column j of L, after met records: its chain must hold what the definition gives, and its parent be the second row or 0. Links it to its parent,
 // and names its last record.
 fn read_column(
-    heads: &[u32],
-    parents: &[u16],
-    rows: &[u16],
-    counts: &[u16],
-    next: &[u32],
-    book_heads: &[u32],
-    book_rows: &[u16],
-    book_next: &[u32],
+    columns: ColumnsView,
+    book: BookView,
     work: &mut [u32],
     free: Rec,
     book_free: Rec,
     j: Row,
     met: usize,
 ) -> Option<usize>
-    requires { CanReadColumn (stored_of heads.now parents.now rows.now counts.now next.now free.0) (book_of book_heads.now book_rows.now book_next.now book_free.0) work.old j.0 met }
-    ensures { ColumnsRead (stored_of heads.now parents.now rows.now counts.now next.now free.0) (book_of book_heads.now book_rows.now book_next.now book_free.0) work.old j.0 met work.new (j.0 + 1) result }
+    requires { CanReadColumn (columns_viewed columns free.0) (book_viewed book book_free.0) work.old j.0 met }
+    ensures { ColumnsRead (columns_viewed columns.entry free.0) (book_viewed book.entry book_free.0) work.old j.0 met work.new (j.0 + 1) result }
 {
-    let m = heads.len();
-    let f = next.len();
+    let m = columns.heads.len();
+    let f = columns.next.len();
     let column = j.0;
     let i = (column - 1) as usize;
-    let size = counting::tally_all(book_heads, book_rows, book_next, work, m, f, j) as usize;
-    let head = heads[i];
-    let (n, last) = check_chain(rows, counts, next, work, m, met, size, Rec(head))?;
+    let size = counting::tally_all(book, work, m, f, j) as usize;
+    let head = columns.heads[i];
+    let (n, last) = check_chain(columns, work, m, met, size, Rec(head))?;
     let stash = 8 * m + f;
     let up = second(work, stash + met, stash + n);
-    if parents[i] as u32 != up.0 {
+    if columns.parents[i] as u32 != up.0 {
         return None;
     }
     counting::link(work, m, 2 * m, up, column);
@@ -127,115 +126,71 @@ fn read_column(
 
 // Reads the columns of L by rising number. Gives the number of records met.
 fn read_columns(
-    heads: &[u32],
-    parents: &[u16],
-    rows: &[u16],
-    counts: &[u16],
-    next: &[u32],
-    book_heads: &[u32],
-    book_rows: &[u16],
-    book_next: &[u32],
+    columns: ColumnsView,
+    book: BookView,
     work: &mut [u32],
     free: Rec,
     book_free: Rec,
 ) -> Option<usize>
-    requires { SomeState (stored_of heads.now parents.now rows.now counts.now next.now free.0) (book_of book_heads.now book_rows.now book_next.now book_free.0) work.old 1 0 }
-    ensures { ColumnsRead (stored_of heads.now parents.now rows.now counts.now next.now free.0) (book_of book_heads.now book_rows.now book_next.now book_free.0) work.old 1 0 work.new (length heads.now + 1) result }
+    requires { SomeState (columns_viewed columns free.0) (book_viewed book book_free.0) work.old 1 0 }
+    ensures { ColumnsRead (columns_viewed columns.entry free.0) (book_viewed book.entry book_free.0) work.old 1 0 work.new (length columns.entry.heads.now + 1) result }
 {
     let mut n: usize = 0;
-    for i in 0..heads.len() {
-        n = read_column(
-            heads,
-            parents,
-            rows,
-            counts,
-            next,
-            book_heads,
-            book_rows,
-            book_next,
-            work,
-            free,
-            book_free,
-            Row((i + 1) as u32),
-            n,
-        )?;
+    for i in 0..columns.heads.len() {
+        n = read_column(columns, book, work, free, book_free, Row((i + 1) as u32), n)?;
     }
     Some(n)
 }
 
 // Whether k records have row 0, all of them multiplicity 0, and the free chain has so many. Writes the pieces of the free chain.
-fn read_free(
-    rows: &[u16],
-    counts: &[u16],
-    next: &[u32],
-    work: &mut [u32],
-    m: usize,
-    free: Rec,
-    k: usize,
-) -> bool
-    requires { CanReadFree rows.now counts.now next.now work.old m }
-    ensures answer { Decides (FreeRead rows.now counts.now next.now free.0 k) result }
-    ensures work { OnlyIn (pieces_at m (length next.now)) (2 * length next.now) work.old work.new }
+fn read_free(columns: ColumnsView, work: &mut [u32], m: usize, free: Rec, k: usize) -> bool
+    requires { CanReadFree columns.rows.now columns.counts.now columns.next.now work.old m }
+    ensures answer { Decides (FreeRead columns.entry.rows.now columns.entry.counts.now columns.entry.next.now free.0 k) result }
+    ensures work { OnlyIn (pieces_at m (length columns.entry.next.now)) (2 * length columns.entry.next.now) work.old work.new }
 {
-    let a = 8 * m + 2 * next.len();
-    let e = a + 2 * next.len();
-    free_chain::zeros(rows) == k
-        && free_chain::zero_pairs(rows, counts) == k
-        && free_chain::has(rows, next, &mut work[a..e], free, k)
+    let a = 8 * m + 2 * columns.next.len();
+    let e = a + 2 * columns.next.len();
+    free_chain::zeros(columns.rows) == k
+        && free_chain::zero_pairs(columns.rows, columns.counts) == k
+        && free_chain::has(columns.rows, columns.next, &mut work[a..e], free, k)
 }
 
 // Decides whether the stored columns are those of the book: the columns by rising number, that they are apart, and that all other records are free.
 fn read_factor(
-    heads: &[u32],
-    parents: &[u16],
-    rows: &[u16],
-    counts: &[u16],
-    next: &[u32],
-    book_heads: &[u32],
-    book_rows: &[u16],
-    book_next: &[u32],
+    columns: ColumnsView,
+    book: BookView,
     work: &mut [u32],
     free: Rec,
     book_free: Rec,
 ) -> bool
-    requires { SomePrepared (stored_of heads.now parents.now rows.now counts.now next.now free.0) (book_of book_heads.now book_rows.now book_next.now book_free.0) work.old }
-    ensures { FactorRead (stored_of heads.now parents.now rows.now counts.now next.now free.0) (book_of book_heads.now book_rows.now book_next.now book_free.0) work.old work.new result }
+    requires { SomePrepared (columns_viewed columns free.0) (book_viewed book book_free.0) work.old }
+    ensures { FactorRead (columns_viewed columns.entry free.0) (book_viewed book.entry book_free.0) work.old work.new result }
 {
-    let m = heads.len();
-    let Some(n) = read_columns(
-        heads, parents, rows, counts, next, book_heads, book_rows, book_next, work, free, book_free,
-    ) else {
+    let m = columns.heads.len();
+    let Some(n) = read_columns(columns, book, work, free, book_free) else {
         return false;
     };
-    let left = next.len() - n;
-    ends::are_apart(work, 6 * m, 8 * m, m) && read_free(rows, counts, next, work, m, free, left)
+    let left = columns.next.len() - n;
+    ends::are_apart(work, 6 * m, 8 * m, m) && read_free(columns, work, m, free, left)
 }
 
 // Whether book and windows are sound. The book's places of the work table hold anything after.
 fn read_booked(
-    book_heads: &[u32],
-    book_rows: &[u16],
-    book_next: &[u32],
+    book: BookView,
     windows: &[u32],
     work: &mut [u32],
     book_free: Rec,
     m: usize,
     f: usize,
 ) -> bool
-    requires { CanReadBooked (book_of book_heads.now book_rows.now book_next.now book_free.0) windows.now work.old m f }
-    ensures answer { result ≡ booked_sound m (book_of book_heads.now book_rows.now book_next.now book_free.0) windows.now }
-    ensures work { WithinBooked m f (book_of book_heads.now book_rows.now book_next.now book_free.0) work.old work.new }
+    requires { CanReadBooked (book_viewed book book_free.0) windows.now work.old m f }
+    ensures answer { result ≡ booked_sound m (book_viewed book.entry book_free.0) windows.now }
+    ensures work { WithinBooked m f (book_viewed book.entry book_free.0) work.old work.new }
 {
     let a = 8 * m + 4 * f + 1024;
-    let e = a + book_next.len() + book_heads.len();
-    book::read_through(
-        book_heads,
-        book_rows,
-        book_next,
-        &mut work[a..e],
-        book_free,
-        m as u32,
-    ) && windows::minutes::are_sound(book_heads, windows)
+    let e = a + book.next.len() + book.heads.len();
+    book.read_through(&mut work[a..e], book_free, m as u32)
+        && windows::minutes::are_sound(book.heads, windows)
 }
 
 // Makes a work table of any content ready to be read through with, for m columns: what the pass counts and lists in is zero.
@@ -248,34 +203,33 @@ pub fn make_ready(work: &mut [u32], m: usize)
 
 // Whether what all tables hold is sound, for any contents. The work table was made ready, and holds anything in its first W places after.
 pub fn read_through(
-    heads: &[u32],
-    parents: &[u16],
-    rows: &[u16],
-    counts: &[u16],
-    next: &[u32],
-    book_heads: &[u32],
-    book_rows: &[u16],
-    book_next: &[u32],
-    windows: &[u32],
+    tables: TablesView,
     work: &mut [u32],
     free: Rec,
     book_free: Rec,
     clock: u32,
 ) -> bool
-    requires { CanReadThrough (stored_of heads.now parents.now rows.now counts.now next.now free.0) (book_of book_heads.now book_rows.now book_next.now book_free.0) windows.now work.old }
-    ensures answer { result ≡ are_sound (stored_of heads.now parents.now rows.now counts.now next.now free.0) (book_of book_heads.now book_rows.now book_next.now book_free.0) windows.now clock }
-    ensures work { WithinWork (stored_of heads.now parents.now rows.now counts.now next.now free.0) (book_of book_heads.now book_rows.now book_next.now book_free.0) work.old work.new }
+    requires { CanReadThrough (columns_viewed tables.columns free.0) (book_viewed tables.book book_free.0) tables.windows.now work.old }
+    ensures answer { result ≡ are_sound (columns_viewed tables.entry.columns free.0) (book_viewed tables.entry.book book_free.0) tables.entry.windows.now clock }
+    ensures work { WithinWork (columns_viewed tables.entry.columns free.0) (book_viewed tables.entry.book book_free.0) work.old work.new }
 {
-    let m = heads.len();
-    let f = next.len();
-    if !read_booked(
-        book_heads, book_rows, book_next, windows, work, book_free, m, f,
-    ) {
+    let columns = tables.columns;
+    let book = tables.book;
+    let m = columns.heads.len();
+    let f = columns.next.len();
+    if !read_booked(book, tables.windows, work, book_free, m, f) {
         return false;
     }
-    let b = 8 * m + 4 * f + 1024 + book_next.len();
-    counting::link_columns(book_heads, book_rows, windows, work, clock, 3 * m, m, b);
-    read_factor(
-        heads, parents, rows, counts, next, book_heads, book_rows, book_next, work, free, book_free,
-    )
+    let b = 8 * m + 4 * f + 1024 + book.next.len();
+    counting::link_columns(
+        book.heads,
+        book.rows,
+        tables.windows,
+        work,
+        clock,
+        3 * m,
+        m,
+        b,
+    );
+    read_factor(columns, book, work, free, book_free)
 }

@@ -10,7 +10,7 @@ ghost use Rattle.workspace.specs.Layout.{starts_at};
 ghost use Rattle.updown.specs.Plans.{start_bit, label_weight};
 
 use crate::{LABEL_WEIGHT, START_BIT, marks};
-use book::{Id, Row};
+use book::{BookView, Id, Row};
 use workspace::{BUFFER, MARKS};
 
 // Marks where the columns of a batch start, each with its position.
@@ -50,9 +50,7 @@ fn count_listed(
 
 // Counts the booked columns that start at j, up when adding and down when removing, and gives the number of touched rows.
 fn count_booked(
-    book_heads: &[u32],
-    book_rows: &[u16],
-    book_next: &[u32],
+    book: BookView,
     work: &mut [u32],
     ids: &[u32],
     starts: &[u32],
@@ -60,15 +58,15 @@ fn count_booked(
     j: Row,
     adding: bool,
 ) -> usize
-    requires { SomeStartBooked book_heads.now book_rows.now book_next.now starts.now ids.now m work.old j.0 adding }
-    ensures { (R W : List Column) → BookHolds book_heads.now book_rows.now book_next.now starts.now ids.now m W → CanStart m R W adding work.old j.0 → Started m R W adding work.old work.new result j.0 }
+    requires { SomeStartBooked book.heads.now book.rows.now book.next.now starts.now ids.now m work.old j.0 adding }
+    ensures { (R W : List Column) → BookHolds book.entry.heads.now book.entry.rows.now book.entry.next.now starts.now ids.now m W → CanStart m R W adding work.old j.0 → Started m R W adding work.old work.new result j.0 }
 {
     let mut n: usize = 0;
     for (k, &id) in ids.iter().enumerate() {
         if starts[k] == j.0 {
             let a = BUFFER * m;
             let e = MARKS * m;
-            let g = book::copy_rows(book_heads, book_rows, book_next, &mut work[a..e], Id(id));
+            let g = book.copy_rows(&mut work[a..e], Id(id));
             n = differences::count_rows(work, m, n, g as usize, adding);
         }
     }
@@ -95,9 +93,7 @@ pub fn case_a_listed(
 
 // A: handles the booked columns, if one starts at j, and gives the number of touched rows.
 pub fn case_a_booked(
-    book_heads: &[u32],
-    book_rows: &[u16],
-    book_next: &[u32],
+    book: BookView,
     work: &mut [u32],
     ids: &[u32],
     starts: &[u32],
@@ -105,13 +101,11 @@ pub fn case_a_booked(
     j: Row,
     adding: bool,
 ) -> usize
-    requires { SomeStartBooked book_heads.now book_rows.now book_next.now starts.now ids.now m work.old j.0 adding × (starts_at m ≤ length work.old) }
-    ensures { (R W : List Column) → BookHolds book_heads.now book_rows.now book_next.now starts.now ids.now m W → CanStart m R W adding work.old j.0 → ((i : ℕ) → 1 ≤ i → i ≤ length W → start_of W i ≡ j.0 → mark_at m work.old j.0 % label_weight ≡ start_bit) → Started m R W adding work.old work.new result j.0 }
+    requires { SomeStartBooked book.heads.now book.rows.now book.next.now starts.now ids.now m work.old j.0 adding × (starts_at m ≤ length work.old) }
+    ensures { (R W : List Column) → BookHolds book.entry.heads.now book.entry.rows.now book.entry.next.now starts.now ids.now m W → CanStart m R W adding work.old j.0 → ((i : ℕ) → 1 ≤ i → i ≤ length W → start_of W i ≡ j.0 → mark_at m work.old j.0 % label_weight ≡ start_bit) → Started m R W adding work.old work.new result j.0 }
 {
     if work[MARKS * m + (j.0 - 1) as usize] % LABEL_WEIGHT == START_BIT {
-        return count_booked(
-            book_heads, book_rows, book_next, work, ids, starts, m, j, adding,
-        );
+        return count_booked(book, work, ids, starts, m, j, adding);
     }
     0
 }

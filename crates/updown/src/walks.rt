@@ -85,9 +85,7 @@ pub fn walk_booked(
         if j.0 == 0 {
             return walk;
         }
-        let n = starts::case_a_booked(
-            book.heads, book.rows, book.next, work, ids, starts, m, j, adding,
-        );
+        let n = starts::case_a_booked(book, work, ids, starts, m, j, adding);
         let n = children::cases_b_and_c(columns, work, m, n, j, adding);
         let n = children::case_d(columns, work, m, n, j, adding);
         let avail = walk.avail;

@@ -32,7 +32,7 @@ returns-then-not-check_entry c =
 
 pub loop-k-preserved : goal.loop-k-preserved
 loop-k-preserved c =
-    let narrow : get_or c.args.next.now (c.loop-k.r - 1) 0 < 4294967296 = omega (arith, c.type_inv.next (c.loop-k.r - 1)) in
+    let narrow : get_or c.args.columns.next.now (c.loop-k.r - 1) 0 < 4294967296 = omega (arith, c.type_inv.next (c.loop-k.r - 1)) in
     checking-next c.requires c.loop-k.invariant c.if-next-met.false c.loop-k-test.true c.if-r-eq0.false c.if-next-r.false c.check_entry.ensures
     c.if-not-check_entry.false narrow
 

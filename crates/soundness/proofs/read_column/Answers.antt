@@ -21,14 +21,14 @@ returns-in_err-n c =
     (closing-cut p.some c.tally_all-size.ensures c.check_chain.ensures (c.args.j.0 + 1)
     (λ windows clock st. column-cut st p.inside c.tally_all-size.ensures c.in_err-n.ensures refl))
 
-pub returns-then-parents-i : goal.returns-then-parents-i
-returns-then-parents-i c =
+pub returns-then-columns-i : goal.returns-then-columns-i
+returns-then-columns-i c =
     let p = c.requires in
     closing-cut p.some c.tally_all-size.ensures c.check_chain.ensures (c.args.j.0 + 1)
     (λ windows clock st.
     (let f = column-ended st p.inside c.tally_all-size.ensures c.in_ok-n.ensures refl in
     let q = closing-second st p.inside f c.tally_all-size.ensures c.check_chain.ensures _ _ refl refl in
-    closing-differs st p.inside f (λ e. c.if-parents-i.true (e ∙ sym (c.second-up.ensures ∙ q)))))
+    closing-differs st p.inside f (λ e. c.if-columns-i.true (e ∙ sym (c.second-up.ensures ∙ q)))))
 
 pub link-requires : goal.link-requires
 link-requires c =
@@ -46,7 +46,7 @@ name-requires c =
     let y = closing-facts st p.inside f c.tally_all-size.ensures c.check_chain.ensures in
     closing-name st p.inside f c.tally_all-size.ensures c.check_chain.ensures c.second-up.result.0
     (c.second-up.ensures ∙ closing-second st p.inside f c.tally_all-size.ensures c.check_chain.ensures _ _ refl refl)
-    c.if-parents-i.false c.link.ensures refl (omega arith)
+    c.if-columns-i.false c.link.ensures refl (omega arith)
 
 pub returns : goal.returns
 returns c =
@@ -56,9 +56,9 @@ returns c =
     closing_end
     (closing-only s p.inside f c.tally_all-size.ensures c.check_chain.ensures c.second-up.result.0
     (c.second-up.ensures ∙ closing-second s p.inside f c.tally_all-size.ensures c.check_chain.ensures _ _ refl refl)
-    c.if-parents-i.false c.link.ensures refl c.name.ensures)
+    c.if-columns-i.false c.link.ensures refl c.name.ensures)
     (λ windows clock st.
     (let g = column-ended st p.inside c.tally_all-size.ensures c.in_ok-n.ensures refl in
     closing-state st p.inside g c.tally_all-size.ensures c.check_chain.ensures c.second-up.result.0
     (c.second-up.ensures ∙ closing-second st p.inside g c.tally_all-size.ensures c.check_chain.ensures _ _ refl refl)
-    c.if-parents-i.false c.link.ensures refl c.name.ensures))
+    c.if-columns-i.false c.link.ensures refl c.name.ensures))
