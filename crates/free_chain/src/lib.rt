@@ -32,13 +32,10 @@ pub fn zeros(rows: &[u16]) -> usize
     ensures { result ≡ times 0 rows.now }
 {
     let mut n: usize = 0;
-    let mut a: usize = 0;
-    while BLOCK < rows.len() - a {
-        let e = a + BLOCK;
-        n += zeros_of(&rows[a..e]) as usize;
-        a = e;
+    for block in rows.chunks(BLOCK) {
+        n += zeros_of(block) as usize;
     }
-    n + zeros_of(&rows[a..]) as usize
+    n
 }
 
 // How many of at most 65,535 records have row and multiplicity 0.
@@ -47,8 +44,8 @@ fn zero_pairs_of(rows: &[u16], counts: &[u16]) -> u16
     ensures { result ≡ zero_pairs rows.now counts.now }
 {
     let mut pairs: u16 = 0;
-    for (i, row) in rows.iter().enumerate() {
-        if (*row == 0) & (counts[i] == 0) {
+    for (row, count) in rows.iter().zip(counts) {
+        if (*row == 0) & (*count == 0) {
             pairs += 1;
         }
     }
@@ -61,13 +58,10 @@ pub fn zero_pairs(rows: &[u16], counts: &[u16]) -> usize
     ensures { result ≡ zero_pairs rows.now counts.now }
 {
     let mut n: usize = 0;
-    let mut a: usize = 0;
-    while BLOCK < rows.len() - a {
-        let e = a + BLOCK;
-        n += zero_pairs_of(&rows[a..e], &counts[a..e]) as usize;
-        a = e;
+    for (block, beside) in rows.chunks(BLOCK).zip(counts.chunks(BLOCK)) {
+        n += zero_pairs_of(block, beside) as usize;
     }
-    n + zero_pairs_of(&rows[a..], &counts[a..]) as usize
+    n
 }
 
 // Walks the free chain record by record: it must end after k of them, the last with row 0.

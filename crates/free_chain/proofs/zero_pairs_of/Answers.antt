@@ -1,14 +1,23 @@
 -- A turn counts one record.
-use Rattle.free_chain.proofs.Counted.{pairs-none, pairs-hit, pairs-miss}
+use Rattle.std.proofs.Common.{arith}
+use mathlib.Core.Logic.{inl, inr}
+use Rattle.free_chain.proofs.Counted.{pairs-le, pairs-hit, pairs-miss, pairs-done}
 use Rattle.free_chain.proofs.zero_pairs_of.Goals as goal
-use Rattle.free_chain.proofs.zero_pairs_of.Goals.{then-row-counts, else-row-counts}
 
-pub loop-i-init : goal.loop-i-init
-loop-i-init c = pairs-none _ _
+pub overflow_add-pairs : goal.overflow_add-pairs
+overflow_add-pairs c =
+    omega (
+      arith,
+      pairs-hit _ _ _ _ _ _ c.in-Some.ensures.steps.0 c.in-Some.ensures.steps.1 c.if-row-count.true c.loop-row.invariant,
+      pairs-le c.args.rows.now c.args.counts.now,
+    )
 
-pub loop-i-preserved : goal.loop-i-preserved
-loop-i-preserved c =
-    elim c.if-row-counts.branch [
-      | then-row-counts w ↦ rw w.pairs-is (pairs-hit c.loop-i.invariant c.requires.1 c.loop-i-test.true w.if-row-counts.true)
-      | else-row-counts w ↦ rw w.pairs-is (pairs-miss c.loop-i.invariant c.requires.1 c.loop-i-test.true w.if-row-counts.false)
-    ]
+pub loop-row-preserved-then-row-count : goal.loop-row-preserved-then-row-count
+loop-row-preserved-then-row-count c =
+    pairs-hit _ _ _ _ _ _ c.in-Some.ensures.steps.0 c.in-Some.ensures.steps.1 c.if-row-count.true c.loop-row.invariant
+
+pub loop-row-preserved : goal.loop-row-preserved
+loop-row-preserved c = pairs-miss _ _ _ _ _ _ c.in-Some.ensures.steps.0 c.in-Some.ensures.steps.1 c.if-row-count.false c.loop-row.invariant
+
+pub returns : goal.returns
+returns c = pairs-done _ _ _ _ (elim c.in-None.ensures.steps [ inl t ↦ inl t.1.0 | inr t ↦ inr t.1.0 ]) c.loop-row.invariant
