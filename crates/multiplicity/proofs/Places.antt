@@ -1,11 +1,6 @@
 -- Laws of multiplicities in one or two places: how many there are, what is read at a place, what a store leaves.
 -- Induction goes two places at a time. Assumes nothing.
-use mathlib.Core.Path.{◌≡◌, refl, ap}
-use mathlib.Core.Bool.{Bool, true, false}
-use mathlib.Core.List.{List, [], ◌∷◌}
-use Prim.Native.Nat.{ℕ, zero, suc, ◌+◌, ◌*◌, ◌<◌, ◌≤◌}
-use native.Mathlib.Omega.{arith}
-use lib.ListN.{length, get_or, set}
+use Rattle.std.proofs.Common.{◌≡◌, refl, ap, ◌∙◌, Bool, true, false, List, [], ◌∷◌, ℕ, zero, suc, ◌+◌, ◌*◌, ◌/◌, ◌%◌, ◌<◌, ◌≤◌, length, get_or, set, arith}
 use Rattle.multiplicity.specs.Places.{pairs, multiplicities, count_end}
 
 -- ---- how many
@@ -21,55 +16,54 @@ pub multiplicities-long : (z : Bool) (xs ys : List ℕ) → length xs ≡ length
 multiplicities-long false xs ys e = e
 multiplicities-long true xs ys e = omega (arith, pairs-long xs, pairs-long ys)
 
+-- ---- the places of the next number
+
+lower : (i : ℕ) → 2 * suc i ≡ suc (suc (2 * i))
+lower i = omega arith
+
+upper : (i : ℕ) → 2 * suc i + 1 ≡ suc (suc (2 * i + 1))
+upper i = omega arith
+
 -- ---- read
 
-pub pairs-get : (xs : List ℕ) (i a b : ℕ) → a ≡ 2 * i → b ≡ suc a → i < length (pairs xs) →
-    get_or xs a 0 + 65536 * get_or xs b 0 ≡ get_or (pairs xs) i 0
+pub pairs-get : (xs : List ℕ) (i : ℕ) → i < length (pairs xs) →
+    get_or xs (2 * i) 0 + 65536 * get_or xs (2 * i + 1) 0 ≡ get_or (pairs xs) i 0
 unfolding pairs
-pairs-get [] i a b e f h = absurd (omega arith)
-pairs-get (x ∷ []) i a b e f h = absurd (omega arith)
-pairs-get (x ∷ (y ∷ zs)) zero zero (suc zero) e f h = refl
-pairs-get (x ∷ (y ∷ zs)) zero zero zero e f h = absurd (omega arith)
-pairs-get (x ∷ (y ∷ zs)) zero zero (suc (suc b)) e f h = absurd (omega arith)
-pairs-get (x ∷ (y ∷ zs)) zero (suc a) b e f h = absurd (omega arith)
-pairs-get (x ∷ (y ∷ zs)) (suc i) zero b e f h = absurd (omega arith)
-pairs-get (x ∷ (y ∷ zs)) (suc i) (suc zero) b e f h = absurd (omega arith)
-pairs-get (x ∷ (y ∷ zs)) (suc i) (suc (suc a)) zero e f h = absurd (omega arith)
-pairs-get (x ∷ (y ∷ zs)) (suc i) (suc (suc a)) (suc zero) e f h = absurd (omega arith)
-pairs-get (x ∷ (y ∷ zs)) (suc i) (suc (suc a)) (suc (suc b)) e f h = pairs-get zs i a b (omega arith) (omega arith) (omega arith)
+pairs-get [] i h = absurd (omega arith)
+pairs-get (x ∷ []) i h = absurd (omega arith)
+pairs-get (x ∷ (y ∷ zs)) zero h = refl
+pairs-get (x ∷ (y ∷ zs)) (suc i) h = rw (upper i, lower i) (pairs-get zs i (omega arith))
 
 -- ---- stored
 
-pub pairs_set : (xs : List ℕ) (i a b v w : ℕ) → a ≡ 2 * i → b ≡ suc a → pairs (set (set xs a v) b w) ≡ set (pairs xs) i (v + 65536 * w)
+pub pairs_set : (xs : List ℕ) (i v w : ℕ) → pairs (set (set xs (2 * i) v) (2 * i + 1) w) ≡ set (pairs xs) i (v + 65536 * w)
 unfolding pairs
-pairs_set [] i a b v w e f = refl
-pairs_set (x ∷ []) i zero zero v w e f = absurd (omega arith)
-pairs_set (x ∷ []) i zero (suc b) v w e f = refl
-pairs_set (x ∷ []) i (suc a) zero v w e f = absurd (omega arith)
-pairs_set (x ∷ []) i (suc a) (suc b) v w e f = refl
-pairs_set (x ∷ (y ∷ zs)) zero zero (suc zero) v w e f = refl
-pairs_set (x ∷ (y ∷ zs)) zero zero zero v w e f = absurd (omega arith)
-pairs_set (x ∷ (y ∷ zs)) zero zero (suc (suc b)) v w e f = absurd (omega arith)
-pairs_set (x ∷ (y ∷ zs)) zero (suc a) b v w e f = absurd (omega arith)
-pairs_set (x ∷ (y ∷ zs)) (suc i) zero b v w e f = absurd (omega arith)
-pairs_set (x ∷ (y ∷ zs)) (suc i) (suc zero) b v w e f = absurd (omega arith)
-pairs_set (x ∷ (y ∷ zs)) (suc i) (suc (suc a)) zero v w e f = absurd (omega arith)
-pairs_set (x ∷ (y ∷ zs)) (suc i) (suc (suc a)) (suc zero) v w e f = absurd (omega arith)
-pairs_set (x ∷ (y ∷ zs)) (suc i) (suc (suc a)) (suc (suc b)) v w e f = ap (λ (l : List ℕ). (x + 65536 * y) ∷ l) (pairs_set zs i a b v w (omega arith) (omega arith))
+pairs_set [] i v w = refl
+pairs_set (x ∷ []) zero v w = refl
+pairs_set (x ∷ []) (suc i) v w = rw (upper i, lower i)
+pairs_set (x ∷ (y ∷ zs)) zero v w = refl
+pairs_set (x ∷ (y ∷ zs)) (suc i) v w = rw (upper i, lower i) (ap (λ (l : List ℕ). (x + 65536 * y) ∷ l) (pairs_set zs i v w))
 
 -- ---- by width: the facts that `load` and `store` need, under the test that the code makes
 
-pub is_wide : (z : Bool) → z ≡ true → (xs : List ℕ) → multiplicities z xs ≡ pairs xs
-is_wide true e xs = refl
-is_wide false e xs = absurd (omega (arith, ap count_end e))
+-- two places for each
+pub length_wide : (z : Bool) (xs : List ℕ) → z ≡ true → 2 * length (multiplicities z xs) ≤ length xs
+length_wide true xs e = omega (arith, pairs-long xs)
+length_wide false xs e = cc
 
-pub is-narrow : (z : Bool) → z ≡ false → (xs : List ℕ) → multiplicities z xs ≡ xs
-is-narrow false e xs = refl
-is-narrow true e xs = absurd (omega (arith, ap count_end e))
+pub get_wide : (z : Bool) (xs : List ℕ) (i : ℕ) → z ≡ true → i < length (multiplicities z xs) →
+    get_or xs (2 * i) 0 + 65536 * get_or xs (2 * i + 1) 0 ≡ get_or (multiplicities z xs) i 0
+get_wide true xs i e h = pairs-get xs i h
+get_wide false xs i e h = cc
 
-pub end-narrow : (z : Bool) → z ≡ false → count_end z ≡ 65536
-end-narrow false e = refl
-end-narrow true e = absurd (omega (arith, ap count_end e))
+pub set_wide : (z : Bool) (xs : List ℕ) (i v : ℕ) → z ≡ true →
+    multiplicities z (set (set xs (2 * i) (v % 65536)) (2 * i + 1) (v / 65536)) ≡ set (multiplicities z xs) i v
+set_wide true xs i v e =
+    let whole : v % 65536 + 65536 * (v / 65536) ≡ v = omega arith in
+    pairs_set xs i (v % 65536) (v / 65536) ∙ ap (λ (x : ℕ). set (pairs xs) i x) whole
+set_wide false xs i v e = cc
+
+-- ---- what is stored
 
 pub end-least : (z : Bool) → 65536 ≤ count_end z
 end-least false = omega arith
