@@ -21,21 +21,24 @@ use Rattle.pool.specs.Chains.{chain}
 use Rattle.windows.specs.Windowed.{listed_inside}
 use Rattle.tables.specs.Tables.{Tables}
 use Rattle.tables.proofs.Tables.{fits-rows}
-use Rattle.calls.specs.Refusals.{Refusal, refusal, accepted, is_accepted, or_else, unless, batch_of, lines_of, add_refusal}
+use Rattle.calls.specs.Refusals.{Refusal, refusal, is_accepted, or_else, unless, batch_of, lines_of, add_refusal}
 use Rattle.calls.specs.Calls.{adding}
 use Rattle.calls.specs.Changes.{effect}
 use Rattle.calls.specs.Steps.{booked_in}
 use Rattle.calls.proofs.Changes.{touched-adding, addition-factor}
 use Rattle.calls.proofs.Choices.{or-first, or-second, unless-true, unless-false}
 use Rattle.refusals.specs.Offsets.{offset_of}
-use Rattle.refusals.specs.Found.{add_found}
+use Rattle.early_refusals.proofs.Tests.{number-some}
+use Rattle.refusals.specs.declared.Refused.{Refused}
+use Rattle.refusals.specs.Found.{found as refusal_of, add_found}
+use Rattle.updown.specs.declared.Plan.{Plan}
+use Rattle.std.specs.Prelude.{Ok, Err}
 use Rattle.refusals.proofs.Accepted.{AddReady, add-ready, add-refusal, ready-length}
 use Rattle.updown.specs.Plans.{PlanIs}
 use Rattle.updown.specs.Entries.{Listed, listed_starts, CanAdd, AddPlanned}
 use Rattle.steps.specs.Outcome.{cut_sizes, cut_world, stored_whole, book_whole, number_for, CanFind}
 use Rattle.steps.proofs.Cut.{register-cut}
-use Rattle.judging.specs.Judging.{verdict_number, Judged}
-use Rattle.judging.specs.declared.Verdict.{Verdict}
+use Rattle.judging.specs.Judging.{Judged}
 use Rattle.judging.proofs.Planning.{inside-rows, inside-start, plan-can}
 use Rattle.judging.proofs.Verdicts.{refused-judged, planned-judged}
 
@@ -87,10 +90,10 @@ module _ {t : Tables} {lim : Limits} {o f g : ℕ} {w : List ℕ} (can : CanFind
       ap (λ (x : Register). or_else (add_found m (book_whole t g) is ns rs ps qs) (rest x)) (sym (register-cut can))
 
   -- refused by 7 to 15 or 21
-  pub add-refused : {x : Verdict} → verdict_number x ≡ add_found (length t.heads) (book_whole t g) is ns rs ps qs → is_accepted (verdict_number x) ≡ false →
-      Judged (cut_world t lim o f g) (adding is ns rs ps qs) w w x
-  add-refused {x} e h =
-      refused-judged (sym (add-number ∙ ap (λ (y : Refusal). or_else y add-rest) (sym e) ∙ or-first (verdict_number x) add-rest h)) h refl
+  pub add-refused : (x : Refused) → refusal_of x ≡ add_found (length t.heads) (book_whole t g) is ns rs ps qs →
+      Judged (cut_world t lim o f g) (adding is ns rs ps qs) w w (Err x)
+  add-refused x e =
+      refused-judged x (sym (add-number ∙ ap (λ (y : Refusal). or_else y add-rest) (sym e) ∙ or-first (refusal_of x) add-rest (number-some x.refusal))) refl
 
   -- ---- not refused by 7 to 15 and 21
 
@@ -130,27 +133,25 @@ module _ {t : Tables} {lim : Limits} {o f g : ℕ} {w : List ℕ} (can : CanFind
     number-full : number_for (cut_world t lim o f g) (adding is ns rs ps qs) ≡ add-rest
     number-full = add-number ∙ or-second (add_found m (book_whole t g) is ns rs ps qs) add-rest found
 
-    module _ {w' : List ℕ} {z : Bool} {first count entries used : ℕ}
-        (p : AddPlanned (stored_whole t f) (live (booked_in (cut_world t lim o f g))) (effect (booked_in (cut_world t lim o f g)) (adding is ns rs ps qs)).enter w w' z first count entries used) where
-      fits-is : z ≡ leb (size_sum (factor_for (added (booked_in (cut_world t lim o f g)) (lines_of is ns rs ps qs)))) (length t.next)
+    module _ {w' : List ℕ} (x : Plan)
+        (p : AddPlanned (stored_whole t f) (live (booked_in (cut_world t lim o f g))) (effect (booked_in (cut_world t lim o f g)) (adding is ns rs ps qs)).enter w w' x.fits x.first.0 x.count x.entries x.used) where
+      fits-is : x.fits ≡ leb (size_sum (factor_for (added (booked_in (cut_world t lim o f g)) (lines_of is ns rs ps qs)))) (length t.next)
       fits-is = p.fits-is ∙ ap (λ (fs : List FactorColumn). leb (size_sum fs) (length t.next)) (sym (addition-factor r is ns rs ps qs))
 
       -- it fits
-      pub add-planned : z ≡ true → {x : Verdict} → verdict_number x ≡ accepted → x.plan.first.0 ≡ first → x.plan.count ≡ count → x.plan.entries ≡ entries → x.plan.used ≡ used →
-          Judged (cut_world t lim o f g) (adding is ns rs ps qs) w w' x
-      add-planned h {x} e q1 q2 q3 q4 =
-          planned-judged (e ∙ sym (number-full ∙ unless-true (leb (size_sum (factor_for (added r (lines_of is ns rs ps qs)))) (length t.next)) 16 0 (sym fits-is ∙ h)))
-          (ap is_accepted e)
+      pub add-planned : x.fits ≡ true → Judged (cut_world t lim o f g) (adding is ns rs ps qs) w w' (Ok x)
+      add-planned h =
+          planned-judged x (sym (number-full ∙ unless-true (leb (size_sum (factor_for (added r (lines_of is ns rs ps qs)))) (length t.next)) 16 0 (sym fits-is ∙ h)))
           (record {
             room = length (chain t.next f);
             room_fits = omega arith;
-            plan = rw (q1, q2, q3, q4, touched-adding r is ns rs ps qs)
-                (subst (λ (F : List FactorColumn). PlanIs m (length t.next) (length (chain t.next f)) (factor_for r) F (label_of F W) (touched F W) w w' first count entries used)
+            plan = rw (touched-adding r is ns rs ps qs)
+                (subst (λ (F : List FactorColumn). PlanIs m (length t.next) (length (chain t.next f)) (factor_for r) F (label_of F W) (touched F W) w w' x.first.0 x.count x.entries x.used)
                 (sym (addition-factor r is ns rs ps qs)) (p.plan h));
           })
 
       -- it does not: 16
-      pub add-full : z ≡ false → {x : Verdict} → verdict_number x ≡ refusal 16 0 → Judged (cut_world t lim o f g) (adding is ns rs ps qs) w w' x
-      add-full h {x} e =
-          refused-judged (e ∙ sym (number-full ∙ unless-false (leb (size_sum (factor_for (added r (lines_of is ns rs ps qs)))) (length t.next)) 16 0 (sym fits-is ∙ h)))
-          (ap is_accepted e) (p.unchanged h)
+      pub add-full : x.fits ≡ false → (y : Refused) → refusal_of y ≡ refusal 16 0 → Judged (cut_world t lim o f g) (adding is ns rs ps qs) w w' (Err y)
+      add-full h y e =
+          refused-judged y (e ∙ sym (number-full ∙ unless-false (leb (size_sum (factor_for (added r (lines_of is ns rs ps qs)))) (length t.next)) 16 0 (sym fits-is ∙ h)))
+          (p.unchanged h)

@@ -2,7 +2,7 @@
 -- that is not refused can be planned (`remove-can`), and search and plan together are the call's verdict (`remove-refused`, `remove-planned`). The
 -- register's columns are, but for their order, those that stay and the batch's, so its factor is theirs. Assumes nothing.
 use mathlib.Core.Path.{◌≡◌, refl, sym, ap, ◌∙◌, subst}
-use mathlib.Core.Bool.{Bool, true, false, not}
+use mathlib.Core.Bool.{Bool, true, not}
 use mathlib.Core.List.{List, [], ◌∷◌}
 use Prim.Native.Nat.{ℕ, suc, ◌≤◌, ◌<◌}
 use native.Mathlib.Omega.{arith}
@@ -29,15 +29,17 @@ use Rattle.calls.specs.Steps.{booked_in}
 use Rattle.calls.proofs.Choices.{Whole, or-whole}
 use Rattle.calls.proofs.Refusals.{RemoveFits, remove-facts}
 use Rattle.calls.proofs.Changes.{touched-removing, removal-fits, removal-live, removal-factor}
-use Rattle.refusals.specs.Found.{bare_in, remove_found}
+use Rattle.refusals.specs.declared.Refused.{Refused}
+use Rattle.refusals.specs.Found.{found, bare_in, remove_found}
+use Rattle.updown.specs.declared.Plan.{Plan}
+use Rattle.std.specs.Prelude.{Ok, Err}
 use Rattle.refusals.proofs.Accepted.{RemoveReady, remove-ready, remove-refusal}
 use Rattle.updown.specs.Plans.{PlanIs}
 use Rattle.updown.specs.Entries.{Booked, BookedFrom, booked_starts, CanRemove, RemovePlanned}
 use Rattle.updown.proofs.Filled.{whole-heads}
 use Rattle.steps.specs.Outcome.{cut_sizes, cut_world, stored_whole, book_whole, number_for, CanFind}
 use Rattle.steps.proofs.Cut.{sizes-are, register-cut, columns-rise, columns-distinct, book-sound}
-use Rattle.judging.specs.Judging.{verdict_number, Judged}
-use Rattle.judging.specs.declared.Verdict.{Verdict}
+use Rattle.judging.specs.Judging.{Judged}
 use Rattle.judging.proofs.Planning.{inside-rows, inside-start, plan-can}
 use Rattle.judging.proofs.Verdicts.{refused-judged, planned-judged}
 
@@ -109,9 +111,8 @@ module _ {t : Tables} {lim : Limits} {o f g : ℕ} {w : List ℕ} (can : CanFind
       ap (λ (x : Register). remove_refusal (cut_sizes t) x is) (register-cut can) ∙
       remove-refusal (cut_sizes t) m o (book_whole t g) t.windows is refl
 
-  pub remove-refused : {x : Verdict} → verdict_number x ≡ remove_found (length t.heads) (book_whole t g) is → is_accepted (verdict_number x) ≡ false →
-      Judged (cut_world t lim o f g) (removing is) w w x
-  remove-refused e h = refused-judged (e ∙ sym remove-number) h refl
+  pub remove-refused : (x : Refused) → found x ≡ remove_found (length t.heads) (book_whole t g) is → Judged (cut_world t lim o f g) (removing is) w w (Err x)
+  remove-refused x e = refused-judged x (e ∙ sym remove-number) refl
 
   -- ---- not refused
 
@@ -184,16 +185,15 @@ module _ {t : Tables} {lim : Limits} {o f g : ℕ} {w : List ℕ} (can : CanFind
           book-sound = book-sound can;
         }
 
-    pub remove-planned : {h : ℕ} {w' : List ℕ} {z : Bool} {first count entries used : ℕ} →
-        RemovePlanned (stored_whole t h) (effect (booked_in (cut_world t lim o f g)) (removing is)).stay (effect (booked_in (cut_world t lim o f g)) (removing is)).leave w w' z first count entries used →
-        {x : Verdict} → verdict_number x ≡ accepted → x.plan.first.0 ≡ first → x.plan.count ≡ count → x.plan.entries ≡ entries → x.plan.used ≡ used →
-        Judged (cut_world t lim o f g) (removing is) w w' x
-    remove-planned {h} {w'} {z} {first} {count} {entries} {used} p {x} e q1 q2 q3 q4 =
-        planned-judged (e ∙ sym (remove-number ∙ found-whole)) (ap is_accepted e)
+    pub remove-planned : {h : ℕ} {w' : List ℕ} (x : Plan) →
+        RemovePlanned (stored_whole t h) (effect (booked_in (cut_world t lim o f g)) (removing is)).stay (effect (booked_in (cut_world t lim o f g)) (removing is)).leave w w' x.fits x.first.0 x.count x.entries x.used →
+        Judged (cut_world t lim o f g) (removing is) w w' (Ok x)
+    remove-planned {h} {w'} x p =
+        planned-judged x (sym (remove-number ∙ found-whole))
         (record {
           room = 0;
           room_fits = omega arith;
-          plan = rw (q1, q2, q3, q4, touched-removing r is)
-              (subst (λ (F : List FactorColumn). PlanIs m (length t.next) 0 F (factor_of m R) (label_of F W) (touched F W) w w' first count entries used)
+          plan = rw (touched-removing r is)
+              (subst (λ (F : List FactorColumn). PlanIs m (length t.next) 0 F (factor_of m R) (label_of F W) (touched F W) w w' x.first.0 x.count x.entries x.used)
               (sym (removal-factor (cut_sizes t) r is (columns-distinct can) facts)) p.plan);
         })

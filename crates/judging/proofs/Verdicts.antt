@@ -1,33 +1,31 @@
--- A verdict from its number: one that refuses leaves the work table as lent (`refused-judged`), one that accepts has the plan (`planned-judged`); and what
--- a verdict's number says to the caller (`judged-taken`, `judged-not`). Assumes nothing.
+-- A verdict: one that refuses leaves the work table as lent (`refused-judged`), one that accepts has the plan (`planned-judged`); and what a verdict says to the
+-- caller (`judged-taken`, `judged-not`). Assumes nothing.
 use mathlib.Core.Path.{◌≡◌, sym, ap, ◌∙◌}
-use mathlib.Core.Logic.{◌≢◌}
 use mathlib.Core.Bool.{true, false, true≢false}
 use mathlib.Core.List.{List}
 use Prim.Native.Nat.{ℕ}
-use borrow.Author.Tests.{eq-eqb, ne_eqb}
-use Rattle.calls.specs.Refusals.{is_accepted}
+use Rattle.std.specs.Prelude.{Ok, Err}
+use Rattle.calls.specs.Refusals.{accepted, is_accepted}
 use Rattle.calls.specs.Calls.{Change}
 use Rattle.calls.specs.Steps.{World}
 use Rattle.steps.specs.Outcome.{number_for}
-use Rattle.judging.specs.Judging.{verdict_number, BatchPlan, Judged}
-use Rattle.judging.specs.declared.Verdict.{Verdict}
+use Rattle.early_refusals.proofs.Tests.{number-some}
+use Rattle.refusals.specs.declared.Refused.{Refused}
+use Rattle.refusals.specs.Found.{found}
+use Rattle.updown.specs.declared.Plan.{Plan}
+use Rattle.judging.specs.Judging.{BatchPlan, Judged}
 
 -- a verdict that refuses leaves the work table; whatever the change
-pub refused-judged : {u : World} {c : Change} {before after : List ℕ} {x : Verdict} → verdict_number x ≡ number_for u c → is_accepted (verdict_number x) ≡ false →
-    after ≡ before → Judged u c before after x
-refused-judged e h same =
-    record { number_is = e; plan = λ z. absurd (true≢false (sym z ∙ ap is_accepted (sym e) ∙ h)); unchanged = λ z. same }
+pub refused-judged : {u : World} {c : Change} {before after : List ℕ} (x : Refused) → found x ≡ number_for u c → after ≡ before → Judged u c before after (Err x)
+refused-judged x e same = record { number_is = e; plan = tt; unchanged = λ z. same }
 
 -- one that accepts has the plan
-pub planned-judged : {u : World} {c : Change} {before after : List ℕ} {x : Verdict} → verdict_number x ≡ number_for u c → is_accepted (verdict_number x) ≡ true →
-    BatchPlan u c before after x.plan → Judged u c before after x
-planned-judged e h p =
-    record { number_is = e; plan = λ z. p; unchanged = λ z. absurd (true≢false (sym (ap is_accepted (sym e) ∙ h) ∙ z)) }
+pub planned-judged : {u : World} {c : Change} {before after : List ℕ} (x : Plan) → accepted ≡ number_for u c → BatchPlan u c before after x →
+    Judged u c before after (Ok x)
+planned-judged x e p = record { number_is = e; plan = p; unchanged = λ z. absurd (true≢false (ap is_accepted e ∙ z)) }
 
-module _ {u : World} {c : Change} {before after : List ℕ} {x : Verdict} (j : Judged u c before after x) where
-  pub judged-taken : x.refusal.number ≡ 0 → is_accepted (number_for u c) ≡ true
-  judged-taken e = ap is_accepted (sym j.number_is) ∙ eq-eqb x.refusal.number 0 e
+pub judged-taken : {u : World} {c : Change} {before after : List ℕ} (x : Plan) → Judged u c before after (Ok x) → is_accepted (number_for u c) ≡ true
+judged-taken x j = sym (ap is_accepted j.number_is)
 
-  pub judged-not : x.refusal.number ≢ 0 → is_accepted (number_for u c) ≡ false
-  judged-not e = ap is_accepted (sym j.number_is) ∙ ne_eqb x.refusal.number 0 e
+pub judged-not : {u : World} {c : Change} {before after : List ℕ} (x : Refused) → Judged u c before after (Err x) → is_accepted (number_for u c) ≡ false
+judged-not x j = ap is_accepted (sym j.number_is) ∙ number-some x.refusal

@@ -1,22 +1,27 @@
--- A batch judged: its number is found and, where that is 0, its plan made in the work table: a `Verdict`. Stated over the change, for adding and removing alike.
+-- A batch judged: it is refused, or its plan made in the work table. Stated over the change, for adding and removing alike.
 -- Assumes nothing: these are definitions.
-use Rattle.std.specs.Prelude.{◌≡◌, true, false, List, ℕ, ◌≤◌, length}
+use Rattle.std.specs.Prelude.{◌≡◌, false, Result, IfOk, List, ℕ, ◌≤◌, length}
 use Rattle.symbolic.specs.Factor.{factor_for}
 use Rattle.symbolic.specs.Grades.{Limits}
 use Rattle.pool.specs.Chains.{chain}
 use Rattle.tables.specs.Tables.{Tables, tables_of}
-use Rattle.calls.specs.Refusals.{Refusal, refusal, is_accepted}
+use Rattle.calls.specs.Refusals.{Refusal, is_accepted}
 use Rattle.calls.specs.Calls.{Change}
 use Rattle.calls.specs.Changes.{effect, touched_by}
 use Rattle.calls.specs.Steps.{World, booked_in}
+use Rattle.refusals.specs.declared.Refused.{Refused}
+use Rattle.refusals.specs.Found.{found_in}
 use Rattle.updown.specs.Plans.{PlanIs}
 use Rattle.updown.specs.declared.Plan.{Plan}
 use Rattle.steps.specs.Outcome.{number_for, cut_world, CanFind}
-use Rattle.judging.specs.declared.Verdict.{Verdict}
 
--- the number and position that a search has found
+-- a verdict: the plan, or what refuses it
+abbrev pub Verdict : Type 0
+Verdict = Result Plan Refused
+
+-- its number and position
 abbrev pub verdict_number : Verdict → Refusal
-verdict_number x = refusal x.refusal.number x.refusal.position
+verdict_number x = found_in x
 
 -- the plan of an accepted batch: from the register's factor to the one after the call
 pub record BatchPlan (u : World) (c : Change) (before after : List ℕ) (x : Plan) : Type 0 where
@@ -29,7 +34,7 @@ pub record BatchPlan (u : World) (c : Change) (before after : List ℕ) (x : Pla
 -- the number is the change's; accepted, the plan stands in the work table; refused, that is as lent
 pub record Judged (u : World) (c : Change) (before after : List ℕ) (x : Verdict) : Type 0 where
   pub number_is : verdict_number x ≡ number_for u c
-  pub plan : is_accepted (number_for u c) ≡ true → BatchPlan u c before after x.plan
+  pub plan : IfOk x (BatchPlan u c before after)
   pub unchanged : is_accepted (number_for u c) ≡ false → after ≡ before
 
 -- what an addition's search asks: limits, the book's rows and its windows are not read, any that suit will do
