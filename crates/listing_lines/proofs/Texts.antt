@@ -10,9 +10,11 @@ use lib.Dec.{eqb, ltb}
 use lib.ListN.{length, length-drop, take, drop}
 use lib.Seq.{length-take-le, take_all, take-append-le, drop-drop}
 use borrow.Author.Tests.{lt-ltb, le-ltb}
-use Rattle.lists.specs.Lists.{pick, one}
+use Rattle.lists.specs.Lists.{pick}
 use Rattle.lists.proofs.Tests.{cases, lt-or-le}
 use Rattle.listing_lines.specs.Lines.{before_newline, has_newline, Grown, last_line, lines_from, lines_of}
+use Rattle.std.proofs.Common.{Some, None}
+use Rattle.listing_lines.proofs.Lines.{grown-ended, grown-open}
 use Rattle.listing_lines.specs.declared.Taken.{Taken}
 
 -- ---- the first line of a text
@@ -74,18 +76,18 @@ module _ {piece xs : List ℕ} {place n : ℕ} {ys : List ℕ} {r : Taken} (g : 
   grown-held h q = g.line-is ∙ ap (λ (l : List ℕ). take (length xs) (l ++ bytes_of)) q ∙ cut-part (length xs) h bytes_of
 
   -- a newline: the line is the first, and the others are those behind it
-  pub grown-line : r.ended ≡ true → (h more : List ℕ) → lines_from h (drop place piece ++ more) ≡ (h ++ bytes_of) ∷ lines_of (drop r.place piece ++ more)
-  grown-line e h more =
-      let p : place + suc (length bytes_of) ≡ r.place = omega (arith, g.place_is, ap one e) in
-      lines-line h (drop place piece) more (sym g.ended_is ∙ e) ∙
+  pub grown-line : {after : ℕ} → r.after ≡ Some after → (h more : List ℕ) → lines_from h (drop place piece ++ more) ≡ (h ++ bytes_of) ∷ lines_of (drop after piece ++ more)
+  grown-line {after} e h more =
+      let p : place + suc (length bytes_of) ≡ after = omega (arith, (grown-ended g e).place_is) in
+      lines-line h (drop place piece) more (grown-ended g e).newline ∙
       ap (λ (l : List ℕ). (h ++ bytes_of) ∷ lines_from [] (l ++ more)) (drop-drop (suc (length bytes_of)) place piece ∙ ap (λ (k : ℕ). drop k piece) p)
 
   -- none: all of the piece is held
-  pub grown-part : r.ended ≡ false → (h more : List ℕ) → lines_from h (drop place piece ++ more) ≡ lines_from (h ++ bytes_of) more
-  grown-part e h more = lines-part h (drop place piece) more (sym g.ended_is ∙ e)
+  pub grown-part : r.after ≡ None → (h more : List ℕ) → lines_from h (drop place piece ++ more) ≡ lines_from (h ++ bytes_of) more
+  grown-part e h more = lines-part h (drop place piece) more (grown-open g e)
 
-  pub grown-all : r.ended ≡ false → place ≤ length piece → length bytes_of + place ≡ length piece
-  grown-all e h = omega (arith, part-long (drop place piece) (sym g.ended_is ∙ e), length-drop place piece)
+  pub grown-all : r.after ≡ None → place ≤ length piece → length bytes_of + place ≡ length piece
+  grown-all e h = omega (arith, part-long (drop place piece) (grown-open g e), length-drop place piece)
 
 -- ---- the end
 

@@ -1,7 +1,7 @@
 -- A line that grows piece by piece. What it has so far stands at the front of a list; what is added are the bytes before the piece's first newline (10), and
 -- no more than the list has places. Then the lines of a whole text. Laws: proofs/Lines.antt and proofs/Texts.antt. Assumes nothing: these are definitions.
-use Rattle.std.specs.Prelude.{◌≡◌, Bool, true, false, List, [], ◌∷◌, ◌++◌, ℕ, ◌+◌, ◌≤◌, eqb, length, take, drop}
-use Rattle.lists.specs.Lists.{pick, one}
+use Rattle.std.specs.Prelude.{◌≡◌, Bool, true, false, Some, None, List, [], ◌∷◌, ◌++◌, ℕ, ◌+◌, ◌≤◌, eqb, length, take, drop}
+use Rattle.lists.specs.Lists.{pick}
 use Rattle.listing_lines.specs.declared.Taken.{Taken}
 
 -- the bytes before the first newline
@@ -19,12 +19,11 @@ pub record Growing (piece line : List ℕ) (place filled : ℕ) : Type 0 where
   pub within : place ≤ length piece
   pub fits : filled ≤ length line
 
--- the line with the bytes added, as many as there is room for; the place is past them and past the newline
+-- the line with the bytes added, as many as there is room for; a newline is passed over
 pub record Grown (piece line₀ : List ℕ) (place filled : ℕ) (line : List ℕ) (r : Taken) : Type 0 where
   pub line-is : take r.length line ≡ take (length line₀) (take filled line₀ ++ before_newline (drop place piece))
   pub fits : r.length ≤ length line₀
-  pub ended_is : r.ended ≡ has_newline (drop place piece)
-  pub place_is : r.place ≡ place + length (before_newline (drop place piece)) + one r.ended
+  pub after-is : r.after ≡ pick (has_newline (drop place piece)) (Some (place + length (before_newline (drop place piece)) + 1)) None
 
 -- ---- the lines of a text
 

@@ -7,12 +7,11 @@ ghost use Rattle.listing_lines.specs.Lines.{Growing, Grown};
 // The byte that ends a line.
 const NEWLINE: u8 = b'\n';
 
-// What was taken: the place after it in the piece, the line's length now, and whether a newline ended it.
-#[derive(Drop)]
+// What was taken: the line's length now, and the place after the newline that ended it, if one did.
+#[derive(Clone, Copy, PartialEq, Eq, Debug)]
 pub struct Taken {
-    pub place: usize,
     pub length: usize,
-    pub ended: bool,
+    pub after: Option<usize>,
 }
 
 // Adds the bytes of a piece from a place on to a line, as far as the newline, which is passed over.
@@ -20,26 +19,13 @@ pub fn take_line(piece: &[u8], line: &mut [u8], place: usize, length: usize) -> 
     requires { Growing piece.now line.old place length }
     ensures { Grown piece.now line.old place length line.new result }
 {
-    let mut next = place;
-    let mut filled = length;
-    while next < piece.len() {
-        let byte = piece[next];
-        next += 1;
-        if byte == NEWLINE {
-            return Taken {
-                place: next,
-                length: filled,
-                ended: true,
-            };
-        }
-        if filled < line.len() {
-            line[filled] = byte;
-            filled += 1;
-        }
-    }
+    let rest = &piece[place..];
+    let newline = rest.iter().position(|b| *b == NEWLINE);
+    let end = newline.unwrap_or(rest.len());
+    let count = end.min(line.len() - length);
+    line[length..length + count].copy_from_slice(&rest[..count]);
     Taken {
-        place: next,
-        length: filled,
-        ended: false,
+        length: length + count,
+        after: newline.map(|end| place + end + 1),
     }
 }
