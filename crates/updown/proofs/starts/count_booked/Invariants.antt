@@ -7,5 +7,5 @@ use Rattle.updown.proofs.starts.count_booked.Given as goal
 
 abbrev pub invariant-loop-k : goal.invariant-loop-k
 invariant-loop-k l =
-    (R W : List Column) → BookHolds l.book_heads l.book_rows l.book_next l.starts l.ids l.m W → CanStart l.m R W l.adding l.initial.work l.j.0 →
+    (R W : List Column) → BookHolds l.book.heads.now l.book.rows.now l.book.next.now l.starts l.ids l.m W → CanStart l.m R W l.adding l.initial.work l.j.0 →
     Counting l.m R W l.adding l.initial.work l.work l.n l.j.0 l.k

@@ -48,13 +48,13 @@ looping : (c : tie.At-loop-walk invariant-loop-walk decreases-loop-walk) {R W : 
 looping c {R} {W} {lent} {free} h = c.loop-walk.invariant R W lent free h.0 h.1
 
 -- the turn after A
-turning : (c : tie.After-cases_b_and_c-arg-1 invariant-loop-walk decreases-loop-walk) {R W : List Column} {lent : List ℕ} {free : ℕ} → Goes c.before.before.before.before.before.before.before.before.before.before.before.before.before.before.before.before R W lent free →
+turning : (c : tie.After-cases_b_and_c-arg-1 invariant-loop-walk decreases-loop-walk) {R W : List Column} {lent : List ℕ} {free : ℕ} → Goes c.before.before.before.before.before.before.before.before.before.before.before.before.before R W lent free →
     let s = c.args in
     let l = c.loop-walk.walk in
     Turning s.columns.next.now lent c.case_a_booked-n.new.work s.m s.flags R W s.adding (length (chain s.columns.next.now free)) c.case_a_booked-n.result
     c.take_column-j.result.0 l.first.0 l.last.0 l.count l.entries l.used l.avail.0
 turning c h =
-    booked-turning h.1 (looping c.before.before.before.before.before.before.before.before.before.before.before.before.before.before.before.before h) c.loop-walk-test.true c.take_column-j.ensures c.if-j-eq0.false c.case_a_booked-n.ensures
+    booked-turning h.1 (looping c.before.before.before.before.before.before.before.before.before.before.before.before.before h) c.loop-walk-test.true c.take_column-j.ensures c.if-j-eq0.false c.case_a_booked-n.ensures
 
 walk-from-requires : tie.Need-walk_from-walk-requires invariant-loop-walk decreases-loop-walk
 walk-from-requires c κs = search rules
@@ -77,27 +77,27 @@ returns c = λ R W lent can. loop-ends can.walk (looping c.before.before.before.
 
 case-a-booked-requires : tie.Need-case_a_booked-n-requires invariant-loop-walk decreases-loop-walk
 case-a-booked-requires c κs =
-    let h = given c.before.before.before.before.before.before.before.before.before.before.before.before in
-    booked-start h.1 (looping c.before.before.before.before.before.before.before.before.before.before.before.before h) c.loop-walk-test.true c.take_column-j.ensures c.if-j-eq0.false
+    let h = given c.before.before.before.before.before.before.before.before.before in
+    booked-start h.1 (looping c.before.before.before.before.before.before.before.before.before h) c.loop-walk-test.true c.take_column-j.ensures c.if-j-eq0.false
 
 cases-b-and-c-requires : tie.Need-cases_b_and_c-n-requires invariant-loop-walk decreases-loop-walk
 cases-b-and-c-requires c κs =
-    let h = given c.before.before.before.before.before.before.before.before.before.before.before.before.before.before.before.before in
+    let h = given c.before.before.before.before.before.before.before.before.before.before.before.before.before in
     turning-ready h.1.walk.setting (turning c h)
 
 case-d-requires : tie.Need-case_d-n-requires invariant-loop-walk decreases-loop-walk
 case-d-requires c κs =
-    let h = given c.before.before.before.before.before.before.before.before.before.before.before.before.before.before.before.before.before.before.before.before in
+    let h = given c.before.before.before.before.before.before.before.before.before.before.before.before.before.before.before.before.before in
     family-ready h.1.walk.setting (turning c.before.before.before.before h) c.cases_b_and_c-n.ensures
 
 write-plan-requires : tie.Need-write_plan-e-requires invariant-loop-walk decreases-loop-walk
 write-plan-requires c κs =
-    let h = given c.before.before.before.before.before.before.before.before.before.before.before.before.before.before.before.before.before.before.before.before.before.before.before.before.before in
+    let h = given c.before.before.before.before.before.before.before.before.before.before.before.before.before.before.before.before.before.before.before.before.before.before in
     plan-ready h.1.walk.setting (turning c.before.before.before.before.before.before.before.before.before h) c.cases_b_and_c-n.ensures c.case_d-n.ensures
 
 step-up-requires : tie.Need-step_up-walk-requires invariant-loop-walk decreases-loop-walk
 step-up-requires c κs =
-    let h = given c.before.before.before.before.before.before.before.before.before.before.before.before.before.before.before.before.before.before.before.before.before.before.before.before.before.before.before.before.before.before in
+    let h = given c.before.before.before.before.before.before.before.before.before.before.before.before.before.before.before.before.before.before.before.before.before.before.before.before.before.before.before in
     step-ready h.1.walk.setting (turning c.before.before.before.before.before.before.before.before.before.before.before.before.before.before h) c.cases_b_and_c-n.ensures c.case_d-n.ensures c.write_plan-e.ensures
 
 loop-less : tie.Need-loop-walk-smaller invariant-loop-walk decreases-loop-walk
@@ -108,7 +108,7 @@ loop-less c =
 loop-again : tie.Need-loop-walk-preserved invariant-loop-walk decreases-loop-walk
 loop-again c = λ R W lent free e can.
     let t = turning c.before.before.before.before.before.before.before.before.before.before.before.before.before.before.before.before.before (e, can) in
-    loop-on can.walk (looping c.before.before.before.before.before.before.before.before.before.before.before.before.before.before.before.before.before.before.before.before.before.before.before.before.before.before.before.before.before.before.before.before.before (e, can)) c.loop-walk-test.true c.take_column-j.ensures c.if-j-eq0.false t
+    loop-on can.walk (looping c.before.before.before.before.before.before.before.before.before.before.before.before.before.before.before.before.before.before.before.before.before.before.before.before.before.before.before.before.before.before (e, can)) c.loop-walk-test.true c.take_column-j.ensures c.if-j-eq0.false t
     (turned can.walk.setting t c.cases_b_and_c-n.ensures c.case_d-n.ensures c.write_plan-e.ensures
     c.step_up-walk.ensures)
 
