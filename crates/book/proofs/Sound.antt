@@ -4,7 +4,7 @@
 use mathlib.Core.Path.{◌≡◌, sym, subst}
 use mathlib.Core.Bool.{Bool, true, ◌&&◌}
 use mathlib.Core.List.{List}
-use Prim.Native.Nat.{ℕ, ◌+◌, ◌≤◌, min}
+use Prim.Native.Nat.{ℕ, ◌+◌, ◌≤◌}
 use native.Mathlib.Omega.{arith}
 use lib.Dec.{leb}
 use lib.ListN.{length}
@@ -88,7 +88,3 @@ rows-room m b k e =
     both_ways (leb k (length (chain b.next b.free))) (leb (s + k) (length b.next))
     (λ h. le-leb (s + k) (length b.next) (omega (arith, leb-true k (length (chain b.next b.free)) h)))
     (λ h. le-leb k (length (chain b.next b.free)) (omega (arith, leb-true (s + k) (length b.next) h)))
-
--- the count of free records up to k is k just where k of them are there
-pub count_fits : (k l n : ℕ) → n ≡ min l k → leb k n ≡ leb k l
-count_fits k l n e = both_ways (leb k n) (leb k l) (λ h. le-leb k l (omega (arith, leb-true k n h))) (λ h. le-leb k n (omega (arith, leb-true k l h)))

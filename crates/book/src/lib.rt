@@ -3,7 +3,7 @@
 // Other crates know the book by these promises alone.
 #![tactic(auto)]
 
-ghost use Rattle.std.specs.Prelude.{◌≡◌, ◌≢◌, ◌+◌, ◌≤◌, ◌<◌, leb, length, replicate};
+ghost use Rattle.std.specs.Prelude.{◌≡◌, ◌≢◌, ◌+◌, ◌≤◌, ◌<◌, leb, length};
 ghost use Rattle.lists.specs.Lists.{over};
 ghost use Rattle.pool.specs.Chains.{chain, Linked};
 ghost use Rattle.book.specs.Book.{book_of, is_booked, column_for, is_sound};
@@ -136,12 +136,11 @@ impl BookView<'_> {
         let mut r = self.heads[(id.0 - 1) as usize];
         while r != 0 {
             let i = (r - 1) as usize;
-            let c = (self.rows[i] - 1) as usize;
-            let v = counters[c];
-            counters[c] = v + 1;
-            if v == 0 {
+            let counter = &mut counters[(self.rows[i] - 1) as usize];
+            if *counter == 0 {
                 size += 1;
             }
+            *counter += 1;
             r = self.next[i];
         }
         size

@@ -1,5 +1,5 @@
 -- The loop that counts a chain's records up to a bound: its invariant (so many records were counted, and the rest is linked from the next one on),
--- its start, one more record, and its end where the chain ends before the bound. A loop that reads a chain known to be linked goes the same way.
+-- one more record, and its end where the chain ends before the bound. A loop that reads a chain known to be linked goes the same way.
 -- Assumes nothing.
 use mathlib.Core.Path.{◌≡◌, ap}
 use mathlib.Core.Logic.{◌≢◌}
@@ -17,9 +17,6 @@ pub record Counting (next : List ℕ) (head bound r n : ℕ) : Type 0 where
   pub linked : Linked next r rest
   pub size : n + length rest ≡ length (chain next head)
   pub within : n ≤ bound
-
-pub counting-start : {ns : List ℕ} {h bound : ℕ} → Linked ns h (chain ns h) → Counting ns h bound h 0
-counting-start {ns} {h} l = record { rest = chain ns h; linked = l; size = omega arith; within = omega arith }
 
 module _ {ns : List ℕ} {h bound r n : ℕ} (i : Counting ns h bound r n) where
   pub counting-step : r ≢ 0 → Step ns r i.rest

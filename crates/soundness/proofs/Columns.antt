@@ -1,4 +1,4 @@
--- The loop over the columns (ColumnsReading): its start, a column that is not the definition's, one column more, the end. Then the state before the first
+-- The loop over the columns (ColumnsReading): a column that is not the definition's, one column more, the end. Then the state before the first
 -- column (first-state). Assumes nothing.
 use mathlib.Core.Path.{◌≡◌, sym, ap, subst}
 use mathlib.Core.List.{List}
@@ -8,7 +8,7 @@ use Rattle.std.specs.Prelude.{Option, Some, None}
 use lib.ListN.{length}
 use Rattle.lists.specs.Lists.{at}
 use Rattle.workspace.specs.Layout.{child_head, child_next, lasts_at, names_at}
-use Rattle.workspace.proofs.Regions.{only-refl, only-trans}
+use Rattle.workspace.proofs.Regions.{only-trans}
 use Rattle.pool.proofs.Whole.{chains-nil, all_nil}
 use Rattle.pool.proofs.Apart.{lasts-nil}
 use Rattle.ends.proofs.Naming.{named_start}
@@ -26,9 +26,6 @@ pub record ColumnsReading (s : Stored) (b : book.Book) (w₀ w : List ℕ) (n i 
   pub only : WithinWork s b w₀ w
 
 module _ {s : Stored} {b : book.Book} {w₀ : List ℕ} where
-  pub columns-start : ColumnsReading s b w₀ w₀ 0 0
-  columns-start = record { inside = omega arith; state = λ windows clock st. st; only = only-refl }
-
   module _ {w : List ℕ} {n i : ℕ} (c : ColumnsReading s b w₀ w n i) where
     pub columns-can : SomeState s b w₀ 1 0 → i < length s.heads → CanReadColumn s b w (i + 1) n
     columns-can z h =

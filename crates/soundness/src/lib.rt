@@ -111,8 +111,7 @@ fn read_column(
     let column = j.0;
     let i = (column - 1) as usize;
     let size = counting::tally_all(book, work, m, f, j) as usize;
-    let head = columns.heads[i];
-    let (n, last) = check_chain(columns, work, m, met, size, Rec(head))?;
+    let (n, last) = check_chain(columns, work, m, met, size, Rec(columns.heads[i]))?;
     let stash = 8 * m + f;
     let up = second(work, stash + met, stash + n);
     if columns.parents[i] as u32 != up.0 {

@@ -1,7 +1,7 @@
 use Rattle.std.proofs.Common.{arith, inl, inr}
 use Rattle.book.proofs.Counting.{counting-start, counting-facts, counting_more, counting-less, counting-end}
 use Rattle.book.proofs.BookView.count_rows.Goals as goal
-use Rattle.book.proofs.BookView.count_rows.Goals.{then-v-eq0, else-v-eq0}
+use Rattle.book.proofs.BookView.count_rows.Goals.{then-counter-eq0, else-counter-eq0}
 
 pub loop-r-init : goal.loop-r-init
 loop-r-init c = counting-start c.requires
@@ -9,17 +9,14 @@ loop-r-init c = counting-start c.requires
 pub bounds-self-i : goal.bounds-self-i
 bounds-self-i c = let f = counting-facts c.requires c.loop-r.invariant c.loop-r-test.true in omega arith
 
-pub overflow_sub-c : goal.overflow_sub-c
-overflow_sub-c c = let f = counting-facts c.requires c.loop-r.invariant c.loop-r-test.true in omega arith
+pub overflow_sub-counter : goal.overflow_sub-counter
+overflow_sub-counter c = let f = counting-facts c.requires c.loop-r.invariant c.loop-r-test.true in omega arith
 
-pub bounds-counters-c : goal.bounds-counters-c
-bounds-counters-c c = let f = counting-facts c.requires c.loop-r.invariant c.loop-r-test.true in omega arith
+pub bounds-counters-self : goal.bounds-counters-self
+bounds-counters-self c = let f = counting-facts c.requires c.loop-r.invariant c.loop-r-test.true in omega arith
 
-pub overflow_add-counters : goal.overflow_add-counters
-overflow_add-counters c = let f = counting-facts c.requires c.loop-r.invariant c.loop-r-test.true in omega arith
-
-pub bounds-counters-c-in-loop-r : goal.bounds-counters-c-in-loop-r
-bounds-counters-c-in-loop-r c = let f = counting-facts c.requires c.loop-r.invariant c.loop-r-test.true in omega arith
+pub overflow_add-counter : goal.overflow_add-counter
+overflow_add-counter c = let f = counting-facts c.requires c.loop-r.invariant c.loop-r-test.true in omega arith
 
 pub overflow_add-size : goal.overflow_add-size
 overflow_add-size c = let f = counting-facts c.requires c.loop-r.invariant c.loop-r-test.true in omega arith
@@ -33,9 +30,9 @@ loop-r-smaller c = counting-less c.requires c.loop-r.invariant c.loop-r-test.tru
 pub loop-r-preserved : goal.loop-r-preserved
 loop-r-preserved c =
     counting_more c.requires c.loop-r.invariant c.loop-r-test.true _
-    (elim c.if-v-eq0.branch [
-      | then-v-eq0 w ↦ inl (w.if-v-eq0.true, w.size-is)
-      | else-v-eq0 w ↦ inr (w.if-v-eq0.false, w.size-is)
+    (elim c.if-counter-eq0.branch [
+      | then-counter-eq0 w ↦ inl (w.if-counter-eq0.true, w.size-is)
+      | else-counter-eq0 w ↦ inr (w.if-counter-eq0.false, w.size-is)
     ])
 
 pub returns-clause-counted : goal.returns-clause-counted
