@@ -12,6 +12,7 @@ ghost use Rattle.columns.specs.Commit.{CanCommitChain, CommitReady, CommittedCha
 
 use book::Row;
 use pool::Rec;
+use workspace::Kind;
 
 // Where a commit stands: the last record that is done, then the free chain's head.
 #[derive(Clone, Copy)]
@@ -143,9 +144,8 @@ fn apply_entry(
 {
     let row = workspace::row_of(entry);
     let count = workspace::multiplicity_of(entry) as u16;
-    let kind = workspace::kind_of(entry);
     let before = advance(rows, next, p, Row(row));
-    if kind == workspace::NEW {
+    if workspace::is_of(entry, Kind::New) {
         let z = free.0;
         let j = (z - 1) as usize;
         rows[j] = row as u16;
@@ -156,7 +156,7 @@ fn apply_entry(
     let b = before.0;
     let q = next[(b - 1) as usize];
     let k = (q - 1) as usize;
-    if kind == workspace::CHANGED {
+    if workspace::is_of(entry, Kind::Changed) {
         counts[k] = count;
         return Spot(Rec(q), free);
     }

@@ -3,12 +3,12 @@
 -- Assumes nothing.
 use mathlib.Core.Path.{◌≡◌, refl, sym, ap, subst, ◌∙◌}
 use mathlib.Core.Logic.{inl, inr}
-use mathlib.Core.Bool.{true, false≢true}
+use mathlib.Core.Bool.{true, false, false≢true}
 use mathlib.Core.List.{List, [], ◌∷◌, ◌++◌, append_assoc, append-nil}
 use Prim.Native.Nat.{ℕ, ◌+◌, ◌*◌, ◌≤◌, ◌<◌}
 use native.Mathlib.Omega.{arith}
 use lib.ListN.{length, set, length-append}
-use borrow.Author.Tests.{eq-eqb, ne_eqb}
+use lib.Dec.{eqb}
 use Rattle.lists.specs.Lists.{among}
 use Rattle.lists.proofs.Member.{mem-either, among-mem, mem-among}
 use Rattle.workspace.specs.Regions.{cell, region}
@@ -90,9 +90,9 @@ module _ {m : ℕ} {w₀ : List ℕ} {k from to kind bound : ℕ} (can : CanReac
         kind-append kind (plan_part m w₀ from a) (cell w₀ (8 * m) a ∷ [])
 
     -- a row of the kind is gathered
-    module _ (h : a < to) (k-is : kind_of (cell w (8 * m) a) ≡ kind) where
-      t : kind_of (cell w₀ (8 * m) a) ≡ kind
-      t = ap kind_of (sym reaching-cell) ∙ k-is
+    module _ (h : a < to) (of-it : eqb (kind_of (cell w (8 * m) a)) kind ≡ true) where
+      t : eqb (kind_of (cell w₀ (8 * m) a)) kind ≡ true
+      t = ap (λ (e : ℕ). eqb (kind_of e) kind) (sym reaching-cell) ∙ of-it
 
       pub reaching-room : n < m
       reaching-room =
@@ -100,7 +100,7 @@ module _ {m : ℕ} {w₀ : List ℕ} {k from to kind bound : ℕ} (can : CanReac
           rows_of_kind kind (plan_part m w₀ from a) ++ (row_of (cell w₀ (8 * m) a) ∷ rows_of_kind kind (plan_part m w₀ (a + 1) to)) =
           ap (rows_of_kind kind) (part_join m w₀ from a to g.passing.low g.passing.high) ∙ kind-append kind (plan_part m w₀ from a) (plan_part m w₀ a to) ∙
           ap (λ (xs : List ℕ). rows_of_kind kind (plan_part m w₀ from a) ++ rows_of_kind kind xs) (part-front m w₀ a to h can.pass.long) ∙
-          ap (λ (xs : List ℕ). rows_of_kind kind (plan_part m w₀ from a) ++ xs) (kind-cons kind (cell w₀ (8 * m) a) (plan_part m w₀ (a + 1) to) (eq-eqb _ _ t)) in
+          ap (λ (xs : List ℕ). rows_of_kind kind (plan_part m w₀ from a) ++ xs) (kind-cons kind (cell w₀ (8 * m) a) (plan_part m w₀ (a + 1) to) t) in
           omega (
             arith,
             can.room,
@@ -118,18 +118,18 @@ module _ {m : ℕ} {w₀ : List ℕ} {k from to kind bound : ℕ} (can : CanReac
           let e : (region w₀ (2 * m) k ++ rows_of_kind kind (plan_part m w₀ from a)) ++ (row ∷ []) ≡ region w₀ (2 * m) k ++ rows_of_kind kind (plan_part m w₀ from (a + 1)) =
           append_assoc (region w₀ (2 * m) k) (rows_of_kind kind (plan_part m w₀ from a)) (row ∷ []) ∙
           sym (ap (λ (xs : List ℕ). region w₀ (2 * m) k ++ xs) (next-kind h ∙
-          ap (λ (xs : List ℕ). rows_of_kind kind (plan_part m w₀ from a) ++ xs) (kind-cons kind (cell w₀ (8 * m) a) [] (eq-eqb _ _ t) ∙ ap (λ (xs : List ℕ). row ∷ xs) (kind-nil kind)))) in
+          ap (λ (xs : List ℕ). rows_of_kind kind (plan_part m w₀ from a) ++ xs) (kind-cons kind (cell w₀ (8 * m) a) [] t ∙ ap (λ (xs : List ℕ). row ∷ xs) (kind-nil kind)))) in
           record {
             passing = passing-next g.passing can.pass.long h (omega arith);
             gathering = rw lent (subst (λ (xs : List ℕ). Gathering m w₀ (set w (2 * m + n) row) (n + 1) xs) e (gathering-push g.gathering row can.long reaching-room));
           }
 
     -- a row of another kind is not
-    pub reaching-skip : a < to → (kind_of (cell w (8 * m) a) ≡ kind → ⊥) → row_of (cell w (8 * m) a) < bound → Reaching m w₀ k from to kind bound w n (a + 1)
+    pub reaching-skip : a < to → eqb (kind_of (cell w (8 * m) a)) kind ≡ false → row_of (cell w (8 * m) a) < bound → Reaching m w₀ k from to kind bound w n (a + 1)
     reaching-skip h t b =
         let lent : row_of (cell w (8 * m) a) ≡ row_of (cell w₀ (8 * m) a) = ap row_of reaching-cell in
         let e : rows_of_kind kind (plan_part m w₀ from a) ≡ rows_of_kind kind (plan_part m w₀ from (a + 1)) =
-        sym (next-kind h ∙ ap (λ (xs : List ℕ). rows_of_kind kind (plan_part m w₀ from a) ++ xs) (kind-skip kind (cell w₀ (8 * m) a) [] (ne_eqb _ _ (λ q. t (ap kind_of reaching-cell ∙ q))) ∙ kind-nil kind) ∙
+        sym (next-kind h ∙ ap (λ (xs : List ℕ). rows_of_kind kind (plan_part m w₀ from a) ++ xs) (kind-skip kind (cell w₀ (8 * m) a) [] (ap (λ (e : ℕ). eqb (kind_of e) kind) (sym reaching-cell) ∙ t) ∙ kind-nil kind) ∙
         append-nil (rows_of_kind kind (plan_part m w₀ from a))) in
         record {
           passing = passing-next g.passing can.pass.long h (omega arith);

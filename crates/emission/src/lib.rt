@@ -6,6 +6,7 @@
 ghost use Rattle.std.specs.Prelude.{◌≡◌, ◌≢◌, ◌+◌, ◌*◌, ◌≤◌, ◌<◌, length, set};
 ghost use Rattle.lists.specs.Lists.{at};
 ghost use Rattle.workspace.specs.Layout.{plan_at};
+ghost use Rattle.workspace.specs.Planned.{kind_number};
 ghost use Rattle.emission.specs.Plans.{kind_for};
 ghost use Rattle.emission.specs.Walks.{first_over, stays, on_to, longer, taking, CanPass, Passed, stored_at, counting, advanced, CanPlan, Planned};
 ghost use Rattle.emission.specs.Emit.{Ready, Emits};
@@ -13,6 +14,7 @@ ghost use Rattle.emission.specs.Emit.{Ready, Emits};
 use book::Row;
 use differences::BASE;
 use pool::Rec;
+use workspace::Kind;
 
 // A walk of a chain: the record at hand and how many are behind it, the plan's end, the rows counted and the first above the diagonal, the next free record,
 // and whether there was one for each new row.
@@ -125,16 +127,16 @@ fn advance(next: &[u32], walk: Walk, old: u32) -> Walk
 }
 
 // The kind of a planned change.
-fn kind_for(old: u32, new: u32) -> u32
-    ensures { result ≡ kind_for old new }
+fn kind_for(old: u32, new: u32) -> Kind
+    ensures { kind_number result ≡ kind_for old new }
 {
     if old == 0 {
-        return workspace::NEW;
+        Kind::New
+    } else if 0 < new {
+        Kind::Changed
+    } else {
+        Kind::Gone
     }
-    if 0 < new {
-        return workspace::CHANGED;
-    }
-    workspace::GONE
 }
 
 // Counts a row with its new multiplicity, if it stays.

@@ -16,7 +16,7 @@ use crate::PARENT_WEIGHT;
 use book::Row;
 use pool::Rec;
 use tables::ColumnsView;
-use workspace::{CHILDREN, GONE, LINKS, LOST, MARKS, NEW, NEXT, STARTS};
+use workspace::{CHILDREN, Kind, LINKS, LOST, MARKS, NEXT, STARTS};
 
 // Where the plan of a column before the last touched one ends: where the plan of the next touched one starts.
 fn plan_end(work: &[u32], m: usize, c: Row) -> usize
@@ -56,10 +56,10 @@ fn case_b(work: &mut [u32], m: usize, n: usize, c: Row, adding: bool) -> usize
     let from = work[STARTS * m + (c.0 - 1) as usize] as usize;
     let to = plan_end(work, m, c);
     if adding {
-        let g = differences::gather_plan(work, m, from, to, NEW);
+        let g = differences::gather_plan(work, m, from, to, Kind::New);
         return differences::count_rows(work, m, n, g, true);
     }
-    let k = differences::gather_plan(work, m, from, to, GONE);
+    let k = differences::gather_plan(work, m, from, to, Kind::Gone);
     differences::count_rows(work, m, n, k, false)
 }
 

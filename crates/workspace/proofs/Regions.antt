@@ -9,8 +9,8 @@ use Prim.Native.Nat.{ℕ, ◌+◌, ◌-◌, ◌≤◌, ◌<◌}
 use native.Mathlib.Omega.{arith}
 use native.Mathlib.Numerals.{add-one}
 use lib.ListN.{length, get_or, take, drop, set, replicate, length-append, length-take, length-drop, length-set, length-replicate, get_or-replicate, get_or-append}
-use lib.Seq.{ext_get_or, set_out, take-suc, take-set-le, get_or-set_same, get_or-set_other, get_or-take, get_or-drop, get_or-append-add, length-take-le, take-add, take-set-lt, drop-set-add, drop-drop}
-use Rattle.lists.proofs.Tests.{eq-or-ne, lt-or-le}
+use lib.Seq.{ext_get_or, take-suc, take-set-le, get_or-set_same, get_or-set_other, get_or-take, get_or-drop, get_or-append-add, length-take-le, take-add, take-set-lt, drop-set-add, drop-drop}
+use Rattle.lists.proofs.Tests.{lt-or-le}
 use Rattle.workspace.specs.Regions.{cell, region, Outside, Apart, IsZero, OnlyIn, cleared, zero_first}
 
 -- ---- a place of the table
@@ -91,17 +91,6 @@ store-region w a n i v h = ap (take n) (drop-set-add a w i v) ∙ take-set-lt n 
 pub store-push : (w : List ℕ) (a i v : ℕ) → a + i < length w → region (set w (a + i) v) a (i + 1) ≡ region w a i ++ (v ∷ [])
 store-push w a i v h =
     region-next (set w (a + i) v) a i (simp length-set h) ∙ rw (store_same w a i v h, drop-set-add a w i v, take-set-le i (drop a w) i v (omega arith)) refl
-
--- a zero stored leaves a zero region zero, wherever it goes
-pub store-zero : (w : List ℕ) (a n k : ℕ) → IsZero w a n → IsZero (set w k 0) a n
-store-zero w a n k z i h =
-    elim (eq-or-ne (a + i) k) [
-      | inr d ↦ get_or-set_other w k (a + i) 0 0 d ∙ z i h
-      | inl e ↦ elim (lt-or-le k (length w)) [
-        | inl p ↦ rw e (get_or-set_same w k 0 0 p)
-        | inr p ↦ rw (set_out w k 0 p) (z i h)
-      ]
-    ]
 
 -- ---- a change in one region only
 
@@ -208,10 +197,6 @@ module _ (w : List ℕ) (a n : ℕ) (fits : a + n ≤ length w) where
   -- what is zero in the region and else as before is the table cleared
   pub cleared-unique : {x : List ℕ} → OnlyIn a n w x → IsZero x a n → x ≡ cleared w a n
   cleared-unique o z = only-equal (only-trans (only-sym cleared-only) o) (λ i h. z i h ∙ sym (cleared-zero i h))
-
-  -- a region that is zero already
-  pub cleared-same : IsZero w a n → cleared w a n ≡ w
-  cleared-same z = sym (cleared-unique only-refl z)
 
 -- ---- the first places of the table
 

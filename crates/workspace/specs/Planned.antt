@@ -2,6 +2,8 @@
 -- weights and read by `/` and `%`, no masks. Laws: proofs/Planned.antt.
 -- Assumes nothing: these are definitions.
 use Rattle.std.specs.Prelude.{ℕ, ◌+◌, ◌*◌, ◌-◌, ◌/◌, ◌%◌, ◌≤◌, ◌<◌}
+use Rattle.workspace.specs.declared.Kind.{Kind}
+use Rattle.workspace.specs.declared.Kind.TheVariants.{Changed, New, Gone}
 
 -- a planned entry of row, new multiplicity and kind, as one number
 abbrev pub packed : (row multiplicity kind : ℕ) → ℕ
@@ -32,6 +34,12 @@ new_kind = 1
 -- the row goes
 abbrev pub gone_kind : ℕ
 gone_kind = 2
+
+-- the number of a kind
+abbrev pub kind_number : Kind → ℕ
+kind_number Changed = changed_kind
+kind_number New = new_kind
+kind_number Gone = gone_kind
 
 -- ---- what one place can hold
 

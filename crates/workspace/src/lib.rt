@@ -3,10 +3,10 @@
 // table and a start, since two parts of one table cannot be lent at once.
 #![tactic(auto)]
 
-ghost use Rattle.std.specs.Prelude.{◌≡◌, ◌+◌, ◌*◌, ◌≤◌, ◌<◌, length};
+ghost use Rattle.std.specs.Prelude.{◌≡◌, ◌+◌, ◌*◌, ◌≤◌, ◌<◌, eqb, length};
 ghost use Rattle.workspace.specs.Regions.{cleared};
 ghost use Rattle.workspace.specs.Layout.{work_need};
-ghost use Rattle.workspace.specs.Planned.{packed, FitsEntry, row_of, multiplicity_of, kind_of};
+ghost use Rattle.workspace.specs.Planned.{packed, FitsEntry, row_of, multiplicity_of, kind_of, kind_number};
 
 // Where the regions of a batch start, in multiples of m; specs/Layout.antt has them all. NEXT and CHILDREN are the same places, after a column's turn and
 // until then.
@@ -37,12 +37,13 @@ pub const FLAGS: usize = 64;
 // By which the upper part of a place counts that holds two numbers.
 pub const UPPER_WEIGHT: u32 = 8192;
 
-// Kinds of a planned entry.
-pub const CHANGED: u32 = 0;
-
-pub const NEW: u32 = 1;
-
-pub const GONE: u32 = 2;
+// What a planned entry does to its row: it stays with another multiplicity, comes, or goes.
+#[derive(Clone, Copy, PartialEq, Eq)]
+pub enum Kind {
+    Changed,
+    New,
+    Gone,
+}
 
 // How many places of the work table the sizes m, n, f and c need: W of document 01. It is summed in 64 bits, so that no sizes are too large for it.
 pub fn work_need(m: u32, n: u32, f: u32, c: u32) -> usize
@@ -60,11 +61,11 @@ pub fn clear(work: &mut [u32], a: usize, n: usize)
 }
 
 // A planned entry in one place: row - 1 in 12 bits, multiplicity in 18, kind in 2.
-pub fn pack(row: u32, multiplicity: u32, kind: u32) -> u32
-    requires { FitsEntry row multiplicity kind }
-    ensures { result ≡ packed row multiplicity kind }
+pub fn pack(row: u32, multiplicity: u32, kind: Kind) -> u32
+    requires { FitsEntry row multiplicity (kind_number kind) }
+    ensures { result ≡ packed row multiplicity (kind_number kind) }
 {
-    row - 1 + 4096 * multiplicity + 1073741824 * kind
+    row - 1 + 4096 * multiplicity + 1073741824 * number_of(kind)
 }
 
 // The row of a planned entry.
@@ -81,9 +82,20 @@ pub fn multiplicity_of(entry: u32) -> u32
     entry / 4096 % 262144
 }
 
-// The kind of a planned entry.
-pub fn kind_of(entry: u32) -> u32
-    ensures { result ≡ kind_of entry }
+// Whether a planned entry is of a kind.
+pub fn is_of(entry: u32, kind: Kind) -> bool
+    ensures { result ≡ eqb (kind_of entry) (kind_number kind) }
 {
-    entry / 1073741824
+    entry / 1073741824 == number_of(kind)
+}
+
+// The number that stands for a kind in a planned entry.
+fn number_of(kind: Kind) -> u32
+    ensures { result ≡ kind_number kind }
+{
+    match kind {
+        Kind::Changed => 0,
+        Kind::New => 1,
+        Kind::Gone => 2,
+    }
 }
