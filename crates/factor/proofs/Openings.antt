@@ -1,6 +1,6 @@
 -- The step of an opening: its 1 to 5 and 20 with the default F and limits (`open-early`), refused (`open-refused`), and done (`open_done`). Assumes nothing.
 use mathlib.Core.Path.{◌≡◌, refl, sym, ap, ◌∙◌}
-use mathlib.Core.Logic.{◌≢◌, inl, inr}
+use mathlib.Core.Logic.{inl, inr}
 use mathlib.Core.Bool.{Bool, true, false}
 use mathlib.Core.List.{List}
 use Prim.Native.Nat.{ℕ, ◌≤◌, ◌<◌}
@@ -25,7 +25,10 @@ use Rattle.factor.specs.Entries.{state_of, opening_answer, OpenStep}
 use Rattle.admission.specs.Admission.{HasPlaces}
 use Rattle.opening.specs.Written.{OpeningWritten}
 use Rattle.factor.specs.declared.Factor.{Factor}
-use Rattle.factor.specs.declared.Opening.TheVariants.{Opened, Refused}
+use Rattle.std.specs.Prelude.{Ok, Err}
+use Rattle.early_refusals.specs.declared.refusal.Refusal as reasons
+use Rattle.early_refusals.specs.Refusal.{number_of}
+use Rattle.early_refusals.proofs.Tests.{number-not0}
 use Rattle.factor.proofs.Asking.{flat-early, refused-flat}
 
 module _ (m n f c : ℕ) (g : Limits) (t : Tables) (w : List ℕ) {r : ℕ} (by : r ≡ records_for m f) {h : Limits} (limits : h ≡ limits_for g) {rule : Bool} (kept : rule ≡ are_limits h) where
@@ -60,48 +63,47 @@ module _ (m n f c : ℕ) (g : Limits) (t : Tables) (w : List ℕ) {r : ℕ} (by 
         | inr h ↦ ap (λ (l : Sizes). early_refusal l b t w true) (given_is ∙ default-allowed m n f c h)
       ]
 
-  module _ {k : ℕ} (e : k ≡ (early_refusal given rule t w true).number) where
-    pub open-refused : k ≢ 0 → OpenStep asked g t w (Refused k) t w
-    open-refused d s =
+  pub open-refused : (k : reasons.Refusal) → number_of k ≡ (early_refusal given rule t w true).number → OpenStep asked g t w (Err k) t w
+  open-refused k e s =
+      let u : World = record { state = s; tables = t } in
+      let x : Refusal = early_refusal given rule t w true in
+      let q : is_accepted x ≡ false = ne_eqb x.number 0 (λ z. number-not0 k (e ∙ z)) in
+      let p : refusal_of s t (call_of (opening asked g) (work_only w)) ≡ x = ap (λ (y : Refusal). or_else y accepted) (sym open-early) ∙ or-first x accepted q in
+      refused-step u (call_of (opening asked g) (work_only w)) (opening_answer (Err k)) (work_only w) u
+      (record {
+        number = ap is_accepted p ∙ q;
+        answer = refused-flat x e (flat-early given rule t w true) ∙ ap refused_by (sym p);
+        lists = ap work_only (sym (ap (λ (y : Refusal). pick (is_accepted y) (zero_first (work_for (with_default asked)) w) w) (sym open-early) ∙
+            ap (λ (b : Bool). pick b (zero_first (work_for (with_default asked)) w) w) q));
+        world = refl;
+      })
+
+  module _ (e : 0 ≡ (early_refusal given rule t w true).number) where
+    passed : is_accepted (early_refusal given rule t w true) ≡ true
+    passed = eq-eqb (early_refusal given rule t w true).number 0 (sym e)
+
+    pub open-writes : HasPlaces given t w
+    open-writes =
+        let p : (sizes_refusal bounds given ≡ accepted) × (rule ≡ true) × HasRoom given t w × (true ≡ true) = early-passed given rule t w true passed in
+        record { sizes = p.0; long = p.2.tables; room = p.2.work }
+
+    allowed : m ≤ 4096
+    allowed = (sizes-facts given (ap is_accepted open-writes.sizes)).m-high
+
+    pub open_done : {t' : Tables} {w' : List ℕ} {free book_free : ℕ} → OpeningWritten given t w t' w' free book_free →
+        OpenStep asked g t w (Ok (record { m = m; n = n; f = r; c = c; free = free; book_free = book_free; grade2 = h.grade2; grade3 = h.grade3; grade4 = h.grade4; clock = 0 })) t' w'
+    open_done {t'} {w'} {free} {book_free} o s =
         let u : World = record { state = s; tables = t } in
-        let x : Refusal = early_refusal given rule t w true in
-        let q : is_accepted x ≡ false = ne_eqb x.number 0 (λ z. d (e ∙ z)) in
-        let p : refusal_of s t (call_of (opening asked g) (work_only w)) ≡ x = ap (λ (y : Refusal). or_else y accepted) (sym open-early) ∙ or-first x accepted q in
-        refused-step u (call_of (opening asked g) (work_only w)) (opening_answer (Refused k)) (work_only w) u
+        let l : Sizes = with_default asked in
+        let q : given ≡ l = given_is ∙ default-allowed m n f c allowed in
+        let b : Bool = are_limits (limits_for g) in
+        let z : is_accepted (early_refusal l b t w true) ≡ true = ap is_accepted (sym open-early) ∙ passed in
+        let x : Factor = record { m = m; n = n; f = r; c = c; free = free; book_free = book_free; grade2 = h.grade2; grade3 = h.grade3; grade4 = h.grade4; clock = 0 } in
+        let st : state_of x ≡ opened_state given (limits_for g) = λ i. record { sizes = given; limits = limits i; free = o.free-is i; book_free = o.book-free-is i; clock = 0 } in
+        accepted-step u (call_of (opening asked g) (work_only w)) (opening_answer (Ok x)) (work_only w') (record { state = state_of x; tables = t' })
         (record {
-          number = ap is_accepted p ∙ q;
-          answer = refused-flat x e (flat-early given rule t w true) ∙ ap refused_by (sym p);
-          lists = ap work_only (sym (ap (λ (y : Refusal). pick (is_accepted y) (zero_first (work_for (with_default asked)) w) w) (sym open-early) ∙
-              ap (λ (b : Bool). pick b (zero_first (work_for (with_default asked)) w) w) q));
-          world = refl;
+          number = ap (λ (y : Bool). is_accepted (pick y accepted (early_refusal l b t w true))) z;
+          answer = refl;
+          lists = ap work_only (o.left ∙ ap (λ (y : Sizes). zero_first (work_for y) w) q ∙ sym (ap (λ (y : Bool). pick y (zero_first (work_for l) w) w) z));
+          world = (st ∙ ap (λ (y : Sizes). opened_state y (limits_for g)) q, o.tables ∙ ap (λ (y : Sizes). opened_tables y t) q);
         })
-
-    module _ (d : k ≡ 0) where
-      passed : is_accepted (early_refusal given rule t w true) ≡ true
-      passed = eq-eqb (early_refusal given rule t w true).number 0 (sym e ∙ d)
-
-      pub open-writes : HasPlaces given t w
-      open-writes =
-          let p : (sizes_refusal bounds given ≡ accepted) × (rule ≡ true) × HasRoom given t w × (true ≡ true) = early-passed given rule t w true passed in
-          record { sizes = p.0; long = p.2.tables; room = p.2.work }
-
-      allowed : m ≤ 4096
-      allowed = (sizes-facts given (ap is_accepted open-writes.sizes)).m-high
-
-      pub open_done : {t' : Tables} {w' : List ℕ} {free book_free : ℕ} → OpeningWritten given t w t' w' free book_free →
-          OpenStep asked g t w (Opened (record { m = m; n = n; f = r; c = c; free = free; book_free = book_free; grade2 = h.grade2; grade3 = h.grade3; grade4 = h.grade4; clock = 0 })) t' w'
-      open_done {t'} {w'} {free} {book_free} o s =
-          let u : World = record { state = s; tables = t } in
-          let l : Sizes = with_default asked in
-          let q : given ≡ l = given_is ∙ default-allowed m n f c allowed in
-          let b : Bool = are_limits (limits_for g) in
-          let z : is_accepted (early_refusal l b t w true) ≡ true = ap is_accepted (sym open-early) ∙ passed in
-          let x : Factor = record { m = m; n = n; f = r; c = c; free = free; book_free = book_free; grade2 = h.grade2; grade3 = h.grade3; grade4 = h.grade4; clock = 0 } in
-          let st : state_of x ≡ opened_state given (limits_for g) = λ i. record { sizes = given; limits = limits i; free = o.free-is i; book_free = o.book-free-is i; clock = 0 } in
-          accepted-step u (call_of (opening asked g) (work_only w)) (opening_answer (Opened x)) (work_only w') (record { state = state_of x; tables = t' })
-          (record {
-            number = ap (λ (y : Bool). is_accepted (pick y accepted (early_refusal l b t w true))) z;
-            answer = refl;
-            lists = ap work_only (o.left ∙ ap (λ (y : Sizes). zero_first (work_for y) w) q ∙ sym (ap (λ (y : Bool). pick y (zero_first (work_for l) w) w) z));
-            world = (st ∙ ap (λ (y : Sizes). opened_state y (limits_for g)) q, o.tables ∙ ap (λ (y : Sizes). opened_tables y t) q);
-          })

@@ -1,13 +1,13 @@
 -- The public entries' records as the definitions of calls/ have them: the factor as sizes, limits, free heads and clock, tables, answers. A contract is `Transition`
 -- of the entry's call over these (`OpenStep`, `ReadStep`), and nothing else. Assumes nothing: these are definitions.
-use Rattle.std.specs.Prelude.{List, ℕ}
+use Rattle.std.specs.Prelude.{Result, Ok, Err, List, ℕ}
 use Rattle.symbolic.specs.Grades.{Limits, limits_of}
 use Rattle.tables.specs.Tables.{Tables, Sizes, State, sizes_of}
 use Rattle.calls.specs.Calls.{opening, Lent, work_only, Call, call_of}
 use Rattle.calls.specs.Steps.{Answer, World, Transition}
 use Rattle.factor.specs.declared.Factor.{Factor}
-use Rattle.factor.specs.declared.Opening.{Opening}
-use Rattle.factor.specs.declared.Opening.TheVariants.{Opened, Refused}
+use Rattle.early_refusals.specs.declared.refusal.Refusal.{Refusal}
+use Rattle.early_refusals.specs.Refusal.{number_of}
 
 -- the record of sizes, limits, free heads and clock that a factor is
 abbrev pub state_of : Factor → State
@@ -24,15 +24,19 @@ state_of x =
 abbrev pub world_of : Factor → Tables → World
 world_of x t = record { state = state_of x; tables = t }
 
+-- what an opening gives: a factor, or what refuses it
+abbrev pub Opening : Type 0
+Opening = Result Factor Refusal
+
 -- an opening's answer: accepted, all numbers are 0; refused, the number
 abbrev pub opening_answer : Opening → Answer
-opening_answer (Opened x) = record { number = 0; position = 0; touched = 0; entries = 0; grade = 0; row = 0; value = 0 }
-opening_answer (Refused n) = record { number = n; position = 0; touched = 0; entries = 0; grade = 0; row = 0; value = 0 }
+opening_answer (Ok x) = record { number = 0; position = 0; touched = 0; entries = 0; grade = 0; row = 0; value = 0 }
+opening_answer (Err e) = record { number = number_of e; position = 0; touched = 0; entries = 0; grade = 0; row = 0; value = 0 }
 
 -- the record after an opening: "after a refused opening the record from before it serves on"
 abbrev pub state_after : Opening → State → State
-state_after (Opened x) s = state_of x
-state_after (Refused n) s = s
+state_after (Ok x) s = state_of x
+state_after (Err e) s = s
 
 -- OPEN, whatever record there was before
 abbrev pub OpenStep : (asked : Sizes) (limits : Limits) (t : Tables) (work : List ℕ) (r : Opening) (t' : Tables) (work' : List ℕ) → Type 0

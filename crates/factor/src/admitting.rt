@@ -2,10 +2,12 @@
 ghost use Rattle.std.specs.Prelude.{◌≡◌};
 ghost use Rattle.tables.specs.Lent.{tables_in};
 ghost use Rattle.admission.specs.Admission.{Admitted};
+ghost use Rattle.early_refusals.specs.Refusal.{number_in};
 ghost use Rattle.state.specs.Record.{state_of as record_state};
 ghost use Rattle.factor.specs.Entries.{state_of};
 
 use crate::Factor;
+use early_refusals::Refusal;
 use pool::Rec;
 use state::State;
 
@@ -28,7 +30,7 @@ impl Factor {
         }
     }
 
-    // The number 1 to 6 that a call is refused by, or 0; lists: a change's lists are long enough. Where 1 to 5 are passed the first W work places are zero afterwards.
+    // Refuses a call by 1 to 6; lists: a change's lists are long enough. Where 1 to 5 are passed the first W work places are zero afterwards.
     pub fn admit(
         self,
         heads: &[u32],
@@ -42,8 +44,8 @@ impl Factor {
         windows: &[u32],
         work: &mut [u32],
         lists: bool,
-    ) -> u32
-        ensures { Admitted (state_of self) (tables_in heads parents rows counts next book_heads book_rows book_next windows) work.old lists result work.new }
+    ) -> Result<(), Refusal>
+        ensures { Admitted (state_of self) (tables_in heads parents rows counts next book_heads book_rows book_next windows) work.old lists (number_in result) work.new }
     {
         admission::admit(
             self.state(),

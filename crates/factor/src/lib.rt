@@ -18,6 +18,7 @@ mod meeting;
 mod unchecked;
 
 use book::Row;
+use early_refusals::Refusal;
 use pool::Rec;
 use questions::{Found, Reply};
 use state::State;
@@ -36,13 +37,6 @@ pub struct Factor {
     pub grade3: u32,
     pub grade4: u32,
     pub clock: u32,
-}
-
-// What an opening answers.
-#[derive(Clone, Copy)]
-pub enum Opening {
-    Opened(Factor),
-    Refused(u32),
 }
 
 impl Factor {
@@ -75,7 +69,7 @@ impl Factor {
         book_next: &mut [u32],
         windows: &mut [u32],
         work: &mut [u32],
-    ) -> Opening
+    ) -> Result<Factor, Refusal>
         ensures { OpenStep (sizes_of m n f c) (limits_of grade2 grade3 grade4) (tables_of heads.old parents.old rows.old counts.old next.old book_heads.old book_rows.old book_next.old windows.old) work.old result (tables_of heads.new parents.new rows.new counts.new next.new book_heads.new book_rows.new book_next.new windows.new) work.new }
     {
         let records = early_refusals::default_records(m, f);
@@ -97,18 +91,15 @@ impl Factor {
             asked.grade3,
             asked.grade4,
         );
-        let number = admission::early(
+        admission::early(
             asked, heads, parents, rows, counts, next, book_heads, book_rows, book_next, windows,
             work, keeps_rule, true,
-        );
-        if number != 0 {
-            return Opening::Refused(number);
-        }
+        )?;
         let free = opening::write(
             heads, parents, rows, counts, next, book_heads, book_rows, book_next, windows, work, m,
             n, records, c,
         );
-        Opening::Opened(Factor {
+        Ok(Factor {
             m,
             n,
             f: records,
@@ -138,11 +129,13 @@ impl Factor {
     ) -> Reply
         ensures { ReadStep (world_of self (tables_in heads parents rows counts next book_heads book_rows book_next windows)) (call_of checking (work_in work)) (reply_of result) (work_out work) }
     {
-        let number = self.admit(
+        if let Err(reason) = self.admit(
             heads, parents, rows, counts, next, book_heads, book_rows, book_next, windows, work,
             true,
-        );
-        Reply { number, value: 0 }
+        ) {
+            return Reply::refused(reason);
+        }
+        Reply::of(0)
     }
 
     // The first row at or above i in column j and its multiplicity, both 0 if the column ends before.
@@ -163,16 +156,11 @@ impl Factor {
     ) -> Found
         ensures { ReadStep (world_of self (tables_in heads parents rows counts next book_heads book_rows book_next windows)) (call_of (asking (ask_next_row i.0 j.0) 0) (work_in work)) (found_of result) (work_out work) }
     {
-        let number = self.admit(
+        if let Err(reason) = self.admit(
             heads, parents, rows, counts, next, book_heads, book_rows, book_next, windows, work,
             true,
-        );
-        if number != 0 {
-            return Found {
-                number,
-                row: 0,
-                multiplicity: 0,
-            };
+        ) {
+            return Found::refused(reason);
         }
         self.next_row_unchecked(
             heads, parents, rows, counts, next, book_heads, book_rows, book_next, windows, i, j,
@@ -196,12 +184,11 @@ impl Factor {
     ) -> Reply
         ensures { ReadStep (world_of self (tables_in heads parents rows counts next book_heads book_rows book_next windows)) (call_of (asking (ask_parent j.0) 0) (work_in work)) (reply_of result) (work_out work) }
     {
-        let number = self.admit(
+        if let Err(reason) = self.admit(
             heads, parents, rows, counts, next, book_heads, book_rows, book_next, windows, work,
             true,
-        );
-        if number != 0 {
-            return Reply { number, value: 0 };
+        ) {
+            return Reply::refused(reason);
         }
         self.parent_unchecked(
             heads, parents, rows, counts, next, book_heads, book_rows, book_next, windows, j,
@@ -227,12 +214,11 @@ impl Factor {
     ) -> Reply
         ensures { ReadStep (world_of self (tables_in heads parents rows counts next book_heads book_rows book_next windows)) (call_of (asking (ask_path j.0) place) (list_in work list)) (reply_of result) (list_out work list) }
     {
-        let number = self.admit(
+        if let Err(reason) = self.admit(
             heads, parents, rows, counts, next, book_heads, book_rows, book_next, windows, work,
             true,
-        );
-        if number != 0 {
-            return Reply { number, value: 0 };
+        ) {
+            return Reply::refused(reason);
         }
         self.path_unchecked(
             heads, parents, rows, counts, next, book_heads, book_rows, book_next, windows, list, j,
@@ -259,12 +245,11 @@ impl Factor {
     ) -> Reply
         ensures { ReadStep (world_of self (tables_in heads parents rows counts next book_heads book_rows book_next windows)) (call_of (asking (ask_column j.0) place) (list_in work list)) (reply_of result) (list_out work list) }
     {
-        let number = self.admit(
+        if let Err(reason) = self.admit(
             heads, parents, rows, counts, next, book_heads, book_rows, book_next, windows, work,
             true,
-        );
-        if number != 0 {
-            return Reply { number, value: 0 };
+        ) {
+            return Reply::refused(reason);
         }
         self.column_unchecked(
             heads, parents, rows, counts, next, book_heads, book_rows, book_next, windows, list, j,

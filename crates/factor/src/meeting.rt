@@ -31,12 +31,11 @@ impl Factor {
     ) -> Reply
         ensures { ReadStep (world_of self (tables_in heads parents rows counts next book_heads book_rows book_next windows)) (call_of (asking (ask_meets i.0) place) (list_in work list)) (reply_of result) (list_out work list) }
     {
-        let number = self.admit(
+        if let Err(reason) = self.admit(
             heads, parents, rows, counts, next, book_heads, book_rows, book_next, windows, work,
             true,
-        );
-        if number != 0 {
-            return Reply { number, value: 0 };
+        ) {
+            return Reply::refused(reason);
         }
         self.meets_unchecked(
             heads, parents, rows, counts, next, book_heads, book_rows, book_next, windows, work,
@@ -61,12 +60,11 @@ impl Factor {
     ) -> Reply
         ensures { ReadStep (world_of self (tables_in heads parents rows counts next book_heads book_rows book_next windows)) (call_of (asking (ask_common row_list.now) 0) (work_in work)) (reply_of result) (work_out work) }
     {
-        let number = self.admit(
+        if let Err(reason) = self.admit(
             heads, parents, rows, counts, next, book_heads, book_rows, book_next, windows, work,
             true,
-        );
-        if number != 0 {
-            return Reply { number, value: 0 };
+        ) {
+            return Reply::refused(reason);
         }
         self.common_unchecked(
             heads, parents, rows, counts, next, book_heads, book_rows, book_next, windows, row_list,
