@@ -37,11 +37,10 @@ pub fn add(
     ensures { ChangeTransition factor (tables_of heads.now parents.old rows.old counts.old next.old book_heads.old book_rows.old book_next.old windows.old) (adding_of ids row_counts row_list firsts seconds) (report_in work touched labels) result (report_out work touched labels) (tables_of heads.now parents.new rows.new counts.new next.new book_heads.new book_rows.new book_next.new windows.new) }
 {
     let short = early_refusals::short_lists(touched, labels, factor.m);
-    let number = factor.admit(
+    if let Err(reason) = factor.admit(
         heads, parents, rows, counts, next, book_heads, book_rows, book_next, windows, work, !short,
-    );
-    if number != 0 {
-        return answers::refused(factor, number, 0);
+    ) {
+        return answers::refused(factor, reason, 0);
     }
     add_unchecked(
         factor, heads, parents, rows, counts, next, book_heads, book_rows, book_next, windows,
@@ -69,11 +68,10 @@ pub fn remove(
     ensures { ChangeTransition factor (tables_of heads.now parents.old rows.old counts.old next.old book_heads.old book_rows.old book_next.old windows.old) (removing_of ids) (report_in work touched labels) result (report_out work touched labels) (tables_of heads.now parents.new rows.new counts.new next.new book_heads.new book_rows.new book_next.new windows.new) }
 {
     let short = early_refusals::short_lists(touched, labels, factor.m);
-    let number = factor.admit(
+    if let Err(reason) = factor.admit(
         heads, parents, rows, counts, next, book_heads, book_rows, book_next, windows, work, !short,
-    );
-    if number != 0 {
-        return answers::refused(factor, number, 0);
+    ) {
+        return answers::refused(factor, reason, 0);
     }
     remove_unchecked(
         factor, heads, parents, rows, counts, next, book_heads, book_rows, book_next, windows,
@@ -109,7 +107,7 @@ pub fn add_unchecked(
     let n = factor.n as usize;
     let f = factor.f as usize;
     let c = factor.c as usize;
-    let verdict = judging::judge_add(
+    let plan = match judging::judge_add(
         &heads[..m],
         &parents[..m],
         &rows[..f],
@@ -126,12 +124,10 @@ pub fn add_unchecked(
         Rec(factor.free),
         Rec(factor.book_free),
         factor.clock,
-    );
-    let found = verdict.refusal;
-    if found.number != 0 {
-        return answers::refused(factor, found.number, found.position);
-    }
-    let plan = verdict.plan;
+    ) {
+        Ok(plan) => plan,
+        Err(refused) => return answers::refused(factor, refused.refusal, refused.position),
+    };
     let after = writing::write_add(
         &heads[..m],
         &mut parents[..m],
@@ -187,7 +183,7 @@ pub fn remove_unchecked(
     let n = factor.n as usize;
     let f = factor.f as usize;
     let c = factor.c as usize;
-    let verdict = judging::judge_remove(
+    let plan = match judging::judge_remove(
         &heads[..m],
         &parents[..m],
         &rows[..f],
@@ -200,12 +196,10 @@ pub fn remove_unchecked(
         work,
         ids,
         factor.clock,
-    );
-    let found = verdict.refusal;
-    if found.number != 0 {
-        return answers::refused(factor, found.number, found.position);
-    }
-    let plan = verdict.plan;
+    ) {
+        Ok(plan) => plan,
+        Err(refused) => return answers::refused(factor, refused.refusal, refused.position),
+    };
     let after = writing::write_remove(
         &heads[..m],
         &mut parents[..m],

@@ -12,6 +12,7 @@ ghost use Rattle.answers.specs.Answers.{CanChange, ChangeTransition, UncheckedCh
 ghost use Rattle.clock.specs.Setting.{CanClear, Cleared};
 
 use answers::Changed;
+use early_refusals::Refusal;
 use factor::Factor;
 use pool::Rec;
 use workspace::PLAN;
@@ -36,11 +37,10 @@ pub fn set_clock(
     ensures { ChangeTransition factor (tables_of heads.now parents.old rows.old counts.old next.old book_heads.now book_rows.now book_next.now windows.now) (setting minute) (report_in work touched labels) result (report_out work touched labels) (tables_of heads.now parents.new rows.new counts.new next.new book_heads.now book_rows.now book_next.now windows.now) }
 {
     let short = early_refusals::short_lists(touched, labels, factor.m);
-    let number = factor.admit(
+    if let Err(reason) = factor.admit(
         heads, parents, rows, counts, next, book_heads, book_rows, book_next, windows, work, !short,
-    );
-    if number != 0 {
-        return answers::refused(factor, number, 0);
+    ) {
+        return answers::refused(factor, reason, 0);
     }
     set_clock_unchecked(
         factor, heads, parents, rows, counts, next, book_heads, book_rows, book_next, windows,
@@ -101,7 +101,7 @@ pub fn set_clock_unchecked(
     );
     if !x.fits {
         clear(work, m, f, x.saved);
-        return answers::refused(factor, 16, 0);
+        return answers::refused(factor, Refusal::FactorFull, 0);
     }
     let report = exchange::reporting::report(&heads[..m], &next[..f], work, touched, labels);
     clear(work, m, f, x.saved);

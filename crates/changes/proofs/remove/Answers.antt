@@ -1,0 +1,27 @@
+-- `remove` meets its contract: refused by its admission, or handed on to the unchecked twin, by the laws of `answers`. Assumes nothing.
+use mathlib.Core.Path.{refl}
+use Rattle.tables.specs.Tables.{tables_of}
+use Rattle.calls.specs.Calls.{removing, report_lists}
+use Rattle.early_refusals.proofs.Tests.{number-not0}
+use Rattle.factor.specs.Entries.{state_of, world_of}
+use Rattle.answers.specs.Answers.{changed_answer}
+use Rattle.answers.proofs.Changing.{admits-change, change-refused, admitted-can, changed-whole}
+use Rattle.changes.proofs.remove.Goals as goal
+
+pub returns-in-Err : goal.returns-in-Err
+returns-in-Err c =
+    change-refused c.args.factor (tables_of c.args.heads.now c.args.parents.now c.args.rows.now c.args.counts.now c.args.next.now c.args.book_heads.now c.args.book_rows.now c.args.book_next.now c.args.windows.now)
+    (admits-change (state_of c.args.factor) (tables_of c.args.heads.now c.args.parents.now c.args.rows.now c.args.counts.now c.args.next.now c.args.book_heads.now c.args.book_rows.now c.args.book_next.now c.args.windows.now) c.args.work.now c.args.touched.now c.args.labels.now c.short_lists-short.ensures (removing c.args.ids.now)) c.in-Err.ensures
+    (number-not0 c.in-Err.reason) (report_lists c.admit.new.work c.args.touched.now c.args.labels.now) refl c.refused.ensures
+
+pub remove_unchecked-requires : goal.remove_unchecked-requires
+remove_unchecked-requires c =
+    admitted-can (state_of c.args.factor) (tables_of c.args.heads.now c.args.parents.now c.args.rows.now c.args.counts.now c.args.next.now c.args.book_heads.now c.args.book_rows.now c.args.book_next.now c.args.windows.now) c.args.work.now c.args.touched.now c.args.labels.now c.short_lists-short.ensures c.in_default.ensures refl
+
+pub returns : goal.returns
+returns c =
+    changed-whole (state_of c.args.factor) (tables_of c.args.heads.now c.args.parents.now c.args.rows.now c.args.counts.now c.args.next.now c.args.book_heads.now c.args.book_rows.now c.args.book_next.now c.args.windows.now) c.args.work.now c.args.touched.now c.args.labels.now c.short_lists-short.ensures c.in_default.ensures refl (removing c.args.ids.now)
+    (changed_answer c.remove_unchecked.result) (report_lists c.remove_unchecked.new.work c.remove_unchecked.new.touched c.remove_unchecked.new.labels)
+    (world_of c.remove_unchecked.result.factor
+    (tables_of c.args.heads.now c.remove_unchecked.new.parents c.remove_unchecked.new.rows c.remove_unchecked.new.counts c.remove_unchecked.new.next c.remove_unchecked.new.book_heads
+    c.remove_unchecked.new.book_rows c.remove_unchecked.new.book_next c.remove_unchecked.new.windows)) c.remove_unchecked.ensures
