@@ -1,197 +1,134 @@
-// The changes, on a host: a batch added, a batch removed, the clock set.
-use crate::{Batched, Host};
+// The changes: a batch added, a batch removed, the clock set.
+use crate::Tables;
+use answers::Changed;
 
-// Adds a batch.
-pub fn add(
-    host: Host,
-    ids: &[u32],
-    row_counts: &[u32],
-    row_list: &[u32],
-    firsts: &[u32],
-    seconds: &[u32],
-) -> Batched {
-    let heads = host.heads;
-    let mut parents = host.parents;
-    let mut rows = host.rows;
-    let mut counts = host.counts;
-    let mut next = host.next;
-    let mut book_heads = host.book_heads;
-    let mut book_rows = host.book_rows;
-    let mut book_next = host.book_next;
-    let mut windows = host.windows;
-    let mut work = [7u32; 12160];
-    let mut touched = [9u16; 64];
-    let mut labels = [9u16; 64];
-    let record = host.factor;
-    let changed = changes::add(
-        record,
-        &heads,
-        &mut parents,
-        &mut rows,
-        &mut counts,
-        &mut next,
-        &mut book_heads,
-        &mut book_rows,
-        &mut book_next,
-        &mut windows,
-        &mut work,
-        &mut touched,
-        &mut labels,
-        ids,
-        row_counts,
-        row_list,
-        firsts,
-        seconds,
-    );
-    let factor = changed.factor;
-    let host = Host {
-        heads,
-        parents,
-        rows,
-        counts,
-        next,
-        book_heads,
-        book_rows,
-        book_next,
-        windows,
-        factor,
-    };
-    Batched {
-        changed,
-        touched,
-        labels,
-        host,
+// What a change gives: its answer, the two lists, which hold 9 wherever it writes nothing, and the work table.
+#[derive(Clone, Copy)]
+pub struct Batched<const M: usize, const WORK: usize> {
+    pub changed: Changed,
+    pub touched: [u16; M],
+    pub labels: [u16; M],
+    pub work: [u32; WORK],
+}
+
+impl<
+    const M: usize,
+    const N: usize,
+    const F: usize,
+    const C: usize,
+    const MINUTES: usize,
+    const WORK: usize,
+> Tables<M, N, F, C, MINUTES, WORK> {
+    // Adds a batch.
+    pub fn add(
+        &mut self,
+        ids: &[u32],
+        row_counts: &[u32],
+        row_list: &[u32],
+        firsts: &[u32],
+        seconds: &[u32],
+    ) -> Batched<M, WORK> {
+        let mut work = [7u32; WORK];
+        let mut touched = [9u16; M];
+        let mut labels = [9u16; M];
+        let changed = changes::add(
+            self.factor,
+            &self.heads,
+            &mut self.parents,
+            &mut self.rows,
+            &mut self.counts,
+            &mut self.next,
+            &mut self.book_heads,
+            &mut self.book_rows,
+            &mut self.book_next,
+            &mut self.windows,
+            &mut work,
+            &mut touched,
+            &mut labels,
+            ids,
+            row_counts,
+            row_list,
+            firsts,
+            seconds,
+        );
+        self.factor = changed.factor;
+        Batched {
+            changed,
+            touched,
+            labels,
+            work,
+        }
     }
-}
 
-// Adds a batch whose first and second minutes stand in one list, as many as there are ids; all of it where it is shorter.
-fn add_from(
-    host: Host,
-    ids: &[u32],
-    row_counts: &[u32],
-    row_list: &[u32],
-    minutes: &[u32],
-) -> Batched {
-    let k = ids.len();
-    if minutes.len() < k {
-        return add(host, ids, row_counts, row_list, minutes, minutes);
+    // Adds a batch of columns that have no window; more than 64 of them keep no step.
+    pub fn add_always(
+        &mut self,
+        ids: &[u32],
+        row_counts: &[u32],
+        row_list: &[u32],
+    ) -> Batched<M, WORK> {
+        let none = [0u32; 64];
+        let minutes = &none[..ids.len().min(64)];
+        self.add(ids, row_counts, row_list, minutes, minutes)
     }
-    add(
-        host,
-        ids,
-        row_counts,
-        row_list,
-        &minutes[..k],
-        &minutes[..k],
-    )
-}
 
-// Adds a batch of columns that have no window; more than 64 of them keep no step.
-pub fn add_always(host: Host, ids: &[u32], row_counts: &[u32], row_list: &[u32]) -> Batched {
-    let none = [0u32; 64];
-    add_from(host, ids, row_counts, row_list, &none)
-}
-
-// Removes a batch.
-pub fn remove(host: Host, ids: &[u32]) -> Batched {
-    let heads = host.heads;
-    let mut parents = host.parents;
-    let mut rows = host.rows;
-    let mut counts = host.counts;
-    let mut next = host.next;
-    let mut book_heads = host.book_heads;
-    let mut book_rows = host.book_rows;
-    let mut book_next = host.book_next;
-    let mut windows = host.windows;
-    let mut work = [7u32; 12160];
-    let mut touched = [9u16; 64];
-    let mut labels = [9u16; 64];
-    let record = host.factor;
-    let changed = changes::remove(
-        record,
-        &heads,
-        &mut parents,
-        &mut rows,
-        &mut counts,
-        &mut next,
-        &mut book_heads,
-        &mut book_rows,
-        &mut book_next,
-        &mut windows,
-        &mut work,
-        &mut touched,
-        &mut labels,
-        ids,
-    );
-    let factor = changed.factor;
-    let host = Host {
-        heads,
-        parents,
-        rows,
-        counts,
-        next,
-        book_heads,
-        book_rows,
-        book_next,
-        windows,
-        factor,
-    };
-    Batched {
-        changed,
-        touched,
-        labels,
-        host,
+    // Removes a batch.
+    pub fn remove(&mut self, ids: &[u32]) -> Batched<M, WORK> {
+        let mut work = [7u32; WORK];
+        let mut touched = [9u16; M];
+        let mut labels = [9u16; M];
+        let changed = changes::remove(
+            self.factor,
+            &self.heads,
+            &mut self.parents,
+            &mut self.rows,
+            &mut self.counts,
+            &mut self.next,
+            &mut self.book_heads,
+            &mut self.book_rows,
+            &mut self.book_next,
+            &mut self.windows,
+            &mut work,
+            &mut touched,
+            &mut labels,
+            ids,
+        );
+        self.factor = changed.factor;
+        Batched {
+            changed,
+            touched,
+            labels,
+            work,
+        }
     }
-}
 
-// Sets the clock to a minute.
-pub fn set_clock(host: Host, minute: u32) -> Batched {
-    let heads = host.heads;
-    let mut parents = host.parents;
-    let mut rows = host.rows;
-    let mut counts = host.counts;
-    let mut next = host.next;
-    let book_heads = host.book_heads;
-    let book_rows = host.book_rows;
-    let book_next = host.book_next;
-    let windows = host.windows;
-    let mut work = [7u32; 12160];
-    let mut touched = [9u16; 64];
-    let mut labels = [9u16; 64];
-    let record = host.factor;
-    let changed = clock::set_clock(
-        record,
-        &heads,
-        &mut parents,
-        &mut rows,
-        &mut counts,
-        &mut next,
-        &book_heads,
-        &book_rows,
-        &book_next,
-        &windows,
-        &mut work,
-        &mut touched,
-        &mut labels,
-        minute,
-    );
-    let factor = changed.factor;
-    let host = Host {
-        heads,
-        parents,
-        rows,
-        counts,
-        next,
-        book_heads,
-        book_rows,
-        book_next,
-        windows,
-        factor,
-    };
-    Batched {
-        changed,
-        touched,
-        labels,
-        host,
+    // Sets the clock to a minute.
+    pub fn set_clock(&mut self, minute: u32) -> Batched<M, WORK> {
+        let mut work = [7u32; WORK];
+        let mut touched = [9u16; M];
+        let mut labels = [9u16; M];
+        let changed = clock::set_clock(
+            self.factor,
+            &self.heads,
+            &mut self.parents,
+            &mut self.rows,
+            &mut self.counts,
+            &mut self.next,
+            &self.book_heads,
+            &self.book_rows,
+            &self.book_next,
+            &self.windows,
+            &mut work,
+            &mut touched,
+            &mut labels,
+            minute,
+        );
+        self.factor = changed.factor;
+        Batched {
+            changed,
+            touched,
+            labels,
+            work,
+        }
     }
 }

@@ -2,6 +2,7 @@
 // by default.
 ghost use Rattle.std.specs.Prelude.{◌≤◌};
 
+use pairs::draw::count_from;
 use pairs::pair::{Pair, add, open, remove};
 use pairs::{asked, rows};
 
@@ -96,42 +97,20 @@ fn merging(p: Pair) -> Pair {
 
 // ---- 64 columns
 
-// The ids or rows 1 to 64.
-fn write_ids(list: &mut [u32; 64]) {
-    let mut k: u32 = 0;
-    while k < 64 {
-        list[k as usize] = k + 1;
-        k += 1;
-    }
-}
-
 // Every second id from the first one on.
 fn write_half(list: &mut [u32; 32], first: u32)
     requires { first ≤ 2 }
 {
-    let mut k: u32 = 0;
-    while k < 32 {
-        list[k as usize] = 2 * k + first;
-        k += 1;
+    for (k, id) in list.iter_mut().enumerate() {
+        *id = 2 * k as u32 + first;
     }
 }
 
 // The rows k and k + 1 for each k below 64, then row 64.
 fn write_rows(list: &mut [u32; 127]) {
-    let mut k: u32 = 0;
-    while k < 127 {
-        list[k as usize] = (k + 1) / 2 + 1;
-        k += 1;
+    for (k, row) in list.iter_mut().enumerate() {
+        *row = (k as u32 + 1) / 2 + 1;
     }
-}
-
-// Lends the lists as slices.
-fn add_lists(p: Pair, ids: &[u32; 64], counts: &[u32; 64], rows: &[u32; 127]) -> Pair {
-    add(p, ids, counts, rows)
-}
-
-fn remove_list(p: Pair, ids: &[u32; 32]) -> Pair {
-    remove(p, ids)
 }
 
 // 64 columns in one batch: {k, k + 1} for each k below 64, and {64}.
@@ -140,9 +119,9 @@ fn add_many(p: Pair) -> Pair {
     let mut rows = [0u32; 127];
     let mut counts = [2u32; 64];
     counts[63] = 1;
-    write_ids(&mut ids);
+    count_from(&mut ids, 1);
     write_rows(&mut rows);
-    add_lists(p, &ids, &counts, &rows)
+    add(p, &ids, &counts, &rows)
 }
 
 // Half of them, from the first id on.
@@ -151,7 +130,7 @@ fn remove_half(p: Pair, first: u32) -> Pair
 {
     let mut ids = [0u32; 32];
     write_half(&mut ids, first);
-    remove_list(p, &ids)
+    remove(p, &ids)
 }
 
 // All are added, then removed by halves.
@@ -168,12 +147,11 @@ fn many(p: Pair) -> Pair {
 
 // One column with the rows 1 to m of a list, which makes all entries that m rows can have.
 fn full(p: Pair, m: u32, f: u32, list: &[u32]) -> Pair {
-    let k = m as usize;
-    if list.len() < k {
+    let Some(rows) = list.get(..m as usize) else {
         return p;
-    }
+    };
     let q = open(p, m, 1, f, m);
-    add(q, &[1], &[m], &list[..k])
+    add(q, &[1], &[m], rows)
 }
 
 // F = 0 is just enough for the 2,016 entries of 63 rows, and 32 too few for those of 64 rows; an F that is named is kept.
@@ -187,7 +165,7 @@ fn filled(p: Pair, list: &[u32; 64]) -> Pair {
 
 fn by_default(p: Pair) -> Pair {
     let mut list = [0u32; 64];
-    write_ids(&mut list);
+    count_from(&mut list, 1);
     filled(p, &list)
 }
 

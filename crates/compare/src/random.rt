@@ -6,26 +6,19 @@ use pairs::rows;
 
 // One call: mostly a batch.
 fn step(p: Pair, seed: &mut u64, rows: u32, ids: u32, density: u32) -> Pair {
-    let kind = draw(seed, 63);
-    if kind < 3 {
-        return open(p, seed, rows, ids);
+    match draw(seed, 63) {
+        0..=2 => open(p, seed, rows, ids),
+        3..=29 => add(p, seed, density),
+        30..=47 => remove(p, seed),
+        _ => ask(p, seed),
     }
-    if kind < 30 {
-        return add(p, seed, density);
-    }
-    if kind < 48 {
-        return remove(p, seed);
-    }
-    ask(p, seed)
 }
 
 // An opening, then as many calls, then the questions about rows, which draw from a copy of the seed: what follows them is the same without them.
 pub fn history(p: Pair, seed: &mut u64, rows: u32, ids: u32, density: u32, calls: u32) -> Pair {
     let mut q = open(p, seed, rows, ids);
-    let mut k: u32 = 0;
-    while k < calls {
+    for _ in 0..calls {
         q = step(q, seed, rows, ids, density);
-        k += 1;
     }
     rows::asked(q, *seed)
 }
@@ -34,10 +27,8 @@ pub fn history(p: Pair, seed: &mut u64, rows: u32, ids: u32, density: u32, calls
 pub fn histories(p: Pair, from: u64, rows: u32, ids: u32, count: u32, calls: u32) -> Pair {
     let mut seed = from;
     let mut q = p;
-    let mut k: u32 = 0;
-    while k < count {
+    for k in 0..count {
         q = history(q, &mut seed, rows, ids, k % 8 + 1, calls);
-        k += 1;
     }
     q
 }

@@ -3,7 +3,7 @@
 ghost use Rattle.std.specs.Prelude.{◌≤◌};
 
 use crate::{large, minutes};
-use pairs::draw::{chance, draw};
+use pairs::draw::{chance, count_from, draw};
 use pairs::pair;
 use pairs::pair::{Pair, set_clock};
 
@@ -15,7 +15,7 @@ fn add(p: Pair, seed: &mut u64, from: u32) -> Pair
     let mut list = [0u32; 128];
     let mut firsts = [0u32; 66];
     let mut seconds = [0u32; 66];
-    large::write_ids(&mut ids, from);
+    count_from(&mut ids, from);
     large::write_rows(&mut list, draw(seed, 40), 1 + draw(seed, 23));
     minutes::write(seed, &mut firsts, &mut seconds, true);
     large::lists_added(p, &ids, &list, &firsts, &seconds, 64)
@@ -54,11 +54,9 @@ fn moved(p: Pair, seed: &mut u64) -> Pair {
 pub fn histories(p: Pair, from: u64, count: u32) -> Pair {
     let mut seed = from;
     let mut q = p;
-    let mut k: u32 = 0;
-    while k < count {
+    for _ in 0..count {
         q = added(q, &mut seed);
         q = moved(q, &mut seed);
-        k += 1;
     }
     q
 }

@@ -3,6 +3,7 @@ ghost use Rattle.std.specs.Prelude.{◌≤◌};
 
 use crate::lent::add_first;
 use crate::minutes::Minutes;
+use pairs::draw::count_from;
 use pairs::pair::Pair;
 use pairs::{pair, rows};
 
@@ -14,39 +15,24 @@ pub type RowList = [u32; 128];
 
 // ---- batches
 
-// The ids from one on.
-pub fn write_ids(ids: &mut List, from: u32)
-    requires { from ≤ 256 }
-{
-    let mut k: u32 = 0;
-    while k < 64 {
-        ids[k as usize] = from + k;
-        k += 1;
-    }
-}
-
 // The row after one, by a step: they go round in rows 1 to 40.
 fn row_after(row: u32, step: u32) -> u32
     requires { (row ≤ 40) × (step ≤ 40) }
     ensures { result ≤ 40 }
 {
-    if 40 < row + step {
-        return row + step - 40;
-    }
-    row + step
+    let after = row + step;
+    if 40 < after { after - 40 } else { after }
 }
 
 // Two rows for each column, the second by `apart` above the first.
 pub fn write_rows(list: &mut RowList, step: u32, apart: u32)
     requires { (step ≤ 40) × (apart ≤ 24) }
 {
-    let mut row: u32 = 1;
-    let mut k: usize = 0;
-    while k < 64 {
+    let mut row = 1;
+    for k in 0..64 {
         list[2 * k] = row;
         list[2 * k + 1] = row + apart;
         row = row_after(row, step);
-        k += 1;
     }
 }
 
@@ -73,7 +59,7 @@ fn add(p: Pair, from: u32, r: usize, step: u32, apart: u32, first: u32, second: 
     let seconds = [second; 66];
     let mut ids = [0u32; 64];
     let mut list = [0u32; 128];
-    write_ids(&mut ids, from);
+    count_from(&mut ids, from);
     write_rows(&mut list, step, apart);
     lists_added(p, &ids, &list, &firsts, &seconds, r)
 }

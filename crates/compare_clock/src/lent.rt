@@ -15,19 +15,12 @@ pub fn add_first(
     a: usize,
     b: usize,
 ) -> Pair {
-    if ids.len() < r {
-        return p;
-    }
-    if counts.len() < r {
-        return p;
-    }
-    if rows.len() < s {
-        return p;
-    }
-    if firsts.len() < a {
-        return p;
-    }
-    if seconds.len() < b {
+    if ids.len() < r
+        || counts.len() < r
+        || rows.len() < s
+        || firsts.len() < a
+        || seconds.len() < b
+    {
         return p;
     }
     pair::add_within(

@@ -30,8 +30,7 @@ fn between(first: u32, second: u32) -> Window {
 fn later(seed: &mut u64, first: u32) -> u32
     requires { first ≤ 12 }
 {
-    let kind = draw(seed, 7);
-    match kind {
+    match draw(seed, 7) {
         0 => 4294967295,
         1 | 2 => first + 1 + draw(seed, 12),
         _ => first + 1 + draw(seed, 3),
@@ -43,7 +42,7 @@ fn drawn(seed: &mut u64) -> Window {
     let kind = draw(seed, 15);
     let first = draw(seed, 12);
     match kind {
-        0 | 1 | 2 | 3 => between(0, 0),
+        0..=3 => between(0, 0),
         4 => between(0, later(seed, 0)),
         5 => between(4294967294, 4294967295),
         _ => between(first, later(seed, first)),
@@ -90,10 +89,8 @@ fn put(firsts: &mut Minutes, seconds: &mut Minutes, at: usize, w: Window) {
 
 // Writes windows at all places: any that can be, or those that take turns.
 pub fn write(seed: &mut u64, firsts: &mut Minutes, seconds: &mut Minutes, in_turns: bool) {
-    let mut t: usize = 0;
-    while t < 66 {
+    for t in 0..66 {
         put(firsts, seconds, t, either(seed, in_turns));
-        t += 1;
     }
 }
 
@@ -101,10 +98,7 @@ pub fn write(seed: &mut u64, firsts: &mut Minutes, seconds: &mut Minutes, in_tur
 pub fn damage(seed: &mut u64, firsts: &mut Minutes, seconds: &mut Minutes, r: u32)
     requires { r ≤ 65 }
 {
-    if !chance(seed, 11) {
-        return;
-    }
-    if r < 1 {
+    if !chance(seed, 11) || r < 1 {
         return;
     }
     let at = draw(seed, r - 1) as usize;

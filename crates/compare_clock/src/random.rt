@@ -3,7 +3,6 @@ ghost use Rattle.std.specs.Prelude.{◌≤◌};
 
 use crate::lent::add_first;
 use crate::minutes;
-use crate::minutes::Minutes;
 use pairs::draw::{Ids, RowList, chance, draw};
 use pairs::drawn::{ask, open, remove};
 use pairs::pair::Pair;
@@ -19,7 +18,7 @@ fn add(p: Pair, seed: &mut u64, density: u32) -> Pair {
     let mut counts = [0u32; 65];
     let mut rows = [0u32; 4200];
     let r = draw::size(seed);
-    draw::write_ids(seed, &mut ids, &mut marks, record.n, r as usize, 0, 1);
+    draw::write_ids(seed, &mut ids, &mut marks, record.n, r as usize, false);
     let s = draw::write_rows(seed, &mut counts, &mut rows, record.m, density, r as usize);
     draw::damage(seed, &mut rows, record.m, s);
     add_drawn(p, seed, &ids, &counts, &rows, r, s)
@@ -43,23 +42,7 @@ fn add_drawn(
     minutes::damage(seed, &mut firsts, &mut seconds, r);
     let a = minutes::length(seed, r);
     let b = minutes::length(seed, r);
-    lists_added(p, ids, counts, rows, &firsts, &seconds, r as usize, s, a, b)
-}
-
-// Lends the lists as slices.
-fn lists_added(
-    p: Pair,
-    ids: &Ids,
-    counts: &Ids,
-    rows: &RowList,
-    firsts: &Minutes,
-    seconds: &Minutes,
-    r: usize,
-    s: usize,
-    a: usize,
-    b: usize,
-) -> Pair {
-    add_first(p, ids, counts, rows, firsts, seconds, r, s, a, b)
+    add_first(p, ids, counts, rows, &firsts, &seconds, r as usize, s, a, b)
 }
 
 // ---- the clock
@@ -76,29 +59,20 @@ fn set_clock(p: Pair, seed: &mut u64) -> Pair {
 
 // One call: mostly a batch or a change of the clock.
 fn step(p: Pair, seed: &mut u64, rows: u32, ids: u32, density: u32) -> Pair {
-    let kind = draw(seed, 63);
-    if kind < 2 {
-        return open(p, seed, rows, ids);
+    match draw(seed, 63) {
+        0..=1 => open(p, seed, rows, ids),
+        2..=27 => add(p, seed, density),
+        28..=35 => remove(p, seed),
+        36..=55 => set_clock(p, seed),
+        _ => ask(p, seed),
     }
-    if kind < 28 {
-        return add(p, seed, density);
-    }
-    if kind < 36 {
-        return remove(p, seed);
-    }
-    if kind < 56 {
-        return set_clock(p, seed);
-    }
-    ask(p, seed)
 }
 
 // An opening, then as many calls, then the questions about rows, which draw from a copy of the seed.
 fn history(p: Pair, seed: &mut u64, rows: u32, ids: u32, density: u32, calls: u32) -> Pair {
     let mut q = open(p, seed, rows, ids);
-    let mut k: u32 = 0;
-    while k < calls {
+    for _ in 0..calls {
         q = step(q, seed, rows, ids, density);
-        k += 1;
     }
     rows::asked(q, *seed)
 }
@@ -107,10 +81,8 @@ fn history(p: Pair, seed: &mut u64, rows: u32, ids: u32, density: u32, calls: u3
 pub fn histories(p: Pair, from: u64, rows: u32, ids: u32, count: u32, calls: u32) -> Pair {
     let mut seed = from;
     let mut q = p;
-    let mut k: u32 = 0;
-    while k < count {
+    for k in 0..count {
         q = history(q, &mut seed, rows, ids, k % 8 + 1, calls);
-        k += 1;
     }
     q
 }

@@ -1,5 +1,5 @@
 // Numbers from a seed, by a linear congruence modulo 2^32, and what is drawn from them: ids, rows, counts, sizes of batches, rows that are named, limits.
-ghost use Rattle.std.specs.Prelude.{◌≤◌};
+ghost use Rattle.std.specs.Prelude.{◌+◌, ◌≤◌, length};
 
 use crate::pair::Three;
 use reference::Booked;
@@ -25,19 +25,16 @@ pub fn chance(seed: &mut u64, most: u32) -> bool {
 
 // ---- ids
 
-// Whether id i has the mark; the mark of an id that it finds is changed.
-fn found(marks: &mut Booked, i: u32, mark: u8, other: u8) -> bool {
-    if i < 1 {
-        return false;
-    }
-    if 256 < i {
+// Whether id i is marked as booked, or as not booked; the mark of an id that it finds is changed.
+fn found(marks: &mut Booked, i: u32, booked: bool) -> bool {
+    if i < 1 || 256 < i {
         return false;
     }
     let at = (i - 1) as usize;
-    if marks[at] != mark {
+    if marks[at] != u8::from(booked) {
         return false;
     }
-    marks[at] = other;
+    marks[at] = u8::from(!booked);
     true
 }
 
@@ -46,40 +43,32 @@ fn after(i: u32, n: u32) -> u32 {
     if i < n { i + 1 } else { 1 }
 }
 
-// An id of 1 to n that has the mark; any of 0 to n where none has it, and now and then.
-fn pick(seed: &mut u64, marks: &mut Booked, n: u32, mark: u8, other: u8) -> u32 {
+// An id of 1 to n that is booked, or one that is not; any of 0 to n where there is none, and now and then.
+fn pick(seed: &mut u64, marks: &mut Booked, n: u32, booked: bool) -> u32 {
     let mut i = draw(seed, n);
     if chance(seed, 31) {
         return i;
     }
-    let mut k: u32 = 0;
-    while k < n {
+    for _ in 0..n {
         i = after(i, n);
-        if found(marks, i, mark, other) {
-            return i;
+        if found(marks, i, booked) {
+            break;
         }
-        k += 1;
     }
     i
 }
 
-// The first r ids of a batch: by the marks of the booked ids, those that are not booked (mark 0) or those that are (mark 1).
+// The first r ids of a batch: by the marks of the booked ids, those that are booked or those that are not.
 pub fn write_ids(
     seed: &mut u64,
     ids: &mut Ids,
     marks: &mut Booked,
     n: u32,
     r: usize,
-    mark: u8,
-    other: u8,
+    booked: bool,
 ) {
-    let mut t: usize = 0;
-    while t < 65 {
-        if r <= t {
-            return;
-        }
-        ids[t] = pick(seed, marks, n, mark, other);
-        t += 1;
+    for id in ids.iter_mut().take(r) {
+        *id = pick(seed, marks, n, booked);
     }
 }
 
@@ -123,9 +112,7 @@ fn write_column(seed: &mut u64, rows: &mut RowList, from: usize, m: u32, density
     ensures { result ≤ 4200 }
 {
     let mut at = from;
-    let mut row: u32 = 0;
-    while row < m {
-        row += 1;
+    for row in 1..=m {
         at = try_row(seed, rows, at, row, density);
     }
     if at == from {
@@ -161,16 +148,11 @@ pub fn write_rows(
 ) -> usize
     ensures { result ≤ 4200 }
 {
-    let mut at: usize = 0;
-    let mut t: usize = 0;
-    while t < 65 {
-        if r <= t {
-            return at;
-        }
+    let mut at = 0;
+    for t in 0..r.min(65) {
         let to = write_column(seed, rows, at, m, density);
         counts[t] = count(seed, at, to);
         at = to;
-        t += 1;
     }
     at
 }
@@ -180,13 +162,7 @@ pub fn damage(seed: &mut u64, rows: &mut RowList, m: u32, s: usize) {
     if !chance(seed, 7) {
         return;
     }
-    if s < 1 {
-        return;
-    }
-    if 4200 < s {
-        return;
-    }
-    if 64 < m {
+    if s < 1 || 4200 < s || 64 < m {
         return;
     }
     let at = draw(seed, (s - 1) as u32) as usize;
@@ -199,10 +175,8 @@ pub fn damage(seed: &mut u64, rows: &mut RowList, m: u32, s: usize) {
 
 // Any rows of 1 to m.
 pub fn name_rows(seed: &mut u64, list: &mut Ids, m: u32) {
-    let mut t: usize = 0;
-    while t < 65 {
-        list[t] = after(draw(seed, m), m);
-        t += 1;
+    for row in list.iter_mut() {
+        *row = after(draw(seed, m), m);
     }
 }
 
@@ -219,12 +193,12 @@ pub fn name_outside(seed: &mut u64, list: &mut Ids, m: u32, r: u32)
     }
 }
 
-// The rows 1 to 65.
-pub fn all_rows(list: &mut Ids) {
-    let mut t: u32 = 0;
-    while t < 65 {
-        list[t as usize] = t + 1;
-        t += 1;
+// The numbers from one on.
+pub fn count_from(list: &mut [u32], first: u32)
+    requires { first + length list.old ≤ 4294967296 }
+{
+    for (k, x) in list.iter_mut().enumerate() {
+        *x = first + k as u32;
     }
 }
 

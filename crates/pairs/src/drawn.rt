@@ -1,5 +1,7 @@
 // Random calls: openings, batches and questions, with damaged ids, counts, rows, sizes and limits among them.
-use crate::draw::{Ids, RowList, chance, draw};
+ghost use Rattle.std.specs.Prelude.{◌≤◌};
+
+use crate::draw::{chance, draw};
 use crate::pair::Pair;
 use crate::{asked, draw, pair};
 
@@ -28,10 +30,7 @@ fn drawn_records(seed: &mut u64, m: u32) -> u32 {
     if chance(seed, 63) {
         return 1048577;
     }
-    if 64 < m {
-        return 0;
-    }
-    if m < 1 {
+    if m < 1 || 64 < m {
         return 0;
     }
     if chance(seed, 31) {
@@ -75,55 +74,22 @@ pub fn add(p: Pair, seed: &mut u64, density: u32) -> Pair {
     let mut counts = [0u32; 65];
     let mut rows = [0u32; 4200];
     let r = draw::size(seed) as usize;
-    draw::write_ids(seed, &mut ids, &mut marks, record.n, r, 0, 1);
+    draw::write_ids(seed, &mut ids, &mut marks, record.n, r, false);
     let s = draw::write_rows(seed, &mut counts, &mut rows, record.m, density, r);
     draw::damage(seed, &mut rows, record.m, s);
     let k = shortened(seed, r);
     let e = shortened(seed, s);
-    lists_added(p, &ids, &counts, &rows, r, k, e)
+    pair::add(p, &ids[..r], &counts[..k], &rows[..e])
 }
 
 // A length, now and then one less.
-fn shortened(seed: &mut u64, n: usize) -> usize {
+fn shortened(seed: &mut u64, n: usize) -> usize
+    ensures { result ≤ n }
+{
     if n < 1 {
         return n;
     }
     if chance(seed, 63) { n - 1 } else { n }
-}
-
-// Lends the lists as slices.
-fn lists_added(
-    p: Pair,
-    ids: &Ids,
-    counts: &Ids,
-    rows: &RowList,
-    r: usize,
-    k: usize,
-    s: usize,
-) -> Pair {
-    first_added(p, ids, counts, rows, r, k, s)
-}
-
-// Adds the first r ids with the first k counts and the first s rows.
-fn first_added(
-    p: Pair,
-    ids: &[u32],
-    counts: &[u32],
-    rows: &[u32],
-    r: usize,
-    k: usize,
-    s: usize,
-) -> Pair {
-    if ids.len() < r {
-        return p;
-    }
-    if counts.len() < k {
-        return p;
-    }
-    if rows.len() < s {
-        return p;
-    }
-    pair::add(p, &ids[..r], &counts[..k], &rows[..s])
 }
 
 // A removal.
@@ -133,20 +99,7 @@ pub fn remove(p: Pair, seed: &mut u64) -> Pair {
     let mut marks = p.booked;
     let mut ids = [0u32; 65];
     let r = draw::size(seed) as usize;
-    draw::write_ids(seed, &mut ids, &mut marks, record.n, r, 1, 0);
-    list_removed(p, &ids, r)
-}
-
-// Lends the list as a slice.
-fn list_removed(p: Pair, ids: &Ids, r: usize) -> Pair {
-    first_removed(p, ids, r)
-}
-
-// Removes the first r ids.
-fn first_removed(p: Pair, ids: &[u32], r: usize) -> Pair {
-    if ids.len() < r {
-        return p;
-    }
+    draw::write_ids(seed, &mut ids, &mut marks, record.n, r, true);
     pair::remove(p, &ids[..r])
 }
 
@@ -168,8 +121,7 @@ pub fn ask(p: Pair, seed: &mut u64) -> Pair {
     let i = row(p, seed);
     let room = draw(seed, 40) as usize;
     let at = draw(seed, 8) as usize;
-    let kind = draw(seed, 4);
-    match kind {
+    match draw(seed, 4) {
         0 => asked::next_row(p, i, j),
         1 => asked::parent(p, j),
         2 => asked::path(p, j, at, room),

@@ -15,8 +15,8 @@ type Minutes = [u32; 512];
 fn same_window(ours: &Minutes, theirs: &Windows, n: usize, k: usize) -> bool
     requires { (n ≤ 256) × (k < n) }
 {
-    let a = same::places(b"first minute", k, ours[k], theirs[2 * k]);
-    let b = same::places(b"second minute", k, ours[n + k], theirs[2 * k + 1]);
+    let a = same::places("first minute", k, ours[k], theirs[2 * k]);
+    let b = same::places("second minute", k, ours[n + k], theirs[2 * k + 1]);
     a & b
 }
 
@@ -24,12 +24,10 @@ fn same_window(ours: &Minutes, theirs: &Windows, n: usize, k: usize) -> bool
 fn same_windows(ours: &Minutes, theirs: &Windows, n: usize) -> bool
     requires { n ≤ 256 }
 {
-    let mut k: usize = 0;
-    while k < n {
+    for k in 0..n {
         if !same_window(ours, theirs, n, k) {
             return false;
         }
-        k += 1;
     }
     true
 }
@@ -38,28 +36,25 @@ fn same_windows(ours: &Minutes, theirs: &Windows, n: usize) -> bool
 
 // Column j, its parent and its entries.
 fn same_column(p: Pair, live: &Live, pattern: &Square, j: u32) -> bool {
-    let ours = p.host;
     let holds = p.holds;
     let sizes = served(p.sizes);
     let mut list = [9u32; 160];
     let mut other = [9u32; 160];
-    let reply = case_tables::column(ours, &mut list, j, 0);
+    let reply = p.host.column(&mut list, j, 0).reply;
     let theirs = reference::questions::column(
         &holds, live, pattern, &mut other, sizes, 0, j as usize,
     );
-    let a = same::replies(b"size of a column", reply, theirs);
-    let b = same::lists(b"entries of a column", &list, &other);
+    let a = same::replies("size of a column", reply, theirs);
+    let b = same::lists("entries of a column", &list, &other);
     let parent = reference::questions::parent(pattern, sizes, j as usize);
-    let c = same::replies(b"parent of a column", case_tables::parent(ours, j), parent);
+    let c = same::replies("parent of a column", p.host.parent(j).reply, parent);
     a & b & c
 }
 
 // Columns 1 to m.
 fn same_columns(p: Pair, live: &Live, pattern: &Square) -> bool {
-    let m = case_tables::row_count(p.host);
-    let mut j: u32 = 0;
-    while j < m {
-        j += 1;
+    let m = case_tables::row_count(&p.host);
+    for j in 1..=m {
         if !same_column(p, live, pattern, j) {
             return false;
         }
@@ -77,7 +72,7 @@ fn same_record(p: Pair) -> bool {
     let record = ours.factor;
     let sizes = served(p.sizes);
     let a = same::limits(record, sizes.limits);
-    let b = same::numbers(b"clock", record.clock, p.clock as usize);
+    let b = same::numbers("clock", record.clock, p.clock as usize);
     let c = same_windows(&minutes, &windows, sizes.n);
     a & b & c
 }
@@ -91,12 +86,8 @@ pub fn same_factor(p: Pair) -> bool {
     let mut pattern = [0u8; 4096];
     mark_live(p, &mut live);
     reference::pattern::fills(&holds, &live, &mut pattern, sizes);
-    let sound = case_tables::check(p.host);
-    let a = same::numbers(
-        b"check",
-        sound.number,
-        reference::refusals::of_record(sizes),
-    );
+    let sound = p.host.check().reply;
+    let a = same::numbers("check", sound.number, reference::refusals::of_record(sizes));
     let b = same_record(p);
     let c = same_columns(p, &live, &pattern);
     let d = free::same_counts(p, &pattern);

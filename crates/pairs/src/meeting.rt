@@ -5,8 +5,6 @@ ghost use Rattle.reference.specs.Ranges.{Served};
 
 use crate::pair::{Pair, served};
 use crate::{kept, same};
-use case_tables::Host;
-use case_tables::meeting::Asked;
 use reference::{Sizes, Square};
 
 // ---- what a question leaves
@@ -15,61 +13,39 @@ use reference::{Sizes, Square};
 fn cleared(sizes: Sizes, number: usize) -> usize
     requires { Served sizes.m sizes.n }
 {
-    if number != 0 {
-        if number < 6 {
-            return 0;
-        }
+    if 0 < number && number < 6 {
+        return 0;
     }
-    if 2080 < sizes.f {
-        return 12160;
-    }
-    if 2048 < sizes.c {
+    if 2080 < sizes.f || 2048 < sizes.c {
         return 12160;
     }
     8 * sizes.m + 4 * sizes.f + sizes.c + sizes.n + 1024
 }
 
 // Whether the work table is as it must be after a question with the reference's number.
-fn left(p: Pair, ours: Asked, number: usize) -> bool {
-    let work = ours.work;
-    kept::cleared(&work, cleared(served(p.sizes), number))
+fn left(p: Pair, work: &[u32], number: usize) -> bool {
+    kept::cleared(work, cleared(served(p.sizes), number))
 }
 
 // ---- the columns that meet a row: the first `room` places of the list are lent, or all where there are fewer
 
-fn our_meets(h: Host, list: &mut [u32], i: u32, at: usize, room: usize) -> Asked {
-    if list.len() < room {
-        return case_tables::meeting::meets(h, list, i, at);
-    }
-    case_tables::meeting::meets(h, &mut list[..room], i, at)
-}
-
-fn their_meets(
-    pattern: &Square,
-    list: &mut [u32],
-    sizes: Sizes,
-    i: u32,
-    at: usize,
-    room: usize,
-) -> reference::Reply
-    requires { Served sizes.m sizes.n }
-{
-    if list.len() < room {
-        return reference::meeting::meets(pattern, list, sizes, at, i as usize);
-    }
-    reference::meeting::meets(pattern, &mut list[..room], sizes, at, i as usize)
-}
-
 pub fn meets(p: Pair, pattern: &Square, i: u32, at: usize, room: usize) -> Pair {
+    let room = room.min(160);
     let mut q = p;
     let mut list = [9u32; 160];
     let mut other = [9u32; 160];
-    let ours = our_meets(p.host, &mut list, i, at, room);
-    let theirs = their_meets(pattern, &mut other, served(p.sizes), i, at, room);
+    let ours = p.host.meets(&mut list[..room], i, at);
+    let theirs = reference::meeting::meets(
+        pattern,
+        &mut other[..room],
+        served(p.sizes),
+        at,
+        i as usize,
+    );
     let reply = ours.reply;
-    let a = same::replies(b"meets", reply, theirs);
-    let b = same::lists(b"columns that meet a row", &list, &other);
-    let c = left(p, ours, theirs.number);
+    let a = same::replies("meets", reply, theirs);
+    let b = same::lists("columns that meet a row", &list, &other);
+    let c = left(p, &ours.work, theirs.number);
     let t = p.tally;
     q.tally = t.counted(reply.number, a & b & c).met(reply.number);
     q
@@ -88,11 +64,11 @@ pub fn width(p: Pair, pattern: &Square, i: u32) -> usize
 
 pub fn common(p: Pair, pattern: &Square, row_list: &[u32]) -> Pair {
     let mut q = p;
-    let ours = case_tables::meeting::common(p.host, row_list);
+    let ours = p.host.common(row_list);
     let theirs = reference::meeting::common(pattern, row_list, served(p.sizes));
     let reply = ours.reply;
-    let a = same::replies(b"common", reply, theirs);
-    let b = left(p, ours, theirs.number);
+    let a = same::replies("common", reply, theirs);
+    let b = left(p, &ours.work, theirs.number);
     let t = p.tally;
     q.tally = t
         .counted(reply.number, a & b)

@@ -1,30 +1,14 @@
 // What a change of the clock is counted as: by its number, by where the clock goes, and by how many columns stop counting and begin to.
-ghost use Rattle.std.specs.Prelude.{◌≤◌, ◌<◌};
-
 use crate::pair::{Pair, mark_live};
 use crate::tally::Tally;
 use reference::Live;
 
-// 1 if the id at a place has the first mark and not the second, otherwise 0.
-fn one_only_in(live: &Live, other: &Live, k: usize) -> u32
-    requires { k < 256 }
-    ensures { result ≤ 1 }
-{
-    if live[k] == 0 {
-        return 0;
-    }
-    if other[k] == 0 { 1 } else { 0 }
-}
-
 // How many ids have the first mark and not the second.
 fn only_in(live: &Live, other: &Live) -> u32 {
-    let mut count: u32 = 0;
-    let mut k: usize = 0;
-    while k < 256 {
-        count += one_only_in(live, other, k);
-        k += 1;
-    }
-    count
+    live.iter()
+        .zip(other)
+        .filter(|(a, b)| **a != 0 && **b == 0)
+        .count() as u32
 }
 
 // The tally with a change of the clock, by the pair before it: the minute that it is set to, and its number.

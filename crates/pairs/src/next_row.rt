@@ -11,7 +11,7 @@ pub fn asked(p: Pair, pattern: &Square, i: u32, j: u32) -> Pair {
     let holds = p.holds;
     let mut live = [0u8; 256];
     mark_live(p, &mut live);
-    let ours = case_tables::next_row(p.host, i, j);
+    let ours = p.host.next_row(i, j).reply;
     let theirs = reference::questions::next_row(
         &holds,
         &live,
@@ -31,10 +31,8 @@ fn of_column(p: Pair, pattern: &Square, m: u32, j: u32) -> Pair
     requires { m ≤ 64 }
 {
     let mut q = p;
-    let mut i: u32 = 0;
-    while i < m + 2 {
+    for i in 0..m + 2 {
         q = asked(q, pattern, i, j);
-        i += 1;
     }
     q
 }
@@ -44,10 +42,8 @@ pub fn every(p: Pair, pattern: &Square, m: u32) -> Pair
     requires { m ≤ 64 }
 {
     let mut q = p;
-    let mut j: u32 = 0;
-    while j < m + 2 {
+    for j in 0..m + 2 {
         q = of_column(q, pattern, m, j);
-        j += 1;
     }
     q
 }

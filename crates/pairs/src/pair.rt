@@ -25,7 +25,7 @@ pub struct Pair {
 // Before any opening.
 pub fn unopened() -> Pair {
     Pair {
-        host: case_tables::unopened(),
+        host: Host::unopened(),
         holds: [0; 16384],
         booked: [0; 256],
         windows: [0; 512],
@@ -60,13 +60,7 @@ fn limits(three: Three) -> Limits {
 pub fn served(s: Sizes) -> Sizes
     ensures { Served result.m result.n }
 {
-    if 64 < s.m {
-        return none();
-    }
-    if 256 < s.n {
-        return none();
-    }
-    s
+    if 64 < s.m || 256 < s.n { none() } else { s }
 }
 
 // Marks the ids that are live at the clock.
@@ -93,23 +87,19 @@ fn compared(p: Pair, number: u32, same: bool) -> Pair {
 // The same of a change.
 fn change_compared(p: Pair, changed: Changed, same: bool) -> Pair {
     let mut q = p;
-    let mut t = p.tally;
     if changed.number == 0 {
-        t = t.graded(changed.grade);
+        q.tally = p.tally.graded(changed.grade);
     }
-    q.tally = t;
     compared(q, changed.number, same)
 }
 
 // A sum up to a thousand million.
 fn sum(a: u32, b: u32) -> u32 {
-    if 1000000000 < a {
-        return a;
+    if 1000000000 < a || 1000000000 < b {
+        a
+    } else {
+        a + b
     }
-    if 1000000000 < b {
-        return a;
-    }
-    a + b
 }
 
 // ---- calls
@@ -133,10 +123,11 @@ pub fn open(p: Pair, m: u32, n: u32, f: u32, c: u32) -> Pair {
 // Opens with limits of the grades.
 pub fn open_with(p: Pair, m: u32, n: u32, f: u32, c: u32, three: Three) -> Pair {
     let mut q = p;
+    let mut host = p.host;
     let mut booked = p.booked;
     let mut windows = p.windows;
     let mut clock = p.clock;
-    let opened = case_tables::open(p.host, m, n, f, c, three[0], three[1], three[2]);
+    let opened = case_tables::open(&mut host, m, n, f, c, three[0], three[1], three[2]);
     let theirs = reference::open(
         &mut booked,
         &mut windows,
@@ -144,17 +135,15 @@ pub fn open_with(p: Pair, m: u32, n: u32, f: u32, c: u32, three: Three) -> Pair 
         served(p.sizes),
         asked(m, n, f, c, three),
     );
-    let after = opened.host;
     let sizes = theirs.sizes;
-    q.host = after;
+    q.host = host;
     q.booked = booked;
     q.windows = windows;
     q.clock = clock;
     q.sizes = sizes;
-    let record = after.factor;
-    let number = same::numbers(b"opening", opened.number, theirs.number);
-    let records = same::numbers(b"records", record.f, sizes.f);
-    compared(q, opened.number, number & records)
+    let number = same::numbers("opening", opened.reply, theirs.number);
+    let records = same::numbers("records", host.factor.f, sizes.f);
+    compared(q, opened.reply, number & records)
 }
 
 // Writes limits over those of both records, as no opening does where they break the rule.
@@ -184,12 +173,13 @@ pub fn add_within(
     seconds: &[u32],
 ) -> Pair {
     let mut q = p;
+    let mut host = p.host;
     let mut holds = p.holds;
     let mut booked = p.booked;
     let mut windows = p.windows;
     let mut touched = [9u16; 64];
     let mut labels = [9u16; 64];
-    let ours = case_tables::changing::add(p.host, ids, counts, rows, firsts, seconds);
+    let ours = host.add(ids, counts, rows, firsts, seconds);
     let theirs = reference::adding::add(
         &mut holds,
         &mut booked,
@@ -204,12 +194,11 @@ pub fn add_within(
         p.clock,
         served(p.sizes),
     );
-    let after = ours.host;
-    q.host = after;
+    q.host = host;
     q.holds = holds;
     q.booked = booked;
     q.windows = windows;
-    let same = same::batches(ours, theirs, &touched, &labels);
+    let same = same::batches(&ours, theirs, &touched, &labels);
     change_compared(q, ours.changed, same)
 }
 
@@ -230,12 +219,13 @@ pub fn add(p: Pair, ids: &[u32], counts: &[u32], rows: &[u32]) -> Pair {
 
 pub fn remove(p: Pair, ids: &[u32]) -> Pair {
     let mut q = p;
+    let mut host = p.host;
     let holds = p.holds;
     let mut booked = p.booked;
     let mut windows = p.windows;
     let mut touched = [9u16; 64];
     let mut labels = [9u16; 64];
-    let ours = case_tables::changing::remove(p.host, ids);
+    let ours = host.remove(ids);
     let theirs = reference::removing::remove(
         &holds,
         &mut booked,
@@ -246,24 +236,24 @@ pub fn remove(p: Pair, ids: &[u32]) -> Pair {
         p.clock,
         served(p.sizes),
     );
-    let after = ours.host;
-    q.host = after;
+    q.host = host;
     q.booked = booked;
     q.windows = windows;
-    let same = same::batches(ours, theirs, &touched, &labels);
+    let same = same::batches(&ours, theirs, &touched, &labels);
     change_compared(q, ours.changed, same)
 }
 
 // Sets the clock.
 pub fn set_clock(p: Pair, minute: u32) -> Pair {
     let mut q = p;
+    let mut host = p.host;
     let holds = p.holds;
     let booked = p.booked;
     let windows = p.windows;
     let mut clock = p.clock;
     let mut touched = [9u16; 64];
     let mut labels = [9u16; 64];
-    let ours = case_tables::changing::set_clock(p.host, minute);
+    let ours = host.set_clock(minute);
     let theirs = reference::clock::set(
         &holds,
         &booked,
@@ -274,10 +264,9 @@ pub fn set_clock(p: Pair, minute: u32) -> Pair {
         minute,
         served(p.sizes),
     );
-    let after = ours.host;
-    q.host = after;
+    q.host = host;
     q.clock = clock;
-    let same = same::batches(ours, theirs, &touched, &labels);
+    let same = same::batches(&ours, theirs, &touched, &labels);
     let changed = ours.changed;
     let t = p.tally;
     q.tally = moves::tallied(p, t, minute, changed.number);

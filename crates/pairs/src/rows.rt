@@ -36,11 +36,9 @@ fn each(p: Pair, pattern: &Square, seed: &mut u64, m: u32) -> Pair
     requires { m ≤ 64 }
 {
     let mut q = p;
-    let mut i: u32 = 0;
-    while i < m + 2 {
+    for i in 0..m + 2 {
         q = columns_of(q, pattern, seed, i);
         q = alone(q, pattern, i);
-        i += 1;
     }
     q
 }
@@ -48,16 +46,10 @@ fn each(p: Pair, pattern: &Square, seed: &mut u64, m: u32) -> Pair
 // ---- some rows
 
 // The first r rows of a list.
-fn first(p: Pair, pattern: &Square, list: &[u32], r: usize) -> Pair {
-    if list.len() < r {
-        return p;
-    }
+fn listed(p: Pair, pattern: &Square, list: &Ids, r: usize) -> Pair
+    requires { r ≤ 65 }
+{
     meeting::common(p, pattern, &list[..r])
-}
-
-// Lends the list as a slice.
-fn listed(p: Pair, pattern: &Square, list: &Ids, r: usize) -> Pair {
-    first(p, pattern, list, r)
 }
 
 // As many drawn rows; now and then the same again with one of them outside 1 to m.
@@ -79,11 +71,9 @@ fn some(p: Pair, pattern: &Square, seed: &mut u64, m: u32) -> Pair
     requires { m ≤ 64 }
 {
     let mut q = p;
-    let mut k: u32 = 0;
-    while k < 8 {
+    for _ in 0..8 {
         q = drawn(q, pattern, seed, m, 2);
         q = drawn(q, pattern, seed, m, 3);
-        k += 1;
     }
     let r = 1 + draw(seed, 63);
     q = drawn(q, pattern, seed, m, r);
@@ -96,7 +86,7 @@ fn bounds(p: Pair, pattern: &Square, seed: &mut u64, m: u32) -> Pair
 {
     let outside = [m + 1; 65];
     let mut list = [0u32; 65];
-    draw::all_rows(&mut list);
+    draw::count_from(&mut list, 1);
     let mut q = listed(p, pattern, &list, m as usize);
     q = listed(q, pattern, &list, 0);
     draw::name_rows(seed, &mut list, m);
@@ -114,7 +104,7 @@ pub fn asked(p: Pair, seed: u64) -> Pair {
     let mut pattern = [0u8; 4096];
     mark_live(p, &mut live);
     reference::pattern::fills(&holds, &live, &mut pattern, served(p.sizes));
-    let m = case_tables::row_count(p.host);
+    let m = case_tables::row_count(&p.host);
     let mut q = each(p, &pattern, &mut s, m);
     q = some(q, &pattern, &mut s, m);
     q = bounds(q, &pattern, &mut s, m);

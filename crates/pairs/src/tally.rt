@@ -1,4 +1,6 @@
 // What the program counts, and its summary.
+use case_tables::out::Out;
+use std::fmt::Write;
 
 #[derive(Clone, Copy)]
 pub struct Tally {
@@ -77,14 +79,10 @@ impl Tally {
     pub fn counted(self, number: u32, same: bool) -> Self {
         let mut t = self;
         t.calls = more(t.calls);
-        if number < 22 {
-            let k = number as usize;
-            t.numbers[k] = more(t.numbers[k]);
+        one_more(&mut t.numbers, number);
+        if !same {
+            t.differences = more(t.differences);
         }
-        if same {
-            return t;
-        }
-        t.differences = more(t.differences);
         t
     }
 
@@ -92,35 +90,24 @@ impl Tally {
     pub fn graded(self, grade: u32) -> Self {
         let mut t = self;
         t.batches = more(t.batches);
-        if grade < 5 {
-            let k = grade as usize;
-            t.grades[k] = more(t.grades[k]);
-        }
+        one_more(&mut t.grades, grade);
         t
     }
 
     // One question more for the columns that meet a row, with its number.
     pub fn met(self, number: u32) -> Self {
         let mut t = self;
-        if number < 22 {
-            let k = number as usize;
-            t.meets[k] = more(t.meets[k]);
-        }
+        one_more(&mut t.meets, number);
         t
     }
 
     // One question more for the smallest row on all paths, with its number and that row.
     pub fn joined(self, number: u32, row: u32) -> Self {
         let mut t = self;
-        if number == 0 {
-            if row == 0 {
-                t.apart = more(t.apart);
-                return t;
-            }
-        }
-        if number < 22 {
-            let k = number as usize;
-            t.common[k] = more(t.common[k]);
+        if number == 0 && row == 0 {
+            t.apart = more(t.apart);
+        } else {
+            one_more(&mut t.common, number);
         }
         t
     }
@@ -128,19 +115,12 @@ impl Tally {
     // One question more for the next row, with its number, the row asked for and the row given.
     pub fn found(self, number: u32, asked: u32, row: u32) -> Self {
         let mut t = self;
-        if number == 0 {
-            if row == 0 {
-                t.ended = more(t.ended);
-                return t;
-            }
-            if asked < row {
-                t.later = more(t.later);
-                return t;
-            }
-        }
-        if number < 22 {
-            let k = number as usize;
-            t.next_rows[k] = more(t.next_rows[k]);
+        if number == 0 && row == 0 {
+            t.ended = more(t.ended);
+        } else if number == 0 && asked < row {
+            t.later = more(t.later);
+        } else {
+            one_more(&mut t.next_rows, number);
         }
         t
     }
@@ -150,10 +130,7 @@ impl Clock {
     // One change more, with its number.
     pub fn numbered(self, number: u32) -> Self {
         let mut c = self;
-        if number < 22 {
-            let k = number as usize;
-            c.numbers[k] = more(c.numbers[k]);
-        }
+        one_more(&mut c.numbers, number);
         c
     }
 
@@ -172,20 +149,14 @@ impl Clock {
     // One accepted change more to another minute, with how many columns leave and how many enter.
     pub fn moved(self, leave: u32, enter: u32) -> Self {
         let mut c = self;
-        if leave == 0 {
-            if enter == 0 {
-                c.still = more(c.still);
-            }
-            return c;
+        if leave == 0 && enter == 0 {
+            c.still = more(c.still);
         }
-        if enter == 0 {
-            return c;
+        if leave != 0 && enter != 0 {
+            c.both = more(c.both);
         }
-        c.both = more(c.both);
-        if 64 < leave {
-            if 64 < enter {
-                c.many = more(c.many);
-            }
+        if 64 < leave && 64 < enter {
+            c.many = more(c.many);
         }
         c
     }
@@ -196,69 +167,62 @@ fn more(n: u32) -> u32 {
     if n < 1000000000 { n + 1 } else { n }
 }
 
-fn wide(n: u32) -> u64 {
-    n as u64
+// One more at a number's place, if the list has it.
+fn one_more(list: &mut [u32], number: u32) {
+    if let Some(n) = list.get_mut(number as usize) {
+        *n = more(*n);
+    }
 }
 
-fn line(name: &[u8], n: u32) {
-    io::write_all(1, name);
-    io::write_all(1, b" ");
-    io::print_decimal(1, wide(n));
-    io::write_all(1, b"\n");
+fn line(name: &str, n: u32) {
+    let _ = writeln!(Out, "{name} {n}");
 }
 
 // How many calls were refused by each number.
 fn print_refused(numbers: &[u32; 22]) {
-    let mut k: u32 = 1;
-    while k < 22 {
-        io::write_all(1, b"refused by ");
-        io::print_decimal(1, wide(k));
-        line(b":", numbers[k as usize]);
-        k += 1;
+    for (k, &n) in numbers.iter().enumerate().skip(1) {
+        let _ = writeln!(Out, "refused by {k}: {n}");
     }
 }
 
 // The questions about rows. 2 to 5 come up for none of them.
 fn print_questions(meets: &[u32; 22], common: &[u32; 22], apart: u32) {
-    line(b"columns of a row given:", meets[0]);
-    line(b"columns of a row refused by 1:", meets[1]);
-    line(b"columns of a row refused by 6:", meets[6]);
-    line(b"columns of a row refused by 17:", meets[17]);
-    line(b"columns of a row refused by 18:", meets[18]);
-    line(b"common row given:", common[0]);
-    line(b"common row 0:", apart);
-    line(b"common row refused by 1:", common[1]);
-    line(b"common row refused by 6:", common[6]);
-    line(b"common row refused by 7:", common[7]);
-    line(b"common row refused by 17:", common[17]);
+    line("columns of a row given:", meets[0]);
+    line("columns of a row refused by 1:", meets[1]);
+    line("columns of a row refused by 6:", meets[6]);
+    line("columns of a row refused by 17:", meets[17]);
+    line("columns of a row refused by 18:", meets[18]);
+    line("common row given:", common[0]);
+    line("common row 0:", apart);
+    line("common row refused by 1:", common[1]);
+    line("common row refused by 6:", common[6]);
+    line("common row refused by 7:", common[7]);
+    line("common row refused by 17:", common[17]);
 }
 
 // The questions for the next row.
 fn print_next_rows(next_rows: &[u32; 22], later: u32, ended: u32) {
-    line(b"next row the one asked for:", next_rows[0]);
-    line(b"next row above it:", later);
-    line(b"next row 0:", ended);
-    line(b"next row refused by 1:", next_rows[1]);
-    line(b"next row refused by 6:", next_rows[6]);
-    line(b"next row refused by 17:", next_rows[17]);
+    line("next row the one asked for:", next_rows[0]);
+    line("next row above it:", later);
+    line("next row 0:", ended);
+    line("next row refused by 1:", next_rows[1]);
+    line("next row refused by 6:", next_rows[6]);
+    line("next row refused by 17:", next_rows[17]);
 }
 
 // The changes of the clock. 2 to 5 come up for none of them.
 pub fn print_clock(t: Tally) {
     let clock = t.clock;
     let numbers = clock.numbers;
-    line(b"clock set:", numbers[0]);
-    line(b"clock set back:", clock.back);
-    line(b"clock set to its minute again:", clock.again);
-    line(b"clock set with no column moved:", clock.still);
-    line(
-        b"clock set with some leaving and some entering:",
-        clock.both,
-    );
-    line(b"clock set with more than 64 of both:", clock.many);
-    line(b"clock refused by 1:", numbers[1]);
-    line(b"clock refused by 6:", numbers[6]);
-    line(b"clock refused by 16:", numbers[16]);
+    line("clock set:", numbers[0]);
+    line("clock set back:", clock.back);
+    line("clock set to its minute again:", clock.again);
+    line("clock set with no column moved:", clock.still);
+    line("clock set with some leaving and some entering:", clock.both);
+    line("clock set with more than 64 of both:", clock.many);
+    line("clock refused by 1:", numbers[1]);
+    line("clock refused by 6:", numbers[6]);
+    line("clock refused by 16:", numbers[16]);
 }
 
 // Everything but the changes of the clock.
@@ -268,17 +232,17 @@ pub fn print(t: Tally) {
     let meets = t.meets;
     let common = t.common;
     let next_rows = t.next_rows;
-    line(b"calls", t.calls);
-    line(b"accepted", numbers[0]);
-    line(b"accepted batches", t.batches);
-    line(b"of grade 0:", grades[0]);
-    line(b"of grade 1:", grades[1]);
-    line(b"of grade 2:", grades[2]);
-    line(b"of grade 3:", grades[3]);
-    line(b"of grade 4:", grades[4]);
-    line(b"columns compared", t.columns);
+    line("calls", t.calls);
+    line("accepted", numbers[0]);
+    line("accepted batches", t.batches);
+    line("of grade 0:", grades[0]);
+    line("of grade 1:", grades[1]);
+    line("of grade 2:", grades[2]);
+    line("of grade 3:", grades[3]);
+    line("of grade 4:", grades[4]);
+    line("columns compared", t.columns);
     print_refused(&numbers);
     print_questions(&meets, &common, t.apart);
     print_next_rows(&next_rows, t.later, t.ended);
-    line(b"calls that differ", t.differences);
+    line("calls that differ", t.differences);
 }
