@@ -1,7 +1,8 @@
 -- The next line of an input that is read in pieces, with bytes that wait to be written. What the reads gave and what the writes were handed is `Passed` of crates/streams;
 -- which lines a text has is `lines_of` of crates/listing_lines. Laws: proofs/Taking.antt. Assumes nothing: these are definitions.
-use Rattle.std.specs.Prelude.{◌≡◌, false, List, [], ◌∷◌, ◌++◌, ℕ, ◌+◌, ◌-◌, ◌*◌, ◌≤◌, ◌<◌, length, take, drop}
-use Rattle.lists.specs.Lists.{pick, one}
+use Rattle.std.specs.Prelude.{◌≡◌, Option, Some, None, IfSome, List, [], ◌∷◌, ◌++◌, ℕ, ◌+◌, ◌-◌, ◌*◌, ◌≤◌, ◌<◌, length, take, drop}
+use Rattle.lists.specs.Lists.{one}
+use Rattle.std.specs.Option.{is_some}
 use Rattle.listing_lines.specs.Lines.{lines_of}
 use Rattle.streams.specs.Passing.{Finished, reads_left, Issued}
 use Rattle.streams.specs.declared.Streams.{Streams}
@@ -42,18 +43,23 @@ pub record Between (piece line out : List ℕ) (x : Input) (added : ℕ) : Type 
   pub piece-long : length piece ≡ 4096
   pub line-long : length line ≡ 2000
 
+-- the line found, if there is one
+abbrev pub line_found : Option ℕ → (bytes : List ℕ) → List (List ℕ)
+line_found None bs = []
+line_found (Some n) bs = bs ∷ []
+
 -- THE PROMISE: of all lines of what is left and what comes, the line found is the first, whatever the reads to come give; where none is found, there is none, no read gives
 -- any more, and no byte waits
 pub record NextLine (piece₀ out : List ℕ) (x₀ : Input) (added : ℕ) (piece line : List ℕ) (x : Input) : Type 0 where
   pub got : List ℕ
   pub bytes : List ℕ
   pub issued : (i o : List ℕ) → Issued x₀.streams out (x₀.waiting + added) i o → Issued x.streams out x.waiting (i ++ got) o
-  pub first : (more : List ℕ) → CanCome x.streams more → lines_of (left_of piece₀ x₀ ++ (got ++ more)) ≡ pick x.found (bytes ∷ []) [] ++ lines_of (left_of piece x ++ more)
-  pub held : Holds line x.filled bytes
-  pub none : x.found ≡ false → Finished x.streams × ((x.waiting ≡ 0) × (left_of piece x ≡ []))
+  pub first : (more : List ℕ) → CanCome x.streams more → lines_of (left_of piece₀ x₀ ++ (got ++ more)) ≡ line_found x.line bytes ++ lines_of (left_of piece x ++ more)
+  pub held : IfSome x.line (λ n. Holds line n bytes)
+  pub none : x.line ≡ None → Finished x.streams × ((x.waiting ≡ 0) × (left_of piece x ≡ []))
   pub later : (more : List ℕ) → CanCome x.streams more → CanCome x₀.streams (got ++ more)
   pub within : x.place ≤ x.count
   pub fits : x.count ≤ length piece
-  pub cut : x.filled ≤ 2000
+  pub cut : IfSome x.line (λ n. n ≤ 2000)
   pub room : x.waiting + 91520 ≤ length out
-  pub less : ahead x.streams x.place x.count + one x.found ≤ ahead x₀.streams x₀.place x₀.count
+  pub less : ahead x.streams x.place x.count + one (is_some x.line) ≤ ahead x₀.streams x₀.place x₀.count

@@ -7,15 +7,14 @@ ghost use Rattle.listing_input.specs.Input.{PieceRead, Between, NextLine};
 
 use streams::{Reading, Streams};
 
-// Between lines: what went through, how far the piece is taken, of how many bytes read, how many bytes wait to be written, and the line found, if there is one.
+// Between lines: what went through, how far the piece is taken, of how many bytes read, how many bytes wait to be written, and how long the line found is, if there is one.
 #[derive(Drop)]
 pub struct Input {
     pub streams: Streams,
     pub place: usize,
     pub count: usize,
     pub waiting: usize,
-    pub filled: usize,
-    pub found: bool,
+    pub line: Option<usize>,
 }
 
 // Writes the bytes that wait at the front of out, and reads the next piece.
@@ -38,35 +37,33 @@ pub fn next_line(piece: &mut [u8], line: &mut [u8], out: &[u8], input: Input, ad
     let mut count = input.count;
     let mut waiting = input.waiting + added;
     let mut filled = 0;
-    let mut more = true;
-    while more {
+    loop {
         let taken = listing_lines::take_line(&piece[..count], line, place, filled);
         filled = taken.length;
-        if taken.ended {
+        if let Some(after) = taken.after {
             let room = streams::make_room(passed, out, waiting, 91520);
-            passed = room.streams;
             return Input {
-                streams: passed,
-                place: taken.place,
+                streams: room.streams,
+                place: after,
                 count,
                 waiting: room.count,
-                filled,
-                found: true,
+                line: Some(filled),
             };
         }
         let got = next_piece(piece, out, passed, waiting);
+        let over = got.count == 0;
+        if over {
+            return Input {
+                streams: got.streams,
+                place: 0,
+                count: 0,
+                waiting: 0,
+                line: (filled > 0).then_some(filled),
+            };
+        }
         passed = got.streams;
         place = 0;
         count = got.count;
         waiting = 0;
-        more = count > 0;
-    }
-    Input {
-        streams: passed,
-        place: 0,
-        count: 0,
-        waiting: 0,
-        filled,
-        found: filled > 0,
     }
 }
