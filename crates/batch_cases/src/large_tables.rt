@@ -1,7 +1,7 @@
 // The tables of the large case: m 4,096, n 64, F 65,536, C 16,384; and the calls of the factor on them.
 use answers::Changed;
 use book::Row;
-use factor::{Factor, Opening};
+use factor::Factor;
 use questions::{Found, Reply};
 
 pub type Heads = [u32; 4096];
@@ -46,7 +46,7 @@ pub fn open(
         4096, 64, f, 16384, 0, 0, 0, heads, parents, rows, counts, next, book_heads, book_rows,
         book_next, windows, work,
     );
-    let Opening::Opened(record) = opening else {
+    let Ok(record) = opening else {
         return Factor {
             m: 0,
             n: 0,

@@ -9,7 +9,7 @@ pub mod out;
 ghost use Rattle.std.specs.Prelude.{◌≤◌};
 
 use book::Row;
-use factor::{Factor, Opening};
+use factor::Factor;
 use questions::{Found, Reply};
 
 // What a call gives: its reply, and the work table, which holds 7 before it.
@@ -94,8 +94,8 @@ pub fn open<
     let mut number = 0;
     let mut factor = host.factor;
     match opening {
-        Opening::Opened(record) => factor = record,
-        Opening::Refused(refusal) => number = refusal,
+        Ok(record) => factor = record,
+        Err(refusal) => number = refusal.number(),
     }
     host.factor = factor;
     Asked {

@@ -32,7 +32,9 @@ use Rattle.steps.proofs.Whole.{change-whole}
 use Rattle.factor.specs.Entries.{state_of, opening_answer, OpenStep}
 use Rattle.admission.proofs.Admitting.{cleared-use}
 use Rattle.factor.specs.declared.Factor.{Factor}
-use Rattle.factor.specs.declared.Opening.TheVariants as answers
+use Rattle.std.specs.Prelude.{Ok, Err}
+use Rattle.early_refusals.specs.declared.refusal.Refusal as reasons
+use Rattle.early_refusals.specs.Refusal.{number_of}
 use Rattle.answers.specs.Answers.{CanChange}
 
 -- ---- after an opening
@@ -53,14 +55,14 @@ module _ (l : Sizes) (g : Limits) (t : Tables) (w : List ℕ) where
         labels-long = y;
       }
 
-  pub opened-can : (x : Factor) (t' : Tables) (w' : List ℕ) → OpenStep l g t w (answers.Opened x) t' w' → (a b : List ℕ) → x.m ≤ length a → x.m ≤ length b → CanChange (state_of x) t' w' a b
+  pub opened-can : (x : Factor) (t' : Tables) (w' : List ℕ) → OpenStep l g t w (Ok x) t' w' → (a b : List ℕ) → x.m ≤ length a → x.m ≤ length b → CanChange (state_of x) t' w' a b
   opened-can x t' w' o a b p q =
       let s : State = state_of x in
       let u : World = record { state = s; tables = t } in
       let v : World = record { state = state_of x; tables = t' } in
       let k : Call = call_of (opening l g) (work_only w) in
       let d : Sizes = with_default l in
-      let taken : Accepted u k (opening_answer (answers.Opened x)) (work_only w') v = step-taken u k (opening_answer (answers.Opened x)) (work_only w') v (o s) refl in
+      let taken : Accepted u k (opening_answer (Ok x)) (work_only w') v = step-taken u k (opening_answer (Ok x)) (work_only w') v (o s) refl in
       let e : is_accepted (call_early s.sizes t k) ≡ true = (or-both (call_early s.sizes t k) accepted taken.number).0 in
       let m : x.m ≡ l.m = ap (λ (y : State). y.sizes.m) taken.world.0 in
       let z : w' ≡ zero_first (work_for d) w =
@@ -71,26 +73,26 @@ module _ (l : Sizes) (g : Limits) (t : Tables) (w : List ℕ) where
       (fresh-can s.sizes (early-facts s.sizes t k e) a b (omega arith) (omega arith))))
 
   -- its m is one that the tables have places for
-  pub opened-fits : (x : Factor) (t' : Tables) (w' : List ℕ) → OpenStep l g t w (answers.Opened x) t' w' → x.m ≤ length t.heads
+  pub opened-fits : (x : Factor) (t' : Tables) (w' : List ℕ) → OpenStep l g t w (Ok x) t' w' → x.m ≤ length t.heads
   opened-fits x t' w' o =
       let s : State = state_of x in
       let u : World = record { state = s; tables = t } in
       let v : World = record { state = state_of x; tables = t' } in
       let k : Call = call_of (opening l g) (work_only w) in
-      let taken : Accepted u k (opening_answer (answers.Opened x)) (work_only w') v = step-taken u k (opening_answer (answers.Opened x)) (work_only w') v (o s) refl in
+      let taken : Accepted u k (opening_answer (Ok x)) (work_only w') v = step-taken u k (opening_answer (Ok x)) (work_only w') v (o s) refl in
       let e : is_accepted (call_early s.sizes t k) ≡ true = (or-both (call_early s.sizes t k) accepted taken.number).0 in
       let m : x.m ≡ l.m = ap (λ (y : State). y.sizes.m) taken.world.0 in
       omega (arith, (long-facts (with_default l) t (early-facts s.sizes t k e).room.tables).heads)
 
   -- a refused opening has a number, and leaves tables and work table: the record before it could be any
-  module _ (n : ℕ) (t' : Tables) (w' : List ℕ) (o : OpenStep l g t w (answers.Refused n) t' w') where
+  module _ (n : reasons.Refusal) (t' : Tables) (w' : List ℕ) (o : OpenStep l g t w (Err n) t' w') where
     abbrev any : ℕ → State
     any i = record { sizes = l; limits = g; free = i; book_free = 0; clock = 0 }
 
-    step : (i : ℕ) → (Accepted (record { state = any i; tables = t }) (call_of (opening l g) (work_only w)) (opening_answer (answers.Refused n)) (work_only w') (record { state = any i; tables = t' })) ⊎
-        (Refused (record { state = any i; tables = t }) (call_of (opening l g) (work_only w)) (opening_answer (answers.Refused n)) (work_only w') (record { state = any i; tables = t' }))
+    step : (i : ℕ) → (Accepted (record { state = any i; tables = t }) (call_of (opening l g) (work_only w)) (opening_answer (Err n)) (work_only w') (record { state = any i; tables = t' })) ⊎
+        (Refused (record { state = any i; tables = t }) (call_of (opening l g) (work_only w)) (opening_answer (Err n)) (work_only w') (record { state = any i; tables = t' }))
     step i =
-        step-cases (record { state = any i; tables = t }) (call_of (opening l g) (work_only w)) (opening_answer (answers.Refused n)) (work_only w') (record { state = any i; tables = t' }) (o (any i))
+        step-cases (record { state = any i; tables = t }) (call_of (opening l g) (work_only w)) (opening_answer (Err n)) (work_only w') (record { state = any i; tables = t' }) (o (any i))
 
     -- accepted, the record after it would be the one before it, whatever that was
     not-accepted : (i : ℕ) → is_accepted (refusal_of (any i) t (call_of (opening l g) (work_only w))) ≡ false
@@ -103,10 +105,10 @@ module _ (l : Sizes) (g : Limits) (t : Tables) (w : List ℕ) where
           | inr f ↦ f.number
         ]
 
-    refused_as : Refused (record { state = any 0; tables = t }) (call_of (opening l g) (work_only w)) (opening_answer (answers.Refused n)) (work_only w') (record { state = any 0; tables = t' })
+    refused_as : Refused (record { state = any 0; tables = t }) (call_of (opening l g) (work_only w)) (opening_answer (Err n)) (work_only w') (record { state = any 0; tables = t' })
     refused_as = elim (step 0) [ inl f ↦ absurd (true≢false (sym f.number ∙ not-accepted 0)) | inr f ↦ f ]
 
-    pub refused-number : n ≢ 0
+    pub refused-number : number_of n ≢ 0
     refused-number = refused-some refused_as
 
     pub refused-tables : t' ≡ t

@@ -1,14 +1,12 @@
 -- What the structs stand for that cross to a host in the place of an enum: an opening's answer and a reading. The other entries answer by structs already.
 -- Assumes nothing: these are definitions.
-use Rattle.std.specs.Prelude.{◌≡◌, Option, Some, None, List, ℕ, eqb}
-use Rattle.lists.specs.Lists.{pick}
+use Rattle.std.specs.Prelude.{◌≡◌, Option, Some, None, Ok, Err, List, ℕ}
 use Rattle.symbolic.specs.Grades.{Limits}
 use Rattle.tables.specs.Tables.{Tables, Sizes}
 use Rattle.reader.specs.declared.Entry.{Entry}
 use Rattle.factor.specs.declared.Factor.{Factor}
-use Rattle.factor.specs.declared.Opening.{Opening}
-use Rattle.factor.specs.declared.Opening.TheVariants.{Opened as accepted, Refused as refused}
-use Rattle.factor.specs.Entries.{OpenStep}
+use Rattle.early_refusals.specs.Refusal.{number_of}
+use Rattle.factor.specs.Entries.{Opening, OpenStep}
 use Rattle.crossing.specs.declared.Opened.{Opened}
 use Rattle.crossing.specs.declared.Read.{Read}
 
@@ -18,19 +16,16 @@ use Rattle.crossing.specs.declared.Read.{Read}
 abbrev pub no_factor : Factor
 no_factor = record { m = 0; n = 0; f = 0; c = 0; free = 0; book_free = 0; grade2 = 0; grade3 = 0; grade4 = 0; clock = 0 }
 
--- the struct of an answer: accepted, number 0 and the record; refused, the number and a record of zeros
+-- the struct of an answer: accepted, number 0 and the record; refused, the number, which is not 0, and a record of zeros
 abbrev pub opened_from : Opening → Opened
-opened_from (accepted x) = record { number = 0; factor = x }
-opened_from (refused n) = record { number = n; factor = no_factor }
-
--- the answer that a struct stands for: number 0 says accepted
-abbrev pub opening_of : Opened → Opening
-opening_of x = pick (eqb x.number 0) (accepted x.factor) (refused x.number)
+opened_from (Ok x) = record { number = 0; factor = x }
+opened_from (Err e) = record { number = number_of e; factor = no_factor }
 
 -- OPEN: the struct stands for an answer of the entry, and has zeros where it says nothing
 pub record OpenedStep (asked : Sizes) (limits : Limits) (t : Tables) (work : List ℕ) (r : Opened) (t' : Tables) (work' : List ℕ) : Type 0 where
-  pub step : OpenStep asked limits t work (opening_of r) t' work'
-  pub plain : r ≡ opened_from (opening_of r)
+  pub answer : Opening
+  pub step : OpenStep asked limits t work answer t' work'
+  pub plain : r ≡ opened_from answer
 
 -- ---- readings
 

@@ -4,7 +4,8 @@
 ghost use Rattle.std.specs.Prelude.{◌≡◌};
 ghost use Rattle.crossing.specs.Crossing.{opened_from, read_from};
 
-use factor::{Factor, Opening};
+use early_refusals::Refusal;
+use factor::Factor;
 use reader::Entry;
 
 // What an opening answers: number 0 and the record, or the number of the refusal and a record of zeros.
@@ -25,13 +26,13 @@ pub struct Read {
 }
 
 // An opening's answer as a struct.
-pub fn opened_from(x: Opening) -> Opened
+pub fn opened_from(x: Result<Factor, Refusal>) -> Opened
     ensures { result ≡ opened_from x }
 {
     match x {
-        Opening::Opened(factor) => Opened { number: 0, factor },
-        Opening::Refused(number) => Opened {
-            number,
+        Ok(factor) => Opened { number: 0, factor },
+        Err(reason) => Opened {
+            number: reason.number(),
             factor: Factor {
                 m: 0,
                 n: 0,

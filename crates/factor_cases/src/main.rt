@@ -9,7 +9,7 @@ mod damage;
 
 use answers::answer;
 use damage::{ALL, Table, damaged, places};
-use factor::{Factor, Opening};
+use factor::Factor;
 
 // Tables for m 5, n 8, F 9 and C 16.
 #[derive(Clone, Copy)]
@@ -167,7 +167,7 @@ fn show_opened() {
         &mut windows,
         &mut work,
     );
-    let Opening::Opened(record) = opening else {
+    let Ok(record) = opening else {
         return;
     };
     show(

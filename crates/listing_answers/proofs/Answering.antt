@@ -9,10 +9,9 @@ use lib.ListN.{length}
 use Rattle.tables.specs.Tables.{Tables, Sizes, State}
 use Rattle.calls.specs.Calls.{adding}
 use Rattle.symbolic.specs.Grades.{limits_of}
-use Rattle.factor.specs.Entries.{state_of, opening_answer, OpenStep}
+use Rattle.factor.specs.Entries.{state_of, Opening, opening_answer, OpenStep}
 use Rattle.factor.specs.declared.Factor.{Factor}
-use Rattle.factor.specs.declared.Opening.{Opening}
-use Rattle.factor.specs.declared.Opening.TheVariants.{Opened, Refused}
+use Rattle.std.specs.Prelude.{Ok, Err}
 use Rattle.continuing.proofs.Continuing.{opened-can, opened-fits, refused-number, refused-tables, refused-work}
 use Rattle.listing_text.specs.Command.{command_of, rows_of}
 use Rattle.listing_text.specs.Text.{no_line, Written}
@@ -59,25 +58,25 @@ adds line u i n rows {out₀} {out} {x} {v} e f a =
 module _ (l : Sizes) (t : Tables) (w : List ℕ) (x₀ : Factor) (a b out₀ : List ℕ) (t' : Tables) (w' out : List ℕ) (ready : Ready (memory_of x₀ t w a b)) where
   by-opening : (o : Opening) (x : Printed) → OpenStep l (limits_of 0 0 0) t w o t' w' → OpeningPrinted x₀ o out₀ out x →
       Answers (λ bs v. OpenAnswered (memory_of x₀ t w a b) l bs v) out₀ out x (memory_of x.factor t' w' a b)
-  by-opening (Opened y) x s p =
+  by-opening (Ok y) x s p =
       subst (λ (f : Factor). Answers (λ bs v. OpenAnswered (memory_of x₀ t w a b) l bs v) out₀ out x (memory_of f t' w' a b)) (sym p.factor-is)
       (record {
-        bytes = opening_line (Opened y);
-        says = record { answer = opening_answer (Opened y); step = s (state_of x₀); printed = refl; touched = refl; labels = refl };
+        bytes = opening_line (Ok y);
+        says = record { answer = opening_answer (Ok y); step = s (state_of x₀); printed = refl; touched = refl; labels = refl };
         written = p.line;
         usable =
             let h : y.m ≤ length t.heads = opened-fits l (limits_of 0 0 0) t w y t' w' s in
             let g : Lengths (memory_of x₀ t w a b) = ready.lengths in
             inr (opened-can l (limits_of 0 0 0) t w y t' w' s a b (omega (arith, g.heads, g.touched)) (omega (arith, g.heads, g.labels)));
       })
-  by-opening (Refused n) x s p =
+  by-opening (Err n) x s p =
       subst (λ (f : Factor). Answers (λ bs v. OpenAnswered (memory_of x₀ t w a b) l bs v) out₀ out x (memory_of f t' w' a b)) (sym p.factor-is)
       (record {
-        bytes = opening_line (Refused n);
+        bytes = opening_line (Err n);
         says = record {
-          answer = opening_answer (Refused n);
+          answer = opening_answer (Err n);
           step = s (state_of x₀);
-          printed = no_answer (opening_answer (Refused n)) (refused-number l (limits_of 0 0 0) t w n t' w' s);
+          printed = no_answer (opening_answer (Err n)) (refused-number l (limits_of 0 0 0) t w n t' w' s);
           touched = refl;
           labels = refl;
         };

@@ -5,9 +5,8 @@ use Rattle.tables.specs.Tables.{Tables, Sizes, sizes_of}
 use Rattle.symbolic.specs.Grades.{limits_of}
 use Rattle.calls.specs.Calls.{Change, adding, removing, opening, changing, work_only, report_lists, call_of}
 use Rattle.calls.specs.Steps.{Answer, Transition}
-use Rattle.factor.specs.Entries.{OpenStep}
+use Rattle.factor.specs.Entries.{Opening, OpenStep}
 use Rattle.factor.specs.declared.Factor.{Factor}
-use Rattle.factor.specs.declared.Opening.{Opening}
 use Rattle.answers.specs.Answers.{CanChange}
 use Rattle.listing_text.specs.Command.{command_of, rows_of}
 use Rattle.listing_text.specs.Text.{no_line, Written}

@@ -1,12 +1,11 @@
 -- What the listing program keeps between lines, with the lengths of document 01, and what it keeps of an opening. Laws: proofs/Serving.antt. Assumes nothing: these are
 -- definitions.
-use Rattle.std.specs.Prelude.{◌≡◌, List, ℕ, length}
+use Rattle.std.specs.Prelude.{◌≡◌, Ok, Err, List, ℕ, length}
 use Rattle.tables.specs.Tables.{Tables}
 use Rattle.calls.specs.Steps.{World}
-use Rattle.factor.specs.Entries.{world_of}
+use Rattle.factor.specs.Entries.{world_of, Opening}
 use Rattle.factor.specs.declared.Factor.{Factor}
-use Rattle.factor.specs.declared.Opening.{Opening}
-use Rattle.factor.specs.declared.Opening.TheVariants.{Opened, Refused}
+use Rattle.early_refusals.specs.Refusal.{number_of}
 use Rattle.listing_text.specs.Text.{ok_line, no_line, Written}
 use Rattle.listing_memory.specs.declared.Printed.{Printed}
 
@@ -42,13 +41,13 @@ pub record Lengths (u : Memory) : Type 0 where
 
 -- the factor after an opening: "A refused open keeps the factor there was"
 abbrev pub factor_after : Opening → Factor → Factor
-factor_after (Opened y) x = y
-factor_after (Refused n) x = x
+factor_after (Ok y) x = y
+factor_after (Err e) x = x
 
 -- `ok 0 0 0`, or the number
 abbrev pub opening_line : Opening → List ℕ
-opening_line (Opened y) = ok_line 0 0 0
-opening_line (Refused n) = no_line n 0
+opening_line (Ok y) = ok_line 0 0 0
+opening_line (Err e) = no_line (number_of e) 0
 
 -- the factor and the line after an opening
 pub record OpeningPrinted (x₀ : Factor) (opened : Opening) (out₀ out : List ℕ) (x : Printed) : Type 0 where

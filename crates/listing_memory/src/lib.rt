@@ -7,7 +7,8 @@ ghost use Rattle.factor.specs.Entries.{state_of};
 ghost use Rattle.listing_show.specs.Showing.{no_state};
 ghost use Rattle.listing_memory.specs.Memory.{OpeningPrinted};
 
-use factor::{Factor, Opening};
+use early_refusals::Refusal;
+use factor::Factor;
 use listing_text::text;
 
 // The factor after a line, and the end of the bytes written.
@@ -36,17 +37,17 @@ pub fn closed() -> Factor
 }
 
 // The line of an opening's answer, and the factor after it: refused, the one before stays.
-pub fn opened_line(out: &mut [u8], factor: Factor, opened: Opening) -> Printed
+pub fn opened_line(out: &mut [u8], factor: Factor, opened: Result<Factor, Refusal>) -> Printed
     requires { 40 ≤ length out.old }
     ensures { OpeningPrinted factor opened out.old out.new result }
 {
     match opened {
-        Opening::Opened(fresh) => {
+        Ok(fresh) => {
             let end = text::ok_line(out, 0, 0, 0, 0);
             Printed { factor: fresh, end }
         }
-        Opening::Refused(number) => {
-            let end = text::no_line(out, 0, number, 0);
+        Err(reason) => {
+            let end = text::no_line(out, 0, reason.number(), 0);
             Printed { factor, end }
         }
     }
