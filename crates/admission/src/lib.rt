@@ -5,7 +5,7 @@
 ghost use Rattle.std.specs.Prelude.{◌≡◌};
 ghost use Rattle.workspace.specs.Regions.{zero_first};
 ghost use Rattle.tables.specs.Tables.{is_sound};
-ghost use Rattle.tables.specs.Lent.{tables_in, tables_now};
+ghost use Rattle.tables.specs.Lent.{tables_viewed};
 ghost use Rattle.calls.specs.Refusals.{work_for, early_refusal};
 ghost use Rattle.early_refusals.specs.Refusal.{number_in};
 ghost use Rattle.state.specs.Record.{state_of};
@@ -13,24 +13,17 @@ ghost use Rattle.admission.specs.Admission.{Admitted, HasPlaces};
 
 use early_refusals::Refusal;
 use state::State;
+use tables::TablesView;
 
 // Refuses a call by 1 to 5 or 20; keeps_rule: an opening's limits do; lists: a change's lists are long enough.
 pub fn early(
     state: State,
-    heads: &[u32],
-    parents: &[u16],
-    rows: &[u16],
-    counts: &[u16],
-    next: &[u32],
-    book_heads: &[u32],
-    book_rows: &[u16],
-    book_next: &[u32],
-    windows: &[u32],
+    tables: TablesView,
     work: &[u32],
     keeps_rule: bool,
     lists: bool,
 ) -> Result<(), Refusal>
-    ensures { number_in result ≡ (early_refusal (state_of state).sizes keeps_rule (tables_in heads parents rows counts next book_heads book_rows book_next windows) work.now lists).number }
+    ensures { number_in result ≡ (early_refusal (state_of state).sizes keeps_rule (tables_viewed tables.entry) work.now lists).number }
 {
     early_refusals::sizes(
         state.m,
@@ -45,54 +38,21 @@ pub fn early(
     if !keeps_rule {
         return Err(Refusal::Limits);
     }
-    if early_refusals::short(
-        heads, parents, rows, counts, next, book_heads, book_rows, book_next, windows, work,
-        state.m, state.n, state.f, state.c,
-    ) || !lists
-    {
+    if early_refusals::short(tables, work, state.m, state.n, state.f, state.c) || !lists {
         return Err(Refusal::Short);
     }
     Ok(())
 }
 
 // Whether the tables are sound at the clock and the limits keep the rule. The first W work places are zero afterwards.
-fn read_through(
-    state: State,
-    heads: &[u32],
-    parents: &[u16],
-    rows: &[u16],
-    counts: &[u16],
-    next: &[u32],
-    book_heads: &[u32],
-    book_rows: &[u16],
-    book_next: &[u32],
-    windows: &[u32],
-    work: &mut [u32],
-) -> bool
-    requires { HasPlaces (state_of state).sizes (tables_now heads parents rows counts next book_heads book_rows book_next windows) work.old }
-    ensures answer { result ≡ is_sound (state_of state) (tables_in heads parents rows counts next book_heads book_rows book_next windows) }
+fn read_through(state: State, tables: TablesView, work: &mut [u32]) -> bool
+    requires { HasPlaces (state_of state).sizes (tables_viewed tables) work.old }
+    ensures answer { result ≡ is_sound (state_of state) (tables_viewed tables.entry) }
     ensures work { work.new ≡ zero_first (work_for (state_of state).sizes) work.old }
 {
-    let m = state.m as usize;
-    let n = state.n as usize;
-    let f = state.f as usize;
-    let c = state.c as usize;
-    soundness::make_ready(work, m);
-    let sound = soundness::read_through(
-        &heads[..m],
-        &parents[..m],
-        &rows[..f],
-        &counts[..f],
-        &next[..f],
-        &book_heads[..n],
-        &book_rows[..c],
-        &book_next[..c],
-        &windows[..2 * n],
-        work,
-        state.free,
-        state.book_free,
-        state.clock,
-    );
+    soundness::make_ready(work, state.m as usize);
+    let within = tables.within(state.m, state.n, state.f, state.c);
+    let sound = soundness::read_through(within, work, state.free, state.book_free, state.clock);
     workspace::clear(
         work,
         0,
@@ -102,29 +62,11 @@ fn read_through(
 }
 
 // Refuses a call by 1 to 6. Where 1 to 5 are passed the first W work places are zero afterwards.
-pub fn admit(
-    state: State,
-    heads: &[u32],
-    parents: &[u16],
-    rows: &[u16],
-    counts: &[u16],
-    next: &[u32],
-    book_heads: &[u32],
-    book_rows: &[u16],
-    book_next: &[u32],
-    windows: &[u32],
-    work: &mut [u32],
-    lists: bool,
-) -> Result<(), Refusal>
-    ensures { Admitted (state_of state) (tables_in heads parents rows counts next book_heads book_rows book_next windows) work.old lists (number_in result) work.new }
+pub fn admit(state: State, tables: TablesView, work: &mut [u32], lists: bool) -> Result<(), Refusal>
+    ensures { Admitted (state_of state) (tables_viewed tables.entry) work.old lists (number_in result) work.new }
 {
-    early(
-        state, heads, parents, rows, counts, next, book_heads, book_rows, book_next, windows, work,
-        true, lists,
-    )?;
-    if read_through(
-        state, heads, parents, rows, counts, next, book_heads, book_rows, book_next, windows, work,
-    ) {
+    early(state, tables, work, true, lists)?;
+    if read_through(state, tables, work) {
         return Ok(());
     }
     Err(Refusal::Unsound)

@@ -3,7 +3,8 @@
 #![tactic(auto)]
 
 ghost use Rattle.std.specs.Prelude.{◌≡◌, not};
-ghost use Rattle.tables.specs.Tables.{sizes_of, tables_of};
+ghost use Rattle.tables.specs.Tables.{sizes_of};
+ghost use Rattle.tables.specs.Lent.{tables_viewed};
 ghost use Rattle.lists.specs.Lists.{is_in};
 ghost use Rattle.calls.specs.Refusals.{is_accepted, sizes_refusal, short_refusal, lists_long};
 ghost use Rattle.early_refusals.specs.Refusal.{number_in};
@@ -12,7 +13,9 @@ ghost use Rattle.early_refusals.specs.Early.{largest, records_for, factor_long, 
 pub mod limits;
 mod refusal;
 
+use book::BookView;
 pub use refusal::Refusal;
+use tables::{ColumnsView, TablesView};
 
 // The most columns in a batch, and the most rows that a question names.
 pub const MOST_COLUMNS: usize = 64;
@@ -77,52 +80,33 @@ pub fn default_records(m: u32, f: u32) -> u32
 }
 
 // Whether a table of L is too short.
-fn short_factor(
-    heads: &[u32],
-    parents: &[u16],
-    rows: &[u16],
-    counts: &[u16],
-    next: &[u32],
-    m: u32,
-    f: u32,
-) -> bool
-    ensures { result ≡ not (factor_long m f heads.now parents.now rows.now counts.now next.now) }
+fn short_factor(columns: ColumnsView, m: u32, f: u32) -> bool
+    ensures { result ≡ not (factor_long m f columns.entry.heads.now columns.entry.parents.now columns.entry.rows.now columns.entry.counts.now columns.entry.next.now) }
 {
     let m = m as usize;
     let f = f as usize;
-    heads.len() < m || parents.len() < m || rows.len() < f || counts.len() < f || next.len() < f
+    columns.heads.len() < m
+        || columns.parents.len() < m
+        || columns.rows.len() < f
+        || columns.counts.len() < f
+        || columns.next.len() < f
 }
 
 // Whether a table of the book, or that of the windows, is too short.
-fn short_book(heads: &[u32], rows: &[u16], next: &[u32], windows: &[u32], n: u32, c: u32) -> bool
-    ensures { result ≡ not (book_long n c heads.now rows.now next.now windows.now) }
+fn short_book(book: BookView, windows: &[u32], n: u32, c: u32) -> bool
+    ensures { result ≡ not (book_long n c book.entry.heads.now book.entry.rows.now book.entry.next.now windows.now) }
 {
     let n = n as usize;
     let c = c as usize;
-    heads.len() < n || rows.len() < c || next.len() < c || windows.len() < 2 * n
+    book.heads.len() < n || book.rows.len() < c || book.next.len() < c || windows.len() < 2 * n
 }
 
 // Whether some table, or the work table, is too short.
-pub fn short(
-    heads: &[u32],
-    parents: &[u16],
-    rows: &[u16],
-    counts: &[u16],
-    next: &[u32],
-    book_heads: &[u32],
-    book_rows: &[u16],
-    book_next: &[u32],
-    windows: &[u32],
-    work: &[u32],
-    m: u32,
-    n: u32,
-    f: u32,
-    c: u32,
-) -> bool
-    ensures { result ≡ not (is_accepted (short_refusal (sizes_of m n f c) (tables_of heads.now parents.now rows.now counts.now next.now book_heads.now book_rows.now book_next.now windows.now) work.now)) }
+pub fn short(tables: TablesView, work: &[u32], m: u32, n: u32, f: u32, c: u32) -> bool
+    ensures { result ≡ not (is_accepted (short_refusal (sizes_of m n f c) (tables_viewed tables.entry) work.now)) }
 {
-    short_factor(heads, parents, rows, counts, next, m, f)
-        || short_book(book_heads, book_rows, book_next, windows, n, c)
+    short_factor(tables.columns, m, f)
+        || short_book(tables.book, tables.windows, n, c)
         || work.len() < workspace::work_need(m, n, f, c)
 }
 

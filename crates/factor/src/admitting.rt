@@ -7,9 +7,11 @@ ghost use Rattle.state.specs.Record.{state_of as record_state};
 ghost use Rattle.factor.specs.Entries.{state_of};
 
 use crate::Factor;
+use book::BookView;
 use early_refusals::Refusal;
 use pool::Rec;
 use state::State;
+use tables::{ColumnsView, TablesView};
 
 impl Factor {
     // The record by value.
@@ -47,19 +49,21 @@ impl Factor {
     ) -> Result<(), Refusal>
         ensures { Admitted (state_of self) (tables_in heads parents rows counts next book_heads book_rows book_next windows) work.old lists (number_in result) work.new }
     {
-        admission::admit(
-            self.state(),
-            heads,
-            parents,
-            rows,
-            counts,
-            next,
-            book_heads,
-            book_rows,
-            book_next,
+        let tables = TablesView {
+            columns: ColumnsView {
+                heads,
+                parents,
+                rows,
+                counts,
+                next,
+            },
+            book: BookView {
+                heads: book_heads,
+                rows: book_rows,
+                next: book_next,
+            },
             windows,
-            work,
-            lists,
-        )
+        };
+        admission::admit(self.state(), tables, work, lists)
     }
 }
