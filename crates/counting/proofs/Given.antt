@@ -224,9 +224,6 @@ module _ {hs rs ns w₀ : List ℕ} {m f j : ℕ} (pre : CanTallyAll hs rs ns w�
       pub giving-second : q ≤ 4096
       giving-second = omega (arith, counted-few e, pre.sizes.m-bound)
 
-      pub giving-length : length w₃ ≡ length w₀
-      giving-length = e.only.same_length ∙ both-only.same_length
-
       pub giving-end : Counted m w₀ w₃ (given_in hs rs ns w₀ m f j) (1 + r + q)
       unfolding tallied
       giving-end =

@@ -173,6 +173,3 @@ module _ {w₀ : List ℕ} {a e : ℕ} (pre : CanTally w₀ a e) {w : List ℕ} 
             subst (λ (l : List ℕ). Tally w₀ l (set w (get_or w k 0 - 1) (get_or w (get_or w k 0 - 1) 0 + 1)) size') p
             (tally-more i.counted (get_or w k 0) size' (omega (arith, pre.long, pre.before, i.low)) d);
       }
-
-  pub tallying-end : e ≤ k → w ≡ tallied w₀ (region w₀ a (e - a))
-  tallying-end h = let q : k - a ≡ e - a = omega (arith, i.low, i.high) in i.counted.is ∙ ap (λ (n : ℕ). tallied w₀ (region w₀ a n)) q

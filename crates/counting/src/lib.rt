@@ -3,7 +3,7 @@
 // each function that counts gives how many of them left 0, so that its caller knows the length of the column's chain before it walks it.
 #![tactic(auto)]
 
-ghost use Rattle.std.specs.Prelude.{◌≡◌, ◌+◌, ◌-◌, ◌*◌, ◌<◌, length};
+ghost use Rattle.std.specs.Prelude.{◌≡◌, ◌+◌, ◌-◌, ◌*◌, length};
 ghost use Rattle.workspace.specs.Regions.{region};
 ghost use Rattle.book.specs.Tally.{tallied, filled, booked_rows};
 ghost use Rattle.counting.specs.Counting.{

@@ -1,5 +1,5 @@
 -- Zeros of one list, and places with 0 in both of two, counted place by place and block by block. Assumes nothing.
-use mathlib.Core.Path.{◌≡◌, refl, sym, ap, ◌∙◌}
+use mathlib.Core.Path.{◌≡◌, refl, sym, ap}
 use mathlib.Core.Logic.{◌⊎◌, inl, inr, ◌≢◌}
 use mathlib.Core.Bool.{true, false, ◌&&◌}
 use mathlib.Core.List.{List, [], ◌∷◌, ◌++◌}
@@ -8,7 +8,7 @@ use native.Mathlib.Omega.{arith}
 use native.Mathlib.Numerals.{add-one}
 use lib.Dec.{eqb}
 use lib.ListN.{length, get_or, take}
-use lib.Seq.{take-suc, take_all}
+use lib.Seq.{take-suc}
 use Rattle.lists.specs.Lists.{one, times}
 use Rattle.lists.proofs.Tests.{one-le}
 use Rattle.lists.proofs.Times.{times-nil, times-self, times-other, times-append, times-length}
@@ -41,9 +41,6 @@ module _ {xs : List ℕ} {i n : ℕ} (z : ZerosTo xs i n) where
 
   pub zeros-miss : i < length xs → get_or xs i 0 ≢ 0 → ZerosTo xs (i + 1) n
   zeros-miss h e = record { within = omega arith; few = omega (arith, z.few); count = omega (arith, z.count, times-miss xs i h e) }
-
-  pub zeros-end : length xs ≤ i → n ≡ times 0 xs
-  zeros-end h = z.count ∙ ap (times 0) (take_all i xs h)
 
 -- k of the next block's rows are 0
 pub zeros-block : (n k m : ℕ) (block left : List ℕ) {rest : List ℕ} → rest ≡ block ++ left → k ≡ times 0 block → n + times 0 rest ≡ m → n + k + times 0 left ≡ m

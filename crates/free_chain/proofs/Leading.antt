@@ -1,20 +1,15 @@
 -- Steps of `next` that lead from record to record: joined, along records that follow one another, and to the chain's end, where they are the chain. Assumes
 -- nothing.
 use mathlib.Core.Path.{◌≡◌, refl, sym, ap, subst, ◌∙◌}
-use mathlib.Core.Logic.{inl, inr}
-use mathlib.Core.Bool.{true, ◌&&◌}
 use mathlib.Core.List.{List, [], ◌∷◌}
 use Prim.Native.Nat.{ℕ, zero, suc, ◌+◌, ◌-◌, ◌≤◌, ◌<◌}
 use native.Mathlib.Omega.{arith}
-use lib.Dec.{eqb}
 use lib.ListN.{length, get_or}
-use borrow.Author.Tests.{eqb-true}
 use Rattle.lists.specs.Lists.{at}
-use Rattle.lists.proofs.Tests.{eq-or-ne, lt-or-le, and_both}
 use Rattle.pool.specs.Chains.{chain, last_of, Linked}
 use Rattle.pool.specs.Free.{FreeHas}
 use Rattle.pool.proofs.Chains.{linked-chain}
-use Rattle.free_chain.specs.Pieces.{Leads, RunsTo, FourFollow}
+use Rattle.free_chain.specs.Pieces.{Leads, RunsTo}
 
 -- the records that n steps pass
 unfoldable pub passed : ℕ → (next : List ℕ) → (from : ℕ) → List ℕ
@@ -108,48 +103,6 @@ module _ (rs ns : List ℕ) where
   leads-run {i} {e} r =
       let b : i + (e - i) ≡ e = omega arith in
       subst (λ (x : ℕ). Leads rs ns (e - i) (i + 1) (x + 1)) b (rising (e - i) i (omega arith) (λ j p q. r.rising j p (omega arith)))
-
--- ---- a run found record by record
-
-pub run-start : (ns : List ℕ) (i : ℕ) → i < length ns → RunsTo ns i i
-run-start ns i h = record { forward = omega arith; within = h; rising = λ j p q. absurd (omega arith) }
-
-pub run_more : {ns : List ℕ} {i e : ℕ} → RunsTo ns i e → e + 1 < length ns → get_or ns e 0 ≡ e + 2 → RunsTo ns i (e + 1)
-run_more {ns} {i} {e} r h q = record { forward = omega (arith, r.forward); within = h; rising = λ j a b. more j a b }
-  where
-    more : (j : ℕ) → i ≤ j → j < e + 1 → get_or ns j 0 ≡ j + 2
-    more j a b = elim (eq-or-ne j e) [ inl z ↦ rw z q | inr z ↦ r.rising j a (omega arith) ]
-
--- four tests at once
-pub four-follows : (ns : List ℕ) (e : ℕ) → (eqb (get_or ns e 0) (e + 2) && eqb (get_or ns (e + 1) 0) (e + 2 + 1) && eqb (get_or ns (e + 2) 0) (e + 2 + 2) && eqb (get_or ns (e + 3) 0) (e + 2 + 3)) ≡ true → FourFollow ns e
-four-follows ns e h j a b =
-    let t = and_both (eqb (get_or ns e 0) (e + 2) && eqb (get_or ns (e + 1) 0) (e + 2 + 1) && eqb (get_or ns (e + 2) 0) (e + 2 + 2)) (eqb (get_or ns (e + 3) 0) (e + 2 + 3)) h in
-    let u = and_both (eqb (get_or ns e 0) (e + 2) && eqb (get_or ns (e + 1) 0) (e + 2 + 1)) (eqb (get_or ns (e + 2) 0) (e + 2 + 2)) t.0 in
-    let v = and_both (eqb (get_or ns e 0) (e + 2)) (eqb (get_or ns (e + 1) 0) (e + 2 + 1)) u.0 in
-    elim (eq-or-ne j e) [
-      | inl z ↦ rw z (eqb-true (get_or ns e 0) (e + 2) v.0)
-      | inr z ↦ elim (eq-or-ne j (e + 1)) [
-        | inl y ↦ rw y (omega (arith, eqb-true (get_or ns (e + 1) 0) (e + 2 + 1) v.1))
-        | inr y ↦ elim (eq-or-ne j (e + 2)) [
-          | inl x ↦ rw x (omega (arith, eqb-true (get_or ns (e + 2) 0) (e + 2 + 2) u.1))
-          | inr x ↦ let w : j ≡ e + 3 = omega arith in rw w (omega (arith, eqb-true (get_or ns (e + 3) 0) (e + 2 + 3) t.1))
-        ]
-      ]
-    ]
-
--- four more at once
-pub run-four : {ns : List ℕ} {i e : ℕ} → RunsTo ns i e → e + 4 < length ns → FourFollow ns e → RunsTo ns i (e + 4)
-run-four {ns} {i} {e} r h q = record { forward = omega (arith, r.forward); within = h; rising = λ j a b. more j a b }
-  where
-    more : (j : ℕ) → i ≤ j → j < e + 4 → get_or ns j 0 ≡ j + 2
-    more j a b = elim (lt-or-le j e) [ inl z ↦ r.rising j a z | inr z ↦ q j z b ]
-
--- one run after another
-pub run_join : {ns : List ℕ} {i e k : ℕ} → RunsTo ns i e → RunsTo ns e k → RunsTo ns i k
-run_join {ns} {i} {e} {k} r t = record { forward = omega (arith, r.forward, t.forward); within = t.within; rising = λ j a b. more j a b }
-  where
-    more : (j : ℕ) → i ≤ j → j < k → get_or ns j 0 ≡ j + 2
-    more j a b = elim (lt-or-le j e) [ inl z ↦ r.rising j a z | inr z ↦ t.rising j z b ]
 
 -- ---- beside a chain that is linked
 

@@ -1,6 +1,5 @@
--- The loop that collects ids: its invariant Collecting, a turn that takes an id, one that passes it, and its two ends. Assumes nothing.
-use mathlib.Core.Path.{◌≡◌, refl, sym, ap, ◌∙◌}
-use mathlib.Core.Logic.{inl, inr}
+-- The loop that collects ids: its invariant Collecting, a turn that takes an id, and one that passes it. Assumes nothing.
+use mathlib.Core.Path.{◌≡◌, sym, ap, ◌∙◌}
 use mathlib.Core.Bool.{Bool, true, false, ◌&&◌}
 use mathlib.Core.List.{List, [], ◌∷◌, ◌++◌, append_assoc}
 use Prim.Native.Nat.{ℕ, suc, ◌+◌, ◌-◌, ◌≤◌, ◌<◌}
@@ -9,7 +8,7 @@ use native.Mathlib.Numerals.{add-one}
 use lib.ListN.{length, take, set, length-set}
 use lib.Seq.{take-suc-set}
 use Rattle.book.specs.Book.{is_booked}
-use Rattle.windows.specs.Chosen.{ids_from, ids_on, Collected}
+use Rattle.windows.specs.Chosen.{ids_from, ids_on}
 use Rattle.windows.proofs.Chosen.{ids-in, ids-out}
 
 -- the first k places have the ids up to i, and the rest comes
@@ -39,9 +38,6 @@ module _ (hs : List ℕ) (p : ℕ → Bool) (i : ℕ) (h : i ≤ length hs) wher
 
 -- ---- the loop
 
-pub collecting-start : (heads : List ℕ) (p : ℕ → Bool) (first : ℕ) (list : List ℕ) → first ≤ length heads + 1 → Collecting heads p first list list 0 first
-collecting-start heads p first list h = record { low = omega arith; high = h; long = refl; fits = omega arith; ids = refl }
-
 module _ {heads : List ℕ} {p : ℕ → Bool} {first : ℕ} {list₀ list : List ℕ} {k i : ℕ} (c : Collecting heads p first list₀ list k i) where
   pub collecting-took : i ≤ length heads → k < length list → (is_booked heads i && p i) ≡ true → Collecting heads p first list₀ (set list k i) (k + 1) (i + 1)
   collecting-took h l e =
@@ -63,19 +59,4 @@ module _ {heads : List ℕ} {p : ℕ → Bool} {first : ℕ} {list₀ list : Lis
     long = c.long;
     fits = c.fits;
     ids = c.ids ∙ ap (λ (r : List ℕ). take k list ++ r) (on_out heads p i h e);
-  }
-
-  -- the list is full
-  pub collecting-full : k ≡ length list → Collected heads p first list₀ list k i
-  collecting-full e = record { same_length = c.long; count_fits = c.fits; low = c.low; high = c.high; ids = c.ids; full = inl (e ∙ c.long) }
-
-  -- there are no more ids
-  pub collecting-end : length heads < i → Collected heads p first list₀ list k i
-  collecting-end e = record {
-    same_length = c.long;
-    count_fits = c.fits;
-    low = c.low;
-    high = c.high;
-    ids = c.ids;
-    full = inr (omega (arith, c.high));
   }

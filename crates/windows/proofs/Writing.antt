@@ -20,9 +20,6 @@ pub record Entering (windows₀ : List ℕ) (n : ℕ) (ids firsts seconds window
   pub long : length windows ≡ length windows₀
   pub same : entered windows₀ n ids firsts seconds ≡ entered windows n (drop k ids) (drop k firsts) (drop k seconds)
 
-pub entering-start : (w : List ℕ) (n : ℕ) (ids ps qs : List ℕ) → Entering w n ids ps qs w 0
-entering-start w n ids ps qs = record { long = refl; same = refl }
-
 module _ {w₀ : List ℕ} {n : ℕ} {ids ps qs w : List ℕ} {k : ℕ} (e : Entering w₀ n ids ps qs w k) where
   pub entering-turn : {w₁ : List ℕ} → k < length ids → w₁ ≡ put_minutes w n (get_or ids k 0) (get_or ps k 0) (get_or qs k 0) → Entering w₀ n ids ps qs w₁ (k + 1)
   unfolding entered
@@ -45,9 +42,6 @@ module _ {w₀ : List ℕ} {n : ℕ} {ids ps qs w : List ℕ} {k : ℕ} (e : Ent
 pub record Leaving (windows₀ : List ℕ) (n : ℕ) (ids windows : List ℕ) (k : ℕ) : Type 0 where
   pub long : length windows ≡ length windows₀
   pub same : left windows₀ n ids ≡ left windows n (drop k ids)
-
-pub leaving-start : (w : List ℕ) (n : ℕ) (ids : List ℕ) → Leaving w n ids w 0
-leaving-start w n ids = record { long = refl; same = refl }
 
 module _ {w₀ : List ℕ} {n : ℕ} {ids w : List ℕ} {k : ℕ} (e : Leaving w₀ n ids w k) where
   pub leaving-turn : {w₁ : List ℕ} → k < length ids → w₁ ≡ put_minutes w n (get_or ids k 0) 0 0 → Leaving w₀ n ids w₁ (k + 1)
