@@ -90,9 +90,9 @@ module _ {s : Stored} {b : book.Book} {ids work : List ℕ} {R B : List Column} 
             subst (λ (l : List Column). Moved m (length s.next) R s (is_touched (factor_of m (R ++ take e B)) (take e B)) l after work work'') more
             (moved_as (entering-more m R B a e (omega (arith, g.low))) (λ f. refl) (moved-joins refl v (take a B) (λ f. refl) (group-moved d)))
 
-        -- where a group does not fit, all of B do not
-        entering-halt : fits ≡ false → EnteredAll (length s.heads) (length s.next) R B s after work work'' fits
-        entering-halt h =
+        -- where a group does not fit, all of B do not; what the stored columns are then is left open
+        entering-halt : fits ≡ false → (left : Stored) → EnteredAll (length s.heads) (length s.next) R B s left work work'' fits
+        entering-halt h left =
             let f : ℕ = length s.next in
             let over : f < size_sum (factor_of m (R ++ take e B)) =
             omega (
@@ -124,7 +124,7 @@ module _ {s : Stored} {b : book.Book} {ids work : List ℕ} {R B : List Column} 
           pub entering-turn : fits ≡ true → Entering R B s after work work'' e
           entering-turn = entering-next (d (R ++ take a B) (group B a e) part-can)
 
-          pub entering-stop : fits ≡ false → EnteredAll (length s.heads) (length s.next) R B s after work work'' fits
+          pub entering-stop : fits ≡ false → (left : Stored) → EnteredAll (length s.heads) (length s.next) R B s left work work'' fits
           entering-stop = entering-halt (d (R ++ take a B) (group B a e) part-can)
 
     pub entering-end : length ids ≤ a → EnteredAll (length s.heads) (length s.next) R B s now work work' true

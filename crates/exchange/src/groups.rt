@@ -1,6 +1,6 @@
 // A group of at most 64 booked columns leaves the stored columns of L or enters them; all columns that count at one minute and not at another do, group by group.
 // The columns on the paths are gathered with their sizes before they change.
-ghost use Rattle.std.specs.Prelude.{◌≡◌, List, ◌++◌, eqb, length};
+ghost use Rattle.std.specs.Prelude.{◌≡◌, is_some, unwrap_or, List, ◌++◌, eqb, length};
 ghost use Rattle.symbolic.specs.Columns.{Column};
 ghost use Rattle.symbolic.specs.Factor.{factor_of};
 ghost use Rattle.symbolic.specs.Batch.{is_touched};
@@ -15,13 +15,6 @@ use pool::Rec;
 use tables::ColumnsView;
 use updown::filling;
 use workspace::PLAN;
-
-// Whether what was to enter fits, and the free head after it.
-#[derive(Clone, Copy)]
-pub struct Entered {
-    pub fits: bool,
-    pub free: Rec,
-}
 
 // Plans that the columns under some ids leave, gathers the touched columns, and writes the plan. Gives the free head.
 pub fn leave_group(
@@ -64,7 +57,8 @@ pub fn leave_group(
     )
 }
 
-// Plans that the columns under some ids enter and, where that fits, gathers the touched columns and writes the plan. Where it does not, nothing has changed.
+// Plans that the columns under some ids enter and, where that fits, gathers the touched columns and writes the plan. Gives the free head, or none where it does not
+// fit: then nothing has changed.
 pub fn enter_group(
     heads: &[u32],
     parents: &mut [u16],
@@ -77,9 +71,9 @@ pub fn enter_group(
     work: &mut [u32],
     ids: &[u32],
     free: Rec,
-) -> Entered
+) -> Option<Rec>
     requires { SomeAddBooked (stored_of heads.now parents.old rows.old counts.old next.old free.0) (tables_of book_heads.now book_rows.now book_next.now) ids.now work.old }
-    ensures { (N W : List Column) → CanAddBooked (stored_of heads.now parents.old rows.old counts.old next.old free.0) (tables_of book_heads.now book_rows.now book_next.now) ids.now work.old N W → GroupEntered (length heads.now) (length next.old) (stored_of heads.now parents.old rows.old counts.old next.old free.0) N W (stored_of heads.now parents.new rows.new counts.new next.new result.free.0) work.old work.new result.fits }
+    ensures { (N W : List Column) → CanAddBooked (stored_of heads.now parents.old rows.old counts.old next.old free.0) (tables_of book_heads.now book_rows.now book_next.now) ids.now work.old N W → GroupEntered (length heads.now) (length next.old) (stored_of heads.now parents.old rows.old counts.old next.old free.0) N W (stored_of heads.now parents.new rows.new counts.new next.new (unwrap_or result free).0) work.old work.new (is_some result) }
 {
     let k = ids.len();
     let mut starts = [0u32; 64];
@@ -97,22 +91,15 @@ pub fn enter_group(
         next: book_next,
     };
     let plan = updown::plan_enter(columns, book, work, ids, &starts[..k], free);
-    if plan.fits {
-        let m = heads.len();
-        let f = next.len();
-        commit::gather(heads, next, work, PLAN * m + f + 2 * f, plan.first);
-        let z = commit::write_plan(
-            heads, parents, rows, counts, next, work, plan.first, plan.used, free,
-        );
-        return Entered {
-            fits: true,
-            free: z,
-        };
+    if !plan.fits {
+        return None;
     }
-    Entered {
-        fits: false,
-        free: free,
-    }
+    let m = heads.len();
+    let f = next.len();
+    commit::gather(heads, next, work, PLAN * m + f + 2 * f, plan.first);
+    Some(commit::write_plan(
+        heads, parents, rows, counts, next, work, plan.first, plan.used, free,
+    ))
 }
 
 // Whether no booked id counts at one minute and not at another.
@@ -170,7 +157,8 @@ pub fn leave_all(
     }
 }
 
-// The columns that count at one minute and not at another enter, group by group, up to the first group that does not fit.
+// The columns that count at one minute and not at another enter, group by group, up to the first group that does not fit. Gives the free head, or none where one
+// does not.
 pub fn enter_all(
     heads: &[u32],
     parents: &mut [u16],
@@ -185,9 +173,9 @@ pub fn enter_all(
     minute: u32,
     other: u32,
     free: Rec,
-) -> Entered
+) -> Option<Rec>
     requires { SomeEnterAll (stored_of heads.now parents.old rows.old counts.old next.old free.0) (tables_of book_heads.now book_rows.now book_next.now) windows.now minute other work.old }
-    ensures { (R B : List Column) → CanEnterAll (stored_of heads.now parents.old rows.old counts.old next.old free.0) (tables_of book_heads.now book_rows.now book_next.now) (moving_ids book_heads.now windows.now minute other) work.old R B → EnteredAll (length heads.now) (length next.old) R B (stored_of heads.now parents.old rows.old counts.old next.old free.0) (stored_of heads.now parents.new rows.new counts.new next.new result.free.0) work.old work.new result.fits }
+    ensures { (R B : List Column) → CanEnterAll (stored_of heads.now parents.old rows.old counts.old next.old free.0) (tables_of book_heads.now book_rows.now book_next.now) (moving_ids book_heads.now windows.now minute other) work.old R B → EnteredAll (length heads.now) (length next.old) R B (stored_of heads.now parents.old rows.old counts.old next.old free.0) (stored_of heads.now parents.new rows.new counts.new next.new (unwrap_or result free).0) work.old work.new (is_some result) }
 {
     let mut i = Id(1);
     let mut z = free;
@@ -196,12 +184,9 @@ pub fn enter_all(
         let g = windows::collect(book_heads, windows, minute, other, i, &mut group);
         let k = g.count;
         if k == 0 {
-            return Entered {
-                fits: true,
-                free: z,
-            };
+            return Some(z);
         }
-        let x = enter_group(
+        z = enter_group(
             heads,
             parents,
             rows,
@@ -213,11 +198,7 @@ pub fn enter_all(
             work,
             &group[..k],
             z,
-        );
-        if !x.fits {
-            return x;
-        }
-        z = x.free;
+        )?;
         i = g.next;
     }
 }

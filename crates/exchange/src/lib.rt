@@ -3,7 +3,7 @@
 // before, place by place. Book and windows do not change.
 #![tactic(auto)]
 
-ghost use Rattle.std.specs.Prelude.{List, ℕ, length};
+ghost use Rattle.std.specs.Prelude.{is_some, unwrap_or, List, ℕ, length};
 ghost use Rattle.symbolic.specs.Columns.{Column};
 ghost use Rattle.tables.specs.Stored.{stored_of};
 ghost use Rattle.book.specs.Book.{tables_of};
@@ -13,7 +13,6 @@ ghost use Rattle.exchange.specs.Stages.{moving_ids, SomeSwap, CanSwap, Swapped, 
 pub mod groups;
 pub mod reporting;
 
-use groups::Entered;
 use pool::Rec;
 use workspace::PLAN;
 
@@ -42,7 +41,8 @@ fn undo(
     snapshot::restoring::restore_parents(parents, work, PLAN * m + f + 2 * f);
 }
 
-// Those that count before and not after leave, then those that count after and not before enter. Where that does not fit, all records and parents are brought back.
+// Those that count before and not after leave, then those that count after and not before enter. Gives the free head, or none where that does not fit: then all records
+// and parents are brought back.
 fn swap(
     heads: &[u32],
     parents: &mut [u16],
@@ -57,9 +57,9 @@ fn swap(
     before: u32,
     after: u32,
     free: Rec,
-) -> Entered
+) -> Option<Rec>
     requires { SomeSwap (stored_of heads.now parents.old rows.old counts.old next.old free.0) (tables_of book_heads.now book_rows.now book_next.now) windows.now before after work.old }
-    ensures { (R A B : List Column) → CanSwap (stored_of heads.now parents.old rows.old counts.old next.old free.0) (tables_of book_heads.now book_rows.now book_next.now) (moving_ids book_heads.now windows.now before after) (moving_ids book_heads.now windows.now after before) work.old R A B → Swapped (length heads.now) (length next.old) R A B (stored_of heads.now parents.old rows.old counts.old next.old free.0) (stored_of heads.now parents.new rows.new counts.new next.new result.free.0) work.old work.new result.fits }
+    ensures { (R A B : List Column) → CanSwap (stored_of heads.now parents.old rows.old counts.old next.old free.0) (tables_of book_heads.now book_rows.now book_next.now) (moving_ids book_heads.now windows.now before after) (moving_ids book_heads.now windows.now after before) work.old R A B → Swapped (length heads.now) (length next.old) R A B (stored_of heads.now parents.old rows.old counts.old next.old free.0) (stored_of heads.now parents.new rows.new counts.new next.new (unwrap_or result free).0) work.old work.new (is_some result) }
 {
     let z = groups::leave_all(
         heads, parents, rows, counts, next, book_heads, book_rows, book_next, windows, work,
@@ -69,15 +69,10 @@ fn swap(
         heads, parents, rows, counts, next, book_heads, book_rows, book_next, windows, work, after,
         before, z,
     );
-    if x.fits {
-        return x;
+    if x.is_none() {
+        undo(parents, rows, counts, next, work, heads.len());
     }
-    let m = heads.len();
-    undo(parents, rows, counts, next, work, m);
-    Entered {
-        fits: false,
-        free: free,
-    }
+    x
 }
 
 // Takes out the columns that count at the minute before and not at the one after, and lets in those that count after and not before; those that count at both stay.
@@ -119,10 +114,9 @@ pub fn exchange(
         heads, parents, rows, counts, next, book_heads, book_rows, book_next, windows, work,
         before, after, free,
     );
-    let z = x.free;
     Outcome {
-        fits: x.fits,
-        free: z,
+        fits: x.is_some(),
+        free: x.unwrap_or(free),
         saved: true,
     }
 }

@@ -1,0 +1,31 @@
+-- `exchange::groups::enter_all` meets its contract. Assumes nothing.
+use Rattle.std.proofs.Common.{arith, refl}
+use Rattle.exchange.proofs.Scanning.{scanned-start, none-gone, scanned-next, collected-is, collected-ends, scanned-less, scanned-end}
+use Rattle.exchange.proofs.Entering.{entering-start, entering-some, entering-turn, entering-stop, entering-end}
+use Rattle.exchange.proofs.groups.enter_all.Goals as goal
+
+pub loop-group-init : goal.loop-group-init
+loop-group-init c = (scanned-start _ _, λ R B can. entering-start can (none-gone _ _))
+
+pub returns-then-k-eq0 : goal.returns-then-k-eq0
+returns-then-k-eq0 c =
+    λ R B can. entering-end can (c.loop-group.invariant.1 R B can) (scanned-end c.loop-group.invariant.0 c.collect-g.ensures c.if-k-eq0.true (omega arith))
+
+pub enter_group-requires : goal.enter_group-requires
+enter_group-requires c =
+    let p = c.requires in
+    entering-some p.can (c.loop-group.invariant.1 p.R p.B p.can) (collected-ends c.loop-group.invariant.0 c.collect-g.ensures (omega (arith, c.if-k-eq0.false)) (omega arith))
+    (collected-is c.loop-group.invariant.0 c.collect-g.ensures)
+
+pub returns-in_err-z : goal.returns-in_err-z
+returns-in_err-z c =
+    rw c.from_residual.ensures
+    (λ R B can. entering-stop can (c.loop-group.invariant.1 R B can) (collected-ends c.loop-group.invariant.0 c.collect-g.ensures (omega (arith, c.if-k-eq0.false)) (omega arith))
+    (collected-is c.loop-group.invariant.0 c.collect-g.ensures) c.in_err-z.ensures refl _)
+
+pub loop-group-preserved : goal.loop-group-preserved
+loop-group-preserved c = (
+  scanned-next c.loop-group.invariant.0 c.collect-g.ensures,
+  λ R B can. entering-turn can (c.loop-group.invariant.1 R B can) (collected-ends c.loop-group.invariant.0 c.collect-g.ensures (omega (arith, c.if-k-eq0.false)) (omega arith))
+      (collected-is c.loop-group.invariant.0 c.collect-g.ensures) c.in_ok-z.ensures refl,
+)

@@ -1,0 +1,50 @@
+-- `exchange::swap` meets its contract: leaving, entering, and where that does not fit bringing back, by the laws of Swapping.antt. Assumes nothing.
+use Rattle.std.proofs.Common.{◌≡◌, Option, Some, None, true, false, not, arith, refl, ap, ◌∙◌}
+use Rattle.std.specs.Prelude.{is_some, unwrap_or}
+use mathlib.Core.Bool.{true≢false, false≢true}
+use Rattle.exchange.proofs.Swapping.{can-leave-all, some-leave-all, can-enter-all, some-enter-all, swap-done, can-undo, some-undo, swap-undone}
+use Rattle.exchange.proofs.swap.Goals as goal
+
+none-is : {A : Type 0} (x : Option A) → is_some x ≡ false → x ≡ None
+none-is None e = refl
+none-is (Some y) e = absurd (true≢false e)
+
+-- what stands in for none does not matter where there is one
+some-same : {A : Type 0} (x : Option A) (a b : A) → is_some x ≡ true → unwrap_or x a ≡ unwrap_or x b
+some-same None a b e = absurd (false≢true e)
+some-same (Some y) a b e = refl
+
+pub leave_all-z-requires : goal.leave_all-z-requires
+leave_all-z-requires c = let p = c.requires in some-leave-all (can-leave-all p.can) p.scan
+
+pub enter_all-x-requires : goal.enter_all-x-requires
+enter_all-x-requires c =
+    let p = c.requires in
+    some-enter-all (can-enter-all p.can (c.leave_all-z.ensures p.R p.A (can-leave-all p.can))) p.scan
+
+pub undo-requires : goal.undo-requires
+undo-requires c =
+    let p = c.requires in
+    let v = c.leave_all-z.ensures p.R p.A (can-leave-all p.can) in
+    some-undo (can-undo p.can v (c.enter_all-x.ensures p.R p.B (can-enter-all p.can v)) p.records p.parents (λ k. omega (arith, c.slice_known-3-1.given k))
+    (c.enter_all-x.auto.parents ∙ c.leave_all-z.auto.parents) (c.enter_all-x.auto.rows ∙ c.leave_all-z.auto.rows)
+    (c.enter_all-x.auto.counts ∙ c.leave_all-z.auto.counts) (c.enter_all-x.auto.next ∙ c.leave_all-z.auto.next))
+
+pub returns-then-is_none : goal.returns-then-is_none
+returns-then-is_none c =
+    λ R A B can.
+    let p = c.requires in
+    let v = c.leave_all-z.ensures R A (can-leave-all can) in
+    let x = c.enter_all-x.ensures R B (can-enter-all can v) in
+    let e : is_some c.enter_all-x.result ≡ false = c.is_none.ensures ∙ ap not c.if-is_none.true in
+    rw (none-is c.enter_all-x.result e)
+    (swap-undone can v x e (c.undo.ensures _ _ _ _ (can-undo can v x p.records p.parents (λ k. omega (arith, c.slice_known-3-1.given k))
+    (c.enter_all-x.auto.parents ∙ c.leave_all-z.auto.parents) (c.enter_all-x.auto.rows ∙ c.leave_all-z.auto.rows)
+    (c.enter_all-x.auto.counts ∙ c.leave_all-z.auto.counts) (c.enter_all-x.auto.next ∙ c.leave_all-z.auto.next))))
+
+pub returns-else-is_none : goal.returns-else-is_none
+returns-else-is_none c =
+    λ R A B can.
+    let v = c.leave_all-z.ensures R A (can-leave-all can) in
+    let e : is_some c.enter_all-x.result ≡ true = c.is_none.ensures ∙ ap not c.if-is_none.false in
+    rw (some-same c.enter_all-x.result c.args.free c.leave_all-z.result e) (swap-done can v (c.enter_all-x.ensures R B (can-enter-all can v)) e)
