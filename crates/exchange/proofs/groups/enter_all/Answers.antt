@@ -1,6 +1,6 @@
 -- `exchange::groups::enter_all` meets its contract. Assumes nothing.
 use Rattle.std.proofs.Common.{arith, refl}
-use Rattle.exchange.proofs.Scanning.{scanned-start, none-gone, scanned-next, collected-is, collected-ends, scanned-less, scanned-end}
+use Rattle.exchange.proofs.Scanning.{scanned-start, none-gone, scanned-next, collected-is, collected-ends, scanned-end}
 use Rattle.exchange.proofs.Entering.{entering-start, entering-some, entering-turn, entering-stop, entering-end}
 use Rattle.exchange.proofs.groups.enter_all.Goals as goal
 

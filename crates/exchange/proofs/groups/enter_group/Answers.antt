@@ -1,5 +1,5 @@
 -- `exchange::groups::enter_group` meets its contract: planned and, where that fits, gathered and written, by the laws of Grouped.antt. Assumes nothing.
-use Rattle.std.proofs.Common.{◌≡◌, ℕ, List, length, drop, replicate, sym, ◌∙◌}
+use Rattle.std.proofs.Common.{ℕ, length, drop, replicate, sym, ◌∙◌}
 use lib.Seq.{length-take-le, take_at}
 use borrow.Author.Tests.{not-true, not-false}
 use Rattle.updown.proofs.Filled.{filled_within, whole-enter}
