@@ -1,10 +1,10 @@
 // A batch: its columns enter or leave, and its touched columns, labels, entries and grade.
-ghost use Rattle.std.specs.Prelude.{◌≡◌, ℕ, ◌≤◌, length};
-ghost use Rattle.reference.specs.Ranges.{IsRow, Served};
+ghost use Rattle.std.specs.Prelude.{◌≡◌, ◌≤◌, length};
+ghost use Rattle.reference.specs.Ranges.{Served};
 
 use crate::columns::wide;
 use crate::refusals::is_outside;
-use crate::{Booked, Holds, Limits, Live, Rows, Sizes, Square, columns, tree};
+use crate::{Booked, Holds, Limits, Live, Rows, Sizes, Square, columns, total, tree};
 
 // ---- columns in and out
 
@@ -107,24 +107,18 @@ pub fn report(
 
 // ---- entries and grade
 
-// The sum of a size over the touched columns.
-pub(crate) fn sum_over<F: Fn(usize) -> usize>(label_of: &Rows, m: usize, size: F) -> usize
-    requires { (m ≤ 64) × ((j : ℕ) → IsRow j → F.pre size j) × ((j r : ℕ) → F.post size j r → r ≤ 64) }
-{
-    let mut total = 0;
-    for j in 1..=m {
-        if label_of[j - 1] != 0 {
-            total += size(j);
-        }
-    }
-    total
-}
-
 // The sum of the sizes of the touched columns in a pattern.
 pub fn entries(pattern: &Square, label_of: &Rows, m: usize) -> usize
     requires { m ≤ 64 }
 {
-    sum_over(label_of, m, |j| tree::size(pattern, m, j))
+    total(
+        m,
+        |j| if label_of[j - 1] == 0 {
+            0
+        } else {
+            tree::size(pattern, m, j)
+        },
+    )
 }
 
 // The largest grade whose first entries are at most these. Those of grade 1 are 1, so it is 0 for none.

@@ -5,7 +5,7 @@ ghost use Rattle.reference.specs.Ranges.{Served};
 
 use crate::{
     Answer, Booked, Holds, Live, Rows, Sizes, Square, Windows, accepted, batch, columns, pattern,
-    refusals, refused, tree, windows,
+    refusals, refused, total, tree, windows,
 };
 
 // ---- touched columns
@@ -35,10 +35,13 @@ fn mark_paths(
 fn entries(before: &Square, after: &Square, marked: &Rows, m: usize) -> usize
     requires { m ≤ 64 }
 {
-    batch::sum_over(
-        marked,
+    total(
         m,
-        |j| tree::size(before, m, j).max(tree::size(after, m, j)),
+        |j| if marked[j - 1] == 0 {
+            0
+        } else {
+            tree::size(before, m, j).max(tree::size(after, m, j))
+        },
     )
 }
 

@@ -3,7 +3,7 @@
 ghost use Rattle.std.specs.Prelude.{◌≤◌, ◌<◌};
 ghost use Rattle.reference.specs.Ranges.{IsRow, IsId, Served};
 
-use crate::{Booked, Holds, Live};
+use crate::{Booked, Holds, Live, total};
 
 // 1 for yes, 0 for no.
 pub fn one(yes: bool) -> usize
@@ -63,11 +63,7 @@ pub fn book_rows(holds: &Holds, booked: &Booked, m: usize, n: usize) -> usize
     requires { Served m n }
     ensures { result ≤ 16384 }
 {
-    let mut total = 0;
-    for i in 1..=n {
-        total += row_count(holds, booked, m, i);
-    }
-    total
+    total(n, |i| row_count(holds, booked, m, i))
 }
 
 // ---- writing

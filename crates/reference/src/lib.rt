@@ -16,7 +16,7 @@ pub mod removing;
 pub mod tree;
 pub mod windows;
 
-ghost use Rattle.std.specs.Prelude.{◌≡◌, ◌≤◌};
+ghost use Rattle.std.specs.Prelude.{◌≡◌, ℕ, ◌*◌, ◌≤◌};
 ghost use Rattle.reference.specs.Ranges.{Served};
 
 // A mark for each id and row.
@@ -89,6 +89,18 @@ pub struct Found {
     pub number: usize,
     pub row: usize,
     pub multiplicity: usize,
+}
+
+// The sum of a number for each of 1 to n, none above 64.
+fn total<F: Fn(usize) -> usize>(n: usize, number: F) -> usize
+    requires { (n ≤ 256) × ((k : ℕ) → (1 ≤ k) × (k ≤ n) → F.pre number k) × ((k r : ℕ) → F.post number k r → r ≤ 64) }
+    ensures { result ≤ 64 * n }
+{
+    let mut sum = 0;
+    for k in 1..=n {
+        sum += number(k);
+    }
+    sum
 }
 
 pub fn refused(number: usize, position: usize) -> Answer

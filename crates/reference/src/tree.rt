@@ -5,7 +5,7 @@ ghost use Rattle.std.specs.Option.{ForSome};
 ghost use Rattle.reference.specs.Ranges.{IsRow, Served};
 
 use crate::columns::one;
-use crate::{Holds, Live, Sizes, Square, columns, pattern};
+use crate::{Holds, Live, Sizes, Square, columns, pattern, total};
 
 // The smallest row in L_j above j, if there is one.
 fn row_above(pattern: &Square, m: usize, j: usize) -> Option<usize>
@@ -131,9 +131,5 @@ pub fn sum_of_sizes(pattern: &Square, m: usize) -> usize
     requires { m ≤ 64 }
     ensures { result ≤ 4096 }
 {
-    let mut total = 0;
-    for j in 1..=m {
-        total += size(pattern, m, j);
-    }
-    total
+    total(m, |j| size(pattern, m, j))
 }

@@ -1,3 +1,4 @@
+-- No more rows are written than are gone through. Assumes nothing.
 use Rattle.std.proofs.Common.{◌≤◌}
 use Rattle.reference.proofs.batch.report.Given as goal
 

@@ -1,3 +1,4 @@
+-- What is written stays within the list. Assumes nothing.
 use Rattle.std.proofs.Common.{◌≤◌, length}
 use Rattle.reference.proofs.questions.write_column.Given as goal
 
