@@ -5,7 +5,7 @@ ghost use Rattle.std.specs.Prelude.{◌≡◌, ◌<◌, length, get_or, set};
 ghost use Rattle.multiplicity.specs.Places.{multiplicities, count_end};
 
 // The multiplicity at place i of the numbers.
-#[tactic(auto, using(crate::proofs::Places::length_wide, crate::proofs::Places::get_wide))]
+#[tactic(auto, using(crate::proofs::Places::length_wide))]
 pub fn load(counts: &[u16], i: usize, wide: bool) -> u32
     requires { i < length (multiplicities wide counts.now) }
     ensures { result ≡ get_or (multiplicities wide counts.now) i 0 }
@@ -18,7 +18,7 @@ pub fn load(counts: &[u16], i: usize, wide: bool) -> u32
 }
 
 // Stores a multiplicity at place i of the numbers.
-#[tactic(auto, using(crate::proofs::Places::length_wide, crate::proofs::Places::set_wide))]
+#[tactic(auto, using(crate::proofs::Places::length_wide))]
 pub fn store(counts: &mut [u16], i: usize, v: u32, wide: bool)
     requires { (i < length (multiplicities wide counts.old)) × (v < count_end wide) }
     ensures { multiplicities wide counts.new ≡ set (multiplicities wide counts.old) i v }
