@@ -2,7 +2,7 @@
 ghost use Rattle.std.specs.Prelude.{◌≡◌, ◌≤◌, IfSome};
 ghost use Rattle.std.specs.Iterator.{at_most};
 ghost use Rattle.std.specs.Option.{ForSome};
-ghost use Rattle.reference.specs.Ranges.{IsRow, Served};
+ghost use Rattle.reference.specs.Ranges.{IsRow, IsId, Served};
 
 use crate::columns::one;
 use crate::{Holds, Live, Sizes, Square, columns, pattern, total};
@@ -87,14 +87,20 @@ fn children_with(pattern: &Square, m: usize, i: usize, j: usize) -> usize
         .count()
 }
 
+// Whether live column k starts at row j and holds row i.
+fn is_start_with(holds: &Holds, live: &Live, m: usize, k: usize, i: usize, j: usize) -> bool
+    requires { (m ≤ 64) × IsId k × IsRow i }
+{
+    columns::smallest_row(holds, live, m, k) == j && columns::has_row(holds, live, k, i)
+}
+
 // How many live columns with smallest row j hold row i.
 fn starts_with(holds: &Holds, live: &Live, sizes: Sizes, i: usize, j: usize) -> usize
     requires { Served sizes.m sizes.n × IsRow i }
     ensures { result ≤ 256 }
 {
     (1..=sizes.n)
-        .filter(|&k| columns::smallest_row(holds, live, sizes.m, k) == j
-            && columns::has_row(holds, live, k, i))
+        .filter(|&k| is_start_with(holds, live, sizes.m, k, i, j))
         .count()
 }
 
