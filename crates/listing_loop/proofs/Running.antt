@@ -1,14 +1,13 @@
 -- The listing program line by line: the next line is found (`Found`), answered behind what waits (`Given`), and the next one is found; where there is none, all lines are
 -- answered. Assumes nothing.
 use mathlib.Core.Path.{◌≡◌, refl, sym, ap, subst, ◌∙◌}
-use mathlib.Core.Bool.{Bool, true, false}
+use Rattle.std.proofs.Common.{Option, Some, None, IfSome}
 use mathlib.Core.List.{List, [], ◌∷◌, ◌++◌, append_assoc, append-nil}
 use Prim.Native.Nat.{ℕ, ◌+◌, ◌-◌, ◌≤◌}
 use native.Mathlib.Omega.{arith}
 use lib.ListN.{length, take, drop}
 use lib.Seq.{length-take-le}
 use borrow.Rule.Slice.PartMut.{put_mid, same_len_mid}
-use Rattle.lists.specs.Lists.{pick}
 use Rattle.listing_text.specs.Text.{Written}
 use Rattle.listing_lines.specs.Lines.{lines_from, lines_of}
 use Rattle.listing_show.specs.Showing.{no_state}
@@ -18,7 +17,7 @@ use Rattle.listing_answers.specs.Listing.{Ready, Answered, Answers}
 use Rattle.streams.specs.Passing.{Passed, Finished, Issued}
 use Rattle.streams.specs.declared.Streams.{Streams}
 use Rattle.streams.proofs.Passing.{issued-none, issued-more}
-use Rattle.listing_input.specs.Input.{left_of, CanCome, Holds, Between, NextLine}
+use Rattle.listing_input.specs.Input.{left_of, CanCome, Holds, Between, line_found, NextLine}
 use Rattle.listing_input.specs.declared.Input.{Input}
 use Rattle.listing_loop.specs.Running.{AnsweredInTurn, AllAnswered, Listed}
 use Rattle.listing_loop.proofs.Cutting.{cut-answered}
@@ -78,17 +77,17 @@ pub record Found (u : Memory) (piece line out : List ℕ) (x : Input) (v : Memor
   pub next : List ℕ
   pub issued : Issued x.streams out x.waiting text bytes
   pub answered : AnsweredInTurn lines u bytes v
-  pub to-come : (more : List ℕ) → CanCome x.streams more → lines_of (text ++ more) ≡ lines ++ (pick x.found (next ∷ []) [] ++ lines_of (left_of piece x ++ more))
-  pub held : Holds line x.filled next
-  pub none : x.found ≡ false → Finished x.streams × ((x.waiting ≡ 0) × (left_of piece x ≡ []))
+  pub to-come : (more : List ℕ) → CanCome x.streams more → lines_of (text ++ more) ≡ lines ++ (line_found x.line next ++ lines_of (left_of piece x ++ more))
+  pub held : IfSome x.line (λ n. Holds line n next)
+  pub none : x.line ≡ None → Finished x.streams × ((x.waiting ≡ 0) × (left_of piece x ≡ []))
   pub within : x.place ≤ x.count
   pub fits : x.count ≤ length piece
-  pub cut : x.filled ≤ 2000
+  pub cut : IfSome x.line (λ n. n ≤ 2000)
   pub room : x.waiting + 91520 ≤ length out
 
 -- nothing is read yet
 pub given-start : {s : Streams} → Passed s [] [] → (piece out : List ℕ) (u : Memory) →
-    Given u (record { streams = s; place = 0; count = 0; waiting = 0; filled = 0; found = false }) 0 piece out u
+    Given u (record { streams = s; place = 0; count = 0; waiting = 0; line = None }) 0 piece out u
 given-start p piece out u =
     record { text = []; lines = []; bytes = []; issued = issued-none p; answered = no-turn u; to-come = λ more c. refl }
 
@@ -113,14 +112,22 @@ given-next g n =
       room = n.room;
     }
 
-module _ {u : Memory} {piece line out : List ℕ} {x : Input} {v : Memory} (f : Found u piece line out x v) where
+-- of a line found: as many bytes are kept as its list has places
+module _ {u : Memory} {piece line out : List ℕ} {x : Input} {v : Memory} (f : Found u piece line out x v) {n : ℕ} (e : x.line ≡ Some n) where
+  found-held : Holds line n f.next
+  found-held = rw e at f.held
+
+  found-cut : n ≤ 2000
+  found-cut = rw e at f.cut
+
   -- the line is one that its list holds
-  pub found-fits : length line ≡ 2000 → x.filled ≤ length line
-  found-fits e = omega (arith, f.cut)
+  pub found-fits : length line ≡ 2000 → n ≤ length line
+  found-fits l = omega (arith, found-cut)
 
-  pub found-long : length line ≡ 2000 → x.filled ≡ length (take x.filled line)
-  found-long e = sym (length-take-le x.filled line (found-fits e))
+  pub found-long : length line ≡ 2000 → n ≡ length (take n line)
+  found-long l = sym (length-take-le n line (found-fits l))
 
+module _ {u : Memory} {piece line out : List ℕ} {x : Input} {v : Memory} (f : Found u piece line out x v) where
   -- what waits lies within the list
   pub found-waits : x.waiting ≤ length out
   found-waits = omega (arith, f.room)
@@ -134,10 +141,10 @@ module _ {u : Memory} {piece line out : List ℕ} {x : Input} {v : Memory} (f : 
   found-same part e = same_len_mid x.waiting (length out - x.waiting) out part e
 
   -- it is answered behind what waits
-  pub found-given : {part : List ℕ} {y : Printed} {w : Memory} → x.found ≡ true →
-      Answers (Answered v (take x.filled line)) (take (length out - x.waiting) (drop x.waiting out)) part y w →
+  pub found-given : {part : List ℕ} {y : Printed} {w : Memory} {n : ℕ} → x.line ≡ Some n →
+      Answers (Answered v (take n line)) (take (length out - x.waiting) (drop x.waiting out)) part y w →
       Given u x y.end piece (put_mid x.waiting (length out - x.waiting) out part) w
-  found-given {part} {y} {w} e a =
+  found-given {part} {y} {w} {n} e a =
       let written : Written out x.waiting a.bytes (put_mid x.waiting (length out - x.waiting) out part) (x.waiting + y.end) =
       written_behind out part a.bytes x.waiting y.end found-waits a.written in
       record {
@@ -146,17 +153,17 @@ module _ {u : Memory} {piece line out : List ℕ} {x : Input} {v : Memory} (f : 
         bytes = f.bytes ++ a.bytes;
         issued = issued-more a.bytes (waits-more found-waits written) f.issued;
         answered = turn-joins f.lines (f.next ∷ []) u v w f.bytes a.bytes f.answered
-            (one-turn v w a.bytes f.next (held-answered v w (take x.filled line) f.next a.bytes f.held a.says));
+            (one-turn v w a.bytes f.next (held-answered v w (take n line) f.next a.bytes (found-held f e) a.says));
         to-come = λ more c.
-            f.to-come more c ∙ ap (λ (b : Bool). f.lines ++ (pick b (f.next ∷ []) [] ++ lines_of (left_of piece x ++ more))) e ∙
+            f.to-come more c ∙ ap (λ (o : Option ℕ). f.lines ++ (line_found o f.next ++ lines_of (left_of piece x ++ more))) e ∙
             sym (append_assoc f.lines (f.next ∷ []) (lines_of (left_of piece x ++ more)));
       }
 
   -- and the next one may be found
-  pub found_between : {part : List ℕ} {y : Printed} {w : Memory} {line' : List ℕ} → Answers (Answered v (take x.filled line)) (take (length out - x.waiting) (drop x.waiting out)) part y w →
+  pub found_between : {part : List ℕ} {y : Printed} {w : Memory} {line' : List ℕ} (n : ℕ) → Answers (Answered v (take n line)) (take (length out - x.waiting) (drop x.waiting out)) part y w →
       length part ≡ length (take (length out - x.waiting) (drop x.waiting out)) → length piece ≡ 4096 → length line' ≡ 2000 →
       Between piece line' (put_mid x.waiting (length out - x.waiting) out part) x y.end
-  found_between {part} {y} a e p l =
+  found_between {part} {y} n a e p l =
       let long : length (put_mid x.waiting (length out - x.waiting) out part) ≡ length out = found-same part e in
       record {
         within = f.within;
@@ -168,12 +175,12 @@ module _ {u : Memory} {piece line out : List ℕ} {x : Input} {v : Memory} (f : 
       }
 
   -- there is none: all lines are answered, and the answers written
-  pub found-end : x.found ≡ false → AllAnswered u x.streams
+  pub found-end : x.line ≡ None → AllAnswered u x.streams
   found-end e =
       let o = f.none e in
       let i : Issued x.streams out 0 f.text f.bytes = subst (λ (n : ℕ). Issued x.streams out n f.text f.bytes) o.1.0 f.issued in
-      let last : f.lines ++ (pick x.found (f.next ∷ []) [] ++ lines_of (left_of piece x ++ [])) ≡ f.lines =
-      ap (λ (b : Bool). f.lines ++ (pick b (f.next ∷ []) [] ++ lines_of (left_of piece x ++ []))) e ∙ ap (λ (l : List ℕ). f.lines ++ lines_of (l ++ [])) o.1.1 ∙
+      let last : f.lines ++ (line_found x.line f.next ++ lines_of (left_of piece x ++ [])) ≡ f.lines =
+      ap (λ (o : Option ℕ). f.lines ++ (line_found o f.next ++ lines_of (left_of piece x ++ []))) e ∙ ap (λ (l : List ℕ). f.lines ++ lines_of (l ++ [])) o.1.1 ∙
       ap (λ (ls : List (List ℕ)). f.lines ++ ls) no_lines ∙ append-nil f.lines in
       let all : lines_of f.text ≡ f.lines = ap lines_of (sym (append-nil f.text)) ∙ f.to-come [] (λ h. refl) ∙ last in
       record {

@@ -49,14 +49,12 @@ fn serve(
         place: 0,
         count: 0,
         waiting: 0,
-        filled: 0,
-        found: false,
+        line: None,
     };
     let mut current = factor;
     let mut input = listing_input::next_line(piece, line, out, begun, 0);
-    while input.found {
+    while let Some(filled) = input.line {
         let waiting = input.waiting;
-        let filled = input.filled;
         let x = listing_answers::answer(
             current,
             heads,
@@ -78,8 +76,7 @@ fn serve(
         current = x.factor;
         input = listing_input::next_line(piece, line, out, input, x.end);
     }
-    let passed = input.streams;
-    passed
+    input.streams
 }
 
 // The whole program, and what went through.
