@@ -20,19 +20,6 @@ waits-more {out₀} {out} {bs} {waiting₀} {waiting} h w =
     ap (λ (x : List ℕ). take waiting x) (w.out-is ∙ sym (append_assoc (take waiting₀ out₀) bs (drop (waiting₀ + length bs) out₀))) ∙
     take-append-le waiting front (drop (waiting₀ + length bs) out₀) (omega arith) ∙ take_all waiting front (omega arith)
 
--- the part ends with the list
-part-long : (out : List ℕ) (k : ℕ) → k ≤ length out → length (take (length out - k) (drop k out)) ≡ length out - k
-part-long out k h = ap length (part_to_end out k) ∙ length-drop k out
-
-pub part_room : (out : List ℕ) (k needed : ℕ) → k + needed ≤ length out → needed ≤ length (take (length out - k) (drop k out))
-part_room out k n h = omega (arith, part-long out k (omega arith))
-
--- the end of an answer in the part lies within the list
-pub answer-within : {Says : (bytes : List ℕ) → Memory → Type 0} {part₀ part : List ℕ} {x : Printed} {v : Memory} (out : List ℕ) (k : ℕ) → k ≤ length out →
-    length part ≡ length (take (length out - k) (drop k out)) → Answers Says part₀ part x v → k + x.end ≤ length out
-answer-within {part₀ = part₀} out k h e a =
-    omega (arith, part-long out k h, a.written.next-is, ap length a.written.out-is, length-append a.bytes (drop (0 + length a.bytes) part₀))
-
 -- written at the part's front it stands behind what is before the part
 pub written_behind : (out part bs : List ℕ) (k e : ℕ) → k ≤ length out → Written (take (length out - k) (drop k out)) 0 bs part e → Written out k bs (put_mid k (length out - k) out part) (k + e)
 written_behind out part bs k e h w =

@@ -21,7 +21,7 @@ use Rattle.listing_input.specs.Input.{left_of, CanCome, Holds, Between, line_fou
 use Rattle.listing_input.specs.declared.Input.{Input}
 use Rattle.listing_loop.specs.Running.{AnsweredInTurn, AllAnswered, Listed}
 use Rattle.listing_loop.proofs.Cutting.{cut-answered}
-use Rattle.listing_loop.proofs.Behind.{waits-more, part_room, answer-within, written_behind}
+use Rattle.listing_loop.proofs.Behind.{waits-more, written_behind}
 
 -- ---- lines in turn
 
@@ -112,29 +112,15 @@ given-next g n =
       room = n.room;
     }
 
--- of a line found: as many bytes are kept as its list has places
+-- a line found is the one that its list holds
 module _ {u : Memory} {piece line out : List ℕ} {x : Input} {v : Memory} (f : Found u piece line out x v) {n : ℕ} (e : x.line ≡ Some n) where
   found-held : Holds line n f.next
   found-held = rw e at f.held
-
-  found-cut : n ≤ 2000
-  found-cut = rw e at f.cut
-
-  -- the line is one that its list holds
-  pub found-fits : length line ≡ 2000 → n ≤ length line
-  found-fits l = omega (arith, found-cut)
-
-  pub found-long : length line ≡ 2000 → n ≡ length (take n line)
-  found-long l = sym (length-take-le n line (found-fits l))
 
 module _ {u : Memory} {piece line out : List ℕ} {x : Input} {v : Memory} (f : Found u piece line out x v) where
   -- what waits lies within the list
   pub found-waits : x.waiting ≤ length out
   found-waits = omega (arith, f.room)
-
-  -- there is room for an answer behind it
-  pub found-room : 91520 ≤ length (take (length out - x.waiting) (drop x.waiting out))
-  found-room = part_room out x.waiting 91520 f.room
 
   -- an answer put there leaves the list as long
   pub found-same : (part : List ℕ) → length part ≡ length (take (length out - x.waiting) (drop x.waiting out)) → length (put_mid x.waiting (length out - x.waiting) out part) ≡ length out
@@ -157,21 +143,6 @@ module _ {u : Memory} {piece line out : List ℕ} {x : Input} {v : Memory} (f : 
         to-come = λ more c.
             f.to-come more c ∙ ap (λ (o : Option ℕ). f.lines ++ (line_found o f.next ++ lines_of (left_of piece x ++ more))) e ∙
             sym (append_assoc f.lines (f.next ∷ []) (lines_of (left_of piece x ++ more)));
-      }
-
-  -- and the next one may be found
-  pub found_between : {part : List ℕ} {y : Printed} {w : Memory} {line' : List ℕ} (n : ℕ) → Answers (Answered v (take n line)) (take (length out - x.waiting) (drop x.waiting out)) part y w →
-      length part ≡ length (take (length out - x.waiting) (drop x.waiting out)) → length piece ≡ 4096 → length line' ≡ 2000 →
-      Between piece line' (put_mid x.waiting (length out - x.waiting) out part) x y.end
-  found_between {part} {y} n a e p l =
-      let long : length (put_mid x.waiting (length out - x.waiting) out part) ≡ length out = found-same part e in
-      record {
-        within = f.within;
-        fits = f.fits;
-        waits = omega (arith, answer-within out x.waiting found-waits e a);
-        room = omega (arith, f.room);
-        piece-long = p;
-        line-long = l;
       }
 
   -- there is none: all lines are answered, and the answers written

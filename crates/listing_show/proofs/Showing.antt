@@ -1,7 +1,6 @@
 -- Lines written one after another: the pairs of a column (`Pairing`), the line of a column from its parts (`line-whole`), the lines of columns 1 to j (`Lines`).
 -- Assumes nothing.
 use mathlib.Core.Path.{◌≡◌, refl, sym, ap, ◌∙◌, subst}
-use mathlib.Core.Logic.{inl, inr}
 use mathlib.Core.List.{List, [], ◌++◌}
 use Prim.Native.Nat.{ℕ, ◌+◌, ◌*◌, ◌^◌, ◌≤◌, ◌<◌}
 use native.Mathlib.Omega.{arith}
@@ -14,7 +13,7 @@ use Rattle.calls.proofs.Refusals.{sizes-facts}
 use Rattle.admission.specs.Admission.{Usable}
 use Rattle.listing_text.specs.Text.{newline, ok_line, no_line, show_head, show_pair, show_pairs, show_line, Room, Written}
 use Rattle.listing_text.proofs.Printing.{written-join, pairs-push, ok-room, no_room, head-room, pair-room}
-use Rattle.listing_show.specs.Showing.{shown_line, shown_to, shown_by, no_state, PairsRoom, PairsWritten, CanShowAll, LineWritten}
+use Rattle.listing_show.specs.Showing.{shown_line, shown_to, PairsRoom, LineWritten}
 
 -- nothing is written
 pub written_none : (out : List ℕ) (at : ℕ) → at ≤ length out → Written out at [] out at
@@ -59,14 +58,6 @@ module _ {out₀ entries : List ℕ} {at count : ℕ} (room : PairsRoom (length 
       }
 
   module _ {out : List ℕ} {end i : ℕ} (p : Pairing out₀ entries at count out end i) where
-    pub pairing-end : count ≤ i → PairsWritten out₀ entries at count out end
-    pairing-end h =
-        let e : i ≡ count = omega (arith, p.most) in
-        record {
-          pairs = subst (λ (k : ℕ). Written out₀ at (show_pairs (take (2 * k) entries)) out end) e p.done;
-          short = subst (λ (k : ℕ). end ≤ at + 22 * k) e p.short;
-        }
-
     module _ (h : i < count) (a : get_or entries (2 * i) 0 < 2 ^ 32) (b : get_or entries (2 * i + 1) 0 < 2 ^ 32) where
       pair-most : length (show_pair (get_or entries (2 * i) 0) (get_or entries (2 * i + 1) 0)) ≤ 22
       pair-most = pair-room (get_or entries (2 * i) 0) (get_or entries (2 * i + 1) 0) a b
@@ -120,20 +111,7 @@ lines_keep {s} {t} {out₀} {out} {out'} {end} {j} {end'} p h w l =
       long = l ∙ p.long;
     }
 
--- ---- all of them, or the refusal
-
-pub shown-closed : (s : State) (t : Tables) → s ≡ no_state → no_line 1 0 ≡ shown_by (record { state = s; tables = t })
-shown-closed s t e = sym (ap (λ (x : State). shown_by (record { state = x; tables = t })) e)
+-- ---- usable tables have a column
 
 pub usable-some : {s : State} {t : Tables} → Usable s t → 1 ≤ s.sizes.m
 usable-some {s} u = (sizes-facts s.sizes (ap is_accepted u.sizes)).m-low
-
-pub usable-shown : {s : State} {t : Tables} → Usable s t → shown_to (register_of s t) s.sizes.m ≡ shown_by (record { state = s; tables = t })
-usable-shown {s} {t} u = rw u.sizes refl
-
--- m is 0: no factor is open; otherwise the tables are usable
-pub shows-none : {s : State} {t : Tables} {n k : ℕ} → CanShowAll s t n k → s.sizes.m ≡ 0 → s ≡ no_state
-shows-none c e = elim c.usable [ inl q ↦ q | inr u ↦ absurd (omega (arith, usable-some u)) ]
-
-pub shows-some : {s : State} {t : Tables} {n k : ℕ} → CanShowAll s t n k → (s.sizes.m ≡ 0 → ⊥) → Usable s t
-shows-some c d = elim c.usable [ inl q ↦ absurd (d (ap (λ (s : State). s.sizes.m) q)) | inr u ↦ u ]

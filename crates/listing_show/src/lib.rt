@@ -18,10 +18,8 @@ fn show_pairs(out: &mut [u8], list: &[u32], at: usize, count: usize) -> usize
     ensures { PairsWritten out.old list.now at count out.new result }
 {
     let mut end = at;
-    let mut i = 0;
-    while i < count {
+    for i in 0..count {
         end = text::show_pair(out, end, list[2 * i], list[2 * i + 1]);
-        i += 1;
     }
     end
 }
@@ -98,14 +96,23 @@ pub fn show(
     if factor.m == 0 {
         return text::no_line(out, 0, 1, 0);
     }
-    let m = factor.m;
     let mut end = 0;
-    let mut j = 0;
-    while j < m {
-        j += 1;
+    for j in 0..factor.m {
         end = show_column(
-            factor, heads, parents, rows, counts, next, book_heads, book_rows, book_next, windows,
-            list, out, j, end,
+            factor,
+            heads,
+            parents,
+            rows,
+            counts,
+            next,
+            book_heads,
+            book_rows,
+            book_next,
+            windows,
+            list,
+            out,
+            j + 1,
+            end,
         );
     }
     end
