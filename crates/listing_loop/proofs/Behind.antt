@@ -3,14 +3,11 @@ use mathlib.Core.Path.{◌≡◌, sym, ap, ◌∙◌}
 use mathlib.Core.List.{List, [], ◌++◌, append_assoc, append-nil}
 use Prim.Native.Nat.{ℕ, ◌+◌, ◌-◌, ◌≤◌}
 use native.Mathlib.Omega.{arith}
-use lib.ListN.{length, take, drop, length-append, length-drop}
+use lib.ListN.{length, take, drop, length-append}
 use lib.Seq.{length-take-le, take_all, take-append-le, drop-drop, drop-length}
 use borrow.Author.Rules.{part_to_end}
 use borrow.Rule.Slice.PartMut.{put_mid}
 use Rattle.listing_text.specs.Text.{Written}
-use Rattle.listing_memory.specs.Memory.{Memory}
-use Rattle.listing_memory.specs.declared.Printed.{Printed}
-use Rattle.listing_answers.specs.Listing.{Answers}
 
 -- what waits after an answer is written behind what waited
 pub waits-more : {out₀ out bs : List ℕ} {waiting₀ waiting : ℕ} → waiting₀ ≤ length out₀ → Written out₀ waiting₀ bs out waiting → take waiting out ≡ take waiting₀ out₀ ++ bs

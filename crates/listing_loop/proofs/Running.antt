@@ -6,7 +6,6 @@ use mathlib.Core.List.{List, [], ◌∷◌, ◌++◌, append_assoc, append-nil}
 use Prim.Native.Nat.{ℕ, ◌+◌, ◌-◌, ◌≤◌}
 use native.Mathlib.Omega.{arith}
 use lib.ListN.{length, take, drop}
-use lib.Seq.{length-take-le}
 use borrow.Rule.Slice.PartMut.{put_mid, same_len_mid}
 use Rattle.listing_text.specs.Text.{Written}
 use Rattle.listing_lines.specs.Lines.{lines_from, lines_of}
@@ -17,7 +16,7 @@ use Rattle.listing_answers.specs.Listing.{Ready, Answered, Answers}
 use Rattle.streams.specs.Passing.{Passed, Finished, Issued}
 use Rattle.streams.specs.declared.Streams.{Streams}
 use Rattle.streams.proofs.Passing.{issued-none, issued-more}
-use Rattle.listing_input.specs.Input.{left_of, CanCome, Holds, Between, line_found, NextLine}
+use Rattle.listing_input.specs.Input.{left_of, CanCome, Holds, line_found, NextLine}
 use Rattle.listing_input.specs.declared.Input.{Input}
 use Rattle.listing_loop.specs.Running.{AnsweredInTurn, AllAnswered, Listed}
 use Rattle.listing_loop.proofs.Cutting.{cut-answered}
