@@ -17,12 +17,11 @@ mod admitting;
 mod meeting;
 mod unchecked;
 
-use book::{BookView, Row};
+use book::Row;
 use early_refusals::Refusal;
 use pool::Rec;
 use questions::{Found, Reply};
 use state::State;
-use tables::{ColumnsView, TablesView};
 
 // The record of sizes, free heads, limits and clock: from so many entries on a grade is 2, 3 and 4; the clock is the minute at which the factor stands.
 #[repr(C)]
@@ -92,22 +91,10 @@ impl Factor {
             asked.grade3,
             asked.grade4,
         );
-        let tables = TablesView {
-            columns: ColumnsView {
-                heads,
-                parents,
-                rows,
-                counts,
-                next,
-            },
-            book: BookView {
-                heads: book_heads,
-                rows: book_rows,
-                next: book_next,
-            },
-            windows,
-        };
-        admission::early(asked, tables, work, keeps_rule, true)?;
+        admitting::early(
+            asked, heads, parents, rows, counts, next, book_heads, book_rows, book_next, windows,
+            work, keeps_rule,
+        )?;
         let free = opening::write(
             heads, parents, rows, counts, next, book_heads, book_rows, book_next, windows, work, m,
             n, records, c,
