@@ -1,56 +1,37 @@
 // What the program writes: words, lists, answers and replies.
-use case_tables::Batched;
+use case_tables::changing::Batched;
+use case_tables::out::Out;
 use questions::{Found, Reply};
+use std::fmt::Write;
 
-fn wide(x: u32) -> u64 {
-    x as u64
+pub fn text(s: &str) {
+    let _ = write!(Out, "{s}");
 }
 
-pub fn short(x: u16) -> u64 {
-    x as u64
-}
-
-fn number(n: u64) {
-    io::write_all(1, b" ");
-    io::print_decimal(1, n);
+pub fn number(n: u32) {
+    let _ = write!(Out, "{n}");
 }
 
 pub fn word(n: u32) {
-    number(wide(n));
-}
-
-pub fn short_word(n: u16) {
-    number(short(n));
+    let _ = write!(Out, " {n}");
 }
 
 pub fn end() {
-    io::write_all(1, b"\n");
+    let _ = writeln!(Out);
 }
 
-pub fn title(name: &[u8]) {
-    io::write_all(1, b"-- ");
-    io::write_all(1, name);
-    end();
+pub fn title(name: &str) {
+    let _ = writeln!(Out, "-- {name}");
 }
 
 pub fn no(n: u32, position: u32) {
-    io::write_all(1, b"no");
-    word(n);
-    word(position);
-    end();
+    let _ = writeln!(Out, "no {n} {position}");
 }
 
 // The first n numbers of a list.
-fn words(list: &[u16; 64], n: u32) {
-    let mut k: usize = 0;
-    let mut left = n;
-    while k < 64 {
-        if left == 0 {
-            return;
-        }
-        number(short(list[k]));
-        left -= 1;
-        k += 1;
+fn words(list: &[u16], n: u32) {
+    for x in list.iter().take(n as usize) {
+        let _ = write!(Out, " {x}");
     }
 }
 
@@ -60,18 +41,12 @@ pub fn report(n: u32, position: u32, touched: u32, entries: u32, grade: u32) {
         no(n, position);
         return;
     }
-    io::write_all(1, b"ok");
-    word(touched);
-    word(entries);
-    word(grade);
-    end();
+    let _ = writeln!(Out, "ok {touched} {entries} {grade}");
 }
 
 // The report of a batch, then, where it touched any column, the touched columns and their labels.
-pub fn tell(b: Batched) {
+pub fn tell<const M: usize, const WORK: usize>(b: &Batched<M, WORK>) {
     let changed = b.changed;
-    let touched = b.touched;
-    let labels = b.labels;
     report(
         changed.number,
         changed.position,
@@ -82,39 +57,29 @@ pub fn tell(b: Batched) {
     if changed.touched == 0 {
         return;
     }
-    io::write_all(1, b"touched");
-    words(&touched, changed.touched);
-    io::write_all(1, b"; labels");
-    words(&labels, changed.touched);
+    text("touched");
+    words(&b.touched, changed.touched);
+    text("; labels");
+    words(&b.labels, changed.touched);
     end();
 }
 
 // Whether all places of a list hold 9.
-fn is_lent(list: &[u16; 64]) -> bool {
-    let mut k: usize = 0;
-    while k < 64 {
-        if list[k] != 9 {
-            return false;
-        }
-        k += 1;
-    }
-    true
+fn is_lent(list: &[u16]) -> bool {
+    list.iter().all(|x| *x == 9)
 }
 
 // Whether both lists hold what they held before the call.
-pub fn tell_lent(b: Batched) {
-    let touched = b.touched;
-    let labels = b.labels;
-    if is_lent(&touched) & is_lent(&labels) {
-        io::write_all(1, b"lists as lent\n");
+pub fn tell_lent<const M: usize, const WORK: usize>(b: &Batched<M, WORK>) {
+    if is_lent(&b.touched) && is_lent(&b.labels) {
+        text("lists as lent\n");
     } else {
-        io::write_all(1, b"lists written\n");
+        text("lists written\n");
     }
 }
 
 fn refused(n: u32) {
-    io::write_all(1, b" no");
-    word(n);
+    let _ = write!(Out, " no {n}");
 }
 
 // The value of a question, or its refusal.
@@ -126,50 +91,28 @@ pub fn reply(r: Reply) {
     }
 }
 
-// What the question for the next row is asked for.
-pub fn row_in(i: u32, j: u32) {
-    io::write_all(1, b"next row from");
-    word(i);
-    io::write_all(1, b" in");
-    word(j);
-    io::write_all(1, b":");
-}
-
-// The row that it gives and its multiplicity, or its refusal.
-pub fn found(f: Found) {
+// The question for the next row: from which row on and in which column, then the row that it gives with its multiplicity, or its refusal.
+pub fn next_row(i: u32, j: u32, f: Found) {
+    let _ = write!(Out, "next row from {i} in {j}:");
     if f.number == 0 {
         word(f.row);
         word(f.multiplicity);
     } else {
         refused(f.number);
     }
-}
-
-fn pair(row: u32, count: u32) {
-    word(row);
-    io::write_all(1, b":");
-    io::print_decimal(1, wide(count));
+    end();
 }
 
 // The first n entries of a list.
-pub fn pairs(list: &[u32; 128], n: u32) {
-    let mut k: usize = 0;
-    let mut left = n;
-    while k < 64 {
-        if left == 0 {
-            return;
-        }
-        pair(list[2 * k], list[2 * k + 1]);
-        left -= 1;
-        k += 1;
+pub fn pairs(list: &[u32], n: u32) {
+    for [row, count] in list.as_chunks::<2>().0.iter().take(n as usize) {
+        let _ = write!(Out, " {row}:{count}");
     }
 }
 
 // All places of a list.
-pub fn places(list: &[u32; 6]) {
-    let mut k: usize = 0;
-    while k < 6 {
-        word(list[k]);
-        k += 1;
+pub fn places(list: &[u32]) {
+    for x in list {
+        word(*x);
     }
 }

@@ -20,9 +20,9 @@ use shown::{add, open, open_with, remove, show};
 
 // 1: fresh, one row. 6: {5} alone.
 fn small() {
-    title(b"1");
+    title("1");
     show(open(1, 1, 1, 1));
-    title(b"6");
+    title("6");
     let h = open(5, 8, 9, 16);
     show(add(h, &[1], &[1], &[5]));
 }
@@ -42,18 +42,18 @@ fn batch(h: Host) -> Host {
 
 // 3: one batch. 4: then remove 2. 7: with one factor record fewer.
 fn batches() {
-    title(b"3");
+    title("3");
     let all = batch(open(5, 8, 9, 16));
     show(all);
-    title(b"4");
+    title("4");
     show(remove(all, &[2]));
-    title(b"7");
+    title("7");
     show(batch(open(5, 8, 8, 16)));
 }
 
 // 5: one column twice under two ids, one removed. It enters again: either way column 3 counts too, though the batch changes nothing in it.
 fn twice() {
-    title(b"5");
+    title("5");
     let h = open(5, 8, 9, 16);
     let both = add(h, &[1, 2], &[2, 2], &[1, 3, 1, 3]);
     let one = remove(both, &[1]);
@@ -63,7 +63,7 @@ fn twice() {
 
 // 8: 255 entries, and 256: {1 .. 22} fills 253, and each column of one row adds 1.
 fn grades() {
-    title(b"8");
+    title("8");
     let rows = [
         1, 2, 3, 4, 5, 6, 7, 8, 9, 10, 11, 12, 13, 14, 15, 16, 17, 18, 19, 20, 21, 22, 23, 24, 25,
     ];
@@ -74,7 +74,7 @@ fn grades() {
 
 // Grades by the limits 2, 3 and 9, of 1, 2, 3, 8 and 9 entries: {1, 2, 3} fills 6, {4, 5} adds 3, and a column of one row 1.
 fn limits() {
-    title(b"limits 2 3 9");
+    title("limits 2 3 9");
     let h = open_with(5, 8, 0, 16, 2, 3, 9);
     add(h, &[1], &[1], &[1]);
     add(h, &[1, 2], &[1, 1], &[1, 2]);
@@ -86,7 +86,7 @@ fn limits() {
 // Grades of 4's removal, whose columns have 6 entries before it and 4 after it, and of the same column as an addition: both by 6. Then of all columns, which
 // have 8 entries before and 4 after.
 fn limits_removed() {
-    title(b"limits 2 5 7");
+    title("limits 2 5 7");
     let all = batch(open_with(5, 8, 0, 16, 2, 5, 7));
     let two = remove(all, &[2]);
     add(two, &[2], &[2], &[1, 4]);
@@ -159,17 +159,17 @@ fn joined(h: Host) {
 
 // 2 and 9: the listed example with its questions, a removal that repeats an id, rows 4 4, and every column removed.
 fn emptied() {
-    title(b"2");
+    title("2");
     let h = listed();
     show(h);
-    title(b"questions");
+    title("questions");
     asked(h);
-    title(b"next rows");
+    title("next rows");
     next_rows(h);
-    title(b"questions about rows");
+    title("questions about rows");
     met(h);
     joined(h);
-    title(b"9");
+    title("9");
     remove(h, &[3, 3]);
     add(h, &[4], &[2], &[4, 4]);
     show(remove(h, &[3, 1, 2]));
@@ -179,22 +179,22 @@ fn emptied() {
 
 // Row 4 in column 3 stays when {1, 2, 4} leaves, though its one child is another afterwards: its record is the same.
 fn staying() {
-    title(b"an entry that stays");
+    title("an entry that stays");
     let h = open(4, 2, 10, 6);
     let both = add(h, &[1, 2], &[3, 3], &[1, 3, 4, 1, 2, 4]);
     show(both);
     let left = remove(both, &[2]);
     show(left);
     if shown::second_record(left, 3) == shown::second_record(both, 3) {
-        io::write_all(1, b"the same record\n");
+        lines::text("the same record\n");
     } else {
-        io::write_all(1, b"another record\n");
+        lines::text("another record\n");
     }
 }
 
 // Paths that merge, of columns added in one batch and removed in two.
 fn merging() {
-    title(b"paths that merge");
+    title("paths that merge");
     let h = open(9, 6, 0, 32);
     let first = add(
         h,

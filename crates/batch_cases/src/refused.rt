@@ -6,7 +6,7 @@ use case_tables::Host;
 
 // 7: no column, more than 64, counts that keep no step.
 fn shapes(before: Host) -> Host {
-    title(b"7");
+    title("7");
     let mut h = before;
     let many = [4u32; 65];
     let all = &many[..];
@@ -22,7 +22,7 @@ fn shapes(before: Host) -> Host {
 
 // 7 by a question: no row, more than 64, these also outside 1 to m; and not by 64.
 fn named(h: Host) {
-    title(b"7 of a question");
+    title("7 of a question");
     let many = [4u32; 65];
     let outside = [6u32; 65];
     let all = &many[..];
@@ -34,7 +34,7 @@ fn named(h: Host) {
 
 // 8, 9 and 10 by an addition, at each position.
 fn ids_to_add(before: Host) -> Host {
-    title(b"8, 9, 10");
+    title("8, 9, 10");
     let mut h = before;
     h = add(h, &[0, 4], &[1, 1], &[1, 2]);
     h = add(h, &[4, 5, 9], &[1, 1, 1], &[1, 2, 3]);
@@ -46,7 +46,7 @@ fn ids_to_add(before: Host) -> Host {
 
 // 8, 9 and 11 by a removal.
 fn ids_to_remove(before: Host) -> Host {
-    title(b"8, 9, 11");
+    title("8, 9, 11");
     let mut h = before;
     h = remove(h, &[1, 0]);
     h = remove(h, &[1, 2, 9]);
@@ -59,7 +59,7 @@ fn ids_to_remove(before: Host) -> Host {
 
 // 12 by a count of 0, of 257, by too few rows, and, after all columns, by rows left over.
 fn counts(before: Host) -> Host {
-    title(b"12");
+    title("12");
     let mut h = before;
     h = add(h, &[4, 5], &[1, 0], &[1, 2]);
     h = add(h, &[4, 5], &[257, 1], &[1, 2]);
@@ -70,7 +70,7 @@ fn counts(before: Host) -> Host {
 
 // 13 by row 0 and by row 6; 14 by a row twice and by a lower row.
 fn rows(before: Host) -> Host {
-    title(b"13, 14");
+    title("13, 14");
     let mut h = before;
     h = add(h, &[4, 5], &[1, 2], &[1, 0, 2]);
     h = add(h, &[4, 5], &[1, 2], &[1, 2, 6]);
@@ -81,7 +81,7 @@ fn rows(before: Host) -> Host {
 
 // The first that applies: a row of position 1 before the id of position 2, an id before its count, a row outside before one not above.
 fn first(before: Host) -> Host {
-    title(b"the first that applies");
+    title("the first that applies");
     let mut h = before;
     h = add(h, &[4, 9], &[1, 1], &[6, 1]);
     h = add(h, &[4, 1], &[1, 0], &[1, 2]);
@@ -92,7 +92,7 @@ fn first(before: Host) -> Host {
 
 // 15 at one row more than the book has records for, and not at as many.
 fn full() {
-    title(b"15");
+    title("15");
     let h = open(5, 8, 0, 6);
     let one = add(h, &[1], &[2], &[1, 3]);
     add(one, &[2, 3], &[3, 2], &[1, 3, 4, 2, 3]);
@@ -101,7 +101,7 @@ fn full() {
 
 // 16 at one entry more than there are factor records, and not at as many: {1, 2, 3} gives 8 entries, {4, 5} one more.
 fn filled() {
-    title(b"16");
+    title("16");
     let h = open(5, 8, 8, 16);
     let one = add(h, &[1], &[3], &[1, 2, 3]);
     show(add(one, &[2], &[2], &[4, 5]));
@@ -109,7 +109,7 @@ fn filled() {
 
 // 20 by a first limit below 2 and by limits that do not rise; 4 comes before it, 5 after it.
 fn limits() {
-    title(b"20");
+    title("20");
     open_with(5, 8, 9, 16, 1, 2, 3);
     open_with(5, 8, 9, 16, 2, 2, 3);
     open_with(5, 8, 9, 16, 2, 3, 3);
@@ -128,7 +128,7 @@ pub fn all(before: Host) {
     h = counts(h);
     h = rows(h);
     h = first(h);
-    title(b"after all these");
+    title("after all these");
     show(h);
     full();
     filled();

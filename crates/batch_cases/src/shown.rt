@@ -1,6 +1,7 @@
 // The calls of the factor, each with its lines.
 use crate::lines;
-use case_tables::{Host, changing};
+use case_tables::Host;
+use questions::Reply;
 
 // Opens anew with the old limits, and gives the host from now on.
 pub fn open(m: u32, n: u32, f: u32, c: u32) -> Host {
@@ -9,23 +10,21 @@ pub fn open(m: u32, n: u32, f: u32, c: u32) -> Host {
 
 // Opens anew with limits of the grades.
 pub fn open_with(m: u32, n: u32, f: u32, c: u32, grade2: u32, grade3: u32, grade4: u32) -> Host {
-    let before = case_tables::unopened();
-    let opened = case_tables::open(before, m, n, f, c, grade2, grade3, grade4);
-    if opened.number == 0 {
-        io::write_all(1, b"open\n");
+    let mut h = Host::unopened();
+    let opened = case_tables::open(&mut h, m, n, f, c, grade2, grade3, grade4);
+    if opened.reply == 0 {
+        lines::text("open\n");
     } else {
-        lines::no(opened.number, 0);
+        lines::no(opened.reply, 0);
     }
-    let after = opened.host;
-    after
+    h
 }
 
 // Adds columns that have no window.
 pub fn add(before: Host, ids: &[u32], counts: &[u32], rows: &[u32]) -> Host {
-    let b = changing::add_always(before, ids, counts, rows);
-    lines::tell(b);
-    let after = b.host;
-    after
+    let mut h = before;
+    lines::tell(&h.add_always(ids, counts, rows));
+    h
 }
 
 // Adds columns with their windows.
@@ -37,39 +36,35 @@ pub fn add_within(
     firsts: &[u32],
     seconds: &[u32],
 ) -> Host {
-    let b = changing::add(before, ids, counts, rows, firsts, seconds);
-    lines::tell(b);
-    let after = b.host;
-    after
+    let mut h = before;
+    lines::tell(&h.add(ids, counts, rows, firsts, seconds));
+    h
 }
 
 pub fn remove(before: Host, ids: &[u32]) -> Host {
-    let b = changing::remove(before, ids);
-    lines::tell(b);
-    let after = b.host;
-    after
+    let mut h = before;
+    lines::tell(&h.remove(ids));
+    h
 }
 
 // Sets the clock, and says where it stands then.
 pub fn set_clock(before: Host, minute: u32) -> Host {
-    let b = changing::set_clock(before, minute);
-    lines::tell(b);
-    let after = b.host;
-    let record = after.factor;
-    io::write_all(1, b"clock");
-    lines::word(record.clock);
+    let mut h = before;
+    lines::tell(&h.set_clock(minute));
+    lines::text("clock");
+    lines::word(h.factor.clock);
     lines::end();
-    after
+    h
 }
 
 // ---- the factor, as the listing shows it
 
 // Column j: j, its parent, its entries.
-fn show_column(h: Host, j: u32) {
+fn show_column(h: &Host, j: u32) {
     let mut list = [0u32; 128];
-    let parent = case_tables::parent(h, j);
-    let column = case_tables::column(h, &mut list, j, 0);
-    io::print_decimal(1, j as u64);
+    let parent = h.parent(j).reply;
+    let column = h.column(&mut list, j, 0).reply;
+    lines::number(j);
     lines::reply(parent);
     lines::pairs(&list, column.value);
     lines::end();
@@ -77,87 +72,70 @@ fn show_column(h: Host, j: u32) {
 
 // What check answers, then every column.
 pub fn show(h: Host) {
-    let sound = case_tables::check(h);
-    io::write_all(1, b"check");
+    let sound = h.check().reply;
+    lines::text("check");
     lines::word(sound.number);
     lines::end();
-    let m = case_tables::row_count(h);
-    let mut j: u32 = 0;
-    while j < m {
-        j += 1;
-        show_column(h, j);
+    for j in 1..=case_tables::row_count(&h) {
+        show_column(&h, j);
     }
 }
 
 // The second record of column j, by the tables themselves; 0 where there is none.
 pub fn second_record(h: Host, j: u32) -> u32 {
-    let heads = h.heads;
-    let next = h.next;
-    if j < 1 {
+    if j < 1 || 64 < j {
         return 0;
     }
-    if 64 < j {
+    let head = h.heads[(j - 1) as usize];
+    if head < 1 || 2080 < head {
         return 0;
     }
-    let head = heads[(j - 1) as usize];
-    if head < 1 {
-        return 0;
-    }
-    if 2080 < head {
-        return 0;
-    }
-    next[(head - 1) as usize]
+    h.next[(head - 1) as usize]
 }
 
 // ---- questions; a list is one of six places that hold 9, shown whole
 
+// What a question answers, and the list that it was lent.
+fn listed(name: &str, reply: Reply, list: &[u32]) {
+    lines::text(name);
+    lines::reply(reply);
+    lines::text(":");
+    lines::places(list);
+    lines::end();
+}
+
 pub fn path(h: Host, at: usize, j: u32) {
     let mut list = [9u32; 6];
-    let reply = case_tables::path(h, &mut list, j, at);
-    io::write_all(1, b"path");
-    lines::reply(reply);
-    io::write_all(1, b":");
-    lines::places(&list);
-    lines::end();
+    let reply = h.path(&mut list, j, at).reply;
+    listed("path", reply, &list);
 }
 
 pub fn column(h: Host, at: usize, j: u32) {
     let mut list = [9u32; 6];
-    let reply = case_tables::column(h, &mut list, j, at);
-    io::write_all(1, b"column");
-    lines::reply(reply);
-    io::write_all(1, b":");
-    lines::places(&list);
-    lines::end();
+    let reply = h.column(&mut list, j, at).reply;
+    listed("column", reply, &list);
 }
 
 pub fn meets(h: Host, at: usize, i: u32) {
     let mut list = [9u32; 6];
-    let asked = case_tables::meeting::meets(h, &mut list, i, at);
-    io::write_all(1, b"meets");
-    lines::reply(asked.reply);
-    io::write_all(1, b":");
-    lines::places(&list);
-    lines::end();
+    let reply = h.meets(&mut list, i, at).reply;
+    listed("meets", reply, &list);
 }
 
 // The smallest row on the paths of all rows that are named.
 pub fn common(h: Host, rows: &[u32]) {
-    let asked = case_tables::meeting::common(h, rows);
-    io::write_all(1, b"common");
-    lines::reply(asked.reply);
+    lines::text("common");
+    lines::reply(h.common(rows).reply);
     lines::end();
 }
 
 pub fn parent(h: Host, j: u32) {
-    io::write_all(1, b"parent");
-    lines::reply(case_tables::parent(h, j));
+    lines::text("parent");
+    lines::reply(h.parent(j).reply);
     lines::end();
 }
 
 // The first row at or above i in column j, and its multiplicity.
 pub fn next_row(h: Host, i: u32, j: u32) {
-    lines::row_in(i, j);
-    lines::found(case_tables::next_row(h, i, j));
-    lines::end();
+    lines::next_row(i, j, h.next_row(i, j).reply);
 }

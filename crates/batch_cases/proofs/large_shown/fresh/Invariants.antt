@@ -1,6 +1,6 @@
--- The measure is the turns that are left. Assumes nothing.
-use Rattle.std.proofs.Common.{◌-◌}
+-- No more columns are counted than were looked at. Assumes nothing.
+use Rattle.std.proofs.Common.{◌≤◌}
 use Rattle.batch_cases.proofs.large_shown.fresh.Given as goal
 
-abbrev pub decreases-loop-j : goal.decreases-loop-j
-decreases-loop-j l = 4096 - l.j
+abbrev pub invariant-loop-k : goal.invariant-loop-k
+invariant-loop-k l = l.count ≤ l.k

@@ -1,6 +1,0 @@
--- The measure is the turns that are left. Assumes nothing.
-use Rattle.std.proofs.Common.{◌-◌}
-use Rattle.batch_cases.proofs.lines.words.Given as goal
-
-abbrev pub decreases-loop-k : goal.decreases-loop-k
-decreases-loop-k l = 64 - l.k
