@@ -13,7 +13,8 @@ use Rattle.calls.proofs.Refusals.{sizes-facts}
 use Rattle.admission.specs.Admission.{Usable}
 use Rattle.listing_text.specs.Text.{newline, ok_line, no_line, show_head, show_pair, show_pairs, show_line, Room, Written}
 use Rattle.listing_text.proofs.Printing.{written-join, pairs-push, ok-room, no_room, head-room, pair-room}
-use Rattle.listing_show.specs.Showing.{shown_line, shown_to, PairsRoom, LineWritten}
+use mathlib.Core.Logic.{inl, inr}
+use Rattle.listing_show.specs.Showing.{shown_line, shown_to, shown_by, no_state, PairsRoom, CanShowAll, LineWritten}
 
 -- nothing is written
 pub written_none : (out : List ℕ) (at : ℕ) → at ≤ length out → Written out at [] out at
@@ -111,7 +112,14 @@ lines_keep {s} {t} {out₀} {out} {out'} {end} {j} {end'} p h w l =
       long = l ∙ p.long;
     }
 
--- ---- usable tables have a column
+-- ---- no factor is open, or one whose tables are usable
+
+pub shown-closed : (s : State) (t : Tables) → s ≡ no_state → no_line 1 0 ≡ shown_by (record { state = s; tables = t })
+shown-closed s t e = sym (ap (λ (x : State). shown_by (record { state = x; tables = t })) e)
 
 pub usable-some : {s : State} {t : Tables} → Usable s t → 1 ≤ s.sizes.m
 usable-some {s} u = (sizes-facts s.sizes (ap is_accepted u.sizes)).m-low
+
+-- none is where m is 0
+pub shows-none : {s : State} {t : Tables} {n k : ℕ} → CanShowAll s t n k → s.sizes.m ≡ 0 → s ≡ no_state
+shows-none c e = elim c.usable [ inl q ↦ q | inr u ↦ absurd (omega (arith, usable-some u)) ]
