@@ -1,7 +1,7 @@
 -- `serve` meets its contract. Assumes nothing.
 use Rattle.std.proofs.Common.{refl, ◌∙◌}
 use Rattle.tables.specs.Tables.{tables_of}
-use Rattle.listing_memory.specs.Memory.{memory_of}
+use Rattle.listing_memory.specs.Memory.{Memory, memory_of}
 use Rattle.listing_loop.proofs.Running.{given-start, given-next, found-same, found-given, found-end}
 use Rattle.listing_loop.proofs.serve.Goals as goal
 
@@ -29,6 +29,10 @@ loop-input-preserved c =
     let i = c.loop-input.invariant in
     let y = c.answer-x in
     let z = c.next_line-input-in-Some in
+    let w : Memory =
+    memory_of y.result.factor
+    (tables_of y.new.heads y.new.parents y.new.rows y.new.counts y.new.next y.new.book_heads y.new.book_rows y.new.book_next y.new.windows)
+    y.new.work y.new.touched y.new.labels in
     record {
       kept =
           record {
@@ -38,7 +42,7 @@ loop-input-preserved c =
             line-long = z.auto.line ∙ i.kept.line-long;
             piece-long = z.auto.piece ∙ i.kept.piece-long;
           };
-      found = given-next (found-given i.found c.in-Some.is y.ensures.answered) z.ensures;
+      found = given-next (found-given i.found {w = w} c.in-Some.is y.ensures.answered) z.ensures;
     }
 
 pub returns : goal.returns
