@@ -1,11 +1,12 @@
 // What the large case prints: the report of a batch, the state of the tables, the answers to questions.
-ghost use Rattle.std.specs.Prelude.{◌<◌};
-
 use crate::large_rows::about_rows;
-use crate::large_tables::Large;
-use crate::lines;
-use case_tables::changing::Batched;
+use crate::large_tables::{
+    BookHeads, BookNext, BookRows, Heads, Next, Parents, Report, Rows, Windows, Work,
+};
+use crate::{large_tables, lines};
+use answers::Changed;
 use case_tables::out::Out;
+use factor::Factor;
 use std::fmt::Write;
 
 // ---- reports
@@ -14,8 +15,7 @@ use std::fmt::Write;
 const SHOWN: [usize; 7] = [0, 37, 38, 128, 129, 384, 385];
 
 // The report of a batch, and some of its labels.
-pub fn tell(b: &Batched<4096, 312384>) {
-    let changed = b.changed;
+pub fn tell(changed: Changed, touched: &Report, labels: &Report) {
     lines::report(
         changed.number,
         changed.position,
@@ -29,7 +29,7 @@ pub fn tell(b: &Batched<4096, 312384>) {
     lines::text("labels");
     for place in SHOWN {
         if place < 4096 {
-            let _ = write!(Out, " {}:{}", b.touched[place], b.labels[place]);
+            let _ = write!(Out, " {}:{}", touched[place], labels[place]);
         }
     }
     lines::end();
@@ -38,26 +38,19 @@ pub fn tell(b: &Batched<4096, 312384>) {
 // ---- fresh patterns
 
 // Whether the record holds row j alone, once.
-fn is_diagonal(h: &Large, head: u32, j: u32) -> bool {
+fn is_diagonal(rows: &Rows, counts: &Rows, next: &Next, head: u32, j: u32) -> bool {
     if head < 1 || 65536 < head {
         return false;
     }
     let at = (head - 1) as usize;
-    u32::from(h.rows[at]) == j && h.counts[at] == 1 && h.next[at] == 0
-}
-
-// Whether column j, which is at place k, has the fresh pattern and no parent.
-fn is_fresh(h: &Large, k: usize) -> bool
-    requires { k < 4096 }
-{
-    h.parents[k] == 0 && is_diagonal(h, h.heads[k], k as u32 + 1)
+    u32::from(rows[at]) == j && counts[at] == 1 && next[at] == 0
 }
 
 // How many columns have the fresh pattern and no parent.
-fn fresh(h: &Large) -> u32 {
+fn fresh(heads: &Heads, parents: &Parents, rows: &Rows, counts: &Rows, next: &Next) -> u32 {
     let mut count: u32 = 0;
     for k in 0..4096 {
-        if is_fresh(h, k) {
+        if parents[k] == 0 && is_diagonal(rows, counts, next, heads[k], k as u32 + 1) {
             count += 1;
         }
     }
@@ -65,25 +58,81 @@ fn fresh(h: &Large) -> u32 {
 }
 
 // What check answers, and how many columns are fresh.
-pub fn state(h: &Large) {
+pub fn state(
+    record: Factor,
+    heads: &Heads,
+    parents: &Parents,
+    rows: &Rows,
+    counts: &Rows,
+    next: &Next,
+    book_heads: &BookHeads,
+    book_rows: &BookRows,
+    book_next: &BookNext,
+    windows: &Windows,
+    work: &mut Work,
+) {
     lines::text("check");
-    lines::reply(h.check().reply);
+    lines::reply(large_tables::check(
+        record, heads, parents, rows, counts, next, book_heads, book_rows, book_next, windows, work,
+    ));
     lines::text("; fresh");
-    lines::word(fresh(h));
+    lines::word(fresh(heads, parents, rows, counts, next));
     lines::end();
 }
 
 // ---- questions
 
 // The lengths of the path and of the pattern of row j.
-fn lengths(h: &Large, j: u32) {
+fn lengths(
+    record: Factor,
+    heads: &Heads,
+    parents: &Parents,
+    rows: &Rows,
+    counts: &Rows,
+    next: &Next,
+    book_heads: &BookHeads,
+    book_rows: &BookRows,
+    book_next: &BookNext,
+    windows: &Windows,
+    work: &mut Work,
+    j: u32,
+) {
     let mut list = [0u32; 512];
     lines::text("lengths of path and column of");
     lines::word(j);
     lines::text(":");
-    lines::reply(h.path(&mut list, j, 0).reply);
-    lines::reply(h.column(&mut list, j, 0).reply);
+    lines::reply(large_tables::path(
+        record, heads, parents, rows, counts, next, book_heads, book_rows, book_next, windows,
+        work, &mut list, j,
+    ));
+    lines::reply(large_tables::column(
+        record, heads, parents, rows, counts, next, book_heads, book_rows, book_next, windows,
+        work, &mut list, j,
+    ));
     lines::end();
+}
+
+// The first row at or above i in column j, and its multiplicity.
+fn next_row(
+    record: Factor,
+    heads: &Heads,
+    parents: &Parents,
+    rows: &Rows,
+    counts: &Rows,
+    next: &Next,
+    book_heads: &BookHeads,
+    book_rows: &BookRows,
+    book_next: &BookNext,
+    windows: &Windows,
+    work: &mut Work,
+    i: u32,
+    j: u32,
+) {
+    let found = large_tables::next_row(
+        record, heads, parents, rows, counts, next, book_heads, book_rows, book_next, windows,
+        work, i, j,
+    );
+    lines::next_row(i, j, found);
 }
 
 // Rows that are asked for, each with the column that it is asked for in.
@@ -98,10 +147,30 @@ const ASKED: [(u32, u32); 7] = [
 ];
 
 // The questions on the full factor.
-pub fn ask(h: &Large) {
-    lengths(h, 10);
-    about_rows(h);
+pub fn ask(
+    record: Factor,
+    heads: &Heads,
+    parents: &Parents,
+    rows: &Rows,
+    counts: &Rows,
+    next: &Next,
+    book_heads: &BookHeads,
+    book_rows: &BookRows,
+    book_next: &BookNext,
+    windows: &Windows,
+    work: &mut Work,
+) {
+    lengths(
+        record, heads, parents, rows, counts, next, book_heads, book_rows, book_next, windows,
+        work, 10,
+    );
+    about_rows(
+        record, heads, parents, rows, counts, next, book_heads, book_rows, book_next, windows, work,
+    );
     for (i, j) in ASKED {
-        lines::next_row(i, j, h.next_row(i, j).reply);
+        next_row(
+            record, heads, parents, rows, counts, next, book_heads, book_rows, book_next, windows,
+            work, i, j,
+        );
     }
 }
