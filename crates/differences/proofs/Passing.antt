@@ -81,9 +81,6 @@ module _ {m : ℕ} {w₀ : List ℕ} {k from to kind bound : ℕ} (can : CanReac
     pub reaching-cell : cell w (8 * m) a ≡ cell w₀ (8 * m) a
     reaching-cell = gathering-cell g.gathering a
 
-    pub reaching-length : length w ≡ length w₀
-    reaching-length = g.gathering.only.same_length
-
     next-kind : a < to → rows_of_kind kind (plan_part m w₀ from (a + 1)) ≡ rows_of_kind kind (plan_part m w₀ from a) ++ rows_of_kind kind (cell w₀ (8 * m) a ∷ [])
     next-kind h =
         ap (rows_of_kind kind) (part-next m w₀ from a g.passing.low (omega (arith, can.pass.long))) ∙
