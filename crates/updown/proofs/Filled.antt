@@ -30,12 +30,6 @@ filled_within k starts rest e = omega (arith, length-append starts rest)
 
 -- ---- listed columns
 
--- the first of n rows from a place on
-pub listed-first : (list : List ℕ) (at n : ℕ) → n ≢ 0 → get_or list at 0 ≡ get_or (take n (drop at list)) 0 0
-listed-first list at n h =
-    let z : at + 0 ≡ at = omega arith in
-    sym (get_or-take n (drop at list) 0 0 (omega arith) ∙ get_or-drop at list 0 0 ∙ ap (λ (x : ℕ). get_or list x 0) z)
-
 listed-long : (ks xs : List ℕ) → length (listed_starts ks xs) ≡ length ks
 unfolding listed_starts
 listed-long [] xs = refl
