@@ -1,14 +1,13 @@
 -- Where the columns of a batch start that count all their rows: a list of starts filled from the front (`Filling` of `lists`), from listed columns (`Summing`) and from
 -- booked ones; and that these are the starts of such a batch (`whole-rows`, `whole-booked`). Assumes nothing.
 use mathlib.Core.Path.{◌≡◌, refl, sym, ap, ◌∙◌, subst}
-use mathlib.Core.Logic.{◌≢◌}
 use mathlib.Core.Bool.{Bool, true, ◌&&◌}
 use mathlib.Core.List.{List, [], ◌∷◌, ◌++◌}
 use Prim.Native.Nat.{ℕ, zero, suc, ◌+◌, ◌≤◌, ◌<◌}
 use native.Mathlib.Omega.{arith}
 use lib.Dec.{eqb}
 use lib.ListN.{length, get_or, take, drop, set, length-append}
-use lib.Seq.{drop-cons, drop-drop, get_or-take, get_or-drop}
+use lib.Seq.{drop-cons, drop-drop, get_or-drop}
 use borrow.Author.Tests.{ne_eqb}
 use Rattle.lists.specs.Lists.{pick, at, rises, all, all_zero, sum_of, values_at, first}
 use Rattle.lists.proofs.Tests.{and_both}
