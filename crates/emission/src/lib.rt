@@ -192,25 +192,21 @@ fn plan_row(
     if old == new {
         return walk;
     }
-    if old != 0 {
-        return put(
-            work,
-            m,
-            walk,
-            workspace::pack(row.0, new, kind_for(old, new)),
-        );
-    }
-    let free = walk.avail.0;
-    if free == 0 {
+    if old == 0 && walk.avail.0 == 0 {
         return Walk {
             fits: false,
             ..walk
         };
     }
+    let kept = if old == 0 {
+        take_free(next, walk)
+    } else {
+        walk
+    };
     put(
         work,
         m,
-        take_free(next, walk),
+        kept,
         workspace::pack(row.0, new, kind_for(old, new)),
     )
 }
