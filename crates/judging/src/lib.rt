@@ -2,7 +2,6 @@
 // touched paths.
 #![tactic(auto)]
 
-ghost use Rattle.std.specs.Prelude.{◌≡◌};
 ghost use Rattle.tables.specs.Lent.{tables_in, tables_now};
 ghost use Rattle.calls.specs.Lent.{adding_of, removing_of};
 ghost use Rattle.judging.specs.Judging.{SomeRows, AddJudged, SomeFree, RemoveJudged};
