@@ -41,13 +41,22 @@ fn meets_each(
     requires few { length row_list.now ≤ 1048576 }
     ensures { CanUse (state_of factor) (tables_of heads.now parents.now rows.now counts.now next.now book_heads.now book_rows.now book_next.now windows.now) work.new }
 {
-    let mut done: usize = 0;
     let mut sum: u64 = 0;
-    while done < row_list.len() {
-        let i = Row(row_list[done]);
+    for (done, &row) in row_list.iter().enumerate() {
         let x = factor.meets_unchecked(
-            heads, parents, rows, counts, next, book_heads, book_rows, book_next, windows, work,
-            list, i, 0,
+            heads,
+            parents,
+            rows,
+            counts,
+            next,
+            book_heads,
+            book_rows,
+            book_next,
+            windows,
+            work,
+            list,
+            Row(row),
+            0,
         );
         let number = x.number;
         if number != 0 {
@@ -58,11 +67,10 @@ fn meets_each(
             };
         }
         sum += x.value as u64;
-        done += 1;
     }
     Asked {
         number: 0,
-        done: done as u32,
+        done: row_list.len() as u32,
         sum,
     }
 }
@@ -229,26 +237,35 @@ fn next_each(
     requires usable { Usable (state_of factor) (tables_of heads.now parents.now rows.now counts.now next.now book_heads.now book_rows.now book_next.now windows.now) }
     requires few { length row_list.now ≤ 1048576 }
 {
-    let mut first: usize = 0;
-    let mut done: u32 = 0;
+    let (pairs, _) = row_list.as_chunks::<2>();
     let mut sum: u64 = 0;
-    while 2 <= row_list.len() - first {
-        let i = Row(row_list[first]);
-        let j = Row(row_list[first + 1]);
+    for (done, &[row, column]) in pairs.iter().enumerate() {
         let x = factor.next_row_unchecked(
-            heads, parents, rows, counts, next, book_heads, book_rows, book_next, windows, i, j,
+            heads,
+            parents,
+            rows,
+            counts,
+            next,
+            book_heads,
+            book_rows,
+            book_next,
+            windows,
+            Row(row),
+            Row(column),
         );
         let number = x.number;
         if number != 0 {
-            return Asked { number, done, sum };
+            return Asked {
+                number,
+                done: done as u32,
+                sum,
+            };
         }
         sum += x.row as u64 + x.multiplicity as u64;
-        done += 1;
-        first += 2;
     }
     Asked {
         number: 0,
-        done,
+        done: pairs.len() as u32,
         sum,
     }
 }

@@ -124,7 +124,7 @@ fn change(
     )
 }
 
-// The batch b of the plan, or number 7 where the lists do not have its parts: then nothing changes.
+// The batch that six numbers of the plan say, or number 7 where the lists do not have its parts: then nothing changes.
 fn step(
     factor: Factor,
     heads: &[u32],
@@ -139,31 +139,17 @@ fn step(
     work: &mut [u32],
     touched: &mut [u16],
     labels: &mut [u16],
-    plan: &[u32],
+    planned: &[u32; 6],
     ids: &[u32],
     row_counts: &[u32],
     row_list: &[u32],
-    b: u32,
 ) -> Changed
     requires { CanChange (state_of factor) (tables_of heads.now parents.old rows.old counts.old next.old book_heads.old book_rows.old book_next.old windows.old) work.old touched.old labels.old }
     ensures { CanChange (state_of result.factor) (tables_of heads.now parents.new rows.new counts.new next.new book_heads.new book_rows.new book_next.new windows.new) work.new touched.new labels.new }
 {
-    let p = plan::planned(plan, b, ids.len(), row_counts.len(), row_list.len());
-    if !p.ids_in {
+    let Some(batch) = plan::planned(planned, ids, row_counts, row_list) else {
         return refused(factor);
-    }
-    if !p.counts_in {
-        return refused(factor);
-    }
-    if !p.rows_in {
-        return refused(factor);
-    }
-    let id = p.id;
-    let id_end = p.id_end;
-    let count = p.count;
-    let count_end = p.count_end;
-    let row = p.row;
-    let row_end = p.row_end;
+    };
     change(
         factor,
         heads,
@@ -178,10 +164,10 @@ fn step(
         work,
         touched,
         labels,
-        &ids[id..id_end],
-        &row_counts[count..count_end],
-        &row_list[row..row_end],
-        p.adds,
+        batch.ids,
+        batch.row_counts,
+        batch.row_list,
+        batch.adds,
     )
 }
 
@@ -210,25 +196,23 @@ fn run(
 {
     let batches = plan::batches(plan);
     let mut after = factor;
-    let mut done: u32 = 0;
-    while done < batches {
+    for (done, batch) in batches.iter().enumerate() {
         let x = step(
             after, heads, parents, rows, counts, next, book_heads, book_rows, book_next, windows,
-            work, touched, labels, plan, ids, row_counts, row_list, done,
+            work, touched, labels, batch, ids, row_counts, row_list,
         );
         after = x.factor;
         if x.number != 0 {
             return Ran {
                 number: x.number,
-                done,
+                done: done as u32,
                 factor: after,
             };
         }
-        done += 1;
     }
     Ran {
         number: 0,
-        done,
+        done: batches.len() as u32,
         factor: after,
     }
 }
