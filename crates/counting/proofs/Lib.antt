@@ -3,6 +3,5 @@ pub mod Numbers
 pub mod Linking
 pub mod Gathering
 pub mod Children
-pub mod Parts
 pub mod Starting
 pub mod Given

@@ -3,7 +3,7 @@
 // table and a start, since two parts of one table cannot be lent at once.
 #![tactic(auto)]
 
-ghost use Rattle.std.specs.Prelude.{◌≡◌, ◌+◌, ◌*◌, ◌≤◌, ◌<◌, eqb, length};
+ghost use Rattle.std.specs.Prelude.{◌≡◌, ◌+◌, ◌*◌, ◌≤◌, eqb, length};
 ghost use Rattle.workspace.specs.Regions.{cleared};
 ghost use Rattle.workspace.specs.Layout.{work_need};
 ghost use Rattle.workspace.specs.Planned.{packed, FitsEntry, row_of, multiplicity_of, kind_of, kind_number};

@@ -1,14 +1,12 @@
 -- `read_through` meets its contract: the work table made ready can be read with, and is cleared again. Assumes nothing.
-use mathlib.Core.Path.{◌≡◌, sym, ap, ◌∙◌, subst}
-use mathlib.Core.List.{List}
+use mathlib.Core.Path.{sym, ◌∙◌, subst}
 use Prim.Native.Nat.{ℕ}
 use Rattle.state.specs.Record.{state_of}
 use Rattle.book.specs.Book.{Book, book_of}
 use Rattle.tables.specs.Stored.{Stored, stored_of}
 use Rattle.tables.specs.Tables.{Tables}
-use Rattle.tables.specs.Lent.{tables_viewed, tables_cut}
 use Rattle.soundness.specs.State.{WithinWork}
-use Rattle.soundness.specs.ReadThrough.{CanReadThrough, are_sound}
+use Rattle.soundness.specs.ReadThrough.{CanReadThrough}
 use Rattle.admission.proofs.Cutting.{can-read-through, read-clears}
 use Rattle.admission.proofs.read_through.Goals as goal
 
