@@ -26,6 +26,8 @@ pub record OpenedStep (asked : Sizes) (limits : Limits) (t : Tables) (work : Lis
   pub answer : Opening
   pub step : OpenStep asked limits t work answer t' work'
   pub plain : r ≡ opened_from answer
+  -- number 0 says that the opening was accepted, and the struct has its record
+  pub accepted : r.number ≡ 0 → answer ≡ Ok r.factor
 
 -- ---- readings
 

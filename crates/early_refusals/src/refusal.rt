@@ -2,7 +2,7 @@
 ghost use Rattle.std.specs.Prelude.{◌≡◌};
 ghost use Rattle.early_refusals.specs.Refusal.{number_of};
 
-// The reasons, by their numbers. Sizes and limits first, then tables, a batch, room, a question.
+// The reasons, by their numbers: sizes, tables, a batch, room, a question, limits, a window.
 #[derive(Clone, Copy, Debug, PartialEq, Eq)]
 pub enum Refusal {
     // m, n, F or C is outside its range.
@@ -33,7 +33,7 @@ pub enum Refusal {
     ListEnds = 18,
     // A limit of an opening's grades is below 2 or not above the limit before.
     Limits = 20,
-    // A window ends no later than it begins.
+    // A window ends no later than it begins, and is not 0 and 0.
     Window = 21,
 }
 

@@ -36,7 +36,7 @@ fn word_is(word: &[u8], name: &[u8]) -> bool
     word == name
 }
 
-// The number that a word is: a digit or more, and a value below 2^32.
+// The number that a word is: a digit or more, and a value below 2^32; none for any other word.
 fn number_of(word: &[u8]) -> Option<u32>
     ensures { result ≡ number_of word.now }
 {
