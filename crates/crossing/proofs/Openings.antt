@@ -1,7 +1,6 @@
 -- How a host reads an opening's answer off its struct: no refusal has number 0. Assumes nothing.
-use Rattle.std.proofs.Common.{◌≡◌, refl, sym, ap, ◌∙◌}
+use Rattle.std.proofs.Common.{◌≡◌, sym, ap, ◌∙◌}
 use Rattle.std.specs.Prelude.{Ok, Err}
-use Rattle.early_refusals.specs.Refusal.{number_of}
 use Rattle.early_refusals.proofs.Tests.{number-not0}
 use Rattle.factor.specs.Entries.{Opening}
 use Rattle.crossing.specs.Crossing.{opened_from}
