@@ -81,11 +81,10 @@ pub fn column(p: Pair, j: u32, at: usize, room: usize) -> Pair {
 // The check, which the reference answers from the record alone.
 pub fn check(p: Pair) -> Pair {
     let record = p.host.check().reply;
-    let sizes = served(p.sizes);
-    let theirs = reference::refusals::of_record(sizes);
+    let theirs = reference::refusals::of_record(served(p.sizes));
     counted(
         p,
         record.number,
-        same::numbers("check", record.number, theirs),
+        same::refusals("check", record.number, theirs),
     )
 }

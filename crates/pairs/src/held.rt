@@ -87,7 +87,7 @@ pub fn same_factor(p: Pair) -> bool {
     mark_live(p, &mut live);
     reference::pattern::fills(&holds, &live, &mut pattern, sizes);
     let sound = p.host.check().reply;
-    let a = same::numbers("check", sound.number, reference::refusals::of_record(sizes));
+    let a = same::refusals("check", sound.number, reference::refusals::of_record(sizes));
     let b = same_record(p);
     let c = same_columns(p, &live, &pattern);
     let d = free::same_counts(p, &pattern);

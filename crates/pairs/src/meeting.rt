@@ -9,11 +9,11 @@ use reference::{Sizes, Square};
 
 // ---- what a question leaves
 
-// How many work places are zero after a call with the number: none under 1 to 5, otherwise as many as the sizes need.
-fn cleared(sizes: Sizes, number: usize) -> usize
+// How many work places are zero after a call: none where it is refused by 1 to 5, otherwise as many as the sizes need.
+fn cleared(sizes: Sizes, refusal: Option<usize>) -> usize
     requires { Served sizes.m sizes.n }
 {
-    if 0 < number && number < 6 {
+    if let Some(1..=5) = refusal {
         return 0;
     }
     if 2080 < sizes.f || 2048 < sizes.c {
@@ -22,9 +22,9 @@ fn cleared(sizes: Sizes, number: usize) -> usize
     8 * sizes.m + 4 * sizes.f + sizes.c + sizes.n + 1024
 }
 
-// Whether the work table is as it must be after a question with the reference's number.
-fn left(p: Pair, work: &[u32], number: usize) -> bool {
-    kept::cleared(work, cleared(served(p.sizes), number))
+// Whether the work table is as it must be after a question that the reference refuses so, or answers.
+fn left(p: Pair, work: &[u32], refusal: Option<usize>) -> bool {
+    kept::cleared(work, cleared(served(p.sizes), refusal))
 }
 
 // ---- the columns that meet a row: the first `room` places of the list are lent, or all where there are fewer
@@ -45,7 +45,7 @@ pub fn meets(p: Pair, pattern: &Square, i: u32, at: usize, room: usize) -> Pair 
     let reply = ours.reply;
     let a = same::replies("meets", reply, theirs);
     let b = same::lists("columns that meet a row", &list, &other);
-    let c = left(p, &ours.work, theirs.number);
+    let c = left(p, &ours.work, theirs.err());
     let t = p.tally;
     q.tally = t.counted(reply.number, a & b & c).met(reply.number);
     q
@@ -57,7 +57,7 @@ pub fn width(p: Pair, pattern: &Square, i: u32) -> usize
 {
     let mut other = [9u32; 160];
     let theirs = reference::meeting::meets(pattern, &mut other, served(p.sizes), 0, i as usize);
-    theirs.value
+    theirs.unwrap_or(0)
 }
 
 // ---- the smallest row on all paths
@@ -68,7 +68,7 @@ pub fn common(p: Pair, pattern: &Square, row_list: &[u32]) -> Pair {
     let theirs = reference::meeting::common(pattern, row_list, served(p.sizes));
     let reply = ours.reply;
     let a = same::replies("common", reply, theirs);
-    let b = left(p, &ours.work, theirs.number);
+    let b = left(p, &ours.work, theirs.err());
     let t = p.tally;
     q.tally = t
         .counted(reply.number, a & b)

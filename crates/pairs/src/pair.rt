@@ -132,16 +132,15 @@ pub fn open_with(p: Pair, m: u32, n: u32, f: u32, c: u32, three: Three) -> Pair 
         &mut booked,
         &mut windows,
         &mut clock,
-        served(p.sizes),
         asked(m, n, f, c, three),
     );
-    let sizes = theirs.sizes;
+    let sizes = theirs.unwrap_or(served(p.sizes));
     q.host = host;
     q.booked = booked;
     q.windows = windows;
     q.clock = clock;
     q.sizes = sizes;
-    let number = same::numbers("opening", opened.reply, theirs.number);
+    let number = same::refusals("opening", opened.reply, theirs.err());
     let records = same::numbers("records", host.factor.f, sizes.f);
     compared(q, opened.reply, number & records)
 }

@@ -3,7 +3,7 @@ use answers::Changed;
 use case_tables::changing::Batched;
 use case_tables::out::Out;
 use factor::Factor;
-use reference::{Answer, Limits, Rows};
+use reference::{Answer, Entry, Limits, Reply, Rows};
 use std::fmt::Write;
 
 fn tell(what: &str, ours: usize, theirs: usize) {
@@ -17,6 +17,11 @@ pub fn numbers(what: &str, ours: u32, theirs: usize) -> bool {
         tell(what, ours as usize, theirs);
     }
     same
+}
+
+// A number that the factor refuses by, 0 for none, and the reference's.
+pub fn refusals(what: &str, ours: u32, theirs: Option<usize>) -> bool {
+    numbers(what, ours, theirs.unwrap_or(0))
 }
 
 // One place of two lists.
@@ -47,13 +52,17 @@ pub fn limits(ours: Factor, theirs: Limits) -> bool {
     a & b & c
 }
 
-// What a batch answers.
+// What a batch answers: an accepted one has neither number nor position, and a refused one reports nothing.
 fn answers(ours: Changed, theirs: Answer) -> bool {
-    let a = numbers("number", ours.number, theirs.number);
-    let b = numbers("position", ours.position, theirs.position);
-    let c = numbers("touched", ours.touched, theirs.touched);
-    let d = numbers("entries", ours.entries, theirs.entries);
-    let e = numbers("grade", ours.grade, theirs.grade);
+    let (number, position, touched, entries, grade) = match theirs {
+        Ok(report) => (0, 0, report.touched, report.entries, report.grade),
+        Err(refusal) => (refusal.number, refusal.position, 0, 0, 0),
+    };
+    let a = numbers("number", ours.number, number);
+    let b = numbers("position", ours.position, position);
+    let c = numbers("touched", ours.touched, touched);
+    let d = numbers("entries", ours.entries, entries);
+    let e = numbers("grade", ours.grade, grade);
     a & b & c & d & e
 }
 
@@ -65,17 +74,21 @@ pub fn batches(ours: &Batched<64, 12160>, theirs: Answer, touched: &Rows, labels
     a & b & c
 }
 
-// What the question for the next row answers.
-pub fn found(ours: questions::Found, theirs: reference::Found) -> bool {
-    let a = numbers("number of next row", ours.number, theirs.number);
-    let b = numbers("next row", ours.row, theirs.row);
-    let c = numbers("multiplicity", ours.multiplicity, theirs.multiplicity);
+// What the question for the next row answers: row and multiplicity are 0 for none.
+pub fn found(ours: questions::Found, theirs: Result<Option<Entry>, usize>) -> bool {
+    let (row, multiplicity) = match theirs {
+        Ok(Some(entry)) => (entry.row, entry.multiplicity),
+        _ => (0, 0),
+    };
+    let a = refusals("number of next row", ours.number, theirs.err());
+    let b = numbers("next row", ours.row, row);
+    let c = numbers("multiplicity", ours.multiplicity, multiplicity);
     a & b & c
 }
 
-// What another question answers.
-pub fn replies(what: &str, ours: questions::Reply, theirs: reference::Reply) -> bool {
-    let a = numbers(what, ours.number, theirs.number);
-    let b = numbers(what, ours.value, theirs.value);
+// What another question answers: a refused one has the value 0.
+pub fn replies(what: &str, ours: questions::Reply, theirs: Reply) -> bool {
+    let a = refusals(what, ours.number, theirs.err());
+    let b = numbers(what, ours.value, theirs.unwrap_or(0));
     a & b
 }

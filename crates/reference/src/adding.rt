@@ -1,11 +1,12 @@
 // An addition: its columns enter with their minutes, and those of them that are live touch what lies on their paths. Refused by 1 to 4 and 6 by the record,
 // then by 7 to 16 and 21.
-ghost use Rattle.std.specs.Prelude.{◌≤◌, length};
+ghost use Rattle.std.specs.Prelude.{◌≤◌, length, IfOk};
 ghost use Rattle.reference.specs.Ranges.{Served, InStep};
 
+use crate::refusals::whole;
 use crate::{
-    Answer, Booked, Holds, Live, Rows, Sizes, Square, Windows, batch, leave, pattern, refusals,
-    refused, reported, tree, windows,
+    Answer, Booked, Holds, Live, Report, Rows, Sizes, Square, Windows, batch, leave, pattern,
+    refusals, reported, tree, windows,
 };
 
 // The columns of an addition enter, the live ones are marked, and their pattern is written.
@@ -67,7 +68,7 @@ fn added(
     labels: &mut Rows,
     ids: &[u32],
     sizes: Sizes,
-) -> Answer
+) -> Report
     requires { Served sizes.m sizes.n × (length ids.now ≤ 64) }
     ensures { result.touched ≤ 64 }
 {
@@ -92,11 +93,12 @@ fn add_lists(
     sizes: Sizes,
 ) -> Answer
     requires { Served sizes.m sizes.n × (length ids.now ≤ 64) × InStep ids.now counts.now firsts.now seconds.now }
-    ensures { result.touched ≤ 64 }
+    ensures { IfOk result (λ report. report.touched ≤ 64) }
 {
-    let refusal = refusals::of_addition(holds, booked, ids, counts, rows, firsts, seconds, sizes);
-    if refusal.number != 0 {
-        return refused(refusal.number, refusal.position);
+    if let Some(refusal) = refusals::of_addition(
+        holds, booked, ids, counts, rows, firsts, seconds, sizes,
+    ) {
+        return Err(refusal);
     }
     let mut live = [0u8; 256];
     let mut pattern = [0u8; 4096];
@@ -114,9 +116,9 @@ fn add_lists(
         clock,
         sizes,
     ) {
-        return refused(16, 0);
+        return Err(whole(16));
     }
-    added(holds, &live, &pattern, touched, labels, ids, sizes)
+    Ok(added(holds, &live, &pattern, touched, labels, ids, sizes))
 }
 
 // Adds a batch at a minute. Touched columns and labels are those of the tree after it.
@@ -135,15 +137,15 @@ pub fn add(
     sizes: Sizes,
 ) -> Answer
     requires { Served sizes.m sizes.n }
-    ensures { result.touched ≤ 64 }
+    ensures { IfOk result (λ report. report.touched ≤ 64) }
 {
-    if let Some(number) = refusals::of_later_call(sizes) {
-        return refused(number, 0);
+    if let Some(number) = refusals::of_record(sizes) {
+        return Err(whole(number));
     }
     let count = ids.len();
     let keep_step = counts.len() == count && firsts.len() == count && seconds.len() == count;
     if refusals::is_outside(count, 1, 64) || !keep_step {
-        return refused(7, 0);
+        return Err(whole(7));
     }
     add_lists(
         holds, booked, windows, touched, labels, ids, counts, rows, firsts, seconds, clock, sizes,

@@ -1,11 +1,12 @@
 // The clock goes to another minute: columns stop counting, others begin to. Touched are all columns on the paths of those that stop, in the tree before, and
 // of those that begin, in the tree after; all have label 0. Refused by 1 to 4 and 6 by the record, and by 16 where the patterns after it exceed F.
-ghost use Rattle.std.specs.Prelude.{◌≤◌};
+ghost use Rattle.std.specs.Prelude.{◌≤◌, IfOk};
 ghost use Rattle.reference.specs.Ranges.{Served};
 
+use crate::refusals::whole;
 use crate::{
-    Answer, Booked, Holds, Live, Rows, Sizes, Square, Windows, accepted, batch, columns, pattern,
-    refusals, refused, total, tree, windows,
+    Answer, Booked, Holds, Live, Report, Rows, Sizes, Square, Windows, accepted, batch, columns,
+    pattern, refusals, total, tree, windows,
 };
 
 // ---- touched columns
@@ -56,7 +57,7 @@ fn moved(
     touched: &mut Rows,
     labels: &mut Rows,
     sizes: Sizes,
-) -> Answer
+) -> Report
     requires { Served sizes.m sizes.n }
     ensures { result.touched ≤ 64 }
 {
@@ -82,10 +83,10 @@ pub fn set(
     sizes: Sizes,
 ) -> Answer
     requires { Served sizes.m sizes.n }
-    ensures { result.touched ≤ 64 }
+    ensures { IfOk result (λ report. report.touched ≤ 64) }
 {
-    if let Some(number) = refusals::of_later_call(sizes) {
-        return refused(number, 0);
+    if let Some(number) = refusals::of_record(sizes) {
+        return Err(whole(number));
     }
     let mut was = [0u8; 256];
     let mut live = [0u8; 256];
@@ -94,8 +95,8 @@ pub fn set(
     windows::mark_live(booked, windows, &mut live, minute);
     pattern::fills(holds, &live, &mut after, sizes);
     if sizes.f < tree::sum_of_sizes(&after, sizes.m) {
-        return refused(16, 0);
+        return Err(whole(16));
     }
     *clock = minute;
-    moved(holds, &was, &live, &after, touched, labels, sizes)
+    Ok(moved(holds, &was, &live, &after, touched, labels, sizes))
 }

@@ -16,7 +16,7 @@ pub mod removing;
 pub mod tree;
 pub mod windows;
 
-ghost use Rattle.std.specs.Prelude.{◌≡◌, ℕ, ◌*◌, ◌≤◌};
+ghost use Rattle.std.specs.Prelude.{◌≡◌, ℕ, ◌*◌, ◌≤◌, IfOk};
 ghost use Rattle.reference.specs.Ranges.{Served};
 
 // A mark for each id and row.
@@ -52,41 +52,30 @@ pub struct Sizes {
     pub limits: Limits,
 }
 
-// A number, 0 for none, and the position of the column that it is given for.
+// Why a batch is refused: a number, and the position of the column that it is given for, 0 for the whole batch.
 #[derive(Clone, Copy)]
 pub struct Refusal {
     pub number: usize,
     pub position: usize,
 }
 
-// What opening gives: its number, and the sizes that serve from now on.
+// What an accepted batch reports.
 #[derive(Clone, Copy)]
-pub struct Opened {
-    pub number: usize,
-    pub sizes: Sizes,
-}
-
-// What a batch gives.
-#[derive(Clone, Copy)]
-pub struct Answer {
-    pub number: usize,
-    pub position: usize,
+pub struct Report {
     pub touched: usize,
     pub entries: usize,
     pub grade: usize,
 }
 
-// What a question gives: its number, and a parent, a row or a number of places or entries.
-#[derive(Clone, Copy)]
-pub struct Reply {
-    pub number: usize,
-    pub value: usize,
-}
+// What a batch gives.
+pub type Answer = Result<Report, Refusal>;
 
-// What the question for the next row gives: its number, the row and its multiplicity, both 0 for none.
+// What a question gives: a parent, a row or a number of places or entries, or the number that it is refused by.
+pub type Reply = Result<usize, usize>;
+
+// An entry of a column.
 #[derive(Clone, Copy)]
-pub struct Found {
-    pub number: usize,
+pub struct Entry {
     pub row: usize,
     pub multiplicity: usize,
 }
@@ -103,25 +92,11 @@ fn total<F: Fn(usize) -> usize>(n: usize, number: F) -> usize
     sum
 }
 
-pub fn refused(number: usize, position: usize) -> Answer
-    ensures { result.touched ≡ 0 }
-{
-    Answer {
-        number,
-        position,
-        touched: 0,
-        entries: 0,
-        grade: 0,
-    }
-}
-
-// What an accepted batch gives, of the number of its touched columns and of its entries.
-fn accepted(sizes: Sizes, touched: usize, entries: usize) -> Answer
+// The report of an accepted batch, of the number of its touched columns and of its entries.
+fn accepted(sizes: Sizes, touched: usize, entries: usize) -> Report
     ensures { result.touched ≡ touched }
 {
-    Answer {
-        number: 0,
-        position: 0,
+    Report {
         touched,
         entries,
         grade: batch::grade(sizes.limits, entries),
@@ -157,35 +132,27 @@ fn meant(asked: Sizes) -> Sizes {
     }
 }
 
-// Opens: no column is booked, and the clock stands at 0. Refused by 1 to 4 and 20, and by 5 where these tables do not serve the sizes; then all is as before.
+// Opens: no column is booked, and the clock stands at 0. It gives the sizes that serve from now on. Refused by 1 to 4 and 20, and by 5 where these tables do
+// not serve the sizes; then all is as before.
 pub fn open(
     booked: &mut Booked,
     windows: &mut Windows,
     clock: &mut u32,
-    before: Sizes,
     asked: Sizes,
-) -> Opened
-    requires { Served before.m before.n }
-    ensures { Served result.sizes.m result.sizes.n }
+) -> Result<Sizes, usize>
+    ensures { IfOk result (λ sizes. Served sizes.m sizes.n) }
 {
     let sizes = meant(asked);
-    let number = refusals::of_opening(sizes);
-    if number != 0 {
-        return Opened {
-            number,
-            sizes: before,
-        };
+    if let Some(number) = refusals::of_opening(sizes) {
+        return Err(number);
     }
     if 64 < sizes.m || 256 < sizes.n {
-        return Opened {
-            number: 5,
-            sizes: before,
-        };
+        return Err(5);
     }
     columns::leave_all(booked);
     windows::leave_all(windows);
     *clock = 0;
-    Opened { number: 0, sizes }
+    Ok(sizes)
 }
 
 // The report of an accepted batch, of the pattern that its columns are live in: the one after an addition, the one before a removal.
@@ -195,7 +162,7 @@ pub fn reported(
     labels: &mut Rows,
     label_of: &Rows,
     sizes: Sizes,
-) -> Answer
+) -> Report
     requires { Served sizes.m sizes.n }
     ensures { result.touched ≤ 64 }
 {

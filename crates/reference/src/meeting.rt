@@ -1,11 +1,10 @@
 // Questions about rows, of a pattern that `fills` wrote for the live columns: the columns whose pattern holds a row, and the smallest row on the paths of all
 // of some rows. Every column is looked at, and every row from 1 on, each path anew. 1 to 4 and 6 by the record, 7 for no row or more than 64, 17 for a row
 // outside 1 to m, 18 where the list ends before the answer does.
-ghost use Rattle.std.specs.Prelude.{◌≤◌};
+ghost use Rattle.std.specs.Prelude.{◌≤◌, IfOk};
 ghost use Rattle.reference.specs.Ranges.{IsRow, Served};
 
 use crate::columns::wide;
-use crate::questions::refused;
 use crate::refusals::{exceeds, is_outside};
 use crate::{Reply, Sizes, Square, pattern, refusals, tree};
 
@@ -35,17 +34,17 @@ fn write_holders(pattern: &Square, list: &mut [u32], m: usize, i: usize)
 // The columns that hold row i, ascending, a column to a place from place `at` onward; how many places they take is the value.
 pub fn meets(pattern: &Square, list: &mut [u32], sizes: Sizes, at: usize, i: usize) -> Reply
     requires { Served sizes.m sizes.n }
-    ensures { result.value ≤ 64 }
+    ensures { IfOk result (λ value. value ≤ 64) }
 {
     if let Some(number) = refusals::of_row(sizes, i) {
-        return refused(number);
+        return Err(number);
     }
     let value = holders(pattern, sizes.m, i);
     if exceeds(list.len(), at, value) {
-        return refused(18);
+        return Err(18);
     }
     write_holders(pattern, &mut list[at..], sizes.m, i);
-    Reply { number: 0, value }
+    Ok(value)
 }
 
 // ---- the smallest row on all paths
@@ -82,15 +81,14 @@ fn names_outside(row_list: &[u32], m: usize) -> bool {
 pub fn common(pattern: &Square, row_list: &[u32], sizes: Sizes) -> Reply
     requires { Served sizes.m sizes.n }
 {
-    if let Some(number) = refusals::of_later_call(sizes) {
-        return refused(number);
+    if let Some(number) = refusals::of_record(sizes) {
+        return Err(number);
     }
     if is_outside(row_list.len(), 1, 64) {
-        return refused(7);
+        return Err(7);
     }
     if names_outside(row_list, sizes.m) {
-        return refused(17);
+        return Err(17);
     }
-    let value = smallest_on_all(pattern, row_list, sizes.m).unwrap_or(0);
-    Reply { number: 0, value }
+    Ok(smallest_on_all(pattern, row_list, sizes.m).unwrap_or(0))
 }

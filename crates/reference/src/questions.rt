@@ -1,28 +1,14 @@
 // The questions, of a pattern that `fills` wrote for the live columns: 1 to 4 and 6 by the record, 17 for a row or column outside 1 to m, 18 where the
 // list ends before the answer does.
-ghost use Rattle.std.specs.Prelude.{◌≡◌, ◌≤◌};
+ghost use Rattle.std.specs.Prelude.{◌≤◌, IfOk};
 ghost use Rattle.reference.specs.Ranges.{IsRow, Served};
 
 use crate::refusals::exceeds;
-use crate::{Found, Holds, Live, Reply, Sizes, Square, pattern, refusals, tree};
-
-pub fn refused(number: usize) -> Reply
-    ensures { result.value ≡ 0 }
-{
-    Reply { number, value: 0 }
-}
+use crate::{Entry, Holds, Live, Reply, Sizes, Square, pattern, refusals, tree};
 
 // ---- the next row
 
-fn not_found(number: usize) -> Found {
-    Found {
-        number,
-        row: 0,
-        multiplicity: 0,
-    }
-}
-
-// The first row of i, i + 1, .. m that has a multiplicity in column j.
+// The entry of the first row of i, i + 1, .. m that has a multiplicity in column j, if there is one.
 fn first_from(
     holds: &Holds,
     live: &Live,
@@ -30,23 +16,19 @@ fn first_from(
     sizes: Sizes,
     i: usize,
     j: usize,
-) -> Found
+) -> Option<Entry>
     requires { Served sizes.m sizes.n × IsRow i }
 {
     for row in i..=sizes.m {
         let multiplicity = tree::multiplicity(holds, live, pattern, sizes, row, j);
         if multiplicity != 0 {
-            return Found {
-                number: 0,
-                row,
-                multiplicity,
-            };
+            return Some(Entry { row, multiplicity });
         }
     }
-    not_found(0)
+    None
 }
 
-// The first row at or above i in column j and its multiplicity, both 0 if the column ends before.
+// The entry of the first row at or above i in column j; none if the column ends before.
 pub fn next_row(
     holds: &Holds,
     live: &Live,
@@ -54,13 +36,13 @@ pub fn next_row(
     sizes: Sizes,
     i: usize,
     j: usize,
-) -> Found
+) -> Result<Option<Entry>, usize>
     requires { Served sizes.m sizes.n }
 {
     if let Some(number) = refusals::of_row(sizes, i).or(refusals::of_row(sizes, j)) {
-        return not_found(number);
+        return Err(number);
     }
-    first_from(holds, live, pattern, sizes, i, j)
+    Ok(first_from(holds, live, pattern, sizes, i, j))
 }
 
 // ---- the parent
@@ -70,10 +52,9 @@ pub fn parent(pattern: &Square, sizes: Sizes, j: usize) -> Reply
     requires { Served sizes.m sizes.n }
 {
     if let Some(number) = refusals::of_row(sizes, j) {
-        return refused(number);
+        return Err(number);
     }
-    let value = tree::parent(pattern, sizes.m, j);
-    Reply { number: 0, value }
+    Ok(tree::parent(pattern, sizes.m, j))
 }
 
 // ---- answers that are lists, written from place `at` onward
@@ -90,17 +71,17 @@ fn write_path(pattern: &Square, list: &mut [u32], m: usize, j: usize)
 // The path of row j, a row to a place; its length is the value.
 pub fn path(pattern: &Square, list: &mut [u32], sizes: Sizes, at: usize, j: usize) -> Reply
     requires { Served sizes.m sizes.n }
-    ensures { result.value ≤ 64 }
+    ensures { IfOk result (λ value. value ≤ 64) }
 {
     if let Some(number) = refusals::of_row(sizes, j) {
-        return refused(number);
+        return Err(number);
     }
     let value = tree::path_length(pattern, sizes.m, j);
     if exceeds(list.len(), at, value) {
-        return refused(18);
+        return Err(18);
     }
     write_path(pattern, &mut list[at..], sizes.m, j);
-    Reply { number: 0, value }
+    Ok(value)
 }
 
 // The entries of column j, ascending, row then multiplicity. The list's end ends them at the latest.
@@ -135,15 +116,15 @@ pub fn column(
     j: usize,
 ) -> Reply
     requires { Served sizes.m sizes.n }
-    ensures { result.value ≤ 64 }
+    ensures { IfOk result (λ value. value ≤ 64) }
 {
     if let Some(number) = refusals::of_row(sizes, j) {
-        return refused(number);
+        return Err(number);
     }
     let value = tree::size(pattern, sizes.m, j);
     if exceeds(list.len(), at, 2 * value) {
-        return refused(18);
+        return Err(18);
     }
     write_column(holds, live, pattern, &mut list[at..], sizes, j);
-    Reply { number: 0, value }
+    Ok(value)
 }

@@ -1,4 +1,4 @@
-// Where a call is turned down, in the order of the table: the first number whose condition holds, if one does. What other crates are given is 0 for none.
+// Where a call is turned down, in the order of the table: the first number whose condition holds, if one does.
 ghost use Rattle.std.specs.Prelude.{◌+◌, ◌≤◌, ◌↔◌, IsFalse, IsNone};
 ghost use Rattle.reference.specs.Ranges.{Served, InStep};
 
@@ -44,25 +44,20 @@ fn of_call(sizes: Sizes, number: usize) -> Option<usize> {
 }
 
 // 1 to 4, then 20 of an opening: limits that break the rule.
-pub fn of_opening(sizes: Sizes) -> usize {
-    of_call(sizes, 20).unwrap_or(0)
+pub(crate) fn of_opening(sizes: Sizes) -> Option<usize> {
+    of_call(sizes, 20)
 }
 
 // 1 to 4, then 6 of every later call: such limits are unsound. The columns always are sound.
-pub(crate) fn of_later_call(sizes: Sizes) -> Option<usize> {
+pub fn of_record(sizes: Sizes) -> Option<usize> {
     of_call(sizes, 6)
-}
-
-// The same, 0 for none.
-pub fn of_record(sizes: Sizes) -> usize {
-    of_later_call(sizes).unwrap_or(0)
 }
 
 // The numbers of every later call, then 17 of a question about a row or column: it is outside 1 to m.
 pub(crate) fn of_row(sizes: Sizes, j: usize) -> Option<usize>
     ensures { IsNone result → (1 ≤ j) × (j ≤ sizes.m) }
 {
-    of_later_call(sizes).or(is_outside(j, 1, sizes.m).then_some(17))
+    of_record(sizes).or(is_outside(j, 1, sizes.m).then_some(17))
 }
 
 // ---- each column, by position
@@ -103,8 +98,14 @@ fn of_rows(rows: &[u32], m: usize) -> Option<usize> {
 
 // ---- whole batches
 
-fn refusal(number: usize, position: usize) -> Refusal {
+// A number of the column at a position.
+fn at(number: usize, position: usize) -> Refusal {
     Refusal { number, position }
+}
+
+// A number of the whole batch.
+pub(crate) fn whole(number: usize) -> Refusal {
+    at(number, 0)
 }
 
 // 8 to 14 and 21 of the columns of an addition whose lists keep step, and 12 for rows left over.
@@ -123,25 +124,25 @@ fn of_columns(
     let mut left = rows;
     for (t, id) in ids.iter().enumerate() {
         if let Some(number) = of_id(booked, &ids[..t], *id, n, true) {
-            return Some(refusal(number, t + 1));
+            return Some(at(number, t + 1));
         }
         let count = wide(counts[t]);
         if is_outside(count, 1, left.len().min(256)) {
-            return Some(refusal(12, t + 1));
+            return Some(at(12, t + 1));
         }
         if let Some(number) = of_rows(&left[..count], m) {
-            return Some(refusal(number, t + 1));
+            return Some(at(number, t + 1));
         }
         if !windows::is_window(firsts[t], seconds[t]) {
-            return Some(refusal(21, t + 1));
+            return Some(at(21, t + 1));
         }
         left = &left[count..];
     }
-    (!left.is_empty()).then_some(refusal(12, 0))
+    (!left.is_empty()).then_some(whole(12))
 }
 
 // 8 to 15 and 21 of an addition whose lists keep step.
-pub fn of_addition(
+pub(crate) fn of_addition(
     holds: &Holds,
     booked: &Booked,
     ids: &[u32],
@@ -150,27 +151,25 @@ pub fn of_addition(
     firsts: &[u32],
     seconds: &[u32],
     sizes: Sizes,
-) -> Refusal
+) -> Option<Refusal>
     requires { Served sizes.m sizes.n × InStep ids.now counts.now firsts.now seconds.now }
 {
-    if let Some(first) = of_columns(booked, ids, counts, rows, firsts, seconds, sizes.m, sizes.n) {
-        return first;
-    }
     let stored = columns::book_rows(holds, booked, sizes.m, sizes.n);
-    if exceeds(sizes.c, stored, rows.len()) {
-        return refusal(15, 0);
-    }
-    refusal(0, 0)
+    of_columns(booked, ids, counts, rows, firsts, seconds, sizes.m, sizes.n).or(exceeds(
+        sizes.c,
+        stored,
+        rows.len(),
+    ).then_some(whole(15)))
 }
 
 // 8 to 11 of a removal.
-pub fn of_removal(booked: &Booked, ids: &[u32], n: usize) -> Refusal
+pub(crate) fn of_removal(booked: &Booked, ids: &[u32], n: usize) -> Option<Refusal>
     requires { n ≤ 256 }
 {
     for (t, id) in ids.iter().enumerate() {
         if let Some(number) = of_id(booked, &ids[..t], *id, n, false) {
-            return refusal(number, t + 1);
+            return Some(at(number, t + 1));
         }
     }
-    refusal(0, 0)
+    None
 }

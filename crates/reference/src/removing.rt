@@ -1,11 +1,12 @@
 // A removal: its columns leave and their minutes are forgotten; those of them that are live touch what lies on their paths. Refused by 1 to 4 and 6 by the
 // record, then by 7, 8, 9 and 11.
-ghost use Rattle.std.specs.Prelude.{◌≤◌, length};
+ghost use Rattle.std.specs.Prelude.{◌≤◌, length, IfOk};
 ghost use Rattle.reference.specs.Ranges.{Served};
 
+use crate::refusals::whole;
 use crate::{
-    Answer, Booked, Holds, Rows, Sizes, Windows, batch, leave, pattern, refusals, refused,
-    reported, windows,
+    Answer, Booked, Holds, Report, Rows, Sizes, Windows, batch, leave, pattern, refusals, reported,
+    windows,
 };
 
 // The columns of a removal leave, with their report. Those that are not live touch nothing.
@@ -18,7 +19,7 @@ fn removed(
     ids: &[u32],
     clock: u32,
     sizes: Sizes,
-) -> Answer
+) -> Report
     requires { Served sizes.m sizes.n × (length ids.now ≤ 64) }
     ensures { result.touched ≤ 64 }
 {
@@ -44,17 +45,16 @@ pub fn remove(
     sizes: Sizes,
 ) -> Answer
     requires { Served sizes.m sizes.n }
-    ensures { result.touched ≤ 64 }
+    ensures { IfOk result (λ report. report.touched ≤ 64) }
 {
-    if let Some(number) = refusals::of_later_call(sizes) {
-        return refused(number, 0);
+    if let Some(number) = refusals::of_record(sizes) {
+        return Err(whole(number));
     }
     if refusals::is_outside(ids.len(), 1, 64) {
-        return refused(7, 0);
+        return Err(whole(7));
     }
-    let refusal = refusals::of_removal(booked, ids, sizes.n);
-    if refusal.number != 0 {
-        return refused(refusal.number, refusal.position);
+    if let Some(refusal) = refusals::of_removal(booked, ids, sizes.n) {
+        return Err(refusal);
     }
-    removed(holds, booked, windows, touched, labels, ids, clock, sizes)
+    Ok(removed(holds, booked, windows, touched, labels, ids, clock, sizes))
 }
