@@ -16,21 +16,13 @@ const SHOWN: [usize; 7] = [0, 37, 38, 128, 129, 384, 385];
 
 // The report of a batch, and some of its labels.
 pub fn tell(changed: Changed, touched: &Report, labels: &Report) {
-    lines::report(
-        changed.number,
-        changed.position,
-        changed.touched,
-        changed.entries,
-        changed.grade,
-    );
+    lines::report(changed);
     if changed.number != 0 {
         return;
     }
     lines::text("labels");
     for place in SHOWN {
-        if place < 4096 {
-            let _ = write!(Out, " {}:{}", touched[place], labels[place]);
-        }
+        let _ = write!(Out, " {}:{}", touched[place], labels[place]);
     }
     lines::end();
 }

@@ -1,4 +1,5 @@
 // What the program writes: words, lists, answers and replies.
+use answers::Changed;
 use case_tables::changing::Batched;
 use case_tables::out::Out;
 use questions::{Found, Reply};
@@ -36,24 +37,22 @@ fn words(list: &[u16], n: u32) {
 }
 
 // What an accepted batch reports, or `no number position`.
-pub fn report(n: u32, position: u32, touched: u32, entries: u32, grade: u32) {
-    if n != 0 {
-        no(n, position);
+pub fn report(changed: Changed) {
+    if changed.number != 0 {
+        no(changed.number, changed.position);
         return;
     }
-    let _ = writeln!(Out, "ok {touched} {entries} {grade}");
+    let _ = writeln!(
+        Out,
+        "ok {} {} {}",
+        changed.touched, changed.entries, changed.grade
+    );
 }
 
 // The report of a batch, then, where it touched any column, the touched columns and their labels.
-pub fn tell<const M: usize, const WORK: usize>(b: &Batched<M, WORK>) {
+pub fn tell(b: &Batched) {
     let changed = b.changed;
-    report(
-        changed.number,
-        changed.position,
-        changed.touched,
-        changed.entries,
-        changed.grade,
-    );
+    report(changed);
     if changed.touched == 0 {
         return;
     }
@@ -70,7 +69,7 @@ fn is_lent(list: &[u16]) -> bool {
 }
 
 // Whether both lists hold what they held before the call.
-pub fn tell_lent<const M: usize, const WORK: usize>(b: &Batched<M, WORK>) {
+pub fn tell_lent(b: &Batched) {
     if is_lent(&b.touched) && is_lent(&b.labels) {
         text("lists as lent\n");
     } else {

@@ -11,11 +11,11 @@ pub fn open(m: u32, n: u32, f: u32, c: u32) -> Host {
 // Opens anew with limits of the grades.
 pub fn open_with(m: u32, n: u32, f: u32, c: u32, grade2: u32, grade3: u32, grade4: u32) -> Host {
     let mut h = Host::unopened();
-    let opened = case_tables::open(&mut h, m, n, f, c, grade2, grade3, grade4);
-    if opened.reply == 0 {
+    let opened = h.open(m, n, f, c, grade2, grade3, grade4);
+    if opened == 0 {
         lines::text("open\n");
     } else {
-        lines::no(opened.reply, 0);
+        lines::no(opened, 0);
     }
     h
 }
@@ -62,8 +62,8 @@ pub fn set_clock(before: Host, minute: u32) -> Host {
 // Column j: j, its parent, its entries.
 fn show_column(h: &Host, j: u32) {
     let mut list = [0u32; 128];
-    let parent = h.parent(j).reply;
-    let column = h.column(&mut list, j, 0).reply;
+    let parent = h.parent(j);
+    let column = h.column(&mut list, j, 0);
     lines::number(j);
     lines::reply(parent);
     lines::pairs(&list, column.value);
@@ -72,11 +72,11 @@ fn show_column(h: &Host, j: u32) {
 
 // What check answers, then every column.
 pub fn show(h: Host) {
-    let sound = h.check().reply;
+    let sound = h.check();
     lines::text("check");
     lines::word(sound.number);
     lines::end();
-    for j in 1..=case_tables::row_count(&h) {
+    for j in 1..=h.row_count() {
         show_column(&h, j);
     }
 }
@@ -106,13 +106,13 @@ fn listed(name: &str, reply: Reply, list: &[u32]) {
 
 pub fn path(h: Host, at: usize, j: u32) {
     let mut list = [9u32; 6];
-    let reply = h.path(&mut list, j, at).reply;
+    let reply = h.path(&mut list, j, at);
     listed("path", reply, &list);
 }
 
 pub fn column(h: Host, at: usize, j: u32) {
     let mut list = [9u32; 6];
-    let reply = h.column(&mut list, j, at).reply;
+    let reply = h.column(&mut list, j, at);
     listed("column", reply, &list);
 }
 
@@ -131,11 +131,11 @@ pub fn common(h: Host, rows: &[u32]) {
 
 pub fn parent(h: Host, j: u32) {
     lines::text("parent");
-    lines::reply(h.parent(j).reply);
+    lines::reply(h.parent(j));
     lines::end();
 }
 
 // The first row at or above i in column j, and its multiplicity.
 pub fn next_row(h: Host, i: u32, j: u32) {
-    lines::next_row(i, j, h.next_row(i, j).reply);
+    lines::next_row(i, j, h.next_row(i, j));
 }

@@ -1,24 +1,16 @@
 // The changes: a batch added, a batch removed, the clock set.
-use crate::Tables;
+use crate::{Host, WORK};
 use answers::Changed;
 
-// What a change gives: its answer, the two lists, which hold 9 wherever it writes nothing, and the work table.
+// What a change gives: its answer, and the two lists, which hold 9 wherever it writes nothing.
 #[derive(Clone, Copy)]
-pub struct Batched<const M: usize, const WORK: usize> {
+pub struct Batched {
     pub changed: Changed,
-    pub touched: [u16; M],
-    pub labels: [u16; M],
-    pub work: [u32; WORK],
+    pub touched: [u16; 64],
+    pub labels: [u16; 64],
 }
 
-impl<
-    const M: usize,
-    const N: usize,
-    const F: usize,
-    const C: usize,
-    const MINUTES: usize,
-    const WORK: usize,
-> Tables<M, N, F, C, MINUTES, WORK> {
+impl Host {
     // Adds a batch.
     pub fn add(
         &mut self,
@@ -27,10 +19,9 @@ impl<
         row_list: &[u32],
         firsts: &[u32],
         seconds: &[u32],
-    ) -> Batched<M, WORK> {
-        let mut work = [7u32; WORK];
-        let mut touched = [9u16; M];
-        let mut labels = [9u16; M];
+    ) -> Batched {
+        let mut touched = [9u16; 64];
+        let mut labels = [9u16; 64];
         let changed = changes::add(
             self.factor,
             &self.heads,
@@ -42,7 +33,7 @@ impl<
             &mut self.book_rows,
             &mut self.book_next,
             &mut self.windows,
-            &mut work,
+            &mut [7; WORK],
             &mut touched,
             &mut labels,
             ids,
@@ -56,27 +47,20 @@ impl<
             changed,
             touched,
             labels,
-            work,
         }
     }
 
     // Adds a batch of columns that have no window; more than 64 of them keep no step.
-    pub fn add_always(
-        &mut self,
-        ids: &[u32],
-        row_counts: &[u32],
-        row_list: &[u32],
-    ) -> Batched<M, WORK> {
+    pub fn add_always(&mut self, ids: &[u32], row_counts: &[u32], row_list: &[u32]) -> Batched {
         let none = [0u32; 64];
         let minutes = &none[..ids.len().min(64)];
         self.add(ids, row_counts, row_list, minutes, minutes)
     }
 
     // Removes a batch.
-    pub fn remove(&mut self, ids: &[u32]) -> Batched<M, WORK> {
-        let mut work = [7u32; WORK];
-        let mut touched = [9u16; M];
-        let mut labels = [9u16; M];
+    pub fn remove(&mut self, ids: &[u32]) -> Batched {
+        let mut touched = [9u16; 64];
+        let mut labels = [9u16; 64];
         let changed = changes::remove(
             self.factor,
             &self.heads,
@@ -88,7 +72,7 @@ impl<
             &mut self.book_rows,
             &mut self.book_next,
             &mut self.windows,
-            &mut work,
+            &mut [7; WORK],
             &mut touched,
             &mut labels,
             ids,
@@ -98,15 +82,13 @@ impl<
             changed,
             touched,
             labels,
-            work,
         }
     }
 
     // Sets the clock to a minute.
-    pub fn set_clock(&mut self, minute: u32) -> Batched<M, WORK> {
-        let mut work = [7u32; WORK];
-        let mut touched = [9u16; M];
-        let mut labels = [9u16; M];
+    pub fn set_clock(&mut self, minute: u32) -> Batched {
+        let mut touched = [9u16; 64];
+        let mut labels = [9u16; 64];
         let changed = clock::set_clock(
             self.factor,
             &self.heads,
@@ -118,7 +100,7 @@ impl<
             &self.book_rows,
             &self.book_next,
             &self.windows,
-            &mut work,
+            &mut [7; WORK],
             &mut touched,
             &mut labels,
             minute,
@@ -128,7 +110,6 @@ impl<
             changed,
             touched,
             labels,
-            work,
         }
     }
 }

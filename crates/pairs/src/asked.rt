@@ -28,7 +28,7 @@ pub fn next_row(p: Pair, i: u32, j: u32) -> Pair {
 pub fn parent(p: Pair, j: u32) -> Pair {
     let mut pattern = [0u8; 4096];
     fills(p, &mut pattern);
-    let ours = p.host.parent(j).reply;
+    let ours = p.host.parent(j);
     let theirs = reference::questions::parent(&pattern, served(p.sizes), j as usize);
     counted(p, ours.number, same::replies("parent", ours, theirs))
 }
@@ -41,7 +41,7 @@ pub fn path(p: Pair, j: u32, at: usize, room: usize) -> Pair {
     fills(p, &mut pattern);
     let mut list = [9u32; 160];
     let mut other = [9u32; 160];
-    let ours = p.host.path(&mut list[..room], j, at).reply;
+    let ours = p.host.path(&mut list[..room], j, at);
     let theirs = reference::questions::path(
         &pattern,
         &mut other[..room],
@@ -63,7 +63,7 @@ pub fn column(p: Pair, j: u32, at: usize, room: usize) -> Pair {
     fills(p, &mut pattern);
     let mut list = [9u32; 160];
     let mut other = [9u32; 160];
-    let ours = p.host.column(&mut list[..room], j, at).reply;
+    let ours = p.host.column(&mut list[..room], j, at);
     let theirs = reference::questions::column(
         &holds,
         &live,
@@ -80,7 +80,7 @@ pub fn column(p: Pair, j: u32, at: usize, room: usize) -> Pair {
 
 // The check, which the reference answers from the record alone.
 pub fn check(p: Pair) -> Pair {
-    let record = p.host.check().reply;
+    let record = p.host.check();
     let theirs = reference::refusals::of_record(served(p.sizes));
     counted(
         p,

@@ -40,20 +40,20 @@ fn same_column(p: Pair, live: &Live, pattern: &Square, j: u32) -> bool {
     let sizes = served(p.sizes);
     let mut list = [9u32; 160];
     let mut other = [9u32; 160];
-    let reply = p.host.column(&mut list, j, 0).reply;
+    let reply = p.host.column(&mut list, j, 0);
     let theirs = reference::questions::column(
         &holds, live, pattern, &mut other, sizes, 0, j as usize,
     );
     let a = same::replies("size of a column", reply, theirs);
     let b = same::lists("entries of a column", &list, &other);
     let parent = reference::questions::parent(pattern, sizes, j as usize);
-    let c = same::replies("parent of a column", p.host.parent(j).reply, parent);
+    let c = same::replies("parent of a column", p.host.parent(j), parent);
     a & b & c
 }
 
 // Columns 1 to m.
 fn same_columns(p: Pair, live: &Live, pattern: &Square) -> bool {
-    let m = case_tables::row_count(&p.host);
+    let m = p.host.row_count();
     for j in 1..=m {
         if !same_column(p, live, pattern, j) {
             return false;
@@ -86,7 +86,7 @@ pub fn same_factor(p: Pair) -> bool {
     let mut pattern = [0u8; 4096];
     mark_live(p, &mut live);
     reference::pattern::fills(&holds, &live, &mut pattern, sizes);
-    let sound = p.host.check().reply;
+    let sound = p.host.check();
     let a = same::refusals("check", sound.number, reference::refusals::of_record(sizes));
     let b = same_record(p);
     let c = same_columns(p, &live, &pattern);

@@ -11,7 +11,7 @@ pub fn asked(p: Pair, pattern: &Square, i: u32, j: u32) -> Pair {
     let holds = p.holds;
     let mut live = [0u8; 256];
     mark_live(p, &mut live);
-    let ours = p.host.next_row(i, j).reply;
+    let ours = p.host.next_row(i, j);
     let theirs = reference::questions::next_row(
         &holds,
         &live,

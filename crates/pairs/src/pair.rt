@@ -127,7 +127,7 @@ pub fn open_with(p: Pair, m: u32, n: u32, f: u32, c: u32, three: Three) -> Pair 
     let mut booked = p.booked;
     let mut windows = p.windows;
     let mut clock = p.clock;
-    let opened = case_tables::open(&mut host, m, n, f, c, three[0], three[1], three[2]);
+    let opened = host.open(m, n, f, c, three[0], three[1], three[2]);
     let theirs = reference::open(
         &mut booked,
         &mut windows,
@@ -140,9 +140,9 @@ pub fn open_with(p: Pair, m: u32, n: u32, f: u32, c: u32, three: Three) -> Pair 
     q.windows = windows;
     q.clock = clock;
     q.sizes = sizes;
-    let number = same::refusals("opening", opened.reply, theirs.err());
+    let number = same::refusals("opening", opened, theirs.err());
     let records = same::numbers("records", host.factor.f, sizes.f);
-    compared(q, opened.reply, number & records)
+    compared(q, opened, number & records)
 }
 
 // Writes limits over those of both records, as no opening does where they break the rule.

@@ -104,7 +104,7 @@ pub fn asked(p: Pair, seed: u64) -> Pair {
     let mut pattern = [0u8; 4096];
     mark_live(p, &mut live);
     reference::pattern::fills(&holds, &live, &mut pattern, served(p.sizes));
-    let m = case_tables::row_count(&p.host);
+    let m = p.host.row_count();
     let mut q = each(p, &pattern, &mut s, m);
     q = some(q, &pattern, &mut s, m);
     q = bounds(q, &pattern, &mut s, m);

@@ -67,7 +67,7 @@ fn answers(ours: Changed, theirs: Answer) -> bool {
 }
 
 // A batch: its answer, touched columns and labels.
-pub fn batches(ours: &Batched<64, 12160>, theirs: Answer, touched: &Rows, labels: &Rows) -> bool {
+pub fn batches(ours: &Batched, theirs: Answer, touched: &Rows, labels: &Rows) -> bool {
     let a = answers(ours.changed, theirs);
     let b = lists("touched column", &ours.touched, touched);
     let c = lists("label", &ours.labels, labels);
