@@ -6,7 +6,7 @@ use crate::minutes;
 use pairs::draw::{Ids, RowList, chance, draw};
 use pairs::drawn::{ask, open, remove};
 use pairs::pair::Pair;
-use pairs::{draw, pair, rows};
+use pairs::{draw, histories, pair};
 
 // ---- additions
 
@@ -68,21 +68,8 @@ fn step(p: Pair, seed: &mut u64, rows: u32, ids: u32, density: u32) -> Pair {
     }
 }
 
-// An opening, then as many calls, then the questions about rows, which draw from a copy of the seed.
-fn history(p: Pair, seed: &mut u64, rows: u32, ids: u32, density: u32, calls: u32) -> Pair {
-    let mut q = open(p, seed, rows, ids);
-    for _ in 0..calls {
-        q = step(q, seed, rows, ids, density);
-    }
-    rows::asked(q, *seed)
-}
-
 // As many histories, with densities from 1 to 8.
 pub fn histories(p: Pair, from: u64, rows: u32, ids: u32, count: u32, calls: u32) -> Pair {
-    let mut seed = from;
-    let mut q = p;
-    for k in 0..count {
-        q = history(q, &mut seed, rows, ids, k % 8 + 1, calls);
-    }
-    q
+    let call = |q: Pair, seed: &mut u64, density: u32| step(q, seed, rows, ids, density);
+    histories::run(p, from, call, rows, ids, count, calls)
 }

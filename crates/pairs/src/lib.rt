@@ -7,6 +7,7 @@ pub mod draw;
 pub mod drawn;
 pub mod free;
 pub mod held;
+pub mod histories;
 pub mod kept;
 pub mod meeting;
 pub mod moves;
