@@ -8,6 +8,7 @@ ghost use Rattle.symbolic.specs.Factor.{FactorColumn};
 ghost use Rattle.workspace.specs.Layout.{plan_at};
 ghost use Rattle.pool.specs.Chains.{chain};
 ghost use Rattle.tables.specs.Stored.{stored_of};
+ghost use Rattle.tables.specs.Lent.{columns_lent, SameColumns};
 ghost use Rattle.commit.specs.Writes.{SomeWrite, WrittenAll};
 ghost use Rattle.commit.specs.Passes.{end_of, CanEnd, CanCommitPlans, SomeCommits, PlansCommitted, CanWriteParents, SomeParents, ParentsWritten};
 ghost use Rattle.commit.specs.Report.{CanReport, SomeReport, Reported};
@@ -15,6 +16,7 @@ ghost use Rattle.commit.specs.Gather.{with_size, CanCount, CanGatherColumns, Som
 
 use book::Row;
 use pool::Rec;
+use tables::ColumnsMut;
 use updown::{LABEL_WEIGHT, PARENT_WEIGHT};
 use workspace::{MARKS, NEXT, PLAN, STARTS, UPPER_WEIGHT};
 
@@ -100,22 +102,28 @@ pub fn report(work: &[u32], touched: &mut [u16], labels: &mut [u16], m: usize, f
 
 // Writes the plan whose first touched column is given and that uses so many places: from a factor to the one planned. Gives the free head.
 pub fn write_plan(
-    heads: &[u32],
-    parents: &mut [u16],
-    rows: &mut [u16],
-    counts: &mut [u16],
-    next: &mut [u32],
+    columns: &mut ColumnsMut,
     work: &mut [u32],
     first: Row,
     used: u32,
     free: Rec,
 ) -> Rec
-    requires { SomeWrite (stored_of heads.now parents.old rows.old counts.old next.old free.0) work.old first.0 used }
-    ensures { WrittenAll (stored_of heads.now parents.old rows.old counts.old next.old free.0) work.old first.0 used (stored_of heads.now parents.new rows.new counts.new next.new result.0) work.new }
+    requires { SomeWrite (columns_lent columns.old free.0) work.old first.0 used }
+    ensures same { SameColumns columns.old columns.new }
+    ensures written { WrittenAll (columns_lent columns.old free.0) work.old first.0 used (columns_lent columns.new result.0) work.new }
 {
-    let z = commit_columns(heads, rows, counts, next, work, first, used, free);
-    write_parents(parents, work, first);
-    workspace::clear(work, PLAN * heads.len(), used as usize);
+    let z = commit_columns(
+        columns.heads,
+        columns.rows,
+        columns.counts,
+        columns.next,
+        work,
+        first,
+        used,
+        free,
+    );
+    write_parents(columns.parents, work, first);
+    workspace::clear(work, PLAN * columns.heads.len(), used as usize);
     z
 }
 

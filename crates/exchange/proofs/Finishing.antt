@@ -163,7 +163,12 @@ module _ {s : Stored} {b : book.Book} {leave enter work : List ℕ} {R A B : Lis
 -- what a caller of `swap` shows
 pub some-swap : {s : Stored} {b : book.Book} {windows : List ℕ} {before after : ℕ} {work work₁ work₂ : List ℕ} {R A B : List Column} →
     CanSwap s b (moving_ids b.heads windows before after) (moving_ids b.heads windows after before) work R A B → CanCollect b.heads windows 1 →
-    ParentsSaved s.parents work work₁ (gather_at (length s.heads) (length s.next)) →
+    ((k : ℕ) → get_or s.counts k 0 < 65536) → ParentsSaved s.parents work work₁ (gather_at (length s.heads) (length s.next)) →
     RecordsSaved s.rows s.counts s.next work₁ work₂ (spare (length s.heads) (length s.next)) → SomeSwap s b windows before after work₂
-some-swap {R = R} {A} {B} c k p r =
-    record { R = R; A = A; B = B; can = can-after-both c p r; scan = k; records = r.kept; parents = parents-kept c p r }
+some-swap {R = R} {A} {B} c k l p r =
+    record { R = R; A = A; B = B; can = can-after-both c p r; scan = k; small = l; records = r.kept; parents = parents-kept c p r }
+
+-- the exchange of stored columns that are the same
+pub exchanged-same : {s after after' : Stored} {R A B : List Column} {work work' : List ℕ} {fits saved : Bool} → after ≡ after' →
+    StoredExchanged s R A B work after work' fits saved → StoredExchanged s R A B work after' work' fits saved
+exchanged-same {s} {R = R} {A} {B} {work} {work'} {fits} {saved} e = subst (λ (t : Stored). StoredExchanged s R A B work t work' fits saved) e

@@ -18,7 +18,7 @@ use Rattle.book.specs.Book as book
 use Rattle.book.specs.Entries.{HasHead}
 use Rattle.tables.specs.Stored.{Stored, stored_of}
 use Rattle.tables.proofs.Stored.{sound-bag}
-use Rattle.updown.specs.Entries.{Booked, BookedFrom, booked_starts, CanPlan, CanAddBooked, CanEnter, AddPlanned, CanRemove, SomeRemove, RemovePlanned}
+use Rattle.updown.specs.Entries.{Booked, BookedFrom, booked_starts, CanPlan, CanAddBooked, CanEnter, SomeEnter, AddPlanned, CanRemove, SomeRemove, RemovePlanned}
 use Rattle.updown.proofs.Filled.{whole-booked, whole-heads, whole-enter}
 use Rattle.commit.specs.Gather as commit
 use Rattle.commit.specs.Writes.{SomeWrite, WrittenAll}
@@ -36,6 +36,46 @@ abbrev pub GatheredAll : (heads next planned : List ℕ) (start first : ℕ) (ga
 GatheredAll hs ns w start first w' =
     (L L' : List FactorColumn) (label : ℕ → ℕ) (columns : List ℕ) (used : ℕ) → commit.CanGatherColumns hs ns L L' label columns w start first used →
     commit.ColumnsGathered hs ns columns start w w'
+
+-- what planning promises of stored columns that are the same
+pub removed-same : {v s : Stored} {b : book.Book} {starts ids work planned : List ℕ} {fits : Bool} {first count entries used : ℕ} → v ≡ s →
+    ((R W : List Column) → CanRemove v b starts ids work R W → RemovePlanned v R W work planned fits first count entries used) →
+    (R W : List Column) → CanRemove s b starts ids work R W → RemovePlanned s R W work planned fits first count entries used
+removed-same {b = b} {starts} {ids} {work} {planned} {fits} {first} {count} {entries} {used} e d =
+    subst (λ (v : Stored). (R W : List Column) → CanRemove v b starts ids work R W → RemovePlanned v R W work planned fits first count entries used) e d
+
+pub entered-same : {v s : Stored} {b : book.Book} {starts ids work planned : List ℕ} {fits : Bool} {first count entries used : ℕ} → v ≡ s →
+    ((R W : List Column) → CanEnter v b starts ids work R W → AddPlanned v R W work planned fits first count entries used) →
+    (R W : List Column) → CanEnter s b starts ids work R W → AddPlanned s R W work planned fits first count entries used
+entered-same {b = b} {starts} {ids} {work} {planned} {fits} {first} {count} {entries} {used} e d =
+    subst (λ (v : Stored). (R W : List Column) → CanEnter v b starts ids work R W → AddPlanned v R W work planned fits first count entries used) e d
+
+pub remove-same : {v s : Stored} {b : book.Book} {starts ids work : List ℕ} → v ≡ s → SomeRemove s b starts ids work → SomeRemove v b starts ids work
+remove-same {b = b} {starts} {ids} {work} e = subst (λ (v : Stored). SomeRemove v b starts ids work) (sym e)
+
+pub enter-same : {v s : Stored} {b : book.Book} {starts ids work : List ℕ} → v ≡ s → SomeEnter s b starts ids work → SomeEnter v b starts ids work
+enter-same {b = b} {starts} {ids} {work} e = subst (λ (v : Stored). SomeEnter v b starts ids work) (sym e)
+
+-- and gathering
+pub gather-same : {v s : Stored} {planned : List ℕ} {start first : ℕ} → v ≡ s → commit.SomeGatherColumns s.heads s.next planned start first →
+    commit.SomeGatherColumns v.heads v.next planned start first
+gather-same {planned = planned} {start = start} {first = first} e = subst (λ (v : Stored). commit.SomeGatherColumns v.heads v.next planned start first) (sym e)
+
+pub gathered-same : {v s : Stored} {planned gathered : List ℕ} {start first : ℕ} → v ≡ s → GatheredAll v.heads v.next planned start first gathered →
+    GatheredAll s.heads s.next planned start first gathered
+gathered-same {planned = planned} {gathered = gathered} {start = start} {first = first} e =
+    subst (λ (v : Stored). GatheredAll v.heads v.next planned start first gathered) e
+
+-- a group that left or entered as many columns
+pub left-heads : {n m f : ℕ} {s after : Stored} {b : book.Book} {ids work work' : List ℕ} → n ≡ m →
+    ((N W : List Column) → CanLeave s b ids work N W → GroupDone n f s (group_touches n N W) N after work work') →
+    (N W : List Column) → CanLeave s b ids work N W → GroupDone m f s (group_touches m N W) N after work work'
+left-heads {f = f} {s} {after} {work = work} {work' = work'} e d N W can = subst (λ (n : ℕ). GroupDone n f s (group_touches n N W) N after work work') e (d N W can)
+
+pub entered-heads : {n m f : ℕ} {s after : Stored} {b : book.Book} {ids work work' : List ℕ} {fits : Bool} → n ≡ m →
+    ((N W : List Column) → CanAddBooked s b ids work N W → GroupEntered n f s N W after work work' fits) →
+    (N W : List Column) → CanAddBooked s b ids work N W → GroupEntered m f s N W after work work' fits
+entered-heads {f = f} {s} {after} {work = work} {work' = work'} {fits = fits} e d N W can = subst (λ (n : ℕ). GroupEntered n f s N W after work work' fits) e (d N W can)
 
 -- what filling in the starts asks: its positions are few, and their columns stand in the book
 group-few : {s : Stored} {work : List ℕ} {cs W : List Column} (b : book.Book) (ids : List ℕ) → CanPlan s cs W work → Booked b ids W → book.Sized b → (free : ℕ) →

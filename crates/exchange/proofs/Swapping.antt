@@ -158,3 +158,18 @@ some-enter-all {R = R} {B} c k = record { R = R; B = B; can = c; scan = k }
 pub some-undo : {m : ℕ} {parents rows counts next work parents₀ rows₀ counts₀ next₀ : List ℕ} → CanUndo m parents rows counts next work parents₀ rows₀ counts₀ next₀ →
     SomeUndo m parents rows counts next work
 some-undo {parents₀ = ps} {rows₀ = xs} {counts₀ = ns} {next₀ = ls} c = record { parents₀ = ps; rows₀ = xs; counts₀ = ns; next₀ = ls; can = c }
+
+-- ---- as many columns, and the same stored columns
+
+pub all-entered-heads : {n m f : ℕ} {R B : List Column} {s after : Stored} {work work' : List ℕ} {fits : Bool} → n ≡ m → EnteredAll n f R B s after work work' fits →
+    EnteredAll m f R B s after work work' fits
+all-entered-heads {f = f} {R} {B} {s} {after} {work} {work'} {fits} e = subst (λ (n : ℕ). EnteredAll n f R B s after work work' fits) e
+
+pub undo-heads : {n m : ℕ} {parents rows counts next work parents₀ rows₀ counts₀ next₀ : List ℕ} → n ≡ m →
+    CanUndo m parents rows counts next work parents₀ rows₀ counts₀ next₀ → CanUndo n parents rows counts next work parents₀ rows₀ counts₀ next₀
+undo-heads {parents = ps} {rows} {counts} {next} {work} {parents₀} {rows₀} {counts₀} {next₀} e =
+    subst (λ (m : ℕ). CanUndo m ps rows counts next work parents₀ rows₀ counts₀ next₀) (sym e)
+
+pub swapped-same : {m f : ℕ} {R A B : List Column} {s after after' : Stored} {work work' : List ℕ} {fits : Bool} → after' ≡ after →
+    Swapped m f R A B s after work work' fits → Swapped m f R A B s after' work work' fits
+swapped-same {m} {f} {R} {A} {B} {s} {work = work} {work' = work'} {fits = fits} e = subst (λ (t : Stored). Swapped m f R A B s t work work' fits) (sym e)

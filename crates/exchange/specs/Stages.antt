@@ -1,6 +1,6 @@
 -- An exchange on its way: one group of columns has left or entered (`GroupDone`), some groups have, one after another, while columns R stay (`Moved`), and how the
 -- columns on their paths are gathered meanwhile (`Gathers`). Laws: proofs/Stages.antt. Assumes nothing: these are definitions.
-use Rattle.std.specs.Prelude.{◌≡◌, Bool, true, false, List, ◌++◌, ℕ, ◌+◌, ◌-◌, ◌≤◌, ◌<◌, leb, eqb, length}
+use Rattle.std.specs.Prelude.{◌≡◌, Bool, true, false, List, ◌++◌, ℕ, ◌+◌, ◌-◌, ◌≤◌, ◌<◌, leb, eqb, length, get_or}
 use Rattle.lists.specs.Lists.{pick, all}
 use Rattle.symbolic.specs.Columns.{Column, fits_rows}
 use Rattle.symbolic.specs.Factor.{factor_of, size_sum}
@@ -170,6 +170,7 @@ pub record SomeSwap (s : Stored) (b : book.Book) (windows : List ℕ) (before af
   pub B : List Column
   pub can : CanSwap s b (moving_ids b.heads windows before after) (moving_ids b.heads windows after before) work R A B
   pub scan : CanCollect b.heads windows 1
+  pub small : (k : ℕ) → get_or s.counts k 0 < 65536
   pub records : RecordsKept work (saved_at (length s.heads) (length s.next)) s.rows s.counts s.next
   pub parents : ParentsKept work (gather_at (length s.heads) (length s.next)) s.parents
 

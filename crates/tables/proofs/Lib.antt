@@ -4,3 +4,4 @@ pub mod Opening
 pub mod Stays
 pub mod Revised
 pub mod Reading
+pub mod Lent

@@ -2,9 +2,9 @@
 // tables that are read go together.
 #![tactic(auto)]
 
-ghost use Rattle.std.specs.Prelude.{◌≡◌, true};
+ghost use Rattle.std.specs.Prelude.{◌≡◌, true, ℕ};
 ghost use Rattle.tables.specs.Tables.{sizes_of, long_enough};
-ghost use Rattle.tables.specs.Lent.{tables_viewed, tables_cut};
+ghost use Rattle.tables.specs.Lent.{columns_viewed, columns_lent, tables_viewed, tables_cut};
 
 use book::BookView;
 
@@ -16,6 +16,32 @@ pub struct ColumnsView<'a> {
     pub rows: &'a [u16],
     pub counts: &'a [u16],
     pub next: &'a [u32],
+}
+
+// The stored columns of L, lent to be written; heads never change. A function that writes them promises `SameColumns`: the loans are those that it got, as long as
+// they were.
+#[derive(Drop)]
+pub struct ColumnsMut<'a> {
+    pub heads: &'a [u32],
+    pub parents: &'a mut [u16],
+    pub rows: &'a mut [u16],
+    pub counts: &'a mut [u16],
+    pub next: &'a mut [u32],
+}
+
+impl ColumnsMut<'_> {
+    // The same columns, lent to be read.
+    pub fn view(&self) -> ColumnsView<'_>
+        ensures { (free : ℕ) → columns_viewed result free ≡ columns_lent self.now free }
+    {
+        ColumnsView {
+            heads: self.heads,
+            parents: self.parents,
+            rows: self.rows,
+            counts: self.counts,
+            next: self.next,
+        }
+    }
 }
 
 // All tables, lent to be read.

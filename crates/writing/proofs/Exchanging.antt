@@ -17,9 +17,12 @@ use Rattle.symbolic.specs.Grades.{Limits}
 use Rattle.symbolic.proofs.Live.{live-order}
 use Rattle.book.specs.Book as book
 use Rattle.windows.specs.Windowed.{lines_in, are_sound}
-use Rattle.tables.specs.Stored.{Stored, is_sound_for}
+use Rattle.tables.specs.Stored.{Stored, is_sound_for, stored_of}
+use Rattle.tables.specs.Lent.{columns_lent, SameColumns}
+use Rattle.tables.specs.declared.ColumnsMut.{ColumnsMut}
 use Rattle.tables.specs.Stays.{ColumnStays, EntriesKeep, MinutesStay}
 use Rattle.tables.specs.Tables.{Tables, stored_in, book_in, windows_in, is_sound}
+use Rattle.tables.proofs.Lent.{lent-back}
 use Rattle.tables.proofs.Stored.{sound-bag}
 use Rattle.tables.proofs.Tables.{sound-limits}
 use Rattle.calls.specs.Calls.{Change}
@@ -54,6 +57,13 @@ pub record BookAfter (m : ℕ) (b : book.Book) (w : List ℕ) (cs : List Column)
   pub columns : Bag (lines_in after w') cs
   pub others : (i : ℕ) → 1 ≤ i → i ≤ length b.heads → among i ids ≡ false → book.ColumnStays b after i
   pub minutes : (i : ℕ) → 1 ≤ i → i ≤ length b.heads → among i ids ≡ false → MinutesStay (length b.heads) w w' i
+
+-- ---- columns that a struct lent, back in their tables
+
+pub written-back : {s : Stored} {ds : List Column} {columns before work : List ℕ} {a b : ColumnsMut} {f : ℕ} {ps rs cs ns : List ℕ} → SameColumns a b →
+    ps ≡ b.parents.now → rs ≡ b.rows.now → cs ≡ b.counts.now → ns ≡ b.next.now → PlanWritten s ds columns before (columns_lent b f) work →
+    PlanWritten s ds columns before (stored_of a.heads.now ps rs cs ns f) work
+written-back {s} {ds} {columns} {before} {work} {f = f} e p r c n x = subst (λ (t : Stored). PlanWritten s ds columns before t work) (lent-back e p r c n f) x
 
 -- ---- the plan's report and writing
 

@@ -7,6 +7,7 @@ ghost use Rattle.calls.specs.Calls.Change.{adding, removing};
 ghost use Rattle.writing.specs.Writing.{SomePlan, WritesPlan};
 
 use pool::Rec;
+use tables::ColumnsMut;
 use updown::Plan;
 
 // The free heads after a batch is written.
@@ -44,9 +45,14 @@ pub fn write_add(
 {
     let first = plan.first;
     commit::report(work, touched, labels, heads.len(), first);
-    let z = commit::write_plan(
-        heads, parents, rows, counts, next, work, first, plan.used, free,
-    );
+    let mut columns = ColumnsMut {
+        heads,
+        parents,
+        rows,
+        counts,
+        next,
+    };
+    let z = commit::write_plan(&mut columns, work, first, plan.used, free);
     let y = entering::enter_columns(
         book_heads, book_rows, book_next, ids, row_counts, row_list, book_free,
     );
@@ -81,9 +87,14 @@ pub fn write_remove(
 {
     let first = plan.first;
     commit::report(work, touched, labels, heads.len(), first);
-    let z = commit::write_plan(
-        heads, parents, rows, counts, next, work, first, plan.used, free,
-    );
+    let mut columns = ColumnsMut {
+        heads,
+        parents,
+        rows,
+        counts,
+        next,
+    };
+    let z = commit::write_plan(&mut columns, work, first, plan.used, free);
     let y = entering::leave_columns(book_heads, book_rows, book_next, ids, book_free);
     windows::minutes::leave(windows, book_heads.len(), ids);
     FreeHeads {

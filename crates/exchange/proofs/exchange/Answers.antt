@@ -1,10 +1,11 @@
 -- `exchange::exchange` meets its contract: parents saved, and all leave where none enters; else records saved too, and a swap; by the laws of Finishing.antt.
 -- Assumes nothing.
-use Rattle.std.proofs.Common.{arith, sym, ◌∙◌}
+use Rattle.std.proofs.Common.{arith, rules, sym, ◌∙◌}
 use borrow.Author.Tests.{eqb-true}
+use Rattle.tables.proofs.Lent.{lent-back}
 use Rattle.exchange.proofs.Choosing.{can-scan, can-swap}
 use Rattle.exchange.proofs.Swapping.{can-leave-all, some-leave-all}
-use Rattle.exchange.proofs.Finishing.{can-save-parents, can-save-records, can-after, parents-only, some-swap, finished-leaving, finished-both}
+use Rattle.exchange.proofs.Finishing.{can-save-parents, can-save-records, can-after, parents-only, some-swap, finished-leaving, finished-both, exchanged-same}
 use Rattle.exchange.proofs.exchange.Goals as goal
 
 pub save_parents-requires : goal.save_parents-requires
@@ -20,8 +21,9 @@ leave_all-z-requires c =
 pub returns-then-none_moves : goal.returns-then-none_moves
 returns-then-none_moves c =
     let q = can-swap c.requires c.args.after in
-    finished-leaving q c.save_parents.ensures (eqb-true _ _ (sym c.none_moves.ensures ∙ c.if-none_moves.true))
-    (c.leave_all-z.ensures _ _ (can-leave-all (can-after q (parents-only q c.save_parents.ensures))))
+    exchanged-same (lent-back c.leave_all-z.ensures.same (search rules) (search rules) (search rules) (search rules) _)
+    (finished-leaving q c.save_parents.ensures (eqb-true _ _ (sym c.none_moves.ensures ∙ c.if-none_moves.true))
+    (c.leave_all-z.ensures.done _ _ (can-leave-all (can-after q (parents-only q c.save_parents.ensures)))))
 
 -- ---- some enter
 
@@ -31,8 +33,10 @@ save_records-requires c =
     can-save-records (can-after q (parents-only q c.save_parents.ensures)) (λ k. omega (arith, c.slice_known-3-1.given k))
 
 pub swap-x-requires : goal.swap-x-requires
-swap-x-requires c = some-swap (can-swap c.requires c.args.after) (can-scan c.requires) c.save_parents.ensures c.save_records.ensures
+swap-x-requires c = some-swap (can-swap c.requires c.args.after) (can-scan c.requires) (λ k. omega (arith, c.slice_known-3-1.given k)) c.save_parents.ensures c.save_records.ensures
 
 pub returns : goal.returns
 returns c =
-    rw (c.is_some.ensures, c.unwrap_or.ensures) (finished-both (can-swap c.requires c.args.after) c.save_parents.ensures c.save_records.ensures c.swap-x.ensures)
+    rw (c.is_some.ensures, c.unwrap_or.ensures)
+    (exchanged-same (lent-back c.swap-x.ensures.same (search rules) (search rules) (search rules) (search rules) _)
+    (finished-both (can-swap c.requires c.args.after) c.save_parents.ensures c.save_records.ensures c.swap-x.ensures.done))

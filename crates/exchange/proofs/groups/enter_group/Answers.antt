@@ -3,7 +3,7 @@ use Rattle.std.proofs.Common.{ℕ, length, drop, replicate, sym, ◌∙◌}
 use lib.Seq.{length-take-le, take_at}
 use borrow.Author.Tests.{not-true, not-false}
 use Rattle.updown.proofs.Filled.{filled_within, whole-enter}
-use Rattle.exchange.proofs.Grouped.{enter-few, enter-gather, enter-write, group-entered, group-halted}
+use Rattle.exchange.proofs.Grouped.{enter-same, gather-same, gathered-same, entered-same, enter-few, enter-gather, enter-write, group-entered, group-halted}
 use Rattle.exchange.proofs.groups.enter_group.Goals as goal
 
 -- ---- the starts, filled in
@@ -30,36 +30,38 @@ slice_bounds-plan_enter-end c =
 pub plan_enter-plan-requires : goal.plan_enter-plan-requires
 plan_enter-plan-requires c =
     let p = c.requires in
-    record {
+    enter-same (c.view-view.ensures c.args.free.0)
+    (record {
       R = p.R;
       W = p.W;
-      can = whole-enter (take_at _ _ _ (c.booked_starts.auto.starts ∙ length-take-le _ _ (enter-few c.requires.can).0) ∙ c.booked_starts.ensures c.args.book_next.now c.requires.can.book-sized) p.can;
-    }
+      can = whole-enter (take_at _ _ _ (c.booked_starts.auto.starts ∙ length-take-le _ _ (enter-few c.requires.can).0) ∙ c.booked_starts.ensures c.args.book.next.now c.requires.can.book-sized) p.can;
+    })
 
 -- ---- where it does not fit
 
-pub returns-then-not-plan : goal.returns-then-not-plan
-returns-then-not-plan c =
+pub returns-then-not-plan-clause-done : goal.returns-then-not-plan-clause-done
+returns-then-not-plan-clause-done c =
     λ N W can. group-halted can
-    (take_at _ _ _ (c.booked_starts.auto.starts ∙ length-take-le _ _ (enter-few c.requires.can).0) ∙ c.booked_starts.ensures c.args.book_next.now c.requires.can.book-sized)
-    c.plan_enter-plan.ensures (not-true _ c.if-not-plan.true)
+    (take_at _ _ _ (c.booked_starts.auto.starts ∙ length-take-le _ _ (enter-few c.requires.can).0) ∙ c.booked_starts.ensures c.args.book.next.now c.requires.can.book-sized)
+    (entered-same (c.view-view.ensures c.args.free.0) c.plan_enter-plan.ensures) (not-true _ c.if-not-plan.true)
 
 -- ---- where it does
 
 pub gather-requires : goal.gather-requires
 gather-requires c =
-    enter-gather c.requires.can
-    (take_at _ _ _ (c.booked_starts.auto.starts ∙ length-take-le _ _ (enter-few c.requires.can).0) ∙ c.booked_starts.ensures c.args.book_next.now c.requires.can.book-sized)
-    c.plan_enter-plan.ensures (not-false _ c.if-not-plan.false)
+    gather-same (c.view-view.ensures c.args.free.0)
+    (enter-gather c.requires.can
+    (take_at _ _ _ (c.booked_starts.auto.starts ∙ length-take-le _ _ (enter-few c.requires.can).0) ∙ c.booked_starts.ensures c.args.book.next.now c.requires.can.book-sized)
+    (entered-same (c.view-view.ensures c.args.free.0) c.plan_enter-plan.ensures) (not-false _ c.if-not-plan.false))
 
 pub write_plan-requires : goal.write_plan-requires
 write_plan-requires c =
     enter-write c.requires.can
-    (take_at _ _ _ (c.booked_starts.auto.starts ∙ length-take-le _ _ (enter-few c.requires.can).0) ∙ c.booked_starts.ensures c.args.book_next.now c.requires.can.book-sized)
-    c.plan_enter-plan.ensures (not-false _ c.if-not-plan.false) c.gather.ensures
+    (take_at _ _ _ (c.booked_starts.auto.starts ∙ length-take-le _ _ (enter-few c.requires.can).0) ∙ c.booked_starts.ensures c.args.book.next.now c.requires.can.book-sized)
+    (entered-same (c.view-view.ensures c.args.free.0) c.plan_enter-plan.ensures) (not-false _ c.if-not-plan.false) (gathered-same (c.view-view.ensures c.args.free.0) c.gather.ensures)
 
-pub returns : goal.returns
-returns c =
+pub returns-clause-done : goal.returns-clause-done
+returns-clause-done c =
     λ N W can. group-entered can
-    (take_at _ _ _ (c.booked_starts.auto.starts ∙ length-take-le _ _ (enter-few c.requires.can).0) ∙ c.booked_starts.ensures c.args.book_next.now c.requires.can.book-sized)
-    c.plan_enter-plan.ensures (not-false _ c.if-not-plan.false) c.gather.ensures c.write_plan.ensures c.write_plan.auto.next
+    (take_at _ _ _ (c.booked_starts.auto.starts ∙ length-take-le _ _ (enter-few c.requires.can).0) ∙ c.booked_starts.ensures c.args.book.next.now c.requires.can.book-sized)
+    (entered-same (c.view-view.ensures c.args.free.0) c.plan_enter-plan.ensures) (not-false _ c.if-not-plan.false) (gathered-same (c.view-view.ensures c.args.free.0) c.gather.ensures) c.write_plan.ensures.written c.write_plan.ensures.same.next-long
