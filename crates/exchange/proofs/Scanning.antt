@@ -11,7 +11,7 @@ use lib.ListN.{length, take, drop, length-append, length-drop}
 use lib.Seq.{length-take-le, take_at, drop_at, drop-drop}
 use borrow.Author.Tests.{eq-eqb, ne_eqb}
 use Rattle.lists.proofs.Tests.{zero-or-pos}
-use Rattle.windows.specs.Chosen.{ids_from, chosen_ids, ids_on, CanCollect, Collected}
+use Rattle.windows.specs.Chosen.{ids_from, chosen_ids, ids_on, Collected}
 use Rattle.exchange.proofs.Parting.{GroupEnds}
 
 -- how many of the ids that a choice takes stand before id i
@@ -40,10 +40,6 @@ module _ (hs : List ℕ) (p : ℕ → Bool) where
   none-past : ids_on hs p (length hs + 1) ≡ []
   unfolding ids_from
   none-past = let q : length hs + 1 - (length hs + 1) ≡ 0 = omega arith in ap (λ (n : ℕ). ids_from hs p (length hs + 1) n) q
-
--- the next group can be collected
-pub can-go-on : {hs windows : List ℕ} {p : ℕ → Bool} {i : ℕ} → Scanned hs p i → CanCollect hs windows 1 → CanCollect hs windows i
-can-go-on v c = record { low = v.low; high = v.high; windows-long = c.windows-long; few = c.few }
 
 module _ {hs : List ℕ} {p : ℕ → Bool} {i : ℕ} (v : Scanned hs p i) {before list : List ℕ} {count next : ℕ} (c : Collected hs p i before list count next) where
   pub part_length : length (take count list) ≡ count
@@ -77,10 +73,6 @@ module _ {hs : List ℕ} {p : ℕ → Bool} {i : ℕ} (v : Scanned hs p i) {befo
 
   pub collected-ends : 0 < count → length before ≤ 64 → GroupEnds (gone hs p i) (length (chosen_ids hs p)) (gone hs p next)
   collected-ends h l = record { low = omega (arith, gone-next); high = omega arith; few = omega (arith, gone-next, c.count_fits) }
-
-  -- fewer are left after a group
-  pub scanned-less : 0 < count → length (ids_on hs p next) < length (ids_on hs p i)
-  scanned-less h = omega (arith, lengths)
 
   -- a group of none: none is left
   pub scanned-end : count ≡ 0 → 0 < length before → length (chosen_ids hs p) ≤ gone hs p i

@@ -105,18 +105,6 @@ module _ {m f : ℕ} {R : List Column} where
         gathers = g.gathers;
       }
 
-  -- tables and work table keep their lengths
-  module _ {s : Stored} {t : ℕ → Bool} {columns : List Column} {after : Stored} {work work' : List ℕ} (z : Sized s)
-      (v : Moved m f R s t columns after work work') where
-    pub moved-parents : length after.parents ≡ length s.parents
-    moved-parents = v.sized.parents-long ∙ ap length v.heads ∙ sym z.parents-long
-
-    pub moved-rows : length after.rows ≡ length s.rows
-    moved-rows = v.sized.rows_long ∙ v.long ∙ sym z.rows_long
-
-    pub moved-counts : length after.counts ≡ length s.counts
-    moved-counts = v.sized.counts-long ∙ v.long ∙ sym z.counts-long
-
   -- other names for what is touched, and the columns in another order
   pub moved_as : {s : Stored} {t u : ℕ → Bool} {cs ds : List Column} {after : Stored} {work work' : List ℕ} → ((j : ℕ) → 1 ≤ j → j ≤ m → t j ≡ u j) →
       Bag ds cs → Moved m f R s t cs after work work' → Moved m f R s u ds after work work'

@@ -1,7 +1,7 @@
 -- `commit::write_plan` meets its contract: the two passes ask what `CanWrite` gives, and what they leave makes `PlanWritten`. Assumes nothing.
-use Rattle.std.proofs.Common.{ℕ, arith, length}
+use Rattle.std.proofs.Common.{ℕ, length}
 use Rattle.symbolic.specs.Factor.{factor_of}
-use Rattle.commit.proofs.Written.{can-commits, can-parents, clear-fits, written}
+use Rattle.commit.proofs.Written.{can-commits, can-parents, written}
 use Rattle.commit.proofs.write_plan.Goals as goal
 
 pub commit_columns-z-requires : goal.commit_columns-z-requires

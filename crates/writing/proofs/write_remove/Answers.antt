@@ -1,10 +1,9 @@
 -- `writing::write_remove` meets its contract: an accepted batch can be reported and written and its columns can leave the book, and all together are the change's world
 -- and report, by the laws of Exchanging.antt and Booking.antt. Assumes nothing.
-use Rattle.std.proofs.Common.{◌≡◌, ℕ, length, refl, rules}
+use Rattle.std.proofs.Common.{ℕ, length, refl, rules}
 use Rattle.tables.specs.Tables.{Tables, tables_of}
 use Rattle.symbolic.specs.Columns.{Register, live}
 use Rattle.symbolic.specs.Factor.{factor_of}
-use Rattle.symbolic.specs.Grades.{Limits}
 use Rattle.calls.specs.Calls.{Change, removing}
 use Rattle.calls.specs.Changes.{effect, touched_by}
 use Rattle.calls.specs.Steps.{booked_in}
