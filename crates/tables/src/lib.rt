@@ -1,5 +1,5 @@
 // The lent tables: the stored columns of L and the book, when they are sound, what an opening writes, and what it means that a column stays; and the structs in which
-// tables that are read go together.
+// tables go together.
 #![tactic(auto)]
 
 ghost use Rattle.std.specs.Prelude.{◌≡◌, true, ℕ};
