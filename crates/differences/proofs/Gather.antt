@@ -7,13 +7,13 @@ use mathlib.Core.Bool.{Bool, true}
 use mathlib.Core.List.{List, [], ◌∷◌, ◌++◌}
 use Prim.Native.Nat.{ℕ, ◌+◌, ◌-◌, ◌*◌, ◌≤◌, ◌<◌}
 use native.Mathlib.Omega.{arith}
-use lib.ListN.{length, set, length-append}
-use borrow.Rule.Slice.PartMut.{put_mid}
+use native.Mathlib.Numerals.{add-one}
+use lib.ListN.{length, get_or, take, set, length-append}
+use lib.Seq.{take-suc, take_all}
 use Rattle.lists.specs.Lists.{among, rises}
 use Rattle.lists.proofs.Rising.{rises-length}
-use Rattle.workspace.specs.Regions.{cell, region, OnlyIn}
-use Rattle.workspace.proofs.Regions.{only-refl, only-trans, only_wider, only_zero, only_store, only-cell, only-region, zero-part, store-push, store-leaves-zero}
-use Rattle.workspace.proofs.Written.{written-only, written-region}
+use Rattle.workspace.specs.Regions.{cell, region}
+use Rattle.workspace.proofs.Regions.{only-refl, only-trans, only_store, only-cell, only-region, zero-part, store-push, store-leaves-zero}
 use Rattle.differences.specs.Gather.{plan_part, CanGather, Gathered, Gathering}
 
 -- nothing yet
@@ -58,18 +58,15 @@ module _ {m : ℕ} {w₀ w : List ℕ} {k : ℕ} {gs : List ℕ} (g : Gathering 
 pub list-room : (m : ℕ) (xs : List ℕ) → rises 1 m xs ≡ true → length xs ≤ m
 list-room m xs r = omega (arith, rises-length 1 m xs (omega arith) r)
 
--- copied into the buffer, whose first places end at place e
-pub gathering-copy : {m : ℕ} {w : List ℕ} (xs : List ℕ) (e : ℕ) → CanGather m w → rises 1 m xs ≡ true → e ≡ 2 * m + length xs → Gathered m w (put_mid (2 * m) (e - 2 * m) w xs) (length xs) (λ i. among i xs)
-gathering-copy {m} {w} xs e g r q =
-    let room : length xs ≤ m = list-room m xs r in
-    let long : length xs ≡ e - 2 * m = omega arith in
-    let o : OnlyIn (2 * m) (e - 2 * m) w (put_mid (2 * m) (e - 2 * m) w xs) = written-only w xs (2 * m) e (omega arith) (omega (arith, g.long)) long in
-    gathering-done {gs = xs} (record {
-      only = only_wider (2 * m) m (omega arith) (omega arith) o;
-      size = refl;
-      rows = rw long (written-region w xs (2 * m) e (omega arith) (omega (arith, g.long)) long);
-      rest = only_zero o (2 * m + length xs) (m - length xs) (inl (omega arith)) (zero-part w (2 * m) m (2 * m + length xs) (m - length xs) g.empty (omega arith) (omega arith));
-    }) (λ i. among i xs) r (λ i. refl)
+pub list-push : {m : ℕ} {w₀ w : List ℕ} {k : ℕ} (xs : List ℕ) → 3 * m ≤ length w₀ → rises 1 m xs ≡ true → k < length xs → Gathering m w₀ w k (take k xs) →
+    Gathering m w₀ (set w (2 * m + k) (get_or xs k 0)) (k + 1) (take (k + 1) xs)
+list-push {m} {w₀} {w} {k} xs l r h g =
+    let e : take k xs ++ (get_or xs k 0 ∷ []) ≡ take (k + 1) xs = rw (add-one k, take-suc xs k 0 h) refl in
+    subst (λ (ys : List ℕ). Gathering m w₀ (set w (2 * m + k) (get_or xs k 0)) (k + 1) ys) e (gathering-push g (get_or xs k 0) l (omega (arith, list-room m xs r)))
+
+pub list_done : {m : ℕ} {w₀ w : List ℕ} {k : ℕ} (xs : List ℕ) → rises 1 m xs ≡ true → length xs ≤ k → Gathering m w₀ w k (take k xs) → Gathered m w₀ w k (λ i. among i xs)
+list_done {m} {w₀} {w} {k} xs r h g =
+    let e : take k xs ≡ xs = take_all k xs h in gathering-done g (λ i. among i xs) (rw e r) (λ i. ap (among i) e)
 
 -- ---- a gathering after another
 

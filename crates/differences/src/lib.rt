@@ -32,8 +32,9 @@ pub fn gather_rows(work: &mut [u32], list: &[u32], m: usize) -> usize
     requires { CanGather m work.old × (rises 1 m list.now ≡ true) }
     ensures { Gathered m work.old work.new result (λ i. among i list.now) }
 {
-    let a = BUFFER * m;
-    work[a..a + list.len()].copy_from_slice(list);
+    for (k, row) in list.iter().enumerate() {
+        work[BUFFER * m + k] = *row;
+    }
     list.len()
 }
 
