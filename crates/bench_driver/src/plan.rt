@@ -1,6 +1,7 @@
 // A plan of batches. Six numbers say a batch: its kind (0 removes, else adds), then where its parts of the lists lent lie, places from 0: first id and end
 // of the ids, first row count (as many as ids), first row and end of the rows. A removal's counts and rows are not read, but must lie in the lists.
-ghost use Rattle.std.specs.Prelude.{◌<◌, length};
+ghost use Rattle.std.specs.Prelude.{◌<◌, length, IfSome};
+ghost use Rattle.bench_driver.specs.Plans.{PartsIn};
 
 // A batch of a plan.
 #[derive(Clone, Copy)]
@@ -25,7 +26,9 @@ pub fn planned<'a>(
     ids: &'a [u32],
     row_counts: &'a [u32],
     row_list: &'a [u32],
-) -> Option<Batch<'a>> {
+) -> Option<Batch<'a>>
+    ensures { IfSome result (PartsIn numbers.now ids.now row_counts.now row_list.now) }
+{
     let [kind, id, id_end, count, row, row_end] = *numbers;
     let ids = ids.get(id as usize..id_end as usize)?;
     Some(Batch {
