@@ -5,11 +5,9 @@
 ghost use Rattle.calls.specs.Refusals.{refusal};
 ghost use Rattle.calls.specs.Steps.{refused_by};
 ghost use Rattle.steps.specs.Outcome.{reported_by, with_heads, at_minute};
-ghost use Rattle.early_refusals.specs.Refusal.{number_of};
 ghost use Rattle.factor.specs.Entries.{state_of};
 ghost use Rattle.answers.specs.Answers.{AnswerIs};
 
-use early_refusals::Refusal;
 use factor::Factor;
 use pool::Rec;
 
@@ -25,12 +23,12 @@ pub struct Changed {
     pub factor: Factor,
 }
 
-// The answer of a change that is refused, at a position: the record is as it was.
-pub fn refused(factor: Factor, reason: Refusal, position: u32) -> Changed
-    ensures { AnswerIs (refused_by (refusal (number_of reason) position)) (state_of factor) result }
+// The answer of a change that a number refuses, at a position: the record is as it was.
+pub fn refused(factor: Factor, number: u32, position: u32) -> Changed
+    ensures { AnswerIs (refused_by (refusal number position)) (state_of factor) result }
 {
     Changed {
-        number: reason.number(),
+        number,
         position,
         touched: 0,
         entries: 0,

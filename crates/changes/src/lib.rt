@@ -40,7 +40,7 @@ pub fn add(
     if let Err(reason) = factor.admit(
         heads, parents, rows, counts, next, book_heads, book_rows, book_next, windows, work, !short,
     ) {
-        return answers::refused(factor, reason, 0);
+        return answers::refused(factor, reason.number(), 0);
     }
     add_unchecked(
         factor, heads, parents, rows, counts, next, book_heads, book_rows, book_next, windows,
@@ -71,7 +71,7 @@ pub fn remove(
     if let Err(reason) = factor.admit(
         heads, parents, rows, counts, next, book_heads, book_rows, book_next, windows, work, !short,
     ) {
-        return answers::refused(factor, reason, 0);
+        return answers::refused(factor, reason.number(), 0);
     }
     remove_unchecked(
         factor, heads, parents, rows, counts, next, book_heads, book_rows, book_next, windows,
@@ -126,7 +126,7 @@ pub fn add_unchecked(
         factor.clock,
     ) {
         Ok(plan) => plan,
-        Err(refused) => return answers::refused(factor, refused.refusal, refused.position),
+        Err(refused) => return answers::refused(factor, refused.refusal.number(), refused.position),
     };
     let after = writing::write_add(
         &heads[..m],
@@ -198,7 +198,7 @@ pub fn remove_unchecked(
         factor.clock,
     ) {
         Ok(plan) => plan,
-        Err(refused) => return answers::refused(factor, refused.refusal, refused.position),
+        Err(refused) => return answers::refused(factor, refused.refusal.number(), refused.position),
     };
     let after = writing::write_remove(
         &heads[..m],

@@ -40,7 +40,7 @@ pub fn set_clock(
     if let Err(reason) = factor.admit(
         heads, parents, rows, counts, next, book_heads, book_rows, book_next, windows, work, !short,
     ) {
-        return answers::refused(factor, reason, 0);
+        return answers::refused(factor, reason.number(), 0);
     }
     set_clock_unchecked(
         factor, heads, parents, rows, counts, next, book_heads, book_rows, book_next, windows,
@@ -101,7 +101,7 @@ pub fn set_clock_unchecked(
     );
     if !x.fits {
         clear(work, m, f, x.saved);
-        return answers::refused(factor, Refusal::FactorFull, 0);
+        return answers::refused(factor, Refusal::FactorFull.number(), 0);
     }
     let report = exchange::reporting::report(&heads[..m], &next[..f], work, touched, labels);
     clear(work, m, f, x.saved);

@@ -4,7 +4,6 @@
 ghost use Rattle.std.specs.Prelude.{◌≡◌};
 ghost use Rattle.crossing.specs.Crossing.{opened_from, read_from};
 
-use early_refusals::Refusal;
 use factor::Factor;
 use reader::Entry;
 
@@ -25,14 +24,14 @@ pub struct Read {
     pub next: u32,
 }
 
-// An opening's answer as a struct.
-pub fn opened_from(x: Result<Factor, Refusal>) -> Opened
+// An opening's answer, refused by a number, as a struct.
+pub fn opened_from(x: Result<Factor, u32>) -> Opened
     ensures { result ≡ opened_from x }
 {
     match x {
         Ok(factor) => Opened { number: 0, factor },
-        Err(reason) => Opened {
-            number: reason.number(),
+        Err(number) => Opened {
+            number,
             factor: Factor {
                 m: 0,
                 n: 0,

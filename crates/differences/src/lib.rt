@@ -6,7 +6,7 @@
 ghost use Rattle.std.specs.Prelude.{◌≡◌, true, ◌&&◌, ◌||◌, not, ◌+◌, ◌-◌, ◌*◌, ◌≤◌, ◌<◌, ltb, length};
 ghost use Rattle.lists.specs.Lists.{among, rises, values_at};
 ghost use Rattle.workspace.specs.Layout.{plan_at};
-ghost use Rattle.workspace.specs.Planned.{new_kind, gone_kind, kind_number};
+ghost use Rattle.workspace.specs.Planned.{new_kind, gone_kind};
 ghost use Rattle.workspace.specs.Regions.{cell};
 ghost use Rattle.pool.specs.Chains.{chain};
 ghost use Rattle.differences.specs.Gather.{rows_of_kind, plan_part, CanGather, PlanRises, ChainRises, CanGrow, Gathered, CanPass, Passed, gone_at, CanReach, Reached};
@@ -45,11 +45,11 @@ fn gather_below(
     k: usize,
     from: usize,
     to: usize,
-    kind: Kind,
+    kind: u32,
     bound: Row,
 ) -> Reach
-    requires { CanReach m work.old k from to (kind_number kind) }
-    ensures { Reached m work.old work.new k from to (kind_number kind) bound.0 result.rows result.stop }
+    requires { CanReach m work.old k from to kind }
+    ensures { Reached m work.old work.new k from to kind bound.0 result.rows result.stop }
 {
     let least = bound.0;
     let mut n = k;
@@ -59,7 +59,7 @@ fn gather_below(
         if least <= row {
             return Reach { rows: n, stop: a };
         }
-        if workspace::is_of(entry, kind) {
+        if workspace::kind_of(entry) == kind {
             work[BUFFER * m + n] = row;
             n += 1;
         }
@@ -67,10 +67,10 @@ fn gather_below(
     Reach { rows: n, stop: to }
 }
 
-// Gathers the rows of one kind from the part [from, to) of the plan, and gives their number.
-pub fn gather_plan(work: &mut [u32], m: usize, from: usize, to: usize, kind: Kind) -> usize
+// Gathers the rows of one kind, given by its number, from the part [from, to) of the plan, and gives their number.
+pub fn gather_plan(work: &mut [u32], m: usize, from: usize, to: usize, kind: u32) -> usize
     requires { CanGather m work.old × PlanRises m work.old from to }
-    ensures { Gathered m work.old work.new result (λ i. among i (rows_of_kind (kind_number kind) (plan_part m work.old from to))) }
+    ensures { Gathered m work.old work.new result (λ i. among i (rows_of_kind kind (plan_part m work.old from to))) }
 {
     let r = gather_below(work, m, 0, from, to, kind, Row(4097));
     r.rows
@@ -111,14 +111,14 @@ pub fn gather_grown(
     while q != 0 {
         let i = (q - 1) as usize;
         let row = rows[i] as u32;
-        let met = gather_below(work, m, k, a, to, Kind::New, Row(row));
+        let met = gather_below(work, m, k, a, to, Kind::New as u32, Row(row));
         k = met.rows;
         a = met.stop;
         work[BUFFER * m + k] = row;
         q = next[i];
         k += 1;
     }
-    let last = gather_below(work, m, k, a, to, Kind::New, Row(4097));
+    let last = gather_below(work, m, k, a, to, Kind::New as u32, Row(4097));
     last.rows
 }
 

@@ -156,10 +156,9 @@ fn take_free(next: &[u32], walk: Walk) -> Walk
     ensures { result ≡ taking next.now walk }
 {
     let left = next[(walk.avail.0 - 1) as usize];
-    Walk {
-        avail: Rec(left),
-        ..walk
-    }
+    let mut w = walk;
+    w.avail = Rec(left);
+    w
 }
 
 // Writes an entry at the plan's end.
@@ -170,10 +169,9 @@ fn put(work: &mut [u32], m: usize, walk: Walk, entry: u32) -> Walk
 {
     let used = walk.used;
     work[workspace::PLAN * m + used] = entry;
-    Walk {
-        used: used + 1,
-        ..walk
-    }
+    let mut w = walk;
+    w.used = used + 1;
+    w
 }
 
 // Plans a row whose multiplicity goes from old to new.
@@ -192,22 +190,25 @@ fn plan_row(
     if old == new {
         return walk;
     }
-    if old == 0 && walk.avail.0 == 0 {
+    if old != 0 {
+        return put(
+            work,
+            m,
+            walk,
+            workspace::pack(row.0, new, kind_for(old, new).number()),
+        );
+    }
+    if walk.avail.0 == 0 {
         return Walk {
             fits: false,
             ..walk
         };
     }
-    let kept = if old == 0 {
-        take_free(next, walk)
-    } else {
-        walk
-    };
     put(
         work,
         m,
-        kept,
-        workspace::pack(row.0, new, kind_for(old, new)),
+        take_free(next, walk),
+        workspace::pack(row.0, new, kind_for(old, new).number()),
     )
 }
 

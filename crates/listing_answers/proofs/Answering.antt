@@ -18,7 +18,7 @@ use Rattle.listing_text.specs.Text.{no_line, Written}
 use Rattle.listing_text.specs.declared.command.Command.{Command}
 use Rattle.listing_text.specs.declared.command.Command.TheVariants.{Open, Add, Show, Unknown}
 use Rattle.listing_show.specs.Showing.{shown_by, CanShowAll}
-use Rattle.listing_memory.specs.Memory.{Memory, memory_of, Lengths, opening_line, OpeningPrinted}
+use Rattle.listing_memory.specs.Memory.{Memory, memory_of, Lengths, opening_line, numbered, OpeningPrinted}
 use Rattle.listing_answers.specs.Listing.{IsReady, Ready, OpenAnswered, CommandAnswered, Answered, BatchAnswered, OpenPrinted, Answers}
 use Rattle.listing_memory.specs.declared.Printed.{Printed}
 use Rattle.listing_answers.proofs.Changes.{no_answer}
@@ -56,12 +56,12 @@ adds line u i n rows {out₀} {out} {x} {v} e f a =
 -- ---- open
 
 module _ (l : Sizes) (t : Tables) (w : List ℕ) (x₀ : Factor) (a b out₀ : List ℕ) (t' : Tables) (w' out : List ℕ) (ready : Ready (memory_of x₀ t w a b)) where
-  by-opening : (o : Opening) (x : Printed) → OpenStep l (limits_of 0 0 0) t w o t' w' → OpeningPrinted x₀ o out₀ out x →
+  by-opening : (o : Opening) (x : Printed) → OpenStep l (limits_of 0 0 0) t w o t' w' → OpeningPrinted x₀ (numbered o) out₀ out x →
       Answers (λ bs v. OpenAnswered (memory_of x₀ t w a b) l bs v) out₀ out x (memory_of x.factor t' w' a b)
   by-opening (Ok y) x s p =
       subst (λ (f : Factor). Answers (λ bs v. OpenAnswered (memory_of x₀ t w a b) l bs v) out₀ out x (memory_of f t' w' a b)) (sym p.factor-is)
       (record {
-        bytes = opening_line (Ok y);
+        bytes = opening_line (numbered (Ok y));
         says = record { answer = opening_answer (Ok y); step = s (state_of x₀); printed = refl; touched = refl; labels = refl };
         written = p.line;
         usable =
@@ -72,7 +72,7 @@ module _ (l : Sizes) (t : Tables) (w : List ℕ) (x₀ : Factor) (a b out₀ : L
   by-opening (Err n) x s p =
       subst (λ (f : Factor). Answers (λ bs v. OpenAnswered (memory_of x₀ t w a b) l bs v) out₀ out x (memory_of f t' w' a b)) (sym p.factor-is)
       (record {
-        bytes = opening_line (Err n);
+        bytes = opening_line (numbered (Err n));
         says = record {
           answer = opening_answer (Err n);
           step = s (state_of x₀);

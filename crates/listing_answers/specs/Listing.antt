@@ -13,7 +13,7 @@ use Rattle.listing_text.specs.Text.{no_line, Written}
 use Rattle.listing_text.specs.declared.command.Command.{Command}
 use Rattle.listing_text.specs.declared.command.Command.TheVariants.{Open, Add, Drop, Show, Unknown}
 use Rattle.listing_show.specs.Showing.{no_state, answer_line, shown_by}
-use Rattle.listing_memory.specs.Memory.{Memory, Lengths, OpeningPrinted}
+use Rattle.listing_memory.specs.Memory.{Memory, Lengths, numbered, OpeningPrinted}
 use Rattle.listing_memory.specs.declared.Printed.{Printed}
 
 -- ---- what the program keeps
@@ -69,4 +69,4 @@ pub record Answers (Says : (bytes : List ℕ) → Memory → Type 0) (out₀ out
 pub record OpenPrinted (asked : Sizes) (t : Tables) (work : List ℕ) (x₀ : Factor) (out₀ : List ℕ) (t' : Tables) (work' out : List ℕ) (x : Printed) : Type 0 where
   pub opened : Opening
   pub step : OpenStep asked (limits_of 0 0 0) t work opened t' work'
-  pub printed : OpeningPrinted x₀ opened out₀ out x
+  pub printed : OpeningPrinted x₀ (numbered opened) out₀ out x

@@ -1,6 +1,6 @@
 // The commands that change the factor: open, add and drop, each with the line of its answer.
-ghost use Rattle.listing_memory.specs.Memory.{memory_of};
-ghost use Rattle.std.specs.Prelude.{[], ◌∷◌, ◌≤◌, length, take};
+ghost use Rattle.listing_memory.specs.Memory.{memory_of, numbered};
+ghost use Rattle.std.specs.Prelude.{[], ◌∷◌, ◌≡◌, ◌≤◌, length, take};
 ghost use Rattle.calls.specs.Calls.Change.{adding, removing};
 ghost use Rattle.tables.specs.Tables.{tables_of, sizes_of};
 ghost use Rattle.answers.specs.Answers.{changed_answer};
@@ -9,6 +9,7 @@ ghost use Rattle.listing_answers.specs.Listing.{BatchAnswered, IsReady, OpenPrin
 ghost use Rattle.listing_show.specs.Showing.{answer_line};
 
 use answers::Changed;
+use early_refusals::Refusal;
 use factor::Factor;
 use listing_memory::Printed;
 use listing_text::text;
@@ -50,7 +51,17 @@ pub fn open_line(
         m, n, f, c, 0, 0, 0, heads, parents, rows, counts, next, book_heads, book_rows, book_next,
         windows, work,
     );
-    listing_memory::opened_line(out, factor, opened)
+    listing_memory::opened_line(out, factor, numbered(opened))
+}
+
+// What an opening gives, with the number of its refusal.
+fn numbered(opened: Result<Factor, Refusal>) -> Result<Factor, u32>
+    ensures { result ≡ numbered opened }
+{
+    match opened {
+        Ok(factor) => Ok(factor),
+        Err(reason) => Err(reason.number()),
+    }
 }
 
 // Adds a column without a window: an id with the rows at the front of the list.

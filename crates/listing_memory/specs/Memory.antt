@@ -1,6 +1,6 @@
 -- What the listing program keeps between lines, with the lengths of document 01, and what it keeps of an opening. Laws: proofs/Serving.antt. Assumes nothing: these are
 -- definitions.
-use Rattle.std.specs.Prelude.{◌≡◌, Ok, Err, List, ℕ, length}
+use Rattle.std.specs.Prelude.{◌≡◌, Result, Ok, Err, List, ℕ, length}
 use Rattle.tables.specs.Tables.{Tables}
 use Rattle.calls.specs.Steps.{World}
 use Rattle.factor.specs.Entries.{world_of, Opening}
@@ -40,16 +40,21 @@ pub record Lengths (u : Memory) : Type 0 where
 -- ---- an opening
 
 -- the factor after an opening: "A refused open keeps the factor there was"
-abbrev pub factor_after : Opening → Factor → Factor
+abbrev pub factor_after : Result Factor ℕ → Factor → Factor
 factor_after (Ok y) x = y
-factor_after (Err e) x = x
+factor_after (Err n) x = x
 
 -- `ok 0 0 0`, or the number
-abbrev pub opening_line : Opening → List ℕ
+abbrev pub opening_line : Result Factor ℕ → List ℕ
 opening_line (Ok y) = ok_line 0 0 0
-opening_line (Err e) = no_line (number_of e) 0
+opening_line (Err n) = no_line n 0
+
+-- an opening's answer with the number of its refusal
+abbrev pub numbered : Opening → Result Factor ℕ
+numbered (Ok y) = Ok y
+numbered (Err e) = Err (number_of e)
 
 -- the factor and the line after an opening
-pub record OpeningPrinted (x₀ : Factor) (opened : Opening) (out₀ out : List ℕ) (x : Printed) : Type 0 where
+pub record OpeningPrinted (x₀ : Factor) (opened : Result Factor ℕ) (out₀ out : List ℕ) (x : Printed) : Type 0 where
   pub factor-is : x.factor ≡ factor_after opened x₀
   pub line : Written out₀ 0 (opening_line opened) out x.end

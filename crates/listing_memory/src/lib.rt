@@ -7,7 +7,6 @@ ghost use Rattle.factor.specs.Entries.{state_of};
 ghost use Rattle.listing_show.specs.Showing.{no_state};
 ghost use Rattle.listing_memory.specs.Memory.{OpeningPrinted};
 
-use early_refusals::Refusal;
 use factor::Factor;
 use listing_text::text;
 
@@ -37,7 +36,7 @@ pub fn closed() -> Factor
 }
 
 // The line of an opening's answer, and the factor after it: refused, the one before stays.
-pub fn opened_line(out: &mut [u8], factor: Factor, opened: Result<Factor, Refusal>) -> Printed
+pub fn opened_line(out: &mut [u8], factor: Factor, opened: Result<Factor, u32>) -> Printed
     requires { 40 ≤ length out.old }
     ensures { OpeningPrinted factor opened out.old out.new result }
 {
@@ -46,8 +45,8 @@ pub fn opened_line(out: &mut [u8], factor: Factor, opened: Result<Factor, Refusa
             let end = text::ok_line(out, 0, 0, 0, 0);
             Printed { factor: fresh, end }
         }
-        Err(reason) => {
-            let end = text::no_line(out, 0, reason.number(), 0);
+        Err(number) => {
+            let end = text::no_line(out, 0, number, 0);
             Printed { factor, end }
         }
     }

@@ -6,12 +6,13 @@ ghost use Rattle.std.specs.Prelude.{◌≡◌};
 ghost use Rattle.reader.specs.Reading.{entry_at};
 ghost use Rattle.symbolic.specs.Grades.{limits_of};
 ghost use Rattle.tables.specs.Tables.{tables_of, sizes_of};
-ghost use Rattle.crossing.specs.Crossing.{OpenedStep, read_from};
+ghost use Rattle.crossing.specs.Crossing.{OpenedStep, numbered, read_from};
 
 mod asking;
 mod batches;
 
 use crossing::{Opened, Read};
+use early_refusals::Refusal;
 use factor::Factor;
 use pool::Rec;
 
@@ -43,7 +44,17 @@ pub extern "C" fn nigvalds_open_0_7(
         m, n, f, c, grade2, grade3, grade4, heads, parents, rows, counts, next, book_heads,
         book_rows, book_next, windows, work,
     );
-    crossing::opened_from(x)
+    crossing::opened_from(numbered(x))
+}
+
+// What an opening gives, with the number of its refusal.
+fn numbered(x: Result<Factor, Refusal>) -> Result<Factor, u32>
+    ensures { result ≡ numbered x }
+{
+    match x {
+        Ok(factor) => Ok(factor),
+        Err(reason) => Err(reason.number()),
+    }
 }
 
 // The entry of a record, of any tables and any number.

@@ -56,10 +56,10 @@ fn case_b(work: &mut [u32], m: usize, n: usize, c: Row, adding: bool) -> usize
     let from = work[STARTS * m + (c.0 - 1) as usize] as usize;
     let to = plan_end(work, m, c);
     if adding {
-        let g = differences::gather_plan(work, m, from, to, Kind::New);
+        let g = differences::gather_plan(work, m, from, to, Kind::New.number());
         return differences::count_rows(work, m, n, g, true);
     }
-    let k = differences::gather_plan(work, m, from, to, Kind::Gone);
+    let k = differences::gather_plan(work, m, from, to, Kind::Gone.number());
     differences::count_rows(work, m, n, k, false)
 }
 

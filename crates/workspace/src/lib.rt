@@ -40,9 +40,18 @@ pub const UPPER_WEIGHT: u32 = 8192;
 // What a planned entry does to its row: it stays with another multiplicity, comes, or goes.
 #[derive(Clone, Copy, PartialEq, Eq)]
 pub enum Kind {
-    Changed,
-    New,
-    Gone,
+    Changed = 0,
+    New = 1,
+    Gone = 2,
+}
+
+impl Kind {
+    // The number that stands for it in a planned entry.
+    pub fn number(self) -> u32
+        ensures { result ≡ kind_number self }
+    {
+        self as u32
+    }
 }
 
 // How many places of the work table the sizes m, n, f and c need: W of document 01. It is summed in 64 bits, so that no sizes are too large for it.
@@ -61,11 +70,11 @@ pub fn clear(work: &mut [u32], a: usize, n: usize)
 }
 
 // A planned entry in one place: row - 1 in 12 bits, multiplicity in 18, kind in 2.
-pub fn pack(row: u32, multiplicity: u32, kind: Kind) -> u32
-    requires { FitsEntry row multiplicity (kind_number kind) }
-    ensures { result ≡ packed row multiplicity (kind_number kind) }
+pub fn pack(row: u32, multiplicity: u32, kind: u32) -> u32
+    requires { FitsEntry row multiplicity kind }
+    ensures { result ≡ packed row multiplicity kind }
 {
-    row - 1 + 4096 * multiplicity + 1073741824 * number_of(kind)
+    row - 1 + 4096 * multiplicity + 1073741824 * kind
 }
 
 // The row of a planned entry.
@@ -82,20 +91,16 @@ pub fn multiplicity_of(entry: u32) -> u32
     entry / 4096 % 262144
 }
 
+// The number of the kind of a planned entry. A place may have a fourth one, 3, that no `Kind` has.
+pub fn kind_of(entry: u32) -> u32
+    ensures { result ≡ kind_of entry }
+{
+    entry / 1073741824
+}
+
 // Whether a planned entry is of a kind.
 pub fn is_of(entry: u32, kind: Kind) -> bool
     ensures { result ≡ eqb (kind_of entry) (kind_number kind) }
 {
-    entry / 1073741824 == number_of(kind)
-}
-
-// The number that stands for a kind in a planned entry.
-fn number_of(kind: Kind) -> u32
-    ensures { result ≡ kind_number kind }
-{
-    match kind {
-        Kind::Changed => 0,
-        Kind::New => 1,
-        Kind::Gone => 2,
-    }
+    kind_of(entry) == kind.number()
 }

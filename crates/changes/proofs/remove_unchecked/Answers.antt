@@ -1,12 +1,15 @@
 -- `remove_unchecked` meets its contract: usable tables within their sizes can be judged, a verdict that refuses is the refused change, and one that accepts with the prefixes
 -- written back the accepted one, by the laws of Batching.antt. Assumes nothing.
-use mathlib.Core.Path.{refl, sym, ap}
+use mathlib.Core.Path.{refl, sym, ap, subst}
+use Prim.Native.Nat.{ℕ}
 use native.Mathlib.Omega.{arith}
 use lib.ListN.{take}
 use Rattle.tables.specs.Tables.{tables_of}
-use Rattle.calls.specs.Refusals.{is_accepted}
+use Rattle.calls.specs.Refusals.{refusal, is_accepted}
+use Rattle.calls.specs.Steps.{refused_by}
 use Rattle.calls.proofs.Refusals.{sizes-facts}
 use Rattle.factor.specs.Entries.{state_of}
+use Rattle.answers.specs.Answers.{AnswerIs}
 use Rattle.answers.proofs.Stepping.{change-long, change-can}
 use Rattle.changes.proofs.Batching.{batch-refused, batch-can, batch-taken, lengths}
 use Rattle.changes.proofs.remove_unchecked.Goals as goal
@@ -69,7 +72,8 @@ judge_remove-requires c =
     record { limits = (state_of c.args.factor).limits; free = c.args.factor.free; book-free = c.args.factor.book_free; can = (change-can c.args.factor _ c.requires).find }
 
 pub returns-in-Err : goal.returns-in-Err
-returns-in-Err c = batch-refused c.args.factor _ c.requires c.in-Err.refused (c.in-Err.ensures (state_of c.args.factor).limits c.args.factor.free c.args.factor.book_free (change-can c.args.factor _ c.requires).find) c.refused.ensures
+returns-in-Err c = batch-refused c.args.factor _ c.requires c.in-Err.refused (c.in-Err.ensures (state_of c.args.factor).limits c.args.factor.free c.args.factor.book_free (change-can c.args.factor _ c.requires).find)
+    (subst (λ (n : ℕ). AnswerIs (refused_by (refusal n c.in-Err.refused.position)) (state_of c.args.factor) c.refused.result) c.number.ensures c.refused.ensures)
 
 -- ---- written
 

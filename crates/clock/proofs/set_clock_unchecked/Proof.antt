@@ -1,12 +1,16 @@
 -- `clock::set_clock_unchecked` meets its contract: usable tables within their sizes can be exchanged, and the exchange's promise decides the number; where it does not fit
 -- all is as before, else its report is the change's; either way the work table is cleared. By the laws of Answering.antt. Assumes nothing.
-use mathlib.Core.Path.{sym, ◌∙◌}
+use mathlib.Core.Path.{sym, subst, ◌∙◌}
+use Prim.Native.Nat.{ℕ}
 use borrow.Author.Rules.{rules}
 use borrow.Author.Tests.{not-true, not-false}
 use lib.Seq.{length-take-le}
 use Rattle.tables.specs.Tables.{tables_of}
+use Rattle.calls.specs.Refusals.{refusal}
+use Rattle.calls.specs.Steps.{refused_by}
 use Rattle.factor.specs.Entries.{state_of}
 use Rattle.admission.proofs.Cutting.{cut}
+use Rattle.answers.specs.Answers.{AnswerIs}
 use Rattle.answers.proofs.Stepping.{change-long, change-can, joined_length}
 use Rattle.clock.proofs.Asking.{can-exchange}
 use Rattle.clock.proofs.Answering.{next-long, clock-clear, clock-refused, clock-report, clock-some, clock-taken}
@@ -78,6 +82,9 @@ clear-requires : tie.Need-clear-requires
 clear-requires c κs =
     clock-clear c.args.factor (tables_of c.args.heads.now c.args.parents.now c.args.rows.now c.args.counts.now c.args.next.now c.args.book_heads.now c.args.book_rows.now c.args.book_next.now c.args.windows.now) c.requires c.args.minute (record { parents = c.exchange-x.auto.parents; rows = c.exchange-x.auto.rows; counts = c.exchange-x.auto.counts; next = c.exchange-x.auto.next }) c.exchange-x.ensures
 
+number-requires : tie.Need-number-requires
+number-requires c κs = tt
+
 refused-requires : tie.Need-refused-requires
 refused-requires c κs = tt
 
@@ -98,7 +105,7 @@ same-length-5 c = c.clear.auto.work ∙ c.exchange-x.auto.work
 
 returns : tie.Need-returns-then-not-x
 returns c =
-    clock-refused c.args.factor (tables_of c.args.heads.now c.args.parents.now c.args.rows.now c.args.counts.now c.args.next.now c.args.book_heads.now c.args.book_rows.now c.args.book_next.now c.args.windows.now) c.requires c.args.minute (record { parents = c.exchange-x.auto.parents; rows = c.exchange-x.auto.rows; counts = c.exchange-x.auto.counts; next = c.exchange-x.auto.next }) c.exchange-x.ensures (not-true c.exchange-x.result.fits c.if-not-x.true) c.clear.ensures c.refused.ensures
+    clock-refused c.args.factor (tables_of c.args.heads.now c.args.parents.now c.args.rows.now c.args.counts.now c.args.next.now c.args.book_heads.now c.args.book_rows.now c.args.book_next.now c.args.windows.now) c.requires c.args.minute (record { parents = c.exchange-x.auto.parents; rows = c.exchange-x.auto.rows; counts = c.exchange-x.auto.counts; next = c.exchange-x.auto.next }) c.exchange-x.ensures (not-true c.exchange-x.result.fits c.if-not-x.true) c.clear.ensures (subst (λ (n : ℕ). AnswerIs (refused_by (refusal n 0)) (state_of c.args.factor) c.refused.result) c.number.ensures c.refused.ensures)
 
 -- ---- it fits
 
@@ -174,6 +181,7 @@ set_clock_unchecked_spec =
     slice-aggregate-exchange-9
     exchange-requires
     clear-requires
+    number-requires
     refused-requires
     same_length
     same-length-2

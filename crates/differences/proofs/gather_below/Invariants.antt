@@ -1,7 +1,6 @@
 -- `differences::gather_below`, its loop: `Reaching`, the entries before a are passed, and their rows of the kind stand in the buffer after the k that were there.
-use Rattle.workspace.specs.Planned.{kind_number}
 use Rattle.differences.proofs.Passing.{Reaching}
 use Rattle.differences.proofs.gather_below.Given as goal
 
 abbrev pub invariant-loop-a : goal.invariant-loop-a
-invariant-loop-a l = Reaching l.m l.initial.work l.k l.from l.to (kind_number l.kind) l.least l.work l.n l.a
+invariant-loop-a l = Reaching l.m l.initial.work l.k l.from l.to l.kind l.least l.work l.n l.a

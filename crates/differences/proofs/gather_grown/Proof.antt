@@ -88,6 +88,9 @@ shared-slice-read-row c = let f = facts c.before in omega arith
 cast-row : tie.Need-overflow_cast-row invariant-loop-q decreases-loop-q
 cast-row c = omega (arith, c.shared_slice_known-in-loop-q-1.given (c.before.before.loop-q.q - 1))
 
+cast-kind : tie.Need-overflow_cast-gather_below invariant-loop-q decreases-loop-q
+cast-kind c = omega arith
+
 gather-below-requires : tie.Need-gather_below-met-requires invariant-loop-q decreases-loop-q
 gather-below-requires c κs = let d = c.before.before in growing-reach (start d).requires d.before.loop-q.invariant
 
@@ -118,6 +121,9 @@ loop-less c = onward-less (onward (in-call c.before.before.before))
 loop-again : tie.Need-loop-q-preserved invariant-loop-q decreases-loop-q
 loop-again c = let b = c.before.before.before in let d = in-call b in growing-next (start d).requires d.before.loop-q.invariant b.gather_below-met.ensures d.loop-q-test.true refl
 
+cast-kind-2 : tie.Need-overflow_cast-gather_below-2 invariant-loop-q decreases-loop-q
+cast-kind-2 c = omega arith
+
 gather-below-requires-2 : tie.Need-gather_below-last-requires invariant-loop-q decreases-loop-q
 gather-below-requires-2 c κs = let d = c.before in growing-reach (start-end d).requires d.before.loop-q.invariant
 
@@ -139,6 +145,7 @@ gather_grown_spec =
     mul-row
     shared-slice-read-row
     cast-row
+    cast-kind
     gather-below-requires
     mul-work
     add-work
@@ -149,6 +156,7 @@ gather_grown_spec =
     add-k
     loop-less
     loop-again
+    cast-kind-2
     gather-below-requires-2
     same_length
     returns)

@@ -1,18 +1,18 @@
 -- `open_line` meets its contract: the opening's step, and the line of its answer. Assumes nothing.
+use mathlib.Core.Path.{subst}
+use Prim.Native.Nat.{ℕ}
 use borrow.Author.Rules.{rules}
+use Rattle.std.specs.Prelude.{Result}
+use Rattle.factor.specs.declared.Factor.{Factor}
+use Rattle.listing_memory.specs.Memory.{OpeningPrinted}
 use Rattle.listing_answers.proofs.changing.open_line.Statement.{statement}
 use Rattle.listing_answers.proofs.changing.open_line.Tie as tie
 
--- ---- the places, named
-
-abbrev opened : tie.After-opened_line-arg-1 → tie.After-open-opened
-opened c = c.before.before.before.before.before.before.before.before.before.before.before.before.before.before.before.before.before.before.before.before.before
-
-abbrev printed : tie.After-slice_known-22-1 → tie.After-opened_line
-printed c = c.before.before
-
 open-requires : tie.Need-open-opened-requires
 open-requires c κs = search rules
+
+numbered-requires : tie.Need-numbered-requires
+numbered-requires c κs = tt
 
 opened-line-requires : tie.Need-opened_line-requires
 opened-line-requires c κs = c.requires
@@ -52,13 +52,14 @@ same-length-11 c = c.opened_line.auto.out
 
 returns : tie.Need-returns
 returns c =
-    record { opened = c.open-opened.result; step = c.open-opened.ensures; printed = c.opened_line.ensures }
+    record { opened = c.open-opened.result; step = c.open-opened.ensures; printed = subst (λ (o : Result Factor ℕ). OpeningPrinted c.args.factor o c.args.out.now c.opened_line.new.out c.opened_line.result) c.numbered.ensures c.opened_line.ensures }
 
 pub open_line_spec : {M : Type 1} → statement M
 open_line_spec =
     tie.close
     (tie.spec
     open-requires
+    numbered-requires
     opened-line-requires
     same_length
     same-length-2
