@@ -23,7 +23,10 @@ pub struct Group {
 pub fn is_inside(first: u32, second: u32, minute: u32) -> bool
     ensures { result ≡ is_inside first second minute }
 {
-    (first == 0 && second == 0) || (first <= minute && minute < second)
+    if first == 0 && second == 0 {
+        return true;
+    }
+    first <= minute && minute < second
 }
 
 // Whether id counts at a minute.
