@@ -173,3 +173,7 @@ undo-heads {parents = ps} {rows} {counts} {next} {work} {parents₀} {rows₀} {
 pub swapped-same : {m f : ℕ} {R A B : List Column} {s after after' : Stored} {work work' : List ℕ} {fits : Bool} → after' ≡ after →
     Swapped m f R A B s after work work' fits → Swapped m f R A B s after' work work' fits
 swapped-same {m} {f} {R} {A} {B} {s} {work = work} {work' = work'} {fits = fits} e = subst (λ (t : Stored). Swapped m f R A B s t work work' fits) (sym e)
+
+pub swapped-known : {m f : ℕ} {R A B : List Column} {s after : Stored} {work work' : List ℕ} {fits known : Bool} → fits ≡ known →
+    Swapped m f R A B s after work work' fits → Swapped m f R A B s after work work' known
+swapped-known {m} {f} {R} {A} {B} {s} {after} {work} {work'} e = subst (λ (b : Bool). Swapped m f R A B s after work work' b) e

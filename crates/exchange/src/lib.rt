@@ -3,7 +3,7 @@
 // before, place by place. Book and windows do not change.
 #![tactic(auto)]
 
-ghost use Rattle.std.specs.Prelude.{is_some, unwrap_or, List, ℕ, length};
+ghost use Rattle.std.specs.Prelude.{◌≡◌, true, List, ℕ, length};
 ghost use Rattle.symbolic.specs.Columns.{Column};
 ghost use Rattle.tables.specs.Stored.{stored_of};
 ghost use Rattle.tables.specs.Lent.{columns_lent, SameColumns};
@@ -46,8 +46,7 @@ fn undo(columns: &mut ColumnsMut, work: &[u32])
     snapshot::restoring::restore_parents(columns.parents, work, PLAN * m + f + 2 * f);
 }
 
-// Those that count before and not after leave, then those that count after and not before enter. Gives the free head, or none where that does not fit: then all records
-// and parents are brought back.
+// Those that count before and not after leave, then those that count after and not before enter. Where that does not fit, all records and parents are brought back.
 fn swap(
     columns: &mut ColumnsMut,
     book: BookView,
@@ -56,17 +55,27 @@ fn swap(
     before: u32,
     after: u32,
     free: Rec,
-) -> Option<Rec>
+) -> Outcome
     requires { SomeSwap (columns_lent columns.old free.0) (book_viewed book 0) windows.now before after work.old }
     ensures same { SameColumns columns.old columns.new }
-    ensures done { (R A B : List Column) → CanSwap (columns_lent columns.old free.0) (book_viewed book.entry 0) (moving_ids book.entry.heads.now windows.now before after) (moving_ids book.entry.heads.now windows.now after before) work.old R A B → Swapped (length columns.old.heads.now) (length columns.old.next.now) R A B (columns_lent columns.old free.0) (columns_lent columns.new (unwrap_or result free).0) work.old work.new (is_some result) }
+    ensures done { (R A B : List Column) → CanSwap (columns_lent columns.old free.0) (book_viewed book.entry 0) (moving_ids book.entry.heads.now windows.now before after) (moving_ids book.entry.heads.now windows.now after before) work.old R A B → Swapped (length columns.old.heads.now) (length columns.old.next.now) R A B (columns_lent columns.old free.0) (columns_lent columns.new result.free.0) work.old work.new result.fits }
+    ensures saved { result.saved ≡ true }
 {
     let z = groups::leave_all(columns, book, windows, work, before, after, free);
     let x = groups::enter_all(columns, book, windows, work, after, before, z);
     if x.is_none() {
         undo(columns, work);
+        return Outcome {
+            fits: false,
+            free: free,
+            saved: true,
+        };
     }
-    x
+    Outcome {
+        fits: true,
+        free: x.unwrap_or(free),
+        saved: true,
+    }
 }
 
 // Takes out the columns that count at the minute before and not at the one after, and lets in those that count after and not before; those that count at both stay.
@@ -120,10 +129,5 @@ pub fn exchange<'a>(
         counts,
         next,
     };
-    let x = swap(&mut columns, book, windows, work, before, after, free);
-    Outcome {
-        fits: x.is_some(),
-        free: x.unwrap_or(free),
-        saved: true,
-    }
+    swap(&mut columns, book, windows, work, before, after, free)
 }

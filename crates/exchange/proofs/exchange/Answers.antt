@@ -32,11 +32,11 @@ save_records-requires c =
     let q = can-swap c.requires c.args.after in
     can-save-records (can-after q (parents-only q c.save_parents.ensures)) (λ k. omega (arith, c.slice_known-3-1.given k))
 
-pub swap-x-requires : goal.swap-x-requires
-swap-x-requires c = some-swap (can-swap c.requires c.args.after) (can-scan c.requires) (λ k. omega (arith, c.slice_known-3-1.given k)) c.save_parents.ensures c.save_records.ensures
+pub swap-requires : goal.swap-requires
+swap-requires c = some-swap (can-swap c.requires c.args.after) (can-scan c.requires) (λ k. omega (arith, c.slice_known-3-1.given k)) c.save_parents.ensures c.save_records.ensures
 
 pub returns : goal.returns
 returns c =
-    rw (c.is_some.ensures, c.unwrap_or.ensures)
-    (exchanged-same (lent-back c.swap-x.ensures.same (search rules) (search rules) (search rules) (search rules) _)
-    (finished-both (can-swap c.requires c.args.after) c.save_parents.ensures c.save_records.ensures c.swap-x.ensures.done))
+    rw c.swap.ensures.saved
+    (exchanged-same (lent-back c.swap.ensures.same (search rules) (search rules) (search rules) (search rules) _)
+    (finished-both (can-swap c.requires c.args.after) c.save_parents.ensures c.save_records.ensures c.swap.ensures.done))
