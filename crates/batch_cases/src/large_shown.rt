@@ -3,9 +3,9 @@ use crate::large_rows::about_rows;
 use crate::large_tables::{
     BookHeads, BookNext, BookRows, Heads, Next, Parents, Report, Rows, Windows, Work,
 };
+use crate::out::Out;
 use crate::{large_tables, lines};
 use answers::Changed;
-use case_tables::out::Out;
 use factor::Factor;
 use std::fmt::Write;
 

@@ -1,7 +1,7 @@
 // What the program writes: words, lists, answers and replies.
+use crate::out::Out;
 use answers::Changed;
 use case_tables::changing::Batched;
-use case_tables::out::Out;
 use questions::{Found, Reply};
 use std::fmt::Write;
 

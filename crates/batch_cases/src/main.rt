@@ -8,6 +8,7 @@ mod large_rows;
 mod large_shown;
 mod large_tables;
 mod lines;
+mod out;
 mod refused;
 mod shown;
 mod windowed;

@@ -1,10 +1,9 @@
 // A factor with its tables, held by value: each public entry of the factor on them, for programs that run cases. The work table is made anew for each call and
-// holds no zeros before it. In changing.rt are additions, removals and the clock, in meeting.rt the questions about rows, in out.rt what programs print by.
+// holds no zeros before it. In changing.rt are additions, removals and the clock, in meeting.rt the questions about rows.
 #![tactic(auto)]
 
 pub mod changing;
 pub mod meeting;
-pub mod out;
 
 ghost use Rattle.std.specs.Prelude.{◌≤◌};
 

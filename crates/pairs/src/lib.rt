@@ -12,6 +12,7 @@ pub mod kept;
 pub mod meeting;
 pub mod moves;
 pub mod next_row;
+mod out;
 pub mod pair;
 pub mod rows;
 pub mod same;

@@ -1,7 +1,7 @@
 // Whether both gave the same; where not, a line says what differs.
+use crate::out::Out;
 use answers::Changed;
 use case_tables::changing::Batched;
-use case_tables::out::Out;
 use factor::Factor;
 use reference::{Answer, Entry, Limits, Reply, Rows};
 use std::fmt::Write;

@@ -1,5 +1,5 @@
 // What the program counts, and its summary.
-use case_tables::out::Out;
+use crate::out::Out;
 use std::fmt::Write;
 
 #[derive(Clone, Copy)]

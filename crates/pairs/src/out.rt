@@ -1,4 +1,4 @@
-// Where programs print, by formats.
+// Where a comparison prints, by formats.
 use std::fmt;
 use std::fmt::Write;
 
