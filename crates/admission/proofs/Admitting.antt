@@ -1,4 +1,4 @@
--- What a call may rely on once it is admitted. Assumes nothing.
+-- Number 20 comes after the sizes; and what a call may rely on once it is admitted. Assumes nothing.
 use mathlib.Core.Path.{◌≡◌, refl, sym, ap, ◌∙◌, subst}
 use mathlib.Core.Logic.{◌≢◌}
 use mathlib.Core.Bool.{Bool, true, false}
@@ -10,9 +10,9 @@ use borrow.Author.Tests.{eq-eqb, ne_eqb}
 use Rattle.lists.specs.Lists.{pick}
 use Rattle.workspace.specs.Regions.{IsZero, cleared, zero_first}
 use Rattle.workspace.proofs.Regions.{cleared-length, cleared-zero, first-cleared}
-use Rattle.tables.specs.Tables.{Tables, State, is_sound}
-use Rattle.calls.specs.Refusals.{Refusal, accepted, is_accepted, unless, bounds, sizes_refusal, work_for, early_refusal}
-use Rattle.calls.proofs.Choices.{or-both, unless_holds}
+use Rattle.tables.specs.Tables.{Tables, Sizes, State, is_sound}
+use Rattle.calls.specs.Refusals.{Refusal, accepted, is_accepted, or_else, unless, bounds, sizes_refusal, work_for, short_refusal, early_refusal}
+use Rattle.calls.proofs.Choices.{or-both, or-second, unless_holds}
 use Rattle.calls.proofs.Refusals.{HasRoom, early-passed}
 use Rattle.admission.specs.Admission.{admission, Admitted, Usable, CanUse}
 
@@ -23,6 +23,18 @@ number-zero x e = eq-eqb x.number 0 (sym e)
 
 number-some : (x : Refusal) {n : ℕ} → n ≡ x.number → n ≢ 0 → is_accepted x ≡ false
 number-some x {n} e d = ne_eqb x.number 0 (λ z. d (e ∙ z))
+
+-- ---- limits that an opening refuses, where the sizes are in range
+
+module _ (l : Sizes) (g : Bool) (t : Tables) (w : List ℕ) (z : Bool) {n : ℕ} (e : n ≡ (sizes_refusal bounds l).number) (d : n ≡ 0) where
+  abbrev short : Refusal
+  short = or_else (short_refusal l t w) (unless z 5 0)
+
+  past-sizes : early_refusal l g t w z ≡ or_else (unless g 20 0) short
+  past-sizes = or-second (sizes_refusal bounds l) (or_else (unless g 20 0) short) (number-zero (sizes_refusal bounds l) (sym d ∙ e))
+
+  pub early-limits : g ≡ false → 20 ≡ (early_refusal l g t w z).number
+  early-limits k = sym (ap (λ (y : Refusal). y.number) (past-sizes ∙ ap (λ (b : Bool). or_else (unless b 20 0) short) k))
 
 -- ---- usable tables with a work table whose first W places are cleared
 

@@ -1,21 +1,25 @@
 -- The tables within their sizes, as the code lends them: their lengths are the sizes (`Cut`), tables that are long enough can be read through, and what is read
 -- through is soundness. Assumes nothing.
-use mathlib.Core.Path.{◌≡◌, sym, ap, ◌∙◌, subst}
-use mathlib.Core.Bool.{true}
+use mathlib.Core.Path.{◌≡◌, refl, sym, ap, ◌∙◌, subst}
+use mathlib.Core.Bool.{Bool, true, false, ◌&&◌}
 use mathlib.Core.List.{List}
 use Prim.Native.Nat.{ℕ, ◌+◌, ◌*◌, ◌≤◌}
 use native.Mathlib.Omega.{arith}
 use lib.ListN.{length}
 use lib.Seq.{length-take-le}
+use Rattle.symbolic.specs.Columns.{live}
+use Rattle.symbolic.specs.Grades.{are_limits}
 use Rattle.workspace.specs.Layout.{work_need}
 use Rattle.workspace.specs.Regions.{IsZero, OnlyIn, cleared, zero_first}
 use Rattle.workspace.proofs.Regions.{cleared-zero, cleared-only, cleared-unique, only-trans, only_wider, zero-part, first-cleared}
-use Rattle.tables.specs.Stored.{Sized}
-use Rattle.tables.specs.Tables.{Tables, Sizes, State, long_enough, stored_in, book_in, windows_in}
+use Rattle.book.specs.Book as book
+use Rattle.windows.specs.Windowed.{register_in, are_sound as windows_sound}
+use Rattle.tables.specs.Stored.{Sized, is_sound_for}
+use Rattle.tables.specs.Tables.{Tables, Sizes, State, long_enough, stored_in, book_in, windows_in, holds_sound, is_sound}
 use Rattle.tables.proofs.Tables.{Long, long-facts}
 use Rattle.calls.specs.Refusals.{accepted, is_accepted, bounds, sizes_refusal, work_for}
 use Rattle.calls.proofs.Refusals.{InRange, sizes-facts}
-use Rattle.soundness.specs.ReadThrough.{CanReadThrough, made_ready}
+use Rattle.soundness.specs.ReadThrough.{CanReadThrough, made_ready, are_sound}
 use Rattle.admission.specs.Admission.{HasPlaces}
 
 -- ---- lengths
@@ -63,6 +67,30 @@ module _ (s : State) {t : Tables} {w : List ℕ} (r : HasPlaces s.sizes t w) whe
 
   need-is : need ≡ work_for s.sizes
   need-is = let c = lengths in omega arith
+
+  -- what is read is what the tables hold
+  module _ {a : Bool} (e : a ≡ are_sound (stored_in s t) (book_in s t) (windows_in s t) s.clock) where
+    held-sound : a ≡ holds_sound s t
+    held-sound =
+        e ∙
+        ap (λ (m : ℕ). book.is_sound m (book_in s t) && windows_sound (book_in s t).heads (windows_in s t) && is_sound_for (live (register_in m s.clock (book_in s t) (windows_in s t))) (stored_in s t))
+        lengths.heads
+
+    -- unsound tables, whatever the limits
+    pub read-unsound : a ≡ false → false ≡ is_sound s t
+    read-unsound h = by (are_limits s.limits) (holds_sound s t) (sym held-sound ∙ h)
+      where
+        by : (y z : Bool) → z ≡ false → false ≡ (y && z)
+        by true z q = sym q
+        by false z q = refl
+
+    -- sound ones: the limits decide
+    pub read-limits : a ≡ true → {r : Bool} → r ≡ are_limits s.limits → r ≡ is_sound s t
+    read-limits h {r} q = by r (are_limits s.limits) (holds_sound s t) q (sym held-sound ∙ h)
+      where
+        by : (r y z : Bool) → r ≡ y → z ≡ true → r ≡ (y && z)
+        by r true z q p = q ∙ sym p
+        by r false z q p = q
 
   -- the first W places are all of them
   room : 0 + work_for s.sizes ≤ length w
