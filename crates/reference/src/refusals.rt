@@ -44,7 +44,7 @@ fn of_call(sizes: Sizes, number: usize) -> Option<usize> {
 }
 
 // 1 to 4, then 20 of an opening: limits that break the rule.
-pub(crate) fn of_opening(sizes: Sizes) -> Option<usize> {
+pub fn of_opening(sizes: Sizes) -> Option<usize> {
     of_call(sizes, 20)
 }
 
@@ -142,7 +142,7 @@ fn of_columns(
 }
 
 // 8 to 15 and 21 of an addition whose lists keep step.
-pub(crate) fn of_addition(
+pub fn of_addition(
     holds: &Holds,
     booked: &Booked,
     ids: &[u32],
@@ -163,7 +163,7 @@ pub(crate) fn of_addition(
 }
 
 // 8 to 11 of a removal.
-pub(crate) fn of_removal(booked: &Booked, ids: &[u32], n: usize) -> Option<Refusal>
+pub fn of_removal(booked: &Booked, ids: &[u32], n: usize) -> Option<Refusal>
     requires { n ≤ 256 }
 {
     for (t, id) in ids.iter().enumerate() {
