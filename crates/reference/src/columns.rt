@@ -1,5 +1,6 @@
 // The columns of A: which ids are booked, and which rows each holds. A mark is 1 for yes and 0 for no; the rows of an id that is not booked mean nothing.
 // What reads columns is lent the marks of those that it is to look at: the live ones, or all that are booked.
+// The chains here and in `tree` go over half-open ranges: an inclusive one asks twice at each step whether it is over, and that was a third of `compare_clock`.
 ghost use Rattle.std.specs.Prelude.{◌≤◌, ◌<◌};
 ghost use Rattle.reference.specs.Ranges.{IsRow, IsId, Served};
 
@@ -39,7 +40,7 @@ pub fn has_row(holds: &Holds, live: &Live, i: usize, j: usize) -> bool
 pub fn is_shared(holds: &Holds, live: &Live, n: usize, a: usize, b: usize) -> bool
     requires { (n ≤ 256) × IsRow a × IsRow b }
 {
-    (1..=n).any(|i| has_row(holds, live, i, a) && has_row(holds, live, i, b))
+    (1..n + 1).any(|i| has_row(holds, live, i, a) && has_row(holds, live, i, b))
 }
 
 // The smallest row of id i; 0 if it is not live.
@@ -47,7 +48,9 @@ pub fn smallest_row(holds: &Holds, live: &Live, m: usize, i: usize) -> usize
     requires { (m ≤ 64) × IsId i }
     ensures { result ≤ m }
 {
-    (1..=m).find(|&j| has_row(holds, live, i, j)).unwrap_or(0)
+    (1..m + 1)
+        .find(|&j| has_row(holds, live, i, j))
+        .unwrap_or(0)
 }
 
 // How many rows id i holds; 0 if it is not booked.
@@ -55,7 +58,7 @@ fn row_count(holds: &Holds, booked: &Booked, m: usize, i: usize) -> usize
     requires { (m ≤ 64) × IsId i }
     ensures { result ≤ 64 }
 {
-    (1..=m).filter(|&j| has_row(holds, booked, i, j)).count()
+    (1..m + 1).filter(|&j| has_row(holds, booked, i, j)).count()
 }
 
 // How many rows the book holds: the sum over the booked columns.

@@ -12,7 +12,7 @@ fn row_above(pattern: &Square, m: usize, j: usize) -> Option<usize>
     requires { (m ≤ 64) × IsRow j }
     ensures { IfSome result (λ i. (1 ≤ i) × (i ≤ m)) }
 {
-    (j + 1..=m).find(|&i| pattern::is_in(pattern, i, j))
+    (j + 1..m + 1).find(|&i| pattern::is_in(pattern, i, j))
 }
 
 // The parent of row j: the smallest row in L_j above j; 0 if there is none.
@@ -82,7 +82,7 @@ fn children_with(pattern: &Square, m: usize, i: usize, j: usize) -> usize
     requires { (m ≤ 64) × IsRow i }
     ensures { result ≤ 64 }
 {
-    (1..=m)
+    (1..m + 1)
         .filter(|&c| parent(pattern, m, c) == j && pattern::is_in(pattern, i, c))
         .count()
 }
@@ -99,7 +99,7 @@ fn starts_with(holds: &Holds, live: &Live, sizes: Sizes, i: usize, j: usize) -> 
     requires { Served sizes.m sizes.n × IsRow i }
     ensures { result ≤ 256 }
 {
-    (1..=sizes.n)
+    (1..sizes.n + 1)
         .filter(|&k| is_start_with(holds, live, sizes.m, k, i, j))
         .count()
 }
@@ -129,7 +129,9 @@ pub fn size(pattern: &Square, m: usize, j: usize) -> usize
     requires { (m ≤ 64) × IsRow j }
     ensures { result ≤ 64 }
 {
-    (1..=m).filter(|&i| pattern::is_in(pattern, i, j)).count()
+    (1..m + 1)
+        .filter(|&i| pattern::is_in(pattern, i, j))
+        .count()
 }
 
 // The sum of the sizes of L_1 to L_m.
