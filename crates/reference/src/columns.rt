@@ -1,6 +1,6 @@
 // The columns of A: which ids are booked, and which rows each holds. A mark is 1 for yes and 0 for no; the rows of an id that is not booked mean nothing.
 // What reads columns is lent the marks of those that it is to look at: the live ones, or all that are booked.
-// The chains here and in `tree` go over half-open ranges: an inclusive one asks twice at each step whether it is over, and that was a third of `compare_clock`.
+// The chains here and in `tree` go over half-open ranges: inclusive ones ask twice at each step whether they are over, and `compare_clock` takes half as long again with them.
 ghost use Rattle.std.specs.Prelude.{◌≤◌, ◌<◌};
 ghost use Rattle.reference.specs.Ranges.{IsRow, IsId, Served};
 
